@@ -1,0 +1,50 @@
+-- The definitions at worked values.
+use Rattle.std.proofs.Common.{◌≡◌, ℕ, zero, suc, ◌∷◌, [], Ok, Err, refl}
+use Rattle.std.specs.Prelude.{codes}
+use Rattle.ga_word.specs.Word.{bits, multiply_step, word_half, word_not, word_sum, word_twice}
+use Rattle.ga_word.specs.Hex.{hex_digits, is_word_text}
+use Rattle.ga_word.specs.Text.{text_of_words, tokens, words_of_text}
+
+bits_of_6 : bits 4 6 ≡ 0 ∷ 1 ∷ 1 ∷ 0 ∷ []
+unfolding bits
+bits_of_6 = refl
+
+sum_wraps : word_sum 0x3FFFF 1 ≡ 0
+sum_wraps = refl
+
+half_keeps_the_sign : word_half 0x20000 ≡ 0x30000
+half_keeps_the_sign = refl
+
+not_of_zero : word_not 0 ≡ 0x3FFFF
+not_of_zero = refl
+
+twice_loses_bit_17 : word_twice 0x20001 ≡ 2
+twice_loses_bit_17 = refl
+
+-- multiplication steps of T and A with S, as many as counted
+abbrev steps : ℕ → ℕ → ℕ × ℕ → ℕ × ℕ
+steps zero s ta = ta
+steps (suc n) s ta = steps n s (multiply_step ta.0 s ta.1)
+
+first_step : steps 1 3 (0, 5) ≡ (0x00001, 0x20002)
+first_step = refl
+
+-- eighteen steps multiply 3 by 5
+eighteen_steps : steps 18 3 (0, 5) ≡ (0x00000, 0x0000F)
+eighteen_steps = refl
+
+text_of_one : text_of_words (0x2C9B2 ∷ []) ≡ codes "2C9B2\n"
+unfolding hex_digits
+text_of_one = refl
+
+words_of_one : words_of_text (codes "2C9B2\n") ≡ Ok (0x2C9B2 ∷ [])
+unfolding tokens is_word_text
+words_of_one = refl
+
+second_is_short : words_of_text (codes "04A12 5") ≡ Err 1
+unfolding tokens is_word_text
+second_is_short = refl
+
+seven_is_too_large : words_of_text (codes "70000") ≡ Err 0
+unfolding tokens is_word_text
+seven_is_too_large = refl

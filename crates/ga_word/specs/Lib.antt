@@ -1,0 +1,4 @@
+pub mod Word
+pub mod Op
+pub mod Hex
+pub mod Text

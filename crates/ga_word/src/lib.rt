@@ -1,0 +1,16 @@
+//! Words of 18 bits, the 32 opcodes of the F18A, and the text of words.
+#![tactic(auto)]
+
+mod hex;
+mod op;
+mod text;
+mod tokens;
+mod word;
+
+pub use hex::{hex5, read_hex5};
+pub use op::Op;
+pub use text::{WordsError, read_words, words_text};
+pub use word::Word18;
+
+#[cfg(test)]
+mod tests;

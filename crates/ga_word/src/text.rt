@@ -1,0 +1,60 @@
+ghost use Rattle.std.specs.Prelude.{◌≡◌, ℕ, ◌<◌, Ok, Err, Some, IfOk, string_bytes};
+ghost use Rattle.ga_word.specs.Text.{text_of_words, words_of_text};
+ghost use Rattle.ga_word.specs.declared.text.WordsError.TheVariants.{BadWord, Memory};
+
+use crate::hex::read_hex5;
+use crate::tokens::Tokens;
+use crate::word::Word18;
+use std::alloc::{AllocError, AllocFailed, Global};
+use std::fmt::Write;
+use thiserror::Error;
+
+/// Why a text was refused by [`read_words`].
+#[derive(Debug, PartialEq, Eq, Drop, Error)]
+pub enum WordsError {
+    /// The token at this index, counted from 0, is not five hex digits of a number up to 3FFFF.
+    #[error("{0} BadWord")]
+    BadWord(usize),
+    /// Memory ran out.
+    #[error("memory")]
+    Memory,
+}
+
+impl<T: Drop> From<AllocFailed<T>> for WordsError {
+    ghost from_gives = { λ _ error. error ≡ Memory };
+
+    fn from(_failed: AllocFailed<T>) -> WordsError {
+        WordsError::Memory
+    }
+}
+
+/// The text of words: each as five hex digits in upper case, eight on a line with one space
+/// between, each line ended by LF. No words are the empty text.
+pub fn words_text(alloc: Global, words: &[Word18]) -> Result<String, AllocError>
+    ensures { IfOk result (λ text. string_bytes text ≡ text_of_words words.now) }
+{
+    let mut text = String::new(alloc);
+    for (place, word) in words.iter().enumerate() {
+        write!(text, "{word}")?;
+        let ends_line = place % 8 == 7 || place + 1 == words.len();
+        text.push(if ends_line { '\n' } else { ' ' })?;
+    }
+    Ok(text)
+}
+
+/// The words of a text: tokens of five hex digits of either case, between spaces, tabs, CR and LF.
+///
+/// The first token that writes no word is refused as [`WordsError::BadWord`] with its index.
+pub fn read_words(alloc: Global, text: &str) -> Result<Vec<Word18>, WordsError>
+    ensures words { IfOk result (λ words. words_of_text text.now ≡ Ok words.items) }
+    ensures bad_word { (index : ℕ) → result ≡ Err (BadWord index) → words_of_text text.now ≡ Err index }
+{
+    let mut words = Vec::new(alloc);
+    for token in Tokens::new(text.as_bytes()) {
+        let Some(word) = read_hex5(token) else {
+            return Err(WordsError::BadWord(words.len()));
+        };
+        words.push(word)?;
+    }
+    Ok(words)
+}

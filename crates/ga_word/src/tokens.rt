@@ -1,0 +1,54 @@
+ghost use Rattle.std.specs.Prelude.{◌≡◌, ℕ, not};
+ghost use Rattle.std.specs.List.{position};
+ghost use Rattle.std.specs.Iterator.{YieldsFirstRef, item_count};
+ghost use Rattle.ga_word.specs.Text.{is_blank, tokens};
+
+/// The tokens of a text, the runs of bytes between spaces, tabs, CR and LF, from the front.
+#[derive(Drop)]
+pub struct Tokens<'a> {
+    text: &'a [u8],
+}
+
+impl<'a> Tokens<'a> {
+    pub fn new(text: &'a [u8]) -> Self
+        ensures { tokens result.text.now ≡ tokens text.now }
+    {
+        Tokens { text }
+    }
+}
+
+impl<'a> Iterator for Tokens<'a> {
+    type Item = &'a [u8];
+
+    ghost next_gives = { YieldsFirstRef (λ left. tokens left.text.now) };
+
+    ghost remaining = { item_count (λ left. tokens left.text.now) };
+
+    fn next(&mut self) -> Option<&'a [u8]> {
+        let start = token_start(self.text)?;
+        let (_, text) = self.text.split_at(start);
+        let (token, rest) = text.split_at(token_end(text).unwrap_or(text.len()));
+        self.text = rest;
+        Some(token)
+    }
+}
+
+/// Where the first byte stands that is not blank.
+fn token_start(text: &[u8]) -> Option<usize>
+    ensures { result ≡ position (λ c. not (is_blank c)) text.now }
+{
+    text.iter().position(|byte| !is_blank(*byte))
+}
+
+/// Where the first blank stands.
+fn token_end(text: &[u8]) -> Option<usize>
+    ensures { result ≡ position is_blank text.now }
+{
+    text.iter().position(|byte| is_blank(*byte))
+}
+
+fn is_blank(byte: u8) -> bool
+    ensures { result ≡ is_blank byte }
+{
+    matches!(byte, b' ' | b'\t' | b'\n' | b'\r')
+}
