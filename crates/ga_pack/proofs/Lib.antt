@@ -1,0 +1,6 @@
+mod BitLists
+pub mod OneReading
+pub mod ReadingFacts
+mod Spellings
+mod StoredOpcodes
+mod WorkedReadings

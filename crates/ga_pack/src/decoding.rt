@@ -1,0 +1,144 @@
+ghost use Rattle.std.specs.Prelude.{◌≡◌, ◌<◌, ◌^◌, ◌/◌, true};
+ghost use Rattle.ga_word.specs.Op.{code_of, fits_slot3, op_with};
+ghost use Rattle.ga_word.specs.Word.{bits};
+ghost use Rattle.ga_pack.specs.Decoded as decoded;
+ghost use Rattle.ga_pack.specs.Reading.{IsOnly, Reads, stored, stored_upper};
+
+use crate::packed::Packed;
+use arrayvec::ArrayVec;
+use ga_word::{Op, Word18};
+
+// The bits of the key 15555 at the places of each slot.
+const SLOT0_KEY: u32 = 0x0A;
+
+const SLOT1_KEY: u32 = 0x15;
+
+const SLOT2_KEY: u32 = 0x0A;
+
+const SLOT3_KEY: u32 = 0x05;
+
+fn op_with_code(code: u32) -> Op
+    requires { code < 32 }
+    ensures code { code_of result ≡ code }
+    ensures op { result ≡ op_with code }
+{
+    Op::from_code(code as u8).unwrap()
+}
+
+fn op_in_slot0(number: u32) -> Op
+    requires { number < 2 ^ 18 }
+    ensures bits { stored 0 result ≡ bits 5 (number / 2 ^ 13) }
+    ensures op { result ≡ decoded.op_in_slot0 number }
+{
+    op_with_code(number >> 13 ^ SLOT0_KEY)
+}
+
+fn op_in_slot1(number: u32) -> Op
+    ensures bits { stored 1 result ≡ bits 5 (number / 2 ^ 8) }
+    ensures op { result ≡ decoded.op_in_slot1 number }
+{
+    op_with_code(number >> 8 & 0x1F ^ SLOT1_KEY)
+}
+
+fn op_in_slot2(number: u32) -> Op
+    ensures bits { stored 2 result ≡ bits 5 (number / 2 ^ 3) }
+    ensures op { result ≡ decoded.op_in_slot2 number }
+{
+    op_with_code(number >> 3 & 0x1F ^ SLOT2_KEY)
+}
+
+fn op_in_slot3(number: u32) -> Op
+    ensures fits { fits_slot3 result ≡ true }
+    ensures bits { stored_upper result ≡ bits 3 number }
+    ensures op { result ≡ decoded.op_in_slot3 number }
+{
+    op_with_code((number & 7 ^ SLOT3_KEY) << 2)
+}
+
+/// The opcodes that a word packs, and the destination of the last one, as the F18A reference, DB001,
+/// lays them out. Every word has exactly one reading, so this never fails, and it allocates nothing.
+///
+/// Slot 0 is bits 17..13, slot 1 bits 12..8, slot 2 bits 7..3 and slot 3 bits 2..0. Slot 3 holds the
+/// upper three bits of an opcode whose lower two bits are 0. Opcodes are stored XORed with 15555 at
+/// the same places. The first opcode that takes a destination ends the word, and no other does: what
+/// stands behind `;` or `ex` is read too. A destination is stored as it is: 10 bits, 9..0, behind slot
+/// 0, 8 bits, 7..0, behind slot 1, and 3 bits, 2..0, behind slot 2.
+#[tactic(auto, unfolding(crate::specs::Decoded::reading_of))]
+pub fn decode(word: Word18) -> Packed
+    // the word is spelled by these opcodes, this destination and these spare bits
+    ensures reading { Reads (bits 18 word) result.ops.items result.dest result.spare }
+    // it is the reading as a function
+    ensures ops { result.ops.items ≡ (decoded.reading_of word).ops }
+    ensures dest { result.dest ≡ (decoded.reading_of word).dest }
+    ensures spare { result.spare ≡ (decoded.reading_of word).spare }
+    // and the word has no other
+    ensures only { IsOnly (bits 18 word) result.ops.items result.dest result.spare }
+{
+    let number = word.get();
+    let mut ops = ArrayVec::new();
+    let first = op_in_slot0(number);
+    ops.push(first);
+    if first.takes_dest() {
+        let dest = Some((number & 0x3FF) as u16);
+        let spare = (number >> 10 & 7) as u8;
+        return Packed { ops, dest, spare };
+    }
+    // In all other words no bit is spare.
+    let spare = 0;
+    let second = op_in_slot1(number);
+    ops.push(second);
+    if second.takes_dest() {
+        let dest = Some((number & 0xFF) as u16);
+        return Packed { ops, dest, spare };
+    }
+    let third = op_in_slot2(number);
+    ops.push(third);
+    if third.takes_dest() {
+        let dest = Some((number & 7) as u16);
+        return Packed { ops, dest, spare };
+    }
+    ops.push(op_in_slot3(number));
+    let dest = None;
+    Packed { ops, dest, spare }
+}
+
+#[cfg(test)]
+mod tests {
+    use super::*;
+    use std::test::Fail;
+
+    #[test]
+    fn reads_words(rt: HostRuntime) -> Result<(), Fail> {
+        let table: [(u32, &[Op], Option<u16>, u8); 11] = [
+            (0x2_572A, &[Op::Dup, Op::Jump], Some(0x02A), 0),
+            (0x1_01D5, &[Op::Jump], Some(0x1D5), 0),
+            (0x1_2001, &[Op::Call], Some(0x001), 0),
+            (0x1_0BD5, &[Op::Jump], Some(0x3D5), 2),
+            (0x2_C9B2, &[Op::Nop, Op::Nop, Op::Nop, Op::Nop], None, 0),
+            (
+                0x0_4A12,
+                &[Op::FetchP, Op::AStore, Op::FetchP, Op::Nop],
+                None,
+                0,
+            ),
+            (0x2_4D92, &[Op::Dup, Op::Dup, Op::Dup, Op::Nop], None, 0),
+            (0x2_4D95, &[Op::Dup, Op::Dup, Op::Dup, Op::Return], None, 0),
+            (0x3_A9B2, &[Op::Drop, Op::Nop, Op::Nop, Op::Nop], None, 0),
+            // `. . jump 2` and `. . . unext`
+            (0x2_C942, &[Op::Nop, Op::Nop, Op::Jump], Some(0x002), 0),
+            (
+                0x2_C9B4,
+                &[Op::Nop, Op::Nop, Op::Nop, Op::Micronext],
+                None,
+                0,
+            ),
+        ];
+        for (number, ops, dest, spare) in table {
+            let packed = decode(Word18::new(number).ok_or("no word")?);
+            assert_eq!(rt; packed.ops.as_slice(), ops, "opcodes of {number:05X}");
+            assert_eq!(rt; packed.dest, dest, "destination of {number:05X}");
+            assert_eq!(rt; packed.spare, spare, "spare bits of {number:05X}");
+        }
+        Ok(())
+    }
+}

@@ -1,0 +1,4 @@
+pub mod AddressLemmas
+pub mod NodeText
+pub mod SideLemmas
+pub mod WorkedPlaces

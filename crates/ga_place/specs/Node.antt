@@ -1,0 +1,22 @@
+-- The 144 nodes, in 8 rows by 18 columns. A node is seen as its name, the number row * 100 + column.
+use Rattle.std.specs.Prelude.{◌≡◌, ℕ, ◌+◌, ◌/◌, ◌%◌, ◌<◌, List, [], ◌∷◌, ◌⊎◌}
+
+-- the row of a node, counted from the south: the hundreds of its name
+abbrev pub row_of : ℕ → ℕ
+row_of name = name / 100
+
+-- the column of a node, counted from the west: the last two digits of its name
+abbrev pub column_of : ℕ → ℕ
+column_of name = name % 100
+
+-- a node has this name: its row is from 0 to 7 and its column from 0 to 17
+abbrev pub IsNodeName : ℕ → Type 0
+IsNodeName name = (row_of name < 8) × (column_of name < 18)
+
+-- the node stands in the first or the last row or column
+abbrev pub IsOnEdge : ℕ → Type 0
+IsOnEdge name = (row_of name ≡ 0) ⊎ (row_of name ≡ 7) ⊎ (column_of name ≡ 0) ⊎ (column_of name ≡ 17)
+
+-- the text of a node: the three decimal digits of its name
+abbrev pub node_text : ℕ → List ℕ
+node_text name = (48 + name / 100) ∷ (48 + name / 10 % 10) ∷ (48 + name % 10) ∷ []
