@@ -1,4 +1,4 @@
-ghost use Rattle.std.specs.Prelude.{◌≡◌, ◌+◌, ◌/◌, bit_xor};
+ghost use Rattle.std.specs.Prelude.{◌≡◌, ◌+◌, ◌/◌, ◌^◌, ◌<◌, bit_xor};
 ghost use Rattle.ga_place.specs.Address.{advance_of, idle_address_of, io_where, port_address_of, where_is};
 ghost use Rattle.ga_place.specs.Side.{bits_of, side_bit, sides_bits, sides_by_edge, sides_with};
 
@@ -27,6 +27,7 @@ const PORT_BASE: u16 = 0x155;
 /// (F18A reference DB001).
 pub fn port_address(side: Side) -> u16
     ensures value { result ≡ port_address_of side }
+    ensures bound { result < 2 ^ 9 }
     ensures located { where_is result ≡ Where.Ports (sides_with (side_bit side)) }
 {
     match side {
@@ -42,6 +43,7 @@ pub fn port_address(side: Side) -> u16
 /// reference DB002).
 pub fn idle_address(node: Node) -> u16
     ensures value { result ≡ idle_address_of node }
+    ensures bound { result < 2 ^ 9 }
     ensures edges { result ≡ bit_xor 0x155 (sides_by_edge node) }
     ensures located { where_is result ≡ Where.Ports (sides_with (sides_bits node)) }
 {

@@ -1,0 +1,5 @@
+pub mod State
+pub mod Need
+pub mod Fetch
+pub mod Slot
+pub mod Line

@@ -1,0 +1,142 @@
+ghost use Rattle.std.specs.Prelude.{◌≡◌, None, Some};
+ghost use Rattle.ga_node.specs.Line.{need_text, stop_text};
+ghost use Rattle.ga_node.specs.Need.{fetch_need, need_of, read_need, slot_need};
+ghost use Rattle.ga_node.specs.State.{op_of};
+
+use crate::place::Place;
+use crate::state::NodeState;
+use ga_place::{Side, Sides, Where, locate};
+use ga_word::{Op, Word18};
+use std::fmt;
+
+/// Why a node stops. A stop is a fact of the state: nothing changes from then on.
+#[derive(Clone, Copy, Debug, PartialEq, Eq)]
+pub enum Stop {
+    /// A write to the ports of several sides at once (profile).
+    MultiWrite,
+    /// A read or a fetch at io (profile).
+    IoRead,
+    /// A read, a fetch or a write where nothing is mapped (profile).
+    Unmapped,
+    /// A read or a fetch in ROM but at the warm word, or a write to ROM (profile).
+    Rom,
+    /// A fetch with bit 9 of P set, as for extended arithmetic (profile).
+    Extended,
+    /// The steps have reached the largest number that is counted, 2^64 - 1 (profile).
+    Counted,
+    /// The opcode isn't built yet.
+    Unbuilt,
+}
+
+impl fmt::Display for Stop {
+    ghost output = { λ stop. Some (stop_text stop) };
+
+    fn fmt<W: fmt::Write>(&self, f: &mut fmt::Formatter<W>) -> fmt::Result {
+        f.write_str(match self {
+            Stop::MultiWrite => "MultiWrite",
+            Stop::IoRead => "IoRead",
+            Stop::Unmapped => "Unmapped",
+            Stop::Rom => "Rom",
+            Stop::Extended => "Extended",
+            Stop::Counted => "Counted",
+            Stop::Unbuilt => "Unbuilt",
+        })
+    }
+}
+
+/// What a node needs for its next step.
+#[derive(Clone, Copy, Debug, PartialEq, Eq)]
+pub enum Need {
+    /// Nothing from outside: the step is the node's own.
+    Own,
+    /// A word from the port of one of these sides.
+    Take(Sides),
+    /// Room for this word at the port of this side.
+    Post(Side, Word18),
+    /// That the word that it posted at this side was read.
+    Check(Side),
+    /// The next word of its stream.
+    Input,
+    /// Nothing: it makes no step any more.
+    Stopped(Stop),
+}
+
+impl fmt::Display for Need {
+    ghost output = { λ need. Some (need_text need) };
+
+    fn fmt<W: fmt::Write>(&self, f: &mut fmt::Formatter<W>) -> fmt::Result {
+        match self {
+            Need::Own => f.write_str("own"),
+            Need::Take(_) => f.write_str("take"),
+            Need::Post(_, _) => f.write_str("post"),
+            Need::Check(_) => f.write_str("check"),
+            Need::Input => f.write_str("input"),
+            Need::Stopped(stop) => write!(f, "stopped {stop}"),
+        }
+    }
+}
+
+/// The index in ROM of its one word, at address 0A9.
+const WARM: u8 = 0x29;
+
+impl NodeState {
+    /// What the node needs for its next step.
+    ///
+    /// The stops come in the order Counted, Extended, and the others (F18A reference DB001; the stops
+    /// are this project's profile).
+    #[tactic(auto, unfolding(crate::specs::Need::need_of))]
+    pub fn need(&self) -> Need
+        ensures { result ≡ need_of self.now }
+    {
+        if self.steps == u64::MAX {
+            return Need::Stopped(Stop::Counted);
+        }
+        match self.place {
+            Place::Fetch => fetch_need(self.p),
+            _ => self.slot_need(),
+        }
+    }
+
+    /// What a node needs in a slot: the check of a post, or what the opcode needs.
+    fn slot_need(&self) -> Need
+        ensures { result ≡ slot_need self.now.posted (op_of self.now) self.now }
+    {
+        match self.posted {
+            Some((side, _)) => Need::Check(side),
+            None => self.op_need(),
+        }
+    }
+
+    fn op_need(&self) -> Need
+        ensures { result ≡ slot_need None (op_of self.now) self.now }
+    {
+        match self.op() {
+            Op::FetchP => read_need(locate(self.p)),
+            Op::Jump | Op::Drop | Op::AStore | Op::Nop => Need::Own,
+            _ => Need::Stopped(Stop::Unbuilt),
+        }
+    }
+}
+
+fn fetch_need(p: u16) -> Need
+    ensures { result ≡ fetch_need p }
+{
+    if p < 0x200 {
+        read_need(locate(p))
+    } else {
+        Need::Stopped(Stop::Extended)
+    }
+}
+
+fn read_need(at: Where) -> Need
+    ensures { result ≡ read_need at }
+{
+    match at {
+        Where::Ram(_) => Need::Own,
+        Where::Rom(index) if index == WARM => Need::Own,
+        Where::Rom(_) => Need::Stopped(Stop::Rom),
+        Where::Ports(sides) => Need::Take(sides),
+        Where::Io => Need::Stopped(Stop::IoRead),
+        Where::Unmapped => Need::Stopped(Stop::Unmapped),
+    }
+}

@@ -1,0 +1,28 @@
+ghost use Rattle.std.specs.Prelude.{Some};
+ghost use Rattle.ga_node.specs.Line.{place_text};
+
+use std::fmt;
+
+/// Where a node stands between two steps: before a fetch, or before a slot of the word in execution.
+#[derive(Clone, Copy, Debug, PartialEq, Eq)]
+pub enum Place {
+    Fetch,
+    Slot0,
+    Slot1,
+    Slot2,
+    Slot3,
+}
+
+impl fmt::Display for Place {
+    ghost output = { λ place. Some (place_text place) };
+
+    fn fmt<W: fmt::Write>(&self, f: &mut fmt::Formatter<W>) -> fmt::Result {
+        f.write_str(match self {
+            Place::Fetch => "fetch",
+            Place::Slot0 => "slot0",
+            Place::Slot1 => "slot1",
+            Place::Slot2 => "slot2",
+            Place::Slot3 => "slot3",
+        })
+    }
+}
