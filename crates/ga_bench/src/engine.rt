@@ -1,0 +1,38 @@
+ghost use Rattle.std.specs.Prelude.{◌≡◌, ◌≢◌, ◌+◌, IfErr, IfSome};
+ghost use Rattle.std.specs.Io.KnownBytes.{Keeps};
+ghost use Rattle.ga_bench.specs.Reading.{ConsumesUpTo, ReadsFirst};
+ghost use Rattle.ga_bench.specs.Serves.{Serves};
+
+use crate::answer::output;
+use crate::fault::ServeError;
+use crate::reading::{INPUT_LIMIT, read_input};
+use crate::request::Job;
+use crate::writing::write_output;
+use std::io::{Read, Write};
+
+/// Serves a job, the engine under every subcommand: reads the whole input, makes the whole output, and
+/// then writes it. An input has at most 1,048,576 bytes, and comes in at most 2,097,152 reads.
+///
+/// The first fault is answered. `Read` and `Input(TooLong)` come while the input is read, the faults of
+/// the input in the order of the job's output, and `Write` last; a front of the output may then have
+/// been written. `Memory` comes where memory was refused, before anything is written.
+pub fn serve<Rt: AllocGlobal, R: Read, W: Write>(
+    rt: &Rt,
+    reader: &mut R,
+    writer: &mut W,
+    job: &Job,
+) -> Result<(), ServeError>
+    // Where the reader and the writer tell their bytes, what is written is a function of what is read.
+    ensures served { IfSome (R.remaining reader.old) (λ input.
+        Serves job.now input (W.contents writer.old) (W.contents writer.new) result) }
+    ensures read_first { ReadsFirst result (R.remaining reader.new) }
+    ensures read_no_more { ConsumesUpTo (INPUT_LIMIT + 1) (R.remaining reader.old) (R.remaining reader.new) }
+
+    // At any reader.
+    ensures unwritten { IfErr result (λ fault. fault ≢ ServeError.Write
+        → Keeps (W.contents writer.old) (W.contents writer.new)) }
+{
+    let input = read_input(rt.alloc(), reader)?;
+    let text = output(rt.alloc(), job, &input)?;
+    write_output(writer, text.as_bytes())
+}

@@ -1,0 +1,88 @@
+ghost use Rattle.std.specs.Prelude.{◌≡◌};
+ghost use Rattle.ga_bench.specs.Fault.{fault_of_words, status_of};
+ghost use Rattle.ga_bench.specs.declared.fault.ServeError.TheVariants.{Memory};
+
+use ga_word::WordsError;
+use std::alloc::{AllocError, AllocFailed};
+use thiserror::Error;
+
+/// Why an input was refused before it was read as a job's own.
+#[derive(Debug, PartialEq, Eq, Drop, Error)]
+pub enum InputFault {
+    /// It has more bytes than are accepted.
+    #[error("TooLong")]
+    TooLong,
+    /// It is not UTF-8.
+    #[error("BadText")]
+    BadText,
+}
+
+/// Why an input was refused as words.
+#[derive(Debug, PartialEq, Eq, Drop, Error)]
+pub enum WordsFault {
+    /// The token at this index, counted from 0, writes no word.
+    #[error("{0} BadWord")]
+    BadWord(usize),
+    /// There is no word.
+    #[error("Empty")]
+    Empty,
+    /// There are more words than a node's memory holds.
+    #[error("TooLong")]
+    TooLong,
+}
+
+/// Why a job was not served. Its `Display` is the text that the program prints.
+#[derive(Debug, PartialEq, Eq, Drop, Error)]
+pub enum ServeError {
+    #[error("input {0}")]
+    Input(InputFault),
+    #[error("words {0}")]
+    Words(WordsFault),
+    /// A read failed, or the input came in too many pieces.
+    #[error("read")]
+    Read,
+    /// A write failed, took nothing, or could not be flushed.
+    #[error("write")]
+    Write,
+    #[error("memory")]
+    Memory,
+}
+
+impl From<WordsError> for ServeError {
+    ghost from_gives = { λ error fault. fault ≡ fault_of_words error };
+
+    fn from(error: WordsError) -> ServeError {
+        match error {
+            WordsError::BadWord(index) => ServeError::Words(WordsFault::BadWord(index)),
+            WordsError::Memory => ServeError::Memory,
+        }
+    }
+}
+
+impl From<AllocError> for ServeError {
+    ghost from_gives = { λ _ fault. fault ≡ Memory };
+
+    fn from(_error: AllocError) -> ServeError {
+        ServeError::Memory
+    }
+}
+
+impl<T: Drop> From<AllocFailed<T>> for ServeError {
+    ghost from_gives = { λ _ fault. fault ≡ Memory };
+
+    fn from(_failed: AllocFailed<T>) -> ServeError {
+        ServeError::Memory
+    }
+}
+
+/// The exit status of the program: 0 for an output that was written, 1 for a refused input and for
+/// a read or a write that failed, and 3 for want of memory.
+pub fn status(outcome: &Result<(), ServeError>) -> u8
+    ensures { result ≡ status_of outcome.now }
+{
+    match outcome {
+        Ok(()) => 0,
+        Err(ServeError::Memory) => 3,
+        Err(_) => 1,
+    }
+}

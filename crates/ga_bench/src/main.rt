@@ -1,0 +1,59 @@
+//! The bench of the GA144: each subcommand reads one input and writes one text.
+#![tactic(auto)]
+
+mod answer;
+mod engine;
+mod fault;
+mod line;
+mod reading;
+mod request;
+mod single;
+mod text;
+mod writing;
+
+use crate::engine::serve;
+use crate::fault::{ServeError, status};
+use crate::line::{LineError, job, refusal};
+use crate::request::Job;
+use clap::error::ErrorKind::InvalidValue;
+use std::io::ErrorKind::OutOfMemory;
+use std::process::ExitCode;
+use std::rt::Env;
+use std::{env, io};
+
+fn main(rt: HostRuntime) -> ExitCode {
+    ExitCode::from(run(&rt))
+}
+
+/// Runs the job that the arguments name, on standard input and output. Answers the exit status.
+fn run<R: Env + AllocGlobal + Input + Print + Eprint>(rt: &R) -> u8 {
+    let outcome = match job_of_arguments(rt) {
+        Ok(job) => serve(rt, &mut rt.reader(), &mut io::writer(rt), &job),
+        Err(LineError::Memory) => Err(ServeError::Memory),
+        Err(LineError::Parse(error)) => match error.print(rt) {
+            Ok(()) => return if error.use_stderr() { 2 } else { 0 },
+            Err(_) => Err(ServeError::Write),
+        },
+    };
+    if let Err(fault) = &outcome {
+        // Where this cannot be written either, the status still tells it.
+        let _ = eprintln!(rt; "ga-bench: {fault}");
+    }
+    status(&outcome)
+}
+
+/// The job that the arguments of the program name.
+fn job_of_arguments<R: Env + AllocGlobal>(rt: &R) -> Result<Job, LineError> {
+    let alloc = rt.alloc();
+    let arguments = match env::args(rt) {
+        Ok(arguments) => arguments,
+        Err(error) if error.kind() == OutOfMemory => return Err(LineError::Memory),
+        Err(_) => return Err(refusal(alloc, InvalidValue, "an argument is not UTF-8")),
+    };
+    let arguments: Vec<String> = arguments.collect(alloc)?;
+    let words: Vec<&str> = arguments.iter().map(|word| word.as_str()).collect(alloc)?;
+    job(alloc, &words)
+}
+
+#[cfg(test)]
+mod tests;

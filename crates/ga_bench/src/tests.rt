@@ -1,0 +1,302 @@
+use crate::engine::serve;
+use crate::fault::{ServeError, status};
+use crate::line::{LineError, job};
+use crate::reading::{INPUT_LIMIT, READS_LIMIT};
+use crate::request::Job;
+use clap::error::ErrorKind as LineKind;
+use std::alloc::{AllocError, Global};
+use std::io;
+use std::io::{ErrorKind, Read, Write};
+use std::test::Fail;
+
+/// Gives its bytes, at most so many at a call, and fails at one call, counted from 0.
+#[derive(Drop)]
+struct Source<'a> {
+    bytes: &'a [u8],
+    most: usize,
+    fails_at: Option<u32>,
+    kind: ErrorKind,
+    calls: u32,
+}
+
+impl Read for Source<'_> {
+    fn read(&mut self, buf: &mut [u8]) -> io::Result<usize> {
+        let call = self.calls;
+        self.calls = self.calls.saturating_add(1);
+        if self.fails_at == Some(call) {
+            return Err(self.kind.into());
+        }
+        let count = self.bytes.len().min(self.most).min(buf.len());
+        let (front, rest) = self.bytes.split_at(count);
+        buf[..count].copy_from_slice(front);
+        self.bytes = rest;
+        Ok(count)
+    }
+}
+
+/// A source that fails at no call.
+fn source_of(bytes: &[u8], most: usize) -> Source<'_> {
+    Source {
+        bytes,
+        most,
+        fails_at: None,
+        kind: ErrorKind::Other,
+        calls: 0,
+    }
+}
+
+/// A reader of which each read is interrupted.
+#[derive(Drop)]
+struct Restless(u32);
+
+impl Read for Restless {
+    fn read(&mut self, _buf: &mut [u8]) -> io::Result<usize> {
+        self.0 = self.0.saturating_add(1);
+        Err(ErrorKind::Interrupted.into())
+    }
+}
+
+/// Takes at most so many bytes at a call, and fails at one call, a write or a flush.
+#[derive(Drop)]
+struct Sink {
+    taken: Vec<u8>,
+    most: usize,
+    fails_at: Option<u32>,
+    kind: ErrorKind,
+    calls: u32,
+}
+
+impl Sink {
+    fn call(&mut self) -> io::Result<()> {
+        let call = self.calls;
+        self.calls = self.calls.saturating_add(1);
+        if self.fails_at == Some(call) {
+            return Err(self.kind.into());
+        }
+        Ok(())
+    }
+}
+
+impl Write for Sink {
+    fn write(&mut self, buf: &[u8]) -> io::Result<usize> {
+        self.call()?;
+        let count = buf.len().min(self.most);
+        self.taken.extend_from_slice(&buf[..count])?;
+        Ok(count)
+    }
+
+    fn flush(&mut self) -> io::Result<()> {
+        self.call()
+    }
+}
+
+/// A sink that fails at no call.
+fn sink_of(alloc: Global, most: usize) -> Sink {
+    Sink {
+        taken: Vec::new(alloc),
+        most,
+        fails_at: None,
+        kind: ErrorKind::Other,
+        calls: 0,
+    }
+}
+
+const WORDS: &str = "04A12 00005 00003 2C9B2";
+
+const LINE: &str =
+    "node 000 P 003 A 00005 B 15D R 00000 S 00000 T 00003 io 00000 at fetch steps 5 need own\n";
+
+#[test]
+fn answers_lines(rt: HostRuntime) -> Result<(), Fail> {
+    let table = [
+        (WORDS, 5, LINE),
+        (
+            "\t2c9b2\r\n",
+            0,
+            "node 000 P 000 A 00000 B 15D R 00000 S 00000 T 00000 io 00000 at fetch steps 0 need own\n",
+        ),
+        (
+            "101D5",
+            9,
+            "node 000 P 1D5 A 00000 B 15D R 00000 S 00000 T 00000 io 00000 at fetch steps 2 need take\n",
+        ),
+    ];
+    for (input, tries, line) in table {
+        for most in [1, 7, 8192] {
+            let mut reader = source_of(input.as_bytes(), most);
+            let mut writer = sink_of(rt.alloc(), most);
+            let outcome = serve(&rt, &mut reader, &mut writer, &Job::One { tries });
+            assert_eq!(rt; status(&outcome), 0);
+            assert_eq!(rt;
+                writer.taken.as_slice(),
+                line.as_bytes(),
+                "{most} at a call"
+            );
+        }
+    }
+    Ok(())
+}
+
+#[test]
+fn refuses_inputs(rt: HostRuntime) -> Result<(), Fail> {
+    let alloc = rt.alloc();
+    let mut many = Vec::new(alloc);
+    for _ in 0..65 {
+        many.extend_from_slice(b"3FFFF ")?;
+    }
+    let mut many_and_bad = many.clone()?;
+    many_and_bad.extend_from_slice(b"40000")?;
+    let long = vec![in alloc; 0xFF; INPUT_LIMIT + 1]?;
+    let table = [
+        (b"".as_slice(), "words Empty"),
+        (b" \t\r\n", "words Empty"),
+        (b"04A12 5", "words 1 BadWord"),
+        (&many, "words TooLong"),
+        (&many_and_bad, "words 65 BadWord"),
+        (b"\xFF", "input BadText"),
+        (b"5 \xFF", "input BadText"),
+        (&long, "input TooLong"),
+    ];
+    for (input, text) in table {
+        let mut writer = sink_of(alloc, 8192);
+        let outcome = serve(
+            &rt,
+            &mut source_of(input, 8192),
+            &mut writer,
+            &Job::One { tries: 1 },
+        );
+        assert_eq!(rt; status(&outcome), 1);
+        let Err(fault) = outcome else {
+            return Err("an answer".into());
+        };
+        assert!(rt; fault.to_string(alloc)?.as_str() == text);
+        assert_eq!(rt; writer.calls, 0);
+    }
+    Ok(())
+}
+
+#[test]
+fn tells_faults(rt: HostRuntime) -> Result<(), Fail> {
+    for (fault, text, number) in [
+        (ServeError::Read, "read", 1),
+        (ServeError::Write, "write", 1),
+        (ServeError::Memory, "memory", 3),
+    ] {
+        assert!(rt; fault.to_string(rt.alloc())?.as_str() == text, "{text}");
+        assert_eq!(rt; status(&Err(fault)), number);
+    }
+    Ok(())
+}
+
+/// The four words and spaces behind them, so many bytes in all.
+fn padded(alloc: Global, len: usize) -> Result<Vec<u8>, AllocError> {
+    let mut input = WORDS.as_bytes().to_vec(alloc)?;
+    input.resize(len, b' ')?;
+    Ok(input)
+}
+
+#[test]
+fn reads_up_to_the_limit(rt: HostRuntime) -> Result<(), Fail> {
+    let alloc = rt.alloc();
+    let accepted = padded(alloc, INPUT_LIMIT)?;
+    let refused = padded(alloc, INPUT_LIMIT + 9)?;
+    for most in [1, 8192] {
+        let mut writer = sink_of(alloc, 8192);
+        let mut reader = source_of(&accepted, most);
+        let outcome = serve(&rt, &mut reader, &mut writer, &Job::One { tries: 5 });
+        assert_eq!(rt; outcome, Ok(()));
+        assert_eq!(rt; writer.taken.as_slice(), LINE.as_bytes());
+
+        let mut reader = source_of(&refused, most);
+        let outcome = serve(&rt, &mut reader, &mut writer, &Job::One { tries: 5 });
+        assert!(rt; outcome.is_err());
+        assert_eq!(rt; reader.bytes.len(), 8, "one byte past the limit is read");
+    }
+    Ok(())
+}
+
+#[test]
+fn fails_at_each_read(rt: HostRuntime) {
+    let alloc = rt.alloc();
+    // 23 bytes, 6 at a call, and a read at the end.
+    for call in 0..5 {
+        for (kind, expected) in [
+            (ErrorKind::Other, Err(ServeError::Read)),
+            (ErrorKind::Interrupted, Ok(())),
+        ] {
+            let mut reader = source_of(WORDS.as_bytes(), 6);
+            reader.fails_at = Some(call);
+            reader.kind = kind;
+            let mut writer = sink_of(alloc, 8192);
+            let outcome = serve(&rt, &mut reader, &mut writer, &Job::One { tries: 5 });
+            let written = if outcome.is_ok() { LINE } else { "" };
+            assert_eq!(rt; outcome, expected, "at read {call}");
+            assert_eq!(rt; writer.taken.as_slice(), written.as_bytes());
+        }
+    }
+    let mut reader = Restless(0);
+    let mut writer = sink_of(alloc, 8192);
+    let outcome = serve(&rt, &mut reader, &mut writer, &Job::One { tries: 5 });
+    assert_eq!(rt; outcome, Err(ServeError::Read));
+    assert_eq!(rt; (reader.0, writer.calls), (READS_LIMIT, 0));
+}
+
+#[test]
+fn fails_at_each_write(rt: HostRuntime) {
+    let alloc = rt.alloc();
+    // 88 bytes, 40 at a call: three writes, and a flush.
+    for (call, kind, taken, is_served) in [
+        (0, ErrorKind::Other, 0, false),
+        (1, ErrorKind::Other, 40, false),
+        (2, ErrorKind::Other, 80, false),
+        (3, ErrorKind::Other, 88, false),
+        (0, ErrorKind::Interrupted, 88, true),
+        (1, ErrorKind::Interrupted, 88, true),
+        (2, ErrorKind::Interrupted, 88, true),
+    ] {
+        let mut writer = sink_of(alloc, 40);
+        writer.fails_at = Some(call);
+        writer.kind = kind;
+        let mut reader = source_of(WORDS.as_bytes(), 8192);
+        let outcome = serve(&rt, &mut reader, &mut writer, &Job::One { tries: 5 });
+        assert_eq!(rt; outcome.is_ok(), is_served);
+        assert_eq!(rt; is_served || outcome == Err(ServeError::Write), true);
+        assert_eq!(rt; writer.taken.len(), taken);
+        assert!(rt; LINE.as_bytes().starts_with(&writer.taken));
+    }
+    let mut writer = sink_of(alloc, 0);
+    let mut reader = source_of(WORDS.as_bytes(), 8192);
+    let outcome = serve(&rt, &mut reader, &mut writer, &Job::One { tries: 5 });
+    assert_eq!(rt; outcome, Err(ServeError::Write));
+    assert_eq!(rt; writer.calls, 1);
+}
+
+#[test]
+fn reads_command_lines(rt: HostRuntime) -> Result<(), Fail> {
+    let alloc = rt.alloc();
+    for (text, tries) in [("0", 0), ("5", 5), ("1000000", 1_000_000)] {
+        match job(alloc, &["ga-bench", "one", text]) {
+            Ok(job) => assert_eq!(rt; job, Job::One { tries }),
+            Err(_) => return Err("a refused line".into()),
+        }
+    }
+    let table = [
+        (["ga-bench"].as_slice(), LineKind::MissingSubcommand),
+        (&["ga-bench", "two"], LineKind::InvalidSubcommand),
+        (&["ga-bench", "one"], LineKind::MissingRequiredArgument),
+        (&["ga-bench", "one", "1000001"], LineKind::ValueValidation),
+        (&["ga-bench", "one", "-1"], LineKind::UnknownArgument),
+        (&["ga-bench", "one", "five"], LineKind::ValueValidation),
+        (&["ga-bench", "one", "5", "6"], LineKind::UnknownArgument),
+        (&["ga-bench", "--help"], LineKind::DisplayHelp),
+        (&["ga-bench", "one", "--help"], LineKind::DisplayHelp),
+        (&["ga-bench", "--version"], LineKind::DisplayVersion),
+    ];
+    for (words, kind) in table {
+        match job(alloc, words) {
+            Err(LineError::Parse(error)) => assert_eq!(rt; error.kind(), kind, "{words:?}"),
+            _ => return Err("no error of the line".into()),
+        }
+    }
+    Ok(())
+}
