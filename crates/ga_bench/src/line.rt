@@ -6,13 +6,16 @@ use crate::request::Job;
 use clap::error::ErrorKind;
 use clap::{Arg, ArgMatches, Command, value_parser};
 use std::alloc::{AllocError, Global};
+use thiserror::Error;
 
 /// Why a command line names no job.
-#[derive(Debug, Drop)]
+#[derive(Debug, Drop, Error)]
 pub enum LineError {
     /// The words are wrong, or ask for help or the version.
+    #[error("{0}")]
     Parse(clap::Error),
     /// Memory ran out.
+    #[error("memory")]
     Memory,
 }
 

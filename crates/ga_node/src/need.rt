@@ -24,7 +24,7 @@ pub enum Stop {
     Extended,
     /// The steps have reached the largest number that is counted, 2^64 - 1 (profile).
     Counted,
-    /// The opcode isn't built yet.
+    /// An opcode that doesn't run yet: today `jump`, `@p`, `drop`, `a!` and `.` run.
     Unbuilt,
 }
 
@@ -80,10 +80,10 @@ impl fmt::Display for Need {
 const WARM: u8 = 0x29;
 
 impl NodeState {
-    /// What the node needs for its next step.
+    /// What the node needs for its next step, by its state alone (F18A reference DB001).
     ///
-    /// The stops come in the order Counted, Extended, and the others (F18A reference DB001; the stops
-    /// are this project's profile).
+    /// The stops, which are this project's profile, come in the order `Counted`, then `Extended` at a
+    /// fetch and `Unbuilt` in a slot, then the others.
     #[tactic(auto, unfolding(crate::specs::Need::need_of))]
     pub fn need(&self) -> Need
         ensures { result ≡ need_of self.now }

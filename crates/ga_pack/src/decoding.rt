@@ -67,12 +67,12 @@ fn op_in_slot3(number: u32) -> Op
 pub fn decode(word: Word18) -> Packed
     // the word is spelled by these opcodes, this destination and these spare bits
     ensures reading { Reads (bits 18 word) result.ops.items result.dest result.spare }
-    // it is the reading as a function
+    // and by no others
+    ensures only { IsOnly (bits 18 word) result.ops.items result.dest result.spare }
+    // the same as a function of the word's number
     ensures ops { result.ops.items ≡ (decoded.reading_of word).ops }
     ensures dest { result.dest ≡ (decoded.reading_of word).dest }
     ensures spare { result.spare ≡ (decoded.reading_of word).spare }
-    // and the word has no other
-    ensures only { IsOnly (bits 18 word) result.ops.items result.dest result.spare }
 {
     let number = word.get();
     let mut ops = ArrayVec::new();

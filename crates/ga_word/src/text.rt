@@ -29,7 +29,7 @@ impl<T: Drop> From<AllocFailed<T>> for WordsError {
 }
 
 /// The text of words: each as five hex digits in upper case, eight on a line with one space
-/// between, each line ended by LF. No words are the empty text.
+/// between, each line ended by LF. No words are the empty text. It fails only where memory is refused.
 pub fn words_text(alloc: Global, words: &[Word18]) -> Result<String, AllocError>
     ensures { IfOk result (λ text. string_bytes text ≡ text_of_words words.now) }
 {
@@ -44,7 +44,8 @@ pub fn words_text(alloc: Global, words: &[Word18]) -> Result<String, AllocError>
 
 /// The words of a text: tokens of five hex digits of either case, between spaces, tabs, CR and LF.
 ///
-/// The first token that writes no word is refused as [`WordsError::BadWord`] with its index.
+/// The first token that writes no word is refused as [`WordsError::BadWord`] with its index, and
+/// [`WordsError::Memory`] comes where memory is refused.
 pub fn read_words(alloc: Global, text: &str) -> Result<Vec<Word18>, WordsError>
     ensures words { IfOk result (λ words. words_of_text text.now ≡ Ok words.items) }
     ensures bad_word { (index : ℕ) → result ≡ Err (BadWord index) → words_of_text text.now ≡ Err index }

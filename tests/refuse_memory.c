@@ -1,0 +1,48 @@
+/* Loaded in front of the C library: the allocation with the number in the variable REFUSED, counted from
+   1, is refused. Where the program ends without coming to it, the status is 77. */
+#define _GNU_SOURCE
+#include <dlfcn.h>
+#include <errno.h>
+#include <stddef.h>
+#include <stdlib.h>
+#include <unistd.h>
+
+static long calls;
+
+static long refused(void) {
+    const char *number = getenv("REFUSED");
+    return number ? atol(number) : 0;
+}
+
+static int is_refused(void) { return ++calls == refused(); }
+
+void *malloc(size_t size) {
+    void *(*next)(size_t) = dlsym(RTLD_NEXT, "malloc");
+    return is_refused() ? NULL : next(size);
+}
+
+void *calloc(size_t count, size_t size) {
+    void *(*next)(size_t, size_t) = dlsym(RTLD_NEXT, "calloc");
+    return is_refused() ? NULL : next(count, size);
+}
+
+void *realloc(void *old, size_t size) {
+    void *(*next)(void *, size_t) = dlsym(RTLD_NEXT, "realloc");
+    return is_refused() ? NULL : next(old, size);
+}
+
+void *aligned_alloc(size_t align, size_t size) {
+    void *(*next)(size_t, size_t) = dlsym(RTLD_NEXT, "aligned_alloc");
+    return is_refused() ? NULL : next(align, size);
+}
+
+int posix_memalign(void **out, size_t align, size_t size) {
+    int (*next)(void **, size_t, size_t) = dlsym(RTLD_NEXT, "posix_memalign");
+    return is_refused() ? ENOMEM : next(out, align, size);
+}
+
+__attribute__((destructor)) static void at_end(void) {
+    if (calls < refused()) {
+        _exit(77);
+    }
+}

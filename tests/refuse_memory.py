@@ -1,0 +1,57 @@
+"""Refuses each allocation of the program in turn: python3 tests/refuse_memory.py PROGRAM
+
+With one allocation refused a run must tell `ga-bench: memory`, with status 3 and nothing on standard
+output, or answer as it does with ample memory. The last line that is printed is
+'memory: N passed, M failed', a run each, and the exit status is 0 where M is 0. It needs a C compiler,
+the command in the variable CC or else cc.
+"""
+import os
+import subprocess
+import sys
+import tempfile
+
+FOLDER = os.path.dirname(os.path.abspath(__file__))
+WORDS = b"04A12 00005 00003 2C9B2"
+RUNS = [
+    (["one", "5"], WORDS),
+    (["one", "5"], b"3FFFF " * 64),
+    (["one", "5"], b"04A12 5"),
+    (["one", "5"], b""),
+    (["one"], b""),
+    (["one", "--help"], b""),
+]
+MOST = 10000
+
+
+def answer(program, words, data, **variables):
+    ran = subprocess.run([program, *words], input=data, capture_output=True, timeout=60, env={**os.environ, **variables})
+    return ran.returncode, ran.stdout, ran.stderr
+
+
+def main(program):
+    passed = failed = 0
+    with tempfile.TemporaryDirectory() as folder:
+        library = f"{folder}/refuse_memory.so"
+        compiler = os.environ.get("CC", "cc")
+        subprocess.run([compiler, "-shared", "-fPIC", "-O1", "-o", library, f"{FOLDER}/refuse_memory.c", "-ldl"], check=True)
+        for words, data in RUNS:
+            ample = answer(program, words, data)
+            for number in range(1, MOST):
+                came = answer(program, words, data, LD_PRELOAD=library, REFUSED=str(number))
+                if came[0] == 77:
+                    break
+                is_right = came in (ample, (3, b"", b"ga-bench: memory\n"))
+                passed, failed = passed + is_right, failed + (not is_right)
+                if not is_right:
+                    print(f"FAILED {words} with allocation {number} refused: came {came}")
+            if number == 1 or came[0] != 77:
+                failed += 1
+                print(f"FAILED {words}: no allocation was refused, or they had no end")
+    print(f"memory: {passed} passed, {failed} failed")
+    return 1 if failed else 0
+
+
+if __name__ == "__main__":
+    if len(sys.argv) != 2:
+        sys.exit(__doc__)
+    sys.exit(main(os.path.abspath(sys.argv[1])))
