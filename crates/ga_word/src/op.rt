@@ -111,6 +111,7 @@ const OPCODES: [Op; 32] = [
     Op::AStore,
 ];
 
+/// The first opcode in the table with this name.
 fn named(name: &str) -> Option<Op>
     ensures { result ≡ find (λ op. bytes_eq (name_of op) name.now) OPCODES }
 {
