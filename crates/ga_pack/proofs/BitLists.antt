@@ -1,10 +1,10 @@
 -- The low bits of a number as a list.
-use Rattle.std.proofs.Common.{◌≡◌, ℕ, zero, suc, ◌+◌, ◌-◌, ◌/◌, ◌%◌, ◌^◌, ◌<◌, inl, inr, List, [], ◌∷◌, ◌++◌, length, refl, ap, sym, ◌∙◌, arith}
+use Rattle.std.proofs.Common.{◌≡◌, ℕ, zero, suc, ◌+◌, ◌-◌, ◌*◌, ◌/◌, ◌%◌, ◌^◌, ◌<◌, inl, inr, List, [], ◌∷◌, ◌++◌, length, refl, ap, sym, ◌∙◌, arith}
 use Rattle.std.proofs.Math.Nat.{suc-add, zero-add, add_comm}
 use Rattle.std.specs.Int.{bit_at}
 use Rattle.std.specs.Prelude.{bit_and, bit_xor}
 use Rattle.std.proofs.lemmas.Bool.{cases_eq}
-use Rattle.std.proofs.lemmas.Nat.{and_mask, shr-shr, shr_split}
+use Rattle.std.proofs.lemmas.Nat.{and_mask, mod_low, shr-shr, shr_high, shr_split}
 use Rattle.std.proofs.lemmas.Nat.Bits.{bit_at_cat_low, bit_at_xor, same_from_bits_below}
 use Rattle.ga_word.specs.Word.{bits}
 use Rattle.ga_pack.specs.Reading.{xor_bits}
@@ -80,3 +80,12 @@ append_same (x ∷ xs) (y ∷ ys) r s len e =
     let rest = append_same xs ys r s (omega arith) behind in
     let front = rest.0 in
     (cc, rest.1)
+
+-- a number put together of two fields
+pub bits-joined : (width low front field : ℕ) → field < 2 ^ low → bits (width + low) (front * 2 ^ low + field) ≡ bits width front ++ bits low field
+bits-joined width low front field fits =
+    let above = shr_high front low field fits in
+    let below = mod_low front low field fits in
+    bits-add width low (front * 2 ^ low + field)
+    ∙ ap (λ n. bits width n ++ bits low (front * 2 ^ low + field)) above
+    ∙ ap (λ b. bits width front ++ b) (sym (bits-mod low (front * 2 ^ low + field)) ∙ ap (bits low) below)

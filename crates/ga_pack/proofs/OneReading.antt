@@ -1,5 +1,5 @@
 -- A word has one reading at most.
-use Rattle.std.proofs.Common.{◌≡◌, ℕ, true, false, List, [], ◌∷◌, ◌++◌, Option, Some, refl, ap, sym, ◌∙◌, append_assoc}
+use Rattle.std.proofs.Common.{◌≡◌, ℕ, ◌^◌, ◌<◌, true, false, List, [], ◌∷◌, ◌++◌, Option, Some, refl, ap, sym, ◌∙◌, append_assoc}
 use Rattle.ga_word.specs.Op.{takes_dest}
 use Rattle.ga_word.specs.Word.{bits}
 use Rattle.ga_word.specs.declared.op.Op.{Op}
@@ -100,3 +100,8 @@ one_word (dest_after_slot0 a s d ta hs hd) (dest_after_slot0 a' s' d' ta' hs' hd
 one_word (dest_after_slot1 a b d na tb hd) (dest_after_slot1 a' b' d' na' tb' hd') = refl
 one_word (dest_after_slot2 a b c d na nb tc hd) (dest_after_slot2 a' b' c' d' na' nb' tc' hd') = refl
 one_word (no_dest a b c d na nb nc fd) (no_dest a' b' c' d' na' nb' nc' fd') = refl
+
+-- two words with one reading are the same number
+pub one_number : {v w : ℕ} {ops : List Op} {dest : Option ℕ} {spare : ℕ} → v < 2 ^ 18 → w < 2 ^ 18
+    → Reads (bits 18 v) ops dest spare → Reads (bits 18 w) ops dest spare → v ≡ w
+one_number {v = v} {w = w} below_v below_w reads_v reads_w = bits-injective 18 v w below_v below_w (one_word reads_v reads_w)

@@ -4,7 +4,7 @@ use Rattle.std.proofs.Math.Seq.{take-append_seam}
 use Rattle.std.specs.Int.Bits.{xor_assoc, xor_self, xor_zero_r}
 use Rattle.std.specs.Prelude.{bit_and, bit_xor}
 use Rattle.std.proofs.lemmas.Bool.{eqb-true}
-use Rattle.std.proofs.lemmas.Nat.{shl-shr, xor_lt}
+use Rattle.std.proofs.lemmas.Nat.{and_le_r, shl-shr, xor_lt}
 use Rattle.ga_word.specs.Op.{code_of, fits_slot3}
 use Rattle.ga_word.specs.Word.{bits}
 use Rattle.ga_word.specs.declared.op.Op.{Op}
@@ -22,7 +22,7 @@ xor_same a b key e = sym (xor_twice a key) ∙ ap (λ n. bit_xor n key) e ∙ xo
 -- the key of a slot of five bits, as a number
 pub record HasKey (slot key : ℕ) : Type 0 where
   is : slot_key slot ≡ bits 5 key
-  fits : key < 2 ^ 5
+  pub fits : key < 2 ^ 5
 
 pub key0 : HasKey 0 0x0A
 unfolding bits slot_key
@@ -45,10 +45,18 @@ unfolding stored
 stored-bits slot key has op =
     ap (xor_bits (bits 5 (code_of op))) has.is ∙ xor_bits-bits 5 (code_of op) key
 
+pub stored-coded : (slot key : ℕ) → HasKey slot key → (op : Op) (code : ℕ) → code ≡ code_of op → stored slot op ≡ bits 5 (bit_xor code key)
+stored-coded slot key has op code is = stored-bits slot key has op ∙ ap (λ n. bits 5 (bit_xor n key)) (sym is)
+
 -- the opcode that five bits store has as its code these bits in exclusive-or with the key
 pub stored-field : (slot key : ℕ) → HasKey slot key → (op : Op) (field : ℕ) → code_of op ≡ bit_xor field key → stored slot op ≡ bits 5 field
 stored-field slot key has op field is =
     stored-bits slot key has op ∙ ap (bits 5) (ap (λ code. bit_xor code key) is ∙ xor_twice field key)
+
+pub masked-below : (slot key : ℕ) → HasKey slot key → (n : ℕ) → bit_xor (bit_and n (2 ^ 5 - 1)) key < 2 ^ 5
+masked-below slot key has n =
+    let five_bits : bit_and n (2 ^ 5 - 1) < 2 ^ 5 = omega (arith, and_le_r n (2 ^ 5 - 1)) in
+    xor_lt 5 (bit_and n (2 ^ 5 - 1)) key five_bits has.fits
 
 pub stored-masked : (slot key : ℕ) → HasKey slot key → (op : Op) (n : ℕ) → code_of op ≡ bit_xor (bit_and n (2 ^ 5 - 1)) key → stored slot op ≡ bits 5 n
 stored-masked slot key has op n is = stored-field slot key has op (bit_and n (2 ^ 5 - 1)) is ∙ bits-masked 5 n
@@ -80,6 +88,9 @@ stored_upper-bits op =
     ap (λ upper. xor_bits upper (slot_key 3)) (take-bits (code_of op))
     ∙ ap (xor_bits (bits 3 (code_of op / 2 ^ 2))) key3
     ∙ xor_bits-bits 3 (code_of op / 2 ^ 2) 5
+
+pub stored_upper-coded : (op : Op) (upper : ℕ) → upper ≡ code_of op / 2 ^ 2 → stored_upper op ≡ bits 3 (bit_xor upper 5)
+stored_upper-coded op upper is = stored_upper-bits op ∙ ap (λ n. bits 3 (bit_xor n 5)) (sym is)
 
 -- the opcode that slot 3 stores has as the upper bits of its code these three in exclusive-or with the key
 pub stored_upper-masked : (op : Op) (n : ℕ) → code_of op ≡ bit_xor (bit_and n (2 ^ 3 - 1)) 5 * 2 ^ 2 → stored_upper op ≡ bits 3 n

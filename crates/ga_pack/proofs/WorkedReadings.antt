@@ -2,7 +2,7 @@
 use Rattle.std.proofs.Common.{[], ◌∷◌, Some, None, refl, lit<}
 use Rattle.ga_word.specs.Word.{bits}
 use Rattle.ga_word.specs.declared.op.Op.TheVariants.{Return, Jump, Call, FetchP, Drop, Dup, Nop, AStore}
-use Rattle.ga_pack.specs.Reading.{Reads, dest_after_slot0, dest_after_slot1, no_dest, slot_key, stored, stored_upper, xor_bits}
+use Rattle.ga_pack.specs.Reading.{Reads, dest_after_slot0, dest_after_slot1, dest_after_slot2, no_dest, slot_key, stored, stored_upper, xor_bits}
 
 -- `dup jump 02A`
 pub reading-2572A : Reads (bits 18 0x2_572A) (Dup ∷ Jump ∷ []) (Some 0x02A) 0
@@ -48,3 +48,13 @@ reading-10BD5 = dest_after_slot0 Jump 2 0x3D5 refl (lit< tt) (lit< tt)
 pub reading-24D95 : Reads (bits 18 0x2_4D95) (Dup ∷ Dup ∷ Dup ∷ Return ∷ []) None 0
 unfolding bits stored stored_upper slot_key xor_bits
 reading-24D95 = no_dest Dup Dup Dup Return refl refl refl refl
+
+-- `dup dup dup dup`
+pub reading-24D93 : Reads (bits 18 0x2_4D93) (Dup ∷ Dup ∷ Dup ∷ Dup ∷ []) None 0
+unfolding bits stored stored_upper slot_key xor_bits
+reading-24D93 = no_dest Dup Dup Dup Dup refl refl refl refl
+
+-- `dup drop jump 2`
+pub reading-24242 : Reads (bits 18 0x2_4242) (Dup ∷ Drop ∷ Jump ∷ []) (Some 2) 0
+unfolding bits stored slot_key xor_bits
+reading-24242 = dest_after_slot2 Dup Drop Jump 2 refl refl refl (lit< tt)

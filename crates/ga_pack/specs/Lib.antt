@@ -1,2 +1,4 @@
 pub mod Decoded
+pub mod Encoding
+pub mod Followers
 pub mod Reading

@@ -4,18 +4,10 @@ ghost use Rattle.ga_word.specs.Word.{bits};
 ghost use Rattle.ga_pack.specs.Decoded as decoded;
 ghost use Rattle.ga_pack.specs.Reading.{IsOnly, Reads, stored, stored_upper};
 
+use crate::keys::{SLOT0_KEY, SLOT1_KEY, SLOT2_KEY, SLOT3_KEY};
 use crate::packed::Packed;
 use arrayvec::ArrayVec;
 use ga_word::{Op, Word18};
-
-// The bits of the key 15555 at the places of each slot.
-const SLOT0_KEY: u32 = 0x0A;
-
-const SLOT1_KEY: u32 = 0x15;
-
-const SLOT2_KEY: u32 = 0x0A;
-
-const SLOT3_KEY: u32 = 0x05;
 
 fn op_with_code(code: u32) -> Op
     requires { code < 32 }

@@ -1,0 +1,96 @@
+use crate::{PackError, Packed, decode, encode, followers};
+use arrayvec::ArrayVec;
+use ga_word::{Op, Word18};
+use std::test::Fail;
+
+fn packed(ops: &[Op], dest: Option<u16>, spare: u8) -> Packed {
+    let mut all = ArrayVec::new();
+    for op in ops {
+        let _full = all.try_push(*op);
+    }
+    Packed {
+        ops: all,
+        dest,
+        spare,
+    }
+}
+
+fn four(a: Op, b: Op, c: Op, d: Op) -> Packed {
+    packed(&[a, b, c, d], None, 0)
+}
+
+#[test]
+fn encodes_words(rt: HostRuntime) -> Result<(), Fail> {
+    let table = [
+        // `. . . .`
+        (four(Op::Nop, Op::Nop, Op::Nop, Op::Nop), 0x2_C9B2),
+        // `@p a! @p .`
+        (four(Op::FetchP, Op::AStore, Op::FetchP, Op::Nop), 0x0_4A12),
+        // `push . . .`
+        (four(Op::Push, Op::Nop, Op::Nop, Op::Nop), 0x2_E9B2),
+        // `@p !+ unext .`
+        (
+            four(Op::FetchP, Op::StorePlus, Op::Micronext, Op::Nop),
+            0x0_5872,
+        ),
+        // `@p ! unext .`
+        (
+            four(Op::FetchP, Op::Store, Op::Micronext, Op::Nop),
+            0x0_5A72,
+        ),
+        (four(Op::Dup, Op::Dup, Op::Dup, Op::Dup), 0x2_4D93),
+        (packed(&[Op::Jump], Some(0x1D5), 0), 0x1_01D5),
+        (packed(&[Op::Call], Some(0x001), 0), 0x1_2001),
+        (packed(&[Op::Dup, Op::Jump], Some(0x02A), 0), 0x2_572A),
+        (packed(&[Op::Dup, Op::Drop, Op::Jump], Some(2), 0), 0x2_4242),
+        (packed(&[Op::Jump], Some(0x3D5), 2), 0x1_0BD5),
+    ];
+    for (packed, number) in &table {
+        let word = encode(packed).map(|word| word.get());
+        assert_eq!(rt; word, Ok(*number), "the word of {packed:?}");
+    }
+    Ok(())
+}
+
+#[test]
+fn refuses_by_name(rt: HostRuntime) -> Result<(), Fail> {
+    let table = [
+        (
+            packed(&[Op::Dup, Op::Dup, Op::Dup], None, 0),
+            PackError::Shape,
+        ),
+        (four(Op::Dup, Op::Dup, Op::Dup, Op::Drop), PackError::Slot3),
+        (
+            packed(&[Op::Dup, Op::Jump], Some(0x100), 0),
+            PackError::Dest,
+        ),
+        (packed(&[Op::Dup, Op::Jump], Some(0), 1), PackError::Spare),
+    ];
+    for (packed, error) in &table {
+        assert_eq!(rt; encode(packed), Err(*error), "the fault of {packed:?}");
+    }
+    Ok(())
+}
+
+#[test]
+fn encode_gives_each_word_back(rt: HostRuntime) -> Result<(), Fail> {
+    for number in 0..1 << 18 {
+        let word = Word18::new(number).ok_or("no word")?;
+        let again = encode(&decode(word));
+        assert_eq!(rt; again, Ok(word), "{number:05X}");
+    }
+    Ok(())
+}
+
+#[test]
+fn counts_followers(rt: HostRuntime) -> Result<(), Fail> {
+    let table = [
+        (four(Op::Return, Op::FetchP, Op::Nop, Op::Nop), 0),
+        (four(Op::FetchP, Op::AStore, Op::FetchP, Op::Nop), 2),
+        (packed(&[Op::FetchP, Op::Jump], Some(0), 0), 1),
+    ];
+    for (packed, count) in &table {
+        assert_eq!(rt; followers(packed), *count, "the followers of {packed:?}");
+    }
+    Ok(())
+}
