@@ -1,2 +1,4 @@
 pub mod Decoded
+pub mod Followers
+pub mod Model
 pub mod Reading
