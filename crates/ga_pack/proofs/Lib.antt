@@ -8,3 +8,4 @@ mod Spellings
 mod StoredOpcodes
 mod WorkedEncodings
 mod WorkedReadings
+mod WorkedSources

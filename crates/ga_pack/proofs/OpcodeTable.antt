@@ -2,9 +2,9 @@
 use Rattle.std.proofs.Common.{◌≡◌, ◌==◌, ◌&&◌, ℕ, zero, suc, ◌+◌, ◌<◌, Bool, true, List, [], ◌∷◌, length, refl, zero-add, ◌∙◌, arith}
 use Rattle.std.specs.Prelude.{slice_index_or}
 use Rattle.std.proofs.lemmas.Grind.{common_steps}
-use Rattle.ga_word.specs.Op.{code_of, op_with}
+use Rattle.ga_word.specs.Op.{code_of, op_with, opcodes}
 use Rattle.ga_word.specs.declared.op.Op.{Op}
-use Rattle.ga_word.specs.declared.op.Op.TheVariants.{Return, Execute, Jump, Call, Micronext, Next, If, MinusIf, FetchP, FetchPlus, FetchB, Fetch, StoreP, StorePlus, StoreB, Store, MultiplyStep, TwoStar, TwoSlash, Not, Plus, And, Or, Drop, Dup, Pop, Over, A, Nop, Push, BStore, AStore}
+use Rattle.ga_word.specs.declared.op.Op.TheVariants.{Nop}
 
 -- the opcodes of a list have the codes from `first` on
 abbrev counts_from : ℕ → List Op → Bool
@@ -19,9 +19,6 @@ code_at (op ∷ ops) first (suc place) counts within =
     let code = code_at ops (first + 1) place rest (omega arith) in
     omega arith
 
-abbrev in_order : List Op
-in_order = Return ∷ Execute ∷ Jump ∷ Call ∷ Micronext ∷ Next ∷ If ∷ MinusIf ∷ FetchP ∷ FetchPlus ∷ FetchB ∷ Fetch ∷ StoreP ∷ StorePlus ∷ StoreB ∷ Store ∷ MultiplyStep ∷ TwoStar ∷ TwoSlash ∷ Not ∷ Plus ∷ And ∷ Or ∷ Drop ∷ Dup ∷ Pop ∷ Over ∷ A ∷ Nop ∷ Push ∷ BStore ∷ AStore ∷ []
-
 pub code_of-op_with : (code : ℕ) → code < 32 → code_of (op_with code) ≡ code
 unfolding op_with
-code_of-op_with code below = code_at in_order 0 code refl below ∙ zero-add code
+code_of-op_with code below = code_at opcodes 0 code refl below ∙ zero-add code

@@ -1,4 +1,5 @@
 pub mod Decoded
 pub mod Encoding
 pub mod Followers
+pub mod Model
 pub mod Reading

@@ -1,0 +1,81 @@
+-- What the text of a token means.
+use Rattle.std.specs.Prelude.{◌==◌, ◌&&◌, ◌||◌, ℕ, zero, suc, ◌%◌, ◌^◌, Bool, true, false, List, [], ◌∷◌, ◌++◌, codes, find, length, nat_le, nat_lt, Option, Some, None, if◌then◌else◌}
+use Rattle.std.specs.Char.{is_digit}
+use Rattle.std.specs.List.{list_all}
+use Rattle.std.specs.Option.{is_some, option_map, option_or, unwrap_or}
+use Rattle.std.specs.Str.{bytes_eq}
+use Rattle.std.specs.Str.Parse.{digits_value}
+use Rattle.ga_word.specs.Op.{name_of, opcodes}
+use Rattle.ga_pack.specs.Model.Token.{BadToken, NumberRange, Token, op, number, name, label, node, node_name, align, data_part, open_mark, close_mark, comma, slash, bad, end, is_node}
+
+-- an opcode by its name
+abbrev pub as_op : List ℕ → Option Token
+as_op text = option_map op (find (λ o. bytes_eq (name_of o) text) opcodes)
+
+-- the names of numbers, the words and the marks
+abbrev pub fixed : List (List ℕ × Token)
+fixed = (codes "right", number 0x1D5) ∷ (codes "down", number 0x115) ∷ (codes "left", number 0x175) ∷ (codes "up", number 0x145) ∷ (codes "io", number 0x15D) ∷ (codes "rdlu", number 0x1A5) ∷ (codes "warm", number 0x0A9) ∷ (codes "node", node) ∷ (codes "align", align) ∷ (codes "data", data_part) ∷ (codes "[", open_mark) ∷ (codes "]", close_mark) ∷ (codes ",", comma) ∷ (codes "/", slash) ∷ []
+
+abbrev pub as_fixed : List ℕ → Option Token
+as_fixed text = option_map (λ entry. entry.1) (find (λ entry. bytes_eq entry.0 text) fixed)
+
+-- one to eight digits
+abbrev pub is_numeral : ℕ → List ℕ → Bool
+is_numeral radix digits = nat_le 1 (length digits) && nat_le (length digits) 8 && list_all (λ c. is_digit c radix) digits
+
+-- the number that a numeral writes, if a word holds it
+abbrev pub ranged : ℕ → Token
+ranged n = if nat_lt n (2 ^ 18) then number n else bad NumberRange
+
+abbrev pub as_decimal : List ℕ → Option Token
+as_decimal text = if is_numeral 10 text then Some (ranged (digits_value 10 text)) else None
+
+-- `$` and hex digits of either case
+abbrev pub as_hex : List ℕ → Option Token
+as_hex [] = None
+as_hex (c ∷ digits) = if (c == 36) && is_numeral 16 digits then Some (ranged (digits_value 16 digits)) else None
+
+-- an ASCII letter or `_`
+abbrev pub is_letter : ℕ → Bool
+is_letter c = (nat_le 65 c && nat_le c 90) || (nat_le 97 c && nat_le c 122) || (c == 95)
+
+-- one to sixteen letters and digits, the first no digit
+abbrev pub is_name : List ℕ → Bool
+is_name [] = false
+is_name (c ∷ cs) = is_letter c && nat_lt (length cs) 16 && list_all (λ d. is_letter d || is_digit d 10) cs
+
+abbrev pub as_name : List ℕ → Option Token
+as_name text = if is_name text then Some (name text) else None
+
+-- a name and `:`, where the bytes in front stand before the others
+abbrev pub label_from : List ℕ → List ℕ → Option Token
+label_from front [] = None
+label_from front (c ∷ []) = if (c == 58) && is_name front then Some (label front) else None
+label_from front (c ∷ d ∷ cs) = label_from (front ++ c ∷ []) (d ∷ cs)
+
+abbrev pub as_label : List ℕ → Option Token
+as_label text = label_from [] text
+
+-- The names of opcodes and numbers, `node`, `align` and `data` are no names of labels.
+unfoldable pub is_reserved : List ℕ → Bool
+is_reserved text = is_some (as_op text) || is_some (as_fixed text)
+
+-- What a token means, but for the name of a node. Only a name may be written as something else too: it is reserved then.
+unfoldable pub meaning_of : List ℕ → Token
+meaning_of text = unwrap_or (option_or (as_op text) (option_or (as_fixed text) (option_or (as_decimal text) (option_or (as_hex text) (option_or (as_label text) (as_name text)))))) (bad BadToken)
+
+-- three digits: a row from 0 to 7 and a column from 00 to 17
+abbrev pub as_node : List ℕ → Option Token
+as_node text =
+    if (length text == 3) && list_all (λ c. is_digit c 10) text && nat_lt (digits_value 10 text) 800 && nat_lt (digits_value 10 text % 100) 18
+    then Some (node_name (digits_value 10 text)) else None
+
+-- what a token means that stands behind `node` or not
+unfoldable pub meaning_at : Bool → List ℕ → Token
+meaning_at true text = unwrap_or (as_node text) (meaning_of text)
+meaning_at false text = meaning_of text
+
+-- the tokens of a text, from what they are written as; the first stands behind `node` or not
+unfoldable pub meanings : Bool → List (List ℕ) → List Token
+meanings behind [] = end ∷ []
+meanings behind (text ∷ texts) = meaning_at behind text ∷ meanings (is_node (meaning_at behind text)) texts
