@@ -1,11 +1,16 @@
 pub mod BitLists
 pub mod Encoded
+mod Fillers
 mod MadeWords
+pub mod OneFault
+pub mod OneLayout
 pub mod OneReading
 mod OpcodeTable
 pub mod ReadingFacts
 mod Spellings
 mod StoredOpcodes
 mod WorkedEncodings
+mod WorkedFaults
+mod WorkedLayouts
 mod WorkedReadings
 mod WorkedSources

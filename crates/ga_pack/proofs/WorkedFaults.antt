@@ -1,0 +1,177 @@
+-- Faults of items that were worked out by hand.
+use Rattle.std.proofs.Common.{◌≡◌, ◌&&◌, inl, inr, ℕ, zero, suc, Bool, true, false, not, List, [], ◌∷◌, ◌++◌, Option, Some, None, refl, ap, ◌+◌}
+use Rattle.std.specs.Prelude.{codes, map}
+use Rattle.std.specs.List.{list_all}
+use Rattle.std.specs.Option.{is_none}
+use Rattle.std.proofs.lemmas.Bool.{and_parts, not-true}
+use Rattle.ga_word.specs.declared.op.Op.TheVariants.{Jump, Micronext, Drop, Dup, Nop}
+use Rattle.ga_pack.specs.Model.Layout.{Labels, Alone, Arranged, is_loose, items_of, labels_behind, size}
+use Rattle.ga_pack.specs.Model.LayoutFault.{AsmFault, AsmKind, Judged, OutOfReach, Passed, TooLong, UndefinedLabel, UnextAlone, fault_at, fault_behind}
+use Rattle.ga_pack.specs.Model.Source.{Item, Label, Instruction, Transfer, Literal, Here, Word, WordTo, Plain}
+
+-- ---- an item at an address
+
+-- the 64th word, and the 65th
+pub too_long-64th : fault_at [] [] 63 false (Word (Nop ∷ [])) ≡ None
+too_long-64th = refl
+
+pub too_long-65th : fault_at [] [] 64 false (Word (Nop ∷ [])) ≡ Some TooLong
+too_long-65th = refl
+
+-- a number's follower is the 64th word, and the 65th, of a word of its own and of a shared word
+pub too_long-follower_64th : fault_at [] [] 62 false (Literal 5) ≡ None
+too_long-follower_64th = refl
+
+pub too_long-follower_65th : fault_at [] [] 63 false (Literal 5) ≡ Some TooLong
+too_long-follower_65th = refl
+
+pub too_long-shared_follower : fault_at [] [] 64 true (Literal 5) ≡ Some TooLong
+too_long-shared_follower = refl
+
+-- an item that joins the 64th word, and a label behind it
+pub too_long-joins : fault_at [] [] 64 true (Instruction Dup) ≡ None
+too_long-joins = refl
+
+pub too_long-label : fault_at (codes "x" ∷ []) [] 64 false (Here (codes "x")) ≡ None
+too_long-label = refl
+
+-- the other faults come before it
+pub undefined-first : fault_at [] [] 64 false (Plain (Label (codes "x"))) ≡ Some UndefinedLabel
+undefined-first = refl
+
+pub unext-first : fault_at [] [] 64 false (Instruction Micronext) ≡ Some UnextAlone
+unext-first = refl
+
+pub unext-joins : fault_at [] [] 8 true (Instruction Micronext) ≡ None
+unext-joins = refl
+
+-- ---- items that share no word
+
+abbrev is_alone : Item → Bool
+is_alone i = not (is_loose i)
+
+arranged_alone : (labels : Labels) (address : ℕ) (items : List Item) → list_all is_alone items ≡ true → Arranged labels address (map Alone items)
+unfolding Arranged
+arranged_alone labels address [] h = tt
+arranged_alone labels address (i ∷ is) h =
+    let parts = and_parts (is_alone i) (list_all is_alone is) h in
+    (not-true (is_loose i) parts.0, arranged_alone (labels_behind labels address (Alone i)) (address + size (Alone i)) is parts.1)
+
+items_alone : (items : List Item) → items_of (map Alone items) ≡ items
+items_alone [] = refl
+items_alone (i ∷ is) = ap (λ t. i ∷ t) (items_alone is)
+
+judged_alone : (names : List (List ℕ)) (before : List Item) (item : Item) (fault : Option AsmKind)
+    → list_all is_alone before ≡ true → fault_behind names (map Alone before) item ≡ fault → Judged names before item fault
+judged_alone names before item fault alone is = record {
+  groups = map Alone before;
+  stand_in = record { in_order = items_alone before; arranged = arranged_alone [] 0 before alone };
+  fault_is = is;
+}
+
+-- a test that they pass
+abbrev all_pass : List (List ℕ) → List Item → List Item → Bool
+all_pass names before [] = true
+all_pass names before (i ∷ is) = list_all is_alone before && is_none (fault_behind names (map Alone before) i) && all_pass names (before ++ i ∷ []) is
+
+none-is : (fault : Option AsmKind) → is_none fault ≡ true → fault ≡ None
+none-is None h = refl
+none-is (Some kind) h = cc
+
+passed_alone : (names : List (List ℕ)) (before items : List Item) → all_pass names before items ≡ true → Passed names before items
+unfolding Passed
+passed_alone names before [] h = tt
+passed_alone names before (i ∷ is) h =
+    let fault = fault_behind names (map Alone before) i in
+    let parts = and_parts (list_all is_alone before && is_none fault) (all_pass names (before ++ i ∷ []) is) h in
+    let here = and_parts (list_all is_alone before) (is_none fault) parts.0 in
+    (judged_alone names before i None here.0 (none-is fault here.1), passed_alone names (before ++ i ∷ []) is parts.1)
+
+-- ---- the first fault of a node
+
+abbrev dots : ℕ → List Item
+dots zero = []
+dots (suc n) = Word (Nop ∷ []) ∷ dots n
+
+-- 64 times `[ . ]` pass, and a 65th is too long
+pub full : Passed [] [] (dots 64)
+unfolding fault_behind
+full = passed_alone [] [] (dots 64) refl
+
+pub overfull : AsmFault (dots 65) 64 TooLong
+unfolding fault_behind
+overfull = inl (record {
+  before = dots 64;
+  item = Word (Nop ∷ []);
+  rest = [];
+  split = refl;
+  at_is = refl;
+  passed = passed_alone [] [] (dots 64) refl;
+  judged = judged_alone [] (dots 64) (Word (Nop ∷ [])) (Some TooLong) refl refl;
+})
+
+-- `jump x`
+pub undefined : AsmFault (Transfer Jump (Label (codes "x")) ∷ []) 0 UndefinedLabel
+unfolding fault_behind Passed
+undefined = inl (record {
+  before = [];
+  item = Transfer Jump (Label (codes "x"));
+  rest = [];
+  split = refl;
+  at_is = refl;
+  passed = tt;
+  judged = judged_alone [] [] (Transfer Jump (Label (codes "x"))) (Some UndefinedLabel) refl refl;
+})
+
+-- `unext`
+pub unext_alone : AsmFault (Instruction Micronext ∷ []) 0 UnextAlone
+unfolding fault_behind Passed
+unext_alone = inl (record {
+  before = [];
+  item = Instruction Micronext;
+  rest = [];
+  split = refl;
+  at_is = refl;
+  passed = tt;
+  judged = judged_alone [] [] (Instruction Micronext) (Some UnextAlone) refl refl;
+})
+
+abbrev back : List ℕ
+back = codes "back"
+
+abbrev to_back : Item
+to_back = WordTo (Dup ∷ Drop ∷ []) Jump (Label back) None
+
+abbrev in_front : List Item
+in_front = dots 2 ++ Here back ∷ dots 6
+
+-- two words, `back:`, six words, `[ dup drop jump back ]`: at 008 P is 009, in another page than 002
+pub another_page : AsmFault (in_front ++ to_back ∷ []) 9 OutOfReach
+unfolding fault_behind
+another_page = inl (record {
+  before = in_front;
+  item = to_back;
+  rest = [];
+  split = refl;
+  at_is = refl;
+  passed = passed_alone (back ∷ []) [] in_front refl;
+  judged = judged_alone (back ∷ []) in_front to_back (Some OutOfReach) refl refl;
+})
+
+-- `[ dup drop jump back ]`, seven words, `back:` and a word: at 000 P is 001, in another page than 008
+abbrev to_later : List Item
+to_later = to_back ∷ (dots 7 ++ Here back ∷ dots 1)
+
+pub later_page : AsmFault to_later 0 OutOfReach
+unfolding fault_behind
+later_page = inr (record {
+  passed = passed_alone (back ∷ []) [] to_later refl;
+  front = [];
+  item = to_back;
+  back = map Alone (dots 7 ++ Here back ∷ dots 1);
+  stand_in = record { in_order = refl; arranged = arranged_alone [] 0 to_later refl };
+  front_near = refl;
+  item_far = refl;
+  at_is = refl;
+  kind_is = refl;
+})
