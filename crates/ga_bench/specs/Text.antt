@@ -1,4 +1,4 @@
--- The words of an input.
+-- The input as text and as words.
 use Rattle.std.specs.Prelude.{ℕ, List, length, nat_lt, Result, Ok, Err, if◌then◌else◌}
 use Rattle.std.specs.Str.{is_utf8}
 use Rattle.ga_word.specs.Text.{is_empty, words_of_text}
@@ -27,3 +27,8 @@ words_after (Err fault) = Err fault
 -- word, no word, or too many.
 unfoldable pub words_in : List ℕ → Result (List ℕ) ServeError
 words_in input = words_after (text_in input)
+
+-- the text that is made of what was found in an input, or the fault of the input
+abbrev pub text_from : {A : Type 0} → (A → List ℕ) → Result A ServeError → Result (List ℕ) ServeError
+text_from text (Ok found) = Ok (text found)
+text_from text (Err fault) = Err fault
