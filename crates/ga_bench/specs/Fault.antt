@@ -3,7 +3,7 @@ use Rattle.std.specs.Prelude.{ℕ, ◌≡◌, Result, Ok, Err}
 use Rattle.ga_word.specs.declared.text.WordsError.{WordsError}
 use Rattle.ga_word.specs.declared.text.WordsError.TheVariants as words
 use Rattle.ga_bench.specs.declared.fault.ServeError.{ServeError}
-use Rattle.ga_bench.specs.declared.fault.ServeError.TheVariants.{Input, Words, Read, Write, Memory}
+use Rattle.ga_bench.specs.declared.fault.ServeError.TheVariants.{Words, Read, Write, Memory}
 use Rattle.ga_bench.specs.declared.fault.WordsFault.TheVariants.{BadWord}
 
 -- the fault of a text that is not all words
@@ -11,27 +11,27 @@ abbrev pub fault_of_words : WordsError → ServeError
 fault_of_words (words.BadWord index) = Words (BadWord index)
 fault_of_words words.Memory = Memory
 
--- 1 for a refused input, a read or a write; 3 for want of memory
+-- 3 for want of memory, 1 for every other fault
 abbrev pub status_of_fault : ServeError → ℕ
-status_of_fault (Input fault) = 1
-status_of_fault (Words fault) = 1
-status_of_fault Read = 1
-status_of_fault Write = 1
 status_of_fault Memory = 3
+status_of_fault fault = 1
 
 abbrev pub status_of : {Done : Type 0} → Result Done ServeError → ℕ
 status_of (Ok done) = 0
 status_of (Err fault) = status_of_fault fault
 
--- What a function answers, its value seen through a view, is what a definition says, unless memory ran
--- out. Such a function reads nothing and writes nothing.
-abbrev pub Fails : {A : Type 0} → ServeError → Result A ServeError → Type 0
-Fails Memory expected = Unit {0}
-Fails (Input fault) expected = expected ≡ Err (Input fault)
-Fails (Words fault) expected = expected ≡ Err (Words fault)
-Fails Read expected = ⊥
-Fails Write expected = ⊥
+-- What a function answers that reads nothing and writes nothing is right, a value seen through a view,
+-- unless memory ran out.
+abbrev pub FailsRightly : {B : Type 0} → (Result B ServeError → Type 0) → ServeError → Type 0
+FailsRightly IsRight Memory = Unit {0}
+FailsRightly IsRight Read = ⊥
+FailsRightly IsRight Write = ⊥
+FailsRightly IsRight fault = IsRight (Err fault)
 
+abbrev pub Answers : {A B : Type 0} → (A → B) → (Result B ServeError → Type 0) → Result A ServeError → Type 0
+Answers view IsRight (Ok value) = IsRight (Ok (view value))
+Answers view IsRight (Err fault) = FailsRightly IsRight fault
+
+-- the same, where one answer is right
 abbrev pub Gives : {A B : Type 0} → (A → B) → Result A ServeError → Result B ServeError → Type 0
-Gives view (Ok value) expected = expected ≡ Ok (view value)
-Gives view (Err fault) expected = Fails fault expected
+Gives view answer expected = Answers view (λ right. expected ≡ right) answer

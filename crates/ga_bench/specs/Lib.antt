@@ -1,7 +1,9 @@
 pub mod Fault
-pub mod Line
-pub mod Words
+pub mod Text
+pub mod Number
 pub mod One
+pub mod CommandLine
+pub mod Answer
 pub mod Reading
-pub mod Output
-pub mod Serves
+pub mod Writing
+pub mod Engine

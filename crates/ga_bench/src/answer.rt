@@ -1,17 +1,16 @@
 ghost use Rattle.std.specs.Prelude.{string_bytes};
-ghost use Rattle.ga_bench.specs.Fault.{Gives};
-ghost use Rattle.ga_bench.specs.Output.{job_output};
+ghost use Rattle.ga_bench.specs.Answer.{IsJobOutput};
+ghost use Rattle.ga_bench.specs.Fault.{Answers};
 
 use crate::fault::ServeError;
+use crate::one::one;
 use crate::request::Job;
-use crate::single::one;
-use std::alloc::Global;
 
 /// What a job writes for an input.
-pub fn output(alloc: Global, job: &Job, input: &[u8]) -> Result<String, ServeError>
-    ensures { Gives string_bytes result (job_output job.now input.now) }
+pub fn output<Rt: AllocGlobal>(rt: &Rt, job: &Job, input: &[u8]) -> Result<String, ServeError>
+    ensures { Answers string_bytes (IsJobOutput job.now input.now) result }
 {
     match job {
-        Job::One { tries } => one(alloc, *tries, input),
+        Job::One { tries } => one(rt.alloc(), *tries, input),
     }
 }

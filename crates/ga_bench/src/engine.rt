@@ -1,11 +1,11 @@
-ghost use Rattle.std.specs.Prelude.{◌≡◌, ◌≢◌, ◌+◌, IfErr, IfSome};
+ghost use Rattle.std.specs.Prelude.{◌≢◌, IfErr, IfSome};
 ghost use Rattle.std.specs.Io.KnownBytes.{Keeps};
 ghost use Rattle.ga_bench.specs.Reading.{ConsumesUpTo, ReadsFirst};
-ghost use Rattle.ga_bench.specs.Serves.{Serves};
+ghost use Rattle.ga_bench.specs.Engine.{Serves};
 
 use crate::answer::output;
 use crate::fault::ServeError;
-use crate::reading::{INPUT_LIMIT, read_input};
+use crate::reading::read_input;
 use crate::request::Job;
 use crate::writing::write_output;
 use std::io::{Read, Write};
@@ -22,17 +22,17 @@ pub fn serve<Rt: AllocGlobal, R: Read, W: Write>(
     writer: &mut W,
     job: &Job,
 ) -> Result<(), ServeError>
-    // Where the reader and the writer tell their bytes, what is written is a function of what is read.
+    // Where the reader and the writer tell their bytes, what is written is an output for what is read.
     ensures served { IfSome (R.remaining reader.old) (λ input.
         Serves job.now input (W.contents writer.old) (W.contents writer.new) result) }
     ensures read_first { ReadsFirst result (R.remaining reader.new) }
-    ensures read_no_more { ConsumesUpTo (INPUT_LIMIT + 1) (R.remaining reader.old) (R.remaining reader.new) }
+    ensures read_no_more { ConsumesUpTo 1048577 (R.remaining reader.old) (R.remaining reader.new) }
 
     // At any reader.
     ensures unwritten { IfErr result (λ fault. fault ≢ ServeError.Write
         → Keeps (W.contents writer.old) (W.contents writer.new)) }
 {
     let input = read_input(rt.alloc(), reader)?;
-    let text = output(rt.alloc(), job, &input)?;
+    let text = output(rt, job, &input)?;
     write_output(writer, text.as_bytes())
 }

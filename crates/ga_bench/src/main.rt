@@ -2,18 +2,19 @@
 #![tactic(auto)]
 
 mod answer;
+mod command_line;
 mod engine;
 mod fault;
-mod line;
+mod number;
+mod one;
 mod reading;
 mod request;
-mod single;
 mod text;
 mod writing;
 
+use crate::command_line::{LineError, job, refusal};
 use crate::engine::serve;
 use crate::fault::{ServeError, status};
-use crate::line::{LineError, job, refusal};
 use crate::request::Job;
 use clap::error::ErrorKind::InvalidValue;
 use std::io::ErrorKind::OutOfMemory;
@@ -31,7 +32,8 @@ fn run<R: Env + AllocGlobal + Input + Print + Eprint>(rt: &R) -> u8 {
         Ok(job) => serve(rt, &mut rt.reader(), &mut io::writer(rt), &job),
         Err(LineError::Memory) => Err(ServeError::Memory),
         Err(LineError::Parse(error)) => match error.print(rt) {
-            Ok(()) => return if error.use_stderr() { 2 } else { 0 },
+            _ if error.use_stderr() => return 2,
+            Ok(()) => return 0,
             Err(_) => Err(ServeError::Write),
         },
     };

@@ -7,10 +7,10 @@ use std::alloc::Global;
 use std::io::{ErrorKind, Read};
 
 /// The most bytes that an input may have.
-pub const INPUT_LIMIT: usize = 1_048_576;
+const INPUT_LIMIT: usize = 1_048_576;
 
 /// The most calls of `read` that one input may take.
-pub const READS_LIMIT: u32 = 2_097_152;
+const READS_LIMIT: u32 = 2_097_152;
 
 /// Reads all that there is, up to the limit and one byte more, by which an input is too long.
 ///
@@ -19,9 +19,9 @@ pub fn read_input<R: Read>(alloc: Global, reader: &mut R) -> Result<Vec<u8>, Ser
     ensures input { IfOk result (λ input.
         Consumes (R.remaining reader.old) (R.remaining reader.new) input.items) }
     ensures end { OnOk result (IsAtEnd (R.remaining reader.new)) }
-    ensures limit { IfOk result (λ input. vec_len input ≤ INPUT_LIMIT) }
+    ensures limit { IfOk result (λ input. vec_len input ≤ 1048576) }
     ensures fault { IfErr result (ReadFails (R.remaining reader.old)) }
-    ensures no_more { ConsumesUpTo (INPUT_LIMIT + 1) (R.remaining reader.old) (R.remaining reader.new) }
+    ensures no_more { ConsumesUpTo 1048577 (R.remaining reader.old) (R.remaining reader.new) }
 {
     let mut input = Vec::new(alloc);
     let mut buffer = [0; 8192];

@@ -1,7 +1,9 @@
+ghost use Rattle.std.specs.Prelude.{◌≡◌, ◌++◌, List, ℕ, Ok, OnOk};
+ghost use Rattle.ga_bench.specs.Answer.{IsOutput};
+
+use crate::command_line::{LineError, job};
 use crate::engine::serve;
-use crate::fault::{ServeError, status};
-use crate::line::{LineError, job};
-use crate::reading::{INPUT_LIMIT, READS_LIMIT};
+use crate::fault::{ServeError, WordsFault, status};
 use crate::request::Job;
 use clap::error::ErrorKind as LineKind;
 use std::alloc::{AllocError, Global};
@@ -45,13 +47,19 @@ fn source_of(bytes: &[u8], most: usize) -> Source<'_> {
     }
 }
 
-/// A reader of which each read is interrupted.
+/// A reader of which so many reads are interrupted, before it is at its end.
 #[derive(Drop)]
-struct Restless(u32);
+struct Restless {
+    interruptions: u32,
+    calls: u32,
+}
 
 impl Read for Restless {
     fn read(&mut self, _buf: &mut [u8]) -> io::Result<usize> {
-        self.0 = self.0.saturating_add(1);
+        self.calls = self.calls.saturating_add(1);
+        if self.calls > self.interruptions {
+            return Ok(0);
+        }
         Err(ErrorKind::Interrupted.into())
     }
 }
@@ -146,7 +154,7 @@ fn refuses_inputs(rt: HostRuntime) -> Result<(), Fail> {
     }
     let mut many_and_bad = many.clone()?;
     many_and_bad.extend_from_slice(b"40000")?;
-    let long = vec![in alloc; 0xFF; INPUT_LIMIT + 1]?;
+    let long = vec![in alloc; 0xFF; 1_048_577]?;
     let table = [
         (b"".as_slice(), "words Empty"),
         (b" \t\r\n", "words Empty"),
@@ -198,8 +206,8 @@ fn padded(alloc: Global, len: usize) -> Result<Vec<u8>, AllocError> {
 #[test]
 fn reads_up_to_the_limit(rt: HostRuntime) -> Result<(), Fail> {
     let alloc = rt.alloc();
-    let accepted = padded(alloc, INPUT_LIMIT)?;
-    let refused = padded(alloc, INPUT_LIMIT + 9)?;
+    let accepted = padded(alloc, 1_048_576)?;
+    let refused = padded(alloc, 1_048_585)?;
     for most in [1, 8192] {
         let mut writer = sink_of(alloc, 8192);
         let mut reader = source_of(&accepted, most);
@@ -234,11 +242,71 @@ fn fails_at_each_read(rt: HostRuntime) {
             assert_eq!(rt; writer.taken.as_slice(), written.as_bytes());
         }
     }
-    let mut reader = Restless(0);
-    let mut writer = sink_of(alloc, 8192);
-    let outcome = serve(&rt, &mut reader, &mut writer, &Job::One { tries: 5 });
-    assert_eq!(rt; outcome, Err(ServeError::Read));
-    assert_eq!(rt; (reader.0, writer.calls), (READS_LIMIT, 0));
+}
+
+#[test]
+fn reads_so_many_times(rt: HostRuntime) {
+    // The last read is allowed to give the end, and no read is made behind it.
+    for (interruptions, expected) in [
+        (2_097_151, Err(ServeError::Words(WordsFault::Empty))),
+        (2_097_152, Err(ServeError::Read)),
+        (2_097_153, Err(ServeError::Read)),
+    ] {
+        let mut reader = Restless {
+            interruptions,
+            calls: 0,
+        };
+        let mut writer = sink_of(rt.alloc(), 8192);
+        let outcome = serve(&rt, &mut reader, &mut writer, &Job::One { tries: 5 });
+        assert_eq!(rt; outcome, expected);
+        assert_eq!(rt; (reader.calls, writer.calls), (2_097_152, 0));
+    }
+}
+
+#[test]
+fn reads_each_length(rt: HostRuntime) -> Result<(), Fail> {
+    let alloc = rt.alloc();
+    for len in 0..3000 {
+        let mut input = vec![in alloc; b' '; len]?;
+        let mut writer = sink_of(alloc, 8192);
+        let mut reader = source_of(&input, 1 + len % 97);
+        let outcome = serve(&rt, &mut reader, &mut writer, &Job::One { tries: 5 });
+        assert_eq!(rt;
+            outcome,
+            Err(ServeError::Words(WordsFault::Empty)),
+            "{len} bytes"
+        );
+
+        input.extend_from_slice(WORDS.as_bytes())?;
+        let mut reader = source_of(&input, 1 + len % 97);
+        let outcome = serve(&rt, &mut reader, &mut writer, &Job::One { tries: 5 });
+        assert_eq!(rt; outcome, Ok(()), "{len} bytes more");
+        assert_eq!(rt; writer.taken.as_slice(), LINE.as_bytes());
+    }
+    Ok(())
+}
+
+/// Serves a job over bytes in memory. What its clause says is the composition: the bytes written are
+/// an output of the job for the bytes read.
+fn served(
+    rt: &impl AllocGlobal,
+    job: &Job,
+    input: &[u8],
+    output: &mut Vec<u8>,
+) -> Result<(), ServeError>
+    ensures { OnOk result ((text : List ℕ) × IsOutput job.now input.now (Ok text)
+        × (output.new.items ≡ output.old.items ++ text)) }
+{
+    let mut reader = input;
+    serve(rt, &mut reader, output, job)
+}
+
+#[test]
+fn composes(rt: HostRuntime) {
+    let mut output = Vec::new(rt.alloc());
+    let outcome = served(&rt, &Job::One { tries: 5 }, WORDS.as_bytes(), &mut output);
+    assert_eq!(rt; outcome, Ok(()));
+    assert_eq!(rt; output.as_slice(), LINE.as_bytes());
 }
 
 #[test]

@@ -1,6 +1,6 @@
 ghost use Rattle.std.specs.Prelude.{◌≤◌, IfOk, vec_len};
 ghost use Rattle.ga_bench.specs.Fault.{Gives};
-ghost use Rattle.ga_bench.specs.Words.{text_in, words_in};
+ghost use Rattle.ga_bench.specs.Text.{text_in, words_in};
 
 use crate::fault::{InputFault, ServeError, WordsFault};
 use ga_word::{Word18, read_words};
@@ -21,10 +21,10 @@ pub fn text_of(input: &[u8]) -> Result<&str, ServeError>
 }
 
 /// The words of an input, 1 to 64.
-#[tactic(auto, unfolding(crate::specs::Words::words_in))]
+#[tactic(auto, unfolding(crate::specs::Text::words_in))]
 pub fn words_of(alloc: Global, input: &[u8]) -> Result<Vec<Word18>, ServeError>
     ensures words { Gives (λ words. words.items) result (words_in input.now) }
-    ensures count { IfOk result (λ words. vec_len words ≤ WORDS_LIMIT) }
+    ensures count { IfOk result (λ words. vec_len words ≤ 64) }
 {
     let words = read_words(alloc, text_of(input)?)?;
     if words.is_empty() {

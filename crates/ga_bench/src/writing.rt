@@ -1,6 +1,6 @@
 ghost use Rattle.std.specs.Prelude.{◌≡◌, OnOk, OnErr, IfErr};
 ghost use Rattle.std.specs.Io.KnownBytes.{Appends};
-ghost use Rattle.ga_bench.specs.Serves.{AppendsPart};
+ghost use Rattle.ga_bench.specs.Writing.{AppendsPart};
 
 use crate::fault::ServeError;
 use std::io::{ErrorKind, Write};

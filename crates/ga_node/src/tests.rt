@@ -117,7 +117,6 @@ fn readers(rt: HostRuntime) -> Result<(), Fail> {
     assert_eq!(rt; state.data_stack().map(|word| word.get()), [0; 8]);
     assert_eq!(rt; state.return_stack().map(|word| word.get()), [0; 8]);
     let ram = state.ram();
-    assert_eq!(rt; ram.len(), 64);
     assert_eq!(rt; (ram[1].get(), ram[3].get()), (7, 0));
     Ok(())
 }

@@ -1,0 +1,3 @@
+mod Entered
+mod WorkedLines
+mod WorkedOutputs

@@ -1,0 +1,111 @@
+ghost use Rattle.std.specs.Prelude.{◌≡◌, IfErr, IfOk, false, map};
+ghost use Rattle.clap.specs.Words.{app_of, kind_of, shape_of, with_subcommand};
+ghost use Rattle.clap.specs.declared.error.kind.ErrorKind.TheVariants.{OutOfMemory};
+ghost use Rattle.ga_bench.specs.declared.command_line.LineError.TheVariants.{Memory};
+ghost use Rattle.ga_bench.specs.CommandLine.{InRange, IsCommandOf, IsJobOf, IsRight, bare_command, bench_command, has_globals};
+
+use crate::one;
+use crate::request::Job;
+use clap::Command;
+use clap::error::ErrorKind;
+use std::alloc::{AllocError, Global};
+use thiserror::Error;
+
+/// Why a command line names no job.
+#[derive(Debug, Drop, Error)]
+pub enum LineError {
+    /// The words are wrong, or ask for help or the version.
+    #[error("{0}")]
+    Parse(clap::Error),
+    /// Memory ran out.
+    #[error("memory")]
+    Memory,
+}
+
+impl From<clap::Error> for LineError {
+    ghost from_gives = { λ error fault. kind_of error ≡ OutOfMemory → fault ≡ Memory };
+
+    fn from(error: clap::Error) -> LineError {
+        match error.kind() {
+            ErrorKind::OutOfMemory => LineError::Memory,
+            _ => LineError::Parse(error),
+        }
+    }
+}
+
+impl From<AllocError> for LineError {
+    ghost from_gives = { λ _ fault. fault ≡ Memory };
+
+    fn from(_error: AllocError) -> LineError {
+        LineError::Memory
+    }
+}
+
+/// Reads a command line, of which the first word is the program's name.
+pub fn job(alloc: Global, words: &[&str]) -> Result<Job, LineError>
+    ensures in_range { IfOk result InRange }
+    ensures named { IfOk result (IsJobOf (map (λ word. word.now) words.now)) }
+    // Right words are refused only for want of memory.
+    ensures right { IfErr result (λ error. (job : Job) → IsRight (map (λ word. word.now) words.now) job
+        → error ≡ LineError.Memory) }
+{
+    let matches = command(alloc)?.try_get_matches_from(words)?;
+    match matches.subcommand() {
+        Some(("one", found)) => Ok(Job::One {
+            tries: one::tries_of(alloc, found)?,
+        }),
+        _ => Err(refusal(
+            alloc,
+            ErrorKind::MissingSubcommand,
+            "a subcommand is missing",
+        )),
+    }
+}
+
+/// An error in a command line that this program finds itself, with the usage.
+pub fn refusal(alloc: Global, kind: ErrorKind, message: &str) -> LineError {
+    match refused(alloc, kind, message) {
+        Ok(error) => LineError::from(error),
+        Err(error) => LineError::from(error),
+    }
+}
+
+fn refused(alloc: Global, kind: ErrorKind, message: &str) -> Result<clap::Error, AllocError> {
+    command(alloc)?.error(kind, message)
+}
+
+/// The whole command.
+fn command<'a>(alloc: Global) -> Result<Command<'a>, AllocError>
+    ensures { IfOk result (IsCommandOf bench_command) }
+{
+    let command = bare_command(alloc)?;
+    link(command, one::command(alloc)?)
+}
+
+/// The command without its subcommands.
+fn bare_command<'a>(alloc: Global) -> Result<Command<'a>, AllocError>
+    ensures { IfOk result (IsCommandOf bare_command) }
+{
+    let command = Command::new(alloc, "ga-bench")
+        .bin_name("ga-bench")?
+        .version("0.1.0")
+        .about("A bench for the GA144, a chip of 144 small computers")
+        .after_help(STATUS_HELP)
+        .subcommand_required(true);
+    Ok(command)
+}
+
+/// The command with one more subcommand.
+fn link<'a>(command: Command<'a>, subcommand: Command<'a>) -> Result<Command<'a>, AllocError>
+    requires command { has_globals command ≡ false }
+    requires subcommand { has_globals subcommand ≡ false }
+    ensures { IfOk result (IsCommandOf (with_subcommand (app_of command.entry) (shape_of subcommand.entry))) }
+{
+    command.subcommand(subcommand)
+}
+
+const STATUS_HELP: &str = "\
+Each command reads standard input to its end, and then writes standard output.
+
+Exit status: 0 where all was written, 1 where the input was refused or a read or a write failed,
+2 where the command line is wrong, 3 where memory ran out. What failed is told on standard error.";
