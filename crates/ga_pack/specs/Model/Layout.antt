@@ -191,9 +191,9 @@ code_end address (group ∷ groups) = code_end (address + size group) groups
 abbrev pub number_of : Labels → Value → ℕ
 number_of labels v = unwrap_or (value_of labels v) 0
 
--- four opcodes: these, and fillers behind them
+-- these opcodes, and fillers behind them up to so many
 abbrev pub filled : ℕ → List Op → List Op
-filled zero ops = []
+filled zero ops = ops
 filled (suc room) [] = Nop ∷ filled room []
 filled (suc room) (o ∷ ops) = o ∷ filled room ops
 
@@ -207,7 +207,7 @@ last_dest labels slot [] = None
 last_dest labels slot (Transfer o v ∷ []) = Some (dest_in labels slot v)
 last_dest labels slot (i ∷ is) = last_dest labels (suc slot) is
 
--- the opcodes of a word: fillers stand behind these where no destination does
+-- the opcodes of a word: where no destination stands behind these, fillers do, up to slot 3
 abbrev pub with_fillers : List Op → Option ℕ → List Op
 with_fillers ops (Some dest) = ops
 with_fillers ops None = filled 4 ops
