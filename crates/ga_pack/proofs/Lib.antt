@@ -6,6 +6,7 @@ pub mod OneFault
 pub mod OneLayout
 pub mod OneReading
 mod OpcodeTable
+pub mod Packable
 pub mod Placed
 pub mod ReadingFacts
 mod Spellings
