@@ -1,4 +1,5 @@
 pub mod BitLists
+pub mod Encodable
 pub mod Encoded
 mod Fillers
 mod MadeWords
