@@ -10,7 +10,7 @@ use Rattle.ga_word.specs.Word.{bits}
 use Rattle.ga_word.specs.declared.op.Op.{Op}
 use Rattle.ga_word.proofs.OpCodes.{code_of-below}
 use Rattle.ga_pack.specs.Encoding.{dest_fits, ends_at_dest, has_shape, pack_fault, slot3_fits, spare_fits}
-use Rattle.ga_pack.specs.Reading.{Reads, stored, stored_upper}
+use Rattle.ga_pack.specs.Reading.{Reads, stored}
 use Rattle.ga_pack.specs.declared.encoding.PackError.TheVariants.{Shape, Slot3, Dest, Spare}
 use Rattle.ga_pack.proofs.Encoded.{shapeless_many}
 use Rattle.ga_pack.proofs.MadeWords.{made_behind_slot0, made_behind_slot1, made_behind_slot2, made_without_dest}
@@ -49,9 +49,12 @@ some2 a b c dest none_a none_b takes fits =
     let below_a = field-below 0 0x0A key0 a in
     let below_b = field-below 1 0x15 key1 b in
     let below_c = field-below 2 0x0A key2 c in
-    let n = ((field 0x0A a * 2 ^ 5 + field 0x15 b) * 2 ^ 5 + field 0x0A c) * 2 ^ 3 + dest in
-    (n, omega arith, made_behind_slot2 n (field 0x0A a) (field 0x15 b) (field 0x0A c) dest a b c none_a none_b takes
-    (field-stored 0 0x0A key0 a) (field-stored 1 0x15 key1 b) (field-stored 2 0x0A key2 c) below_b below_c fits refl)
+    let n = ((field 0x0A a * 2 ^ 5 + field 0x15 b) * 2 ^ 5 + field 0x0A c) * 2 ^ 3 + dest in (
+      n,
+      omega arith,
+      made_behind_slot2 n (field 0x0A a) (field 0x15 b) (field 0x0A c) dest a b c none_a none_b takes
+          (field-stored 0 0x0A key0 a) (field-stored 1 0x15 key1 b) (field-stored 2 0x0A key2 c) below_b below_c fits refl,
+    )
 
 some3 : (a b c d : Op) → takes_dest a ≡ false → takes_dest b ≡ false → takes_dest c ≡ false → fits_slot3 d ≡ true → SomeWord (a ∷ b ∷ c ∷ d ∷ []) None 0
 some3 a b c d none_a none_b none_c fits =
@@ -61,9 +64,12 @@ some3 a b c d none_a none_b none_c fits =
     let upper = bit_xor (code_of d / 2 ^ 2) 5 in
     let code = code_of-below d in
     let below_d : upper < 2 ^ 3 = xor_lt 3 (code_of d / 2 ^ 2) 5 (omega arith) (lit< tt) in
-    let n = ((field 0x0A a * 2 ^ 5 + field 0x15 b) * 2 ^ 5 + field 0x0A c) * 2 ^ 3 + upper in
-    (n, omega arith, made_without_dest n (field 0x0A a) (field 0x15 b) (field 0x0A c) upper a b c d none_a none_b none_c fits
-    (field-stored 0 0x0A key0 a) (field-stored 1 0x15 key1 b) (field-stored 2 0x0A key2 c) (stored_upper-coded d (code_of d / 2 ^ 2) refl) below_b below_c below_d refl)
+    let n = ((field 0x0A a * 2 ^ 5 + field 0x15 b) * 2 ^ 5 + field 0x0A c) * 2 ^ 3 + upper in (
+      n,
+      omega arith,
+      made_without_dest n (field 0x0A a) (field 0x15 b) (field 0x0A c) upper a b c d none_a none_b none_c fits
+          (field-stored 0 0x0A key0 a) (field-stored 1 0x15 key1 b) (field-stored 2 0x0A key2 c) (stored_upper-coded d (code_of d / 2 ^ 2) refl) below_b below_c below_d refl,
+    )
 
 parts_of : (shape slot3 fits none : Bool) → (if not shape then Some Shape else if not slot3 then Some Slot3 else if not fits then Some Dest else if not none then Some Spare else None) ≡ None
     → (shape ≡ true) × (slot3 ≡ true) × (fits ≡ true) × (none ≡ true)

@@ -2,6 +2,7 @@ pub mod BitLists
 pub mod Encodable
 pub mod Encoded
 mod Fillers
+pub mod Laying
 mod MadeWords
 pub mod OneFault
 pub mod OneLayout
