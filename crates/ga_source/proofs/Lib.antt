@@ -1,0 +1,7 @@
+mod PlainMachine
+mod Completes
+mod Steps
+mod Exact
+mod FaultKinds
+mod Whole
+mod Erasure
