@@ -5,3 +5,4 @@ mod Exact
 mod FaultKinds
 mod Whole
 mod Erasure
+mod ParserSteps

@@ -130,3 +130,8 @@ Good (inside c (behind_dest first ops o v at)) = (stand_from 0 ops ≡ true) × 
 Good (inside c (behind_slash first ops o v at)) = (stand_from 0 ops ≡ true) × (nat_lt (length ops) 3 ≡ true) × (takes_dest o ≡ true) × (is_below (dest_bound (length ops)) v ≡ true) × ((length ops == 0) ≡ true) × (c.before.part ≡ Code 0)
 Good (inside c (behind_spare first ops o v at k)) = (stand_from 0 ops ≡ true) × (nat_lt (length ops) 3 ≡ true) × (takes_dest o ≡ true) × (is_below (dest_bound (length ops)) v ≡ true) × ((length ops == 0) ≡ true) × (nat_lt k 8 ≡ true) × (c.before.part ≡ Code 0)
 Good _ = Unit {0}
+
+-- the node of the open section is not that of a section that is done
+abbrev pub IsConsistent : State → Type 0
+IsConsistent (inside c at) = is_named c.name c.seen ≡ false
+IsConsistent _ = Unit {0}
