@@ -6,3 +6,7 @@ mod FaultKinds
 mod Whole
 mod Erasure
 mod ParserSteps
+pub mod Scanning
+pub mod Scans
+pub mod Numerals
+mod Names

@@ -1,5 +1,5 @@
 -- The items of a program, as the model has them.
-use Rattle.std.specs.Prelude.{ℕ, List, map}
+use Rattle.std.specs.Prelude.{ℕ, map}
 use Rattle.std.specs.Option.{option_map}
 use Rattle.std.specs.String.{string_bytes}
 use Rattle.ga_source.specs.declared.item.Value.{Value}
