@@ -1,0 +1,6 @@
+pub mod Token
+pub mod Meaning
+pub mod Machine
+pub mod Error
+pub mod Item
+pub mod Parser

@@ -1,0 +1,66 @@
+ghost use Rattle.ga_pack.specs.Model.Source as words;
+ghost use Rattle.std.specs.Prelude.{◌≡◌};
+ghost use Rattle.ga_source.specs.Item.{item_of};
+
+use crate::token::Place;
+use arrayvec::ArrayVec;
+use ga_word::Op;
+use indexmap::IndexSet;
+
+/// A number, or the name of a label of the node, which stands for its address.
+#[derive(Debug, PartialEq, Eq, Drop)]
+pub enum Value {
+    /// Below 2^18 in a plain word, and as a destination below what its slot holds.
+    Number(u32),
+    Label(String),
+}
+
+/// What a section is made of. (The texts are this project's own: profile.)
+#[derive(Debug, PartialEq, Eq, Drop)]
+pub enum Item {
+    /// An opcode that takes no destination, and is neither `@p` nor `!p`.
+    Instruction(Op),
+    /// An opcode and its destination.
+    Transfer(Op, Value),
+    /// A number below 2^18: `@p`, with the number as its follower.
+    Literal(u32),
+    /// A label, which names the next address.
+    Label(String),
+    /// The next item begins a word.
+    Align,
+    /// A bracketed word without a destination: its opcodes.
+    Word(ArrayVec<Op, 4>),
+    /// A bracketed word with a destination: the opcodes before the one that takes it, that opcode, the
+    /// destination, and the spare bits, if they are stated.
+    WordTo(ArrayVec<Op, 4>, Op, Value, Option<u8>),
+    /// A word behind `,`.
+    Plain(Value),
+    /// What follows is data.
+    Data,
+}
+
+impl Item {
+    /// Whether the item makes a word.
+    pub fn makes_word(&self) -> bool
+        ensures { result ≡ words.makes_word (item_of self.now) }
+    {
+        !matches!(self, Item::Label(_) | Item::Align | Item::Data)
+    }
+}
+
+/// An item and where it stands in its text.
+#[derive(Debug, PartialEq, Eq, Drop)]
+pub struct PlacedItem {
+    pub item: Item,
+    /// The place of its first token.
+    pub place: Place,
+    /// The place of the name of a label, where the item uses one as a destination or a word.
+    pub name_place: Option<Place>,
+}
+
+/// The items of a node, and the names of its labels, each in the text's order.
+#[derive(Debug, Drop)]
+pub struct Section {
+    pub items: Vec<PlacedItem>,
+    pub labels: IndexSet<String>,
+}

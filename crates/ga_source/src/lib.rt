@@ -1,0 +1,12 @@
+//! The source text of programs: its tokens, and the program that it is or its first fault.
+#![tactic(auto)]
+
+mod error;
+mod item;
+mod meaning;
+mod parser;
+mod token;
+
+pub use error::{SourceError, SourceErrorKind};
+pub use item::{Item, PlacedItem, Section, Value};
+pub use token::{Place, Token, tokens};
