@@ -6,3 +6,4 @@ mod FaultKinds
 mod Whole
 mod Erasure
 mod ParserSteps
+mod Placing

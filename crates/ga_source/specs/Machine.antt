@@ -131,7 +131,17 @@ Good (inside c (behind_slash first ops o v at)) = (stand_from 0 ops ≡ true) ×
 Good (inside c (behind_spare first ops o v at k)) = (stand_from 0 ops ≡ true) × (nat_lt (length ops) 3 ≡ true) × (takes_dest o ≡ true) × (is_below (dest_bound (length ops)) v ≡ true) × ((length ops == 0) ≡ true) × (nat_lt k 8 ≡ true) × (c.before.part ≡ Code 0)
 Good _ = Unit {0}
 
--- the node of the open section is not that of a section that is done
+-- the label of an item, if it is one, in front of others
+abbrev pub label_before : Item → List (List ℕ) → List (List ℕ)
+label_before (Here s) labels = s ∷ labels
+label_before i labels = labels
+
+-- the labels of items, in order
+abbrev pub labels_in : List PlacedItem → List (List ℕ)
+labels_in [] = []
+labels_in (i ∷ is) = label_before i.item (labels_in is)
+
+-- The node of the open section is not that of a section that is done, and its labels are those of its items.
 abbrev pub IsConsistent : State → Type 0
-IsConsistent (inside c at) = is_named c.name c.seen ≡ false
+IsConsistent (inside c at) = (is_named c.name c.seen ≡ false) × (c.before.labels ≡ labels_in c.items)
 IsConsistent _ = Unit {0}
