@@ -7,3 +7,4 @@ mod Whole
 mod Erasure
 mod ParserSteps
 mod Placing
+mod Reading

@@ -4,3 +4,4 @@ pub mod Machine
 pub mod Error
 pub mod Item
 pub mod Parser
+pub mod Program
