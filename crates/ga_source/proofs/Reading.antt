@@ -62,7 +62,7 @@ reading_next text i behind s s' t r f n e =
       cut = cut_more text i behind r.front t (drop (suc i) (texts_of text)) r.cut f ∙ sym (regroup r.front m (meanings (is_node m) (drop (suc i) (texts_of text))));
       count = count;
       reads = at_next r.front (state_in s) (state_in s') m r.reads n (plain_step s m (place_at (places_of text) i) (Ok s') e);
-      kept = kept
+      kept = kept;
     }
 
 fault_is : (text : List ℕ) (i : ℕ) (front rest : List Token) (s : State) (t : Token) (k : SourceKind) (place : Place) → tokens_of text ≡ front ++ t ∷ rest → length front ≡ i → ReadSoFar front (state_in s)
@@ -127,7 +127,7 @@ reading_end text i behind s p r f e =
     record {
       is = (sections_in (done_of p), source, placed);
       only = λ other (sections, src', at). at ∙ ap (placed_sections (places_of text)) (only sections (subst (λ ts. Source ts sections) tokens src') ∙ g) ∙ sym placed;
-      right = source_right (tokens_of text) (sections_in (done_of p)) source
+      right = source_right (tokens_of text) (sections_in (done_of p)) source;
     }
 
 -- ---- the tokens of a text
@@ -194,3 +194,44 @@ no_end means.Comma = refl
 no_end means.Slash = refl
 no_end means.BadToken = refl
 no_end means.NumberRange = refl
+
+-- ---- the loop's steps, over the tokens that were read
+
+abbrev pub no_token : written.Token
+no_token = record { start = 0; end = 0; line = 0; column = 0 }
+
+module _ (text : List ℕ) (ts all : List written.Token) (same : ts ≡ all) (are_all : all ≡ map token_of (lexemes text)) (texts_all : map (λ t. slice_range text t.start t.end) all ≡ texts_of text) where
+  are : ts ≡ map token_of (lexemes text)
+  are = same ∙ are_all
+
+  texts : map (λ t. slice_range text t.start t.end) ts ≡ texts_of text
+  texts = ap (map (λ t. slice_range text t.start t.end)) same ∙ texts_all
+
+  pub step : (i : ℕ) (d : written.Token) (behind behind' : Bool) (s s' : State) (m : Token) → i < length ts → Reading text i behind s
+      → m ≡ meaning_at behind (slice_range text (get_or ts i d).start (get_or ts i d).end) → is_end m ≡ false
+      → take s m (record { line = (get_or ts i d).line; column = (get_or ts i d).column }) ≡ Ok s' → behind' ≡ is_node m → (i + 1 ≤ length ts) × Reading text (i + 1) behind' s'
+  step i d behind behind' s s' m h r e n f b =
+      let t = slice_range text (get_or ts i d).start (get_or ts i d).end in
+      let g : take s (meaning_at behind t) (place_at (places_of text) i) ≡ Ok s' = ap (λ x. take s x (place_at (places_of text) i)) (sym e) ∙ ap (take s m) (sym (token_place text ts i d are h)) ∙ f in
+      let next = reading_next text i behind s s' t r (token_text text ts i d texts h) (ap is_end (sym e) ∙ n) g in
+      let more : suc i ≡ i + 1 = omega arith in
+      (omega (arith, h), subst (λ k. Reading text k behind' s') more (subst (λ x. Reading text (suc i) x s') (ap is_node (sym e) ∙ sym b) next))
+
+  pub step_fault : (i : ℕ) (d : written.Token) (behind : Bool) (s : State) (m : Token) (o : Option SourceKind) → i < length ts → Reading text i behind s
+      → m ≡ meaning_at behind (slice_range text (get_or ts i d).start (get_or ts i d).end)
+      → RefusedAs (take s m (record { line = (get_or ts i d).line; column = (get_or ts i d).column })) o → IsFirstFault text o (record { line = (get_or ts i d).line; column = (get_or ts i d).column })
+  step_fault i d behind s m o h r e f =
+      let place : Place = record { line = (get_or ts i d).line; column = (get_or ts i d).column } in
+      reading_fault text i behind s (slice_range text (get_or ts i d).start (get_or ts i d).end) o place r (token_text text ts i d texts h) (token_place text ts i d are h)
+      (subst (λ x. RefusedAs (take s x place) o) e f)
+
+  at_the_end : (i : ℕ) → length ts ≤ i → i ≤ length ts → length ts ≡ i
+  at_the_end i h k = omega (arith, h, k)
+
+  pub end_fault : (i : ℕ) (behind : Bool) (s : State) (o : Option SourceKind) (place : Place) → length ts ≤ i → i ≤ length ts → Reading text i behind s → place ≡ end_of text
+      → RefusedAs (take s end place) o → IsFirstFault text o place
+  end_fault i behind s o place h k r e f =
+      reading_fault_end text i behind s o place r (no_text text ts i texts (at_the_end i h k)) (e ∙ end_place text ts i are (at_the_end i h k)) f
+
+  pub end_taken : (i : ℕ) (behind : Bool) (s : State) (p : the.Parser) → length ts ≤ i → i ≤ length ts → Reading text i behind s → ((place : Place) → take s end place ≡ Ok (state_of p)) → Whole text (done_of p)
+  end_taken i behind s p h k r f = reading_end text i behind s p r (no_text text ts i texts (at_the_end i h k)) f

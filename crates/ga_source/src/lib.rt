@@ -5,8 +5,10 @@ mod error;
 mod item;
 mod meaning;
 mod parser;
+mod program;
 mod token;
 
 pub use error::{SourceError, SourceErrorKind};
 pub use item::{Item, PlacedItem, Section, Value};
+pub use program::{Program, parse};
 pub use token::{Place, Token, tokens};

@@ -10,7 +10,7 @@ ghost use Rattle.ga_pack.specs.Model.Token.{end};
 ghost use Rattle.ga_source.specs.Error.{kind_of};
 ghost use Rattle.ga_source.specs.Item.{item_of, section_of, value_of};
 ghost use Rattle.ga_source.specs.Machine as machine;
-ghost use Rattle.ga_source.specs.Machine.{Good, IsConsistent, added, closed};
+ghost use Rattle.ga_source.specs.Machine.{Good, IsConsistent, added, closed, nothing};
 ghost use Rattle.ga_source.specs.Meaning.{meaning_of};
 ghost use Rattle.ga_source.specs.Parser.{Answered, Took, done_of, inside_of, labels_of, name_place_of, names_of, part_of, pending_of, state_of};
 ghost use Rattle.ga_source.specs.Token.{place_of};
@@ -64,7 +64,7 @@ enum Position<'a> {
 #[derive(Drop)]
 pub(crate) struct Parser<'a> {
     alloc: Global,
-    sections: IndexMap<Node, Section>,
+    pub(crate) sections: IndexMap<Node, Section>,
     node: Node,
     items: Vec<PlacedItem>,
     labels: IndexSet<String>,
@@ -100,6 +100,24 @@ impl<'a> Pending<'a> {
 }
 
 impl<'a> Parser<'a> {
+    /// A parser that has taken no token.
+    pub(crate) fn new(alloc: Global) -> Self
+        ensures { state_of result ≡ nothing }
+    {
+        Parser {
+            alloc,
+            sections: IndexMap::new(alloc),
+            node: Node::new(0).unwrap(),
+            items: Vec::new(alloc),
+            labels: IndexSet::new(alloc),
+            part: Part::Code(0),
+            has_word: false,
+            position: Position::Nothing,
+            place: Place { line: 1, column: 1 },
+            ops: ArrayVec::new(),
+        }
+    }
+
     // The item is whole; the next one stands in this part.
     fn add(
         &mut self,
