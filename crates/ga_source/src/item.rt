@@ -5,7 +5,6 @@ ghost use Rattle.ga_source.specs.Item.{item_of};
 use crate::token::Place;
 use arrayvec::ArrayVec;
 use ga_word::Op;
-use indexmap::IndexSet;
 
 /// A number, or the name of a label of the node, which stands for its address.
 #[derive(Debug, PartialEq, Eq, Drop)]
@@ -56,11 +55,4 @@ pub struct PlacedItem {
     pub place: Place,
     /// The place of the name of a label, where the item uses one as a destination or a word.
     pub name_place: Option<Place>,
-}
-
-/// The items of a node, and the names of its labels, each in the text's order.
-#[derive(Debug, Drop)]
-pub struct Section {
-    pub items: Vec<PlacedItem>,
-    pub labels: IndexSet<String>,
 }

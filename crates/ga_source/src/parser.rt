@@ -8,7 +8,7 @@ ghost use Rattle.ga_pack.specs.Model.Text as model;
 ghost use Rattle.ga_pack.specs.Model.SourceFault as faults;
 ghost use Rattle.ga_pack.specs.Model.Token.{end};
 ghost use Rattle.ga_source.specs.Error.{kind_of};
-ghost use Rattle.ga_source.specs.Item.{item_of, section_of, value_of};
+ghost use Rattle.ga_source.specs.Item.{item_of, labels_in, placed_of, value_of};
 ghost use Rattle.ga_source.specs.Machine as machine;
 ghost use Rattle.ga_source.specs.Machine.{Good, IsConsistent, added, closed, nothing};
 ghost use Rattle.ga_source.specs.Meaning.{meaning_of};
@@ -19,8 +19,9 @@ ghost use Rattle.ga_source.specs.declared.parser.Part.TheVariants as part;
 ghost use Rattle.ga_source.specs.declared.parser.Position.TheVariants as at;
 
 use crate::error::SourceErrorKind;
-use crate::item::{Item, PlacedItem, Section, Value};
+use crate::item::{Item, PlacedItem, Value};
 use crate::meaning::{Meaning, is_reserved};
+use crate::section::Section;
 use crate::token::Place;
 use arrayvec::ArrayVec;
 use ga_place::Node;
@@ -503,6 +504,7 @@ impl<'a> Parser<'a> {
     // The section that is open ends.
     fn end_section(&mut self) -> Result<(), SourceErrorKind>
         requires new { words.is_named self.old.node (names_of self.old) ≡ false }
+        requires labels { labels_of self.old ≡ labels_in (map placed_of self.old.items.items) }
         ensures done { OnOk result (done_of self.new ≡ closed (inside_of self.old)) }
         ensures names { OnOk result (names_of self.new ≡ names_of self.old ++ self.old.node ∷ []) }
         ensures err { IfErr result (λ kind. kind ≡ Memory) }

@@ -3,14 +3,14 @@ ghost use Rattle.std.specs.Prelude.{◌≡◌, IfErr, IfOk, List, map};
 ghost use Rattle.ga_pack.specs.Model.Program.{IsProgram, PlacedSection};
 ghost use Rattle.ga_pack.specs.Model.Token as token;
 ghost use Rattle.ga_source.specs.Error.{error_place, kind_of};
-ghost use Rattle.ga_source.specs.Item.{section_of};
+ghost use Rattle.ga_source.specs.Section.{section_of};
 ghost use Rattle.ga_source.specs.Meaning.{meaning_of};
 ghost use Rattle.ga_source.specs.Program.{IsFirstFault, IsRight};
 
 use crate::error::{SourceError, SourceErrorKind};
-use crate::item::Section;
 use crate::meaning::{Meaning, meaning_at};
 use crate::parser::Parser;
+use crate::section::Section;
 use crate::token::{Place, end_place, tokens};
 use ga_place::Node;
 use indexmap::IndexMap;
