@@ -195,7 +195,11 @@ impl<'a> Parser<'a> {
         ensures err { IfErr result (λ kind. kind ≡ Memory) }
     {
         let dest = value.value(self.alloc)?;
-        self.add(Item::Transfer(op, dest), value.name_place(), Part::Code(0))
+        self.add(
+            Item::Transfer { op, dest },
+            value.name_place(),
+            Part::Code(0),
+        )
     }
 
     // Behind an opcode that takes a destination, outside brackets.
@@ -353,7 +357,12 @@ impl<'a> Parser<'a> {
         let owed = followers(&self.ops);
         let ops = std::mem::replace(&mut self.ops, ArrayVec::new());
         self.add(
-            Item::WordTo(ops, op, value, spare),
+            Item::WordTo {
+                ops,
+                op,
+                dest: value,
+                spare,
+            },
             dest.name_place(),
             Part::Code(owed),
         )
