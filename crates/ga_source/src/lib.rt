@@ -14,3 +14,6 @@ pub use item::{Item, PlacedItem, Value};
 pub use program::{Program, parse};
 pub use section::Section;
 pub use token::{Place, Token, tokens};
+
+#[cfg(test)]
+mod tests;
