@@ -1,15 +1,14 @@
 -- The parser's machine without the places is the plain machine.
-use Rattle.std.proofs.Common.{◌≡◌, ℕ, zero, suc, Bool, true, false, List, [], ◌∷◌, ◌++◌, length, map, Option, Some, None, Result, Ok, Err, refl, sym, ap, ◌∙◌, subst}
-use Rattle.std.specs.Prelude.{◌==◌, ◌&&◌, ◌||◌, ◌^◌, not, nat_lt, if◌then◌else◌}
-use Rattle.ga_word.specs.declared.op.Op.{Op}
+use Rattle.std.proofs.Common.{◌≡◌, zero, suc, Bool, true, false, List, [], ◌∷◌, ◌++◌, length, Option, Some, None, Result, Ok, Err, refl, ap}
+use Rattle.std.specs.Prelude.{◌==◌, ◌&&◌, ◌||◌, ◌^◌, nat_lt, if◌then◌else◌}
 use Rattle.ga_word.specs.Op.{fits_slot3, takes_dest}
 use Rattle.ga_pack.specs.Followers.{is_followed}
 use Rattle.ga_pack.specs.Model.Text.{Place}
-use Rattle.ga_pack.specs.Model.Token.{SourceKind, Token, op, number, name, label, node, node_name, align, data_part, open_mark, close_mark, comma, slash, bad, end}
+use Rattle.ga_pack.specs.Model.Token.{SourceKind, Token, op, number, name, label, node, node_name, align, data_part, close_mark, comma, slash, bad, end}
 use Rattle.ga_pack.specs.Model.Meaning.{is_reserved}
-use Rattle.ga_pack.specs.Model.Source.{Item, Value, Section, Part, Code, Behind, Here, after, part_after, is_among, is_named, dest_bound}
+use Rattle.ga_pack.specs.Model.Source.{Item, Value, Part, Code, Behind, Here, after, part_after, is_among, is_named, dest_bound}
 use Rattle.ga_pack.specs.Model.Program.{PlacedItem, PlacedSection}
-use Rattle.ga_source.specs.Machine.{State, Inside, At, between, behind_op, behind_comma, in_word, behind_dest_op, behind_dest, behind_slash, behind_spare, nothing, naming, inside, finished, take, take_first, take_between, with_part, added, closed, Good}
+use Rattle.ga_source.specs.Machine.{State, Inside, At, between, behind_op, behind_comma, in_word, behind_dest_op, behind_dest, behind_slash, behind_spare, nothing, naming, inside, finished, take, take_first, take_between, added, closed, Good}
 use Rattle.ga_source.specs.Program.{items_in, section_in, sections_in}
 use Rattle.ga_source.proofs.PlainMachine as plain
 

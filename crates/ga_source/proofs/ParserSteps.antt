@@ -6,12 +6,11 @@ use Rattle.std.specs.List.{list_any}
 use Rattle.std.specs.Map.{keys_of, lookup}
 use Rattle.std.specs.Str.{bytes_eq}
 use Rattle.indexmap.specs.IndexMap.{insert_entry}
-use Rattle.ga_source.proofs.Steps.{on_test}
 use Rattle.ga_word.specs.declared.op.Op.{Op}
 use Rattle.ga_pack.specs.Followers.{followers}
 use Rattle.ga_pack.specs.Model.Text.{Place}
 use Rattle.ga_pack.specs.Model.Token as token
-use Rattle.ga_pack.specs.Model.Source.{Value, Number, Plain, Word, WordTo, Item, Part, Code, Behind, part_after}
+use Rattle.ga_pack.specs.Model.Source.{Value, Number, Plain, Word, WordTo, Item, Part, Code, part_after}
 use Rattle.ga_source.specs.declared.error.SourceErrorKind.{SourceErrorKind}
 use Rattle.ga_source.specs.declared.error.SourceErrorKind.TheVariants.{Memory}
 use Rattle.ga_source.specs.declared.parser.Part as standing

@@ -1,5 +1,5 @@
 -- The machine keeps the items at the places of the program.
-use Rattle.std.proofs.Common.{◌≡◌, ℕ, zero, suc, ◌+◌, Bool, true, false, List, [], ◌∷◌, ◌++◌, length, drop, Option, Some, None, Result, Ok, Err, refl, sym, ap, ◌∙◌, subst, arith}
+use Rattle.std.proofs.Common.{◌≡◌, ℕ, zero, suc, ◌+◌, Bool, true, false, List, [], ◌∷◌, ◌++◌, length, drop, Option, Some, None, Result, Ok, Err, refl, sym, ap, ◌∙◌, arith}
 use Rattle.std.specs.Prelude.{◌==◌, ◌&&◌, ◌||◌, ◌^◌, nat_lt, if◌then◌else◌}
 use Rattle.std.specs.Option.{option_map}
 use Rattle.std.proofs.lemmas.List.{get_or-drop, length-append}
@@ -9,9 +9,9 @@ use Rattle.ga_pack.specs.Followers.{is_followed}
 use Rattle.ga_pack.specs.Model.Text.{Place}
 use Rattle.ga_pack.specs.Model.Token.{SourceKind, Token, op, number, name, label, node, node_name, align, data_part, open_mark, close_mark, comma, slash, bad, end}
 use Rattle.ga_pack.specs.Model.Meaning.{is_reserved}
-use Rattle.ga_pack.specs.Model.Source.{Value, Number, Label, Item, Instruction, Transfer, Literal, Here, Align, Word, WordTo, Plain, Data, Section, Part, Code, Behind, start, after, part_after, is_among, is_named, dest_bound, labels_with, item_tokens, items_tokens, op_tokens, spare_tokens, value_token}
+use Rattle.ga_pack.specs.Model.Source.{Value, Number, Label, Item, Instruction, Transfer, Literal, Here, Align, Word, WordTo, Plain, Data, Section, Part, Code, Behind, start, part_after, is_among, is_named, dest_bound, labels_with, item_tokens, items_tokens, op_tokens, spare_tokens, value_token}
 use Rattle.ga_pack.specs.Model.Program.{PlacedItem, PlacedSection, name_token, place_at, placed, placed_items, placed_sections}
-use Rattle.ga_source.specs.Machine.{State, Inside, At, IsConsistent, between, behind_op, behind_comma, in_word, behind_dest_op, behind_dest, behind_slash, behind_spare, nothing, naming, inside, finished, take, take_first, take_between, with_part, added, closed}
+use Rattle.ga_source.specs.Machine.{State, Inside, At, IsConsistent, between, behind_op, behind_comma, in_word, behind_dest_op, behind_dest, behind_slash, behind_spare, nothing, naming, inside, finished, take, take_first, take_between, added, closed}
 use Rattle.ga_source.specs.Item.{label_before, labels_in}
 use Rattle.ga_source.specs.Program.{items_in, section_in, sections_in}
 use Rattle.ga_source.proofs.Erasure.{items_in_snoc, sections_in_snoc}

@@ -1,12 +1,12 @@
--- The parser as a machine that takes one token at a time.
-use Rattle.std.specs.Prelude.{◌≡◌, ℕ, zero, suc, ◌+◌, Bool, true, false, List, [], ◌∷◌, ◌++◌, length, Option, Some, None, Result, Ok, Err}
-use Rattle.std.specs.Prelude.{◌==◌, ◌&&◌, ◌||◌, ◌^◌, not, nat_lt, if◌then◌else◌}
+-- The parser's machine without the places of its tokens and items.
+use Rattle.std.specs.Prelude.{◌≡◌, ℕ, zero, suc, ◌+◌, true, List, [], ◌∷◌, ◌++◌, length, Some, None, Result, Ok, Err}
+use Rattle.std.specs.Prelude.{◌==◌, ◌&&◌, ◌||◌, ◌^◌, nat_lt, if◌then◌else◌}
 use Rattle.ga_word.specs.declared.op.Op.{Op}
 use Rattle.ga_word.specs.Op.{fits_slot3, takes_dest}
 use Rattle.ga_pack.specs.Followers.{is_followed}
-use Rattle.ga_pack.specs.Model.Token.{SourceKind, BadToken, NumberRange, BadNode, DuplicateNode, DuplicateLabel, ReservedLabel, OpenBracket, BadWord, NoNode, Empty, Token, op, number, name, label, node, node_name, align, data_part, open_mark, close_mark, comma, slash, bad, end}
+use Rattle.ga_pack.specs.Model.Token.{SourceKind, BadToken, NumberRange, BadNode, DuplicateNode, DuplicateLabel, ReservedLabel, BadWord, NoNode, Empty, Token, op, number, name, label, node, node_name, align, data_part, open_mark, close_mark, comma, slash, bad, end}
 use Rattle.ga_pack.specs.Model.Meaning.{is_reserved}
-use Rattle.ga_pack.specs.Model.Source.{Value, Number, Label, Item, Instruction, Transfer, Literal, Here, Align, Word, WordTo, Plain, Data, Section, Part, Code, Behind, Before, start, after, part_after, stand_from, is_item, is_new, is_among, is_below, is_named, dest_bound}
+use Rattle.ga_pack.specs.Model.Source.{Value, Number, Label, Item, Instruction, Transfer, Literal, Here, Align, Word, WordTo, Plain, Data, Section, Part, Code, Behind, Before, start, after, part_after, stand_from, is_among, is_below, is_named, dest_bound}
 use Rattle.ga_pack.specs.Model.SourceFault.{bracket_fault, value_fault}
 
 -- where the parser stands inside an item
@@ -112,11 +112,6 @@ take (inside c (behind_slash ops o v)) t = Err (bracket_fault t)
 take (inside c (behind_spare ops o v k)) close_mark = with_part c (WordTo ops o v (Some k))
 take (inside c (behind_spare ops o v k)) t = Err (bracket_fault t)
 take (finished p) t = Err BadToken
-
--- all tokens, or the place of the first fault and its kind
-abbrev pub run : State → ℕ → List Token → Result State (ℕ × SourceKind)
-run s at [] = Ok s
-run s at (t ∷ ts) = elim (take s t) [ Ok s' ↦ run s' (suc at) ts | Err k ↦ Err (at, k) ]
 
 -- what the parser has seen to of the item that is begun
 abbrev pub Good : State → Type 0

@@ -1,21 +1,16 @@
 -- The parser accepts exactly the texts, and its fault is that of the definition.
-use Rattle.std.proofs.Common.{◌≡◌, ◌⊎◌, inl, inr, ⊎_elim, ◌↔◌, ℕ, zero, suc, ◌+◌, Bool, true, false, List, [], ◌∷◌, ◌++◌, length, reverse, Option, Some, None, Result, Ok, Err, refl, sym, ap, ◌∙◌, subst, append_assoc, arith}
-use Rattle.std.proofs.lemmas.Bool.{and_from, both_ways, lt-ltb}
-use Rattle.std.proofs.Math.Bool.{or-true}
-use Rattle.std.specs.Prelude.{◌==◌, ◌&&◌, ◌||◌, ◌^◌, not, nat_lt, if◌then◌else◌}
-use Rattle.ga_word.specs.declared.op.Op.{Op}
-use Rattle.ga_word.specs.declared.op.Op.TheVariants.{Nop}
+use Rattle.std.proofs.Common.{◌≡◌, zero, suc, ◌+◌, Bool, true, false, List, [], ◌∷◌, ◌++◌, length, reverse, Option, Some, None, Result, Ok, Err, refl, sym, ap, ◌∙◌, subst}
+use Rattle.std.specs.Prelude.{◌==◌, ◌&&◌, ◌||◌, ◌^◌, nat_lt, if◌then◌else◌}
 use Rattle.ga_word.specs.Op.{fits_slot3, takes_dest}
-use Rattle.ga_pack.specs.Followers.{followers, is_followed}
-use Rattle.ga_pack.specs.Model.Token.{SourceKind, Token, op, number, name, label, node, node_name, align, data_part, open_mark, close_mark, comma, slash, bad, end, is_node}
+use Rattle.ga_pack.specs.Followers.{is_followed}
+use Rattle.ga_pack.specs.Model.Token.{SourceKind, Token, op, number, name, label, node, node_name, data_part, close_mark, comma, slash, bad, end}
 use Rattle.ga_pack.specs.Model.Meaning.{is_reserved}
-use Rattle.ga_pack.specs.Model.Source.{Value, Number, Label, Item, Instruction, Transfer, Literal, Here, Align, Word, WordTo, Plain, Data, Section, Part, Code, Behind, Before, start, after, part_after, is_item, is_new, Items, Sections, Source, text_tokens, items_tokens, item_tokens, op_tokens, value_token, spare_tokens, stand_from, is_below, is_spare, dest_bound, is_among, is_named}
-use Rattle.ga_pack.specs.Model.SourceFault.{Begins, GoesOn, SourceFault, kind_at}
-use Rattle.ga_source.proofs.PlainMachine.{At, between, behind_op, behind_comma, in_word, behind_dest_op, behind_dest, behind_slash, behind_spare, Inside, State, nothing, naming, inside, finished, closed, take, take_first, with_part, added, run}
-use Rattle.ga_source.proofs.Completes.{Follows, Adds, Rest, Completes, with_item, nothing_more, Led, led, led_back}
-use Rattle.ga_source.proofs.Steps.{Right, take_right, on_test, is_word, is_word_to}
+use Rattle.ga_pack.specs.Model.Source.{Number, Label, Item, Word, WordTo, Plain, Section, Part, Code, Behind, part_after, Source, dest_bound, is_among, is_named}
+use Rattle.ga_pack.specs.Model.SourceFault.{SourceFault}
+use Rattle.ga_source.proofs.PlainMachine.{between, behind_op, behind_comma, in_word, behind_dest_op, behind_dest, behind_slash, behind_spare, Inside, State, nothing, naming, inside, finished, closed, take, take_first, added}
+use Rattle.ga_source.proofs.Steps.{on_test}
 use Rattle.std.proofs.lemmas.List.{reverse-append}
-use Rattle.ga_source.proofs.Exact.{Stands, stands_first, stands_next, refused, accepted, regroup, length_snoc}
+use Rattle.ga_source.proofs.Exact.{Stands, stands_first, stands_next, refused, accepted}
 use Rattle.ga_source.proofs.FaultKinds.{Shape, Shaped, shaped, is_finished}
 
 -- ---- only the text's end finishes

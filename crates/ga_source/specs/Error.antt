@@ -1,5 +1,5 @@
 -- The faults of a text, as the model has them, and how they are written.
-use Rattle.std.specs.Prelude.{◌≡◌, ℕ, List, [], ◌∷◌, ◌++◌, codes, Option, Some, None}
+use Rattle.std.specs.Prelude.{ℕ, List, ◌++◌, codes, Option, Some, None}
 use Rattle.std.specs.Fmt.{decimal}
 use Rattle.ga_source.specs.declared.error.SourceError as written
 use Rattle.ga_source.specs.declared.error.SourceErrorKind.{SourceErrorKind}

@@ -1,5 +1,5 @@
 -- The sections of a program, as the model has them.
-use Rattle.std.specs.Prelude.{ℕ, List, map}
+use Rattle.std.specs.Prelude.{ℕ, map}
 use Rattle.ga_source.specs.declared.section.Section as written
 use Rattle.ga_source.specs.Item.{placed_of}
 use Rattle.ga_pack.specs.Model.Program.{PlacedSection}

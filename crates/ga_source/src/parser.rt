@@ -1,5 +1,5 @@
 //! The parser: it takes one token at a time, and refuses the first with which no text goes on.
-ghost use Rattle.std.specs.Prelude.{◌≡◌, ◌+◌, ◌<◌, ◌≤◌, ◌++◌, ◌∷◌, [], length, map, true, false, IfOk, IfErr, OnOk, None, Some, List, ℕ, suc};
+ghost use Rattle.std.specs.Prelude.{◌≡◌, ◌+◌, ◌<◌, ◌≤◌, ◌++◌, ◌∷◌, [], length, map, false, IfOk, IfErr, OnOk, None, Some, List, ℕ, suc};
 ghost use Rattle.std.specs.Option.{option_map};
 ghost use Rattle.ga_pack.specs.Followers as counted;
 ghost use Rattle.ga_pack.specs.Model.Source as words;

@@ -1,4 +1,4 @@
-use Rattle.std.proofs.Common.{◌≡◌, refl}
+use Rattle.std.proofs.Common.{refl}
 use Rattle.std.specs.String.{string_bytes, string_eq}
 use Rattle.ga_source.proofs.ParserSteps.{labels_more}
 use Rattle.ga_source.proofs.parser.Parser.add_label.Goals as goal

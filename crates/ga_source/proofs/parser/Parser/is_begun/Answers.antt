@@ -1,4 +1,4 @@
-use Rattle.std.proofs.Common.{◌≡◌, ◌∙◌, refl}
+use Rattle.std.proofs.Common.{◌∙◌, refl}
 use Rattle.ga_place.specs.contracts.node.NodePartialEq.TheImpl as node
 use Rattle.ga_source.proofs.ParserSteps.{found_any}
 use Rattle.ga_source.proofs.parser.Parser.is_begun.Goals as goal

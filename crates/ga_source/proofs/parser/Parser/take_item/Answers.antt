@@ -1,4 +1,4 @@
-use Rattle.std.proofs.Common.{◌≡◌, ◌∙◌}
+use Rattle.std.proofs.Common.{◌∙◌}
 use Rattle.ga_source.specs.Meaning.{meaning_of}
 use Rattle.ga_source.specs.Parser.{inside_of, state_of}
 use Rattle.ga_source.specs.Token.{place_of}
