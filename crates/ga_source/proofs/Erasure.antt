@@ -6,21 +6,11 @@ use Rattle.ga_pack.specs.Followers.{is_followed}
 use Rattle.ga_pack.specs.Model.Text.{Place}
 use Rattle.ga_pack.specs.Model.Token.{SourceKind, Token, op, number, name, label, node, node_name, align, data_part, close_mark, comma, slash, bad, end}
 use Rattle.ga_pack.specs.Model.Meaning.{is_reserved}
-use Rattle.ga_pack.specs.Model.Source.{Item, Value, Section, Part, Code, Behind, Here, after, part_after, is_among, is_named, dest_bound}
+use Rattle.ga_pack.specs.Model.Source.{Item, Value, Part, Code, Behind, Here, after, part_after, is_among, is_named, dest_bound}
 use Rattle.ga_pack.specs.Model.Program.{PlacedItem, PlacedSection}
 use Rattle.ga_source.specs.Machine.{State, Inside, At, between, behind_op, behind_comma, in_word, behind_dest_op, behind_dest, behind_slash, behind_spare, nothing, naming, inside, finished, take, take_first, take_between, added, closed, Good}
+use Rattle.ga_source.specs.Program.{items_in, section_in, sections_in}
 use Rattle.ga_source.proofs.PlainMachine as plain
-
-abbrev pub items_in : List PlacedItem → List Item
-items_in [] = []
-items_in (i ∷ is) = i.item ∷ items_in is
-
-abbrev pub section_in : PlacedSection → Section
-section_in s = record { name = s.name; items = items_in s.items }
-
-abbrev pub sections_in : List PlacedSection → List Section
-sections_in [] = []
-sections_in (s ∷ ss) = section_in s ∷ sections_in ss
 
 pub items_in_snoc : (is : List PlacedItem) (i : PlacedItem) → items_in (is ++ i ∷ []) ≡ items_in is ++ i.item ∷ []
 items_in_snoc [] i = refl

@@ -1,5 +1,5 @@
 -- The parser accepts exactly the texts, and refuses at the first token that no text goes on with.
-use Rattle.std.proofs.Common.{◌≡◌, ◌⊎◌, inl, inr, ⊎_elim, ℕ, zero, suc, Bool, true, false, List, [], ◌∷◌, ◌++◌, length, Option, Some, None, Result, Ok, Err, refl, sym, ap, ◌∙◌, subst, append_assoc, arith}
+use Rattle.std.proofs.Common.{◌≡◌, ◌⊎◌, inl, inr, ⊎_elim, ℕ, zero, suc, ◌+◌, Bool, true, false, List, [], ◌∷◌, ◌++◌, length, Option, Some, None, Result, Ok, Err, refl, sym, ap, ◌∙◌, subst, append_assoc, arith}
 use Rattle.std.proofs.lemmas.Bool.{and_from, both_ways, lt-ltb}
 use Rattle.std.proofs.Math.Bool.{or-true}
 use Rattle.ga_pack.specs.Model.Meaning.{meanings, meaning_at, meaning_of}
@@ -12,7 +12,7 @@ use Rattle.ga_pack.specs.Model.Token.{SourceKind, Token, op, number, name, label
 use Rattle.ga_pack.specs.Model.Meaning.{is_reserved}
 use Rattle.ga_pack.specs.Model.Source.{Value, Number, Label, Item, Transfer, Word, WordTo, Plain, Data, Section, Part, Code, Behind, Before, start, part_after, is_item, is_new, Items, Sections, Source, items_tokens, stand_from, is_below, is_spare, dest_bound, is_among, is_named}
 use Rattle.ga_pack.specs.Model.SourceFault.{Begins, GoesOn, ends_in_node}
-use Rattle.ga_source.proofs.PlainMachine.{At, between, behind_op, behind_comma, in_word, behind_dest_op, behind_dest, behind_slash, behind_spare, Inside, State, nothing, naming, inside, finished, closed, take, take_first, added, run, Good}
+use Rattle.ga_source.proofs.PlainMachine.{At, between, behind_op, behind_comma, in_word, behind_dest_op, behind_dest, behind_slash, behind_spare, Inside, State, nothing, naming, inside, finished, closed, take, take_first, added, Good}
 use Rattle.ga_source.proofs.Completes.{Follows, Adds, Rest, Completes, with_item, nothing_more, led, led_back}
 use Rattle.ga_source.proofs.Steps.{Right, take_right, on_test, is_word, is_word_to}
 
@@ -317,28 +317,9 @@ refused front s t k st e (inr (text, p, h, src)) =
     let l = last_same front text t node h in
     node_refused s k st.good (ap (λ x. take s x) (sym l.1) ∙ e) p (st.to (end ∷ []) p (subst (λ x. Source (x ++ end ∷ []) p) (sym l.0) src))
 
--- the whole run: what stands in front, and what is left
-pub Outcome : List Token → List Token → Result State (ℕ × SourceKind) → Type 0
-Outcome front ts (Ok s) = Stands (front ++ ts) s
-Outcome front ts (Err e) = (before : List Token) × (t : Token) × (rest : List Token) × (s : State) × (front ++ ts ≡ before ++ t ∷ rest) × (e.0 ≡ length before) × Stands before s × (take s t ≡ Err e.1)
-
 pub length_snoc : (xs : List Token) (t : Token) → length (xs ++ t ∷ []) ≡ suc (length xs)
 length_snoc [] t = refl
 length_snoc (x ∷ xs) t = ap suc (length_snoc xs t)
-
-later : (front : List Token) (t : Token) (ts : List Token) (r : Result State (ℕ × SourceKind)) → Outcome (front ++ t ∷ []) ts r → Outcome front (t ∷ ts) r
-unfolding Outcome
-later front t ts (Ok s) h = subst (λ x. Stands x s) (regroup front t ts) h
-later front t ts (Err e) (before, u, rest, s, f, g, st, h) = (before, u, rest, s, sym (regroup front t ts) ∙ f, g, st, h)
-
-pub run_right : (front ts : List Token) (s : State) → Stands front s → Outcome front ts (run s (length front) ts)
-unfolding Outcome
-run_right front [] s st = subst (λ x. Stands x s) (sym (nothing_more front)) st
-run_right front (t ∷ ts) s st = go (take s t) refl (λ s' e. run_right (front ++ t ∷ []) ts s' (stands_next front s s' t st e))
-  where
-    go : (r : Result State SourceKind) → take s t ≡ r → ((s' : State) → take s t ≡ Ok s' → Outcome (front ++ t ∷ []) ts (run s' (length (front ++ t ∷ [])) ts)) → Outcome front (t ∷ ts) (elim r [ Ok s' ↦ run s' (suc (length front)) ts | Err k ↦ Err (length front, k) ])
-    go (Err k) e ih = (front, t, ts, s, refl, refl, st, e)
-    go (Ok s') e ih = later front t ts (run s' (suc (length front)) ts) (subst (λ n. Outcome (front ++ t ∷ []) ts (run s' n ts)) (length_snoc front t) (ih s' e))
 
 -- accepted: the program is the text's, and its only one
 pub accepted : (ts : List Token) (p : List Section) → Stands ts (finished p) → Source ts p × ((q : List Section) → Source ts q → q ≡ p)

@@ -6,7 +6,9 @@ mod FaultKinds
 mod Whole
 mod Erasure
 mod ParserSteps
-pub mod Scanning
-pub mod Scans
-pub mod Numerals
+mod Placing
+mod Reading
+mod Scanning
+mod Scans
+mod Numerals
 mod Names

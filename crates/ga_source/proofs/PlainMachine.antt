@@ -1,5 +1,5 @@
--- The parser as a machine that takes one token at a time.
-use Rattle.std.specs.Prelude.{◌≡◌, ℕ, zero, suc, true, List, [], ◌∷◌, ◌++◌, length, Some, None, Result, Ok, Err}
+-- The parser's machine without the places of its tokens and items.
+use Rattle.std.specs.Prelude.{◌≡◌, ℕ, zero, suc, ◌+◌, true, List, [], ◌∷◌, ◌++◌, length, Some, None, Result, Ok, Err}
 use Rattle.std.specs.Prelude.{◌==◌, ◌&&◌, ◌||◌, ◌^◌, nat_lt, if◌then◌else◌}
 use Rattle.ga_word.specs.declared.op.Op.{Op}
 use Rattle.ga_word.specs.Op.{fits_slot3, takes_dest}
@@ -112,11 +112,6 @@ take (inside c (behind_slash ops o v)) t = Err (bracket_fault t)
 take (inside c (behind_spare ops o v k)) close_mark = with_part c (WordTo ops o v (Some k))
 take (inside c (behind_spare ops o v k)) t = Err (bracket_fault t)
 take (finished p) t = Err BadToken
-
--- all tokens, or the place of the first fault and its kind
-abbrev pub run : State → ℕ → List Token → Result State (ℕ × SourceKind)
-run s at [] = Ok s
-run s at (t ∷ ts) = elim (take s t) [ Ok s' ↦ run s' (suc at) ts | Err k ↦ Err (at, k) ]
 
 -- what the parser has seen to of the item that is begun
 abbrev pub Good : State → Type 0

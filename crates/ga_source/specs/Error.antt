@@ -39,5 +39,5 @@ kind_name kind.Memory = codes "Memory"
 abbrev pub error_text : written.SourceError → List ℕ
 error_text error = decimal error.line ++ codes ":" ++ decimal error.column ++ codes " " ++ kind_name error.kind
 
-abbrev pub place_of : written.SourceError → Place
-place_of error = record { line = error.line; column = error.column }
+abbrev pub error_place : written.SourceError → Place
+error_place error = record { line = error.line; column = error.column }

@@ -9,6 +9,7 @@ use Rattle.ga_pack.specs.Model.Meaning.{is_reserved}
 use Rattle.ga_pack.specs.Model.Source.{Value, Number, Label, Item, Instruction, Transfer, Literal, Here, Align, Word, WordTo, Plain, Data, Part, Code, Behind, Before, start, after, part_after, stand_from, is_among, is_below, is_named, dest_bound}
 use Rattle.ga_pack.specs.Model.SourceFault.{bracket_fault, value_fault}
 use Rattle.ga_pack.specs.Model.Program.{PlacedItem, PlacedSection}
+use Rattle.ga_source.specs.Item.{labels_in}
 
 -- Where the parser stands inside an item: what it has read of it, with the place of its first token, and behind
 -- a value that of the name, if the value is one.
@@ -131,7 +132,7 @@ Good (inside c (behind_slash first ops o v at)) = (stand_from 0 ops ≡ true) ×
 Good (inside c (behind_spare first ops o v at k)) = (stand_from 0 ops ≡ true) × (nat_lt (length ops) 3 ≡ true) × (takes_dest o ≡ true) × (is_below (dest_bound (length ops)) v ≡ true) × ((length ops == 0) ≡ true) × (nat_lt k 8 ≡ true) × (c.before.part ≡ Code 0)
 Good _ = Unit {0}
 
--- the node of the open section is not that of a section that is done
+-- The node of the open section is not that of a section that is done, and its labels are those of its items.
 abbrev pub IsConsistent : State → Type 0
-IsConsistent (inside c at) = is_named c.name c.seen ≡ false
+IsConsistent (inside c at) = (is_named c.name c.seen ≡ false) × (c.before.labels ≡ labels_in c.items)
 IsConsistent _ = Unit {0}

@@ -11,7 +11,8 @@ use Rattle.ga_source.specs.declared.parser.Pending.TheVariants as pending
 use Rattle.ga_source.specs.declared.parser.Position.{Position}
 use Rattle.ga_source.specs.declared.parser.Position.TheVariants as position
 use Rattle.ga_source.specs.Error.{kind_of}
-use Rattle.ga_source.specs.Item.{placed_of, section_of}
+use Rattle.ga_source.specs.Item.{placed_of}
+use Rattle.ga_source.specs.Section.{section_of}
 use Rattle.ga_source.specs.Machine.{Inside, State, nothing, naming, inside, finished, between, behind_op, behind_comma, in_word, behind_dest_op, behind_dest, behind_slash, behind_spare, take}
 use Rattle.ga_source.specs.Token.{place_of}
 use Rattle.ga_pack.specs.Model.Text.{Place}

@@ -1,5 +1,4 @@
-ghost use Rattle.std.specs.Prelude.{◌≡◌, ◌++◌, ◌∷◌, Some};
-ghost use Rattle.std.specs.Fmt.{decimal};
+ghost use Rattle.std.specs.Prelude.{◌≡◌, Some};
 ghost use Rattle.ga_source.specs.Error.{kind_name, error_text};
 ghost use Rattle.ga_source.specs.declared.error.SourceErrorKind.TheVariants.{Memory};
 

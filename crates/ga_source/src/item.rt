@@ -5,7 +5,6 @@ ghost use Rattle.ga_source.specs.Item.{item_of};
 use crate::token::Place;
 use arrayvec::ArrayVec;
 use ga_word::Op;
-use indexmap::IndexSet;
 
 /// A number, or the name of a label of the node, which stands for its address.
 #[derive(Debug, PartialEq, Eq, Drop)]
@@ -21,7 +20,10 @@ pub enum Item {
     /// An opcode that takes no destination, and is neither `@p` nor `!p`.
     Instruction(Op),
     /// An opcode and its destination.
-    Transfer(Op, Value),
+    Transfer {
+        op: Op,
+        dest: Value,
+    },
     /// A number below 2^18: `@p`, with the number as its follower.
     Literal(u32),
     /// A label, which names the next address.
@@ -30,9 +32,15 @@ pub enum Item {
     Align,
     /// A bracketed word without a destination: its opcodes.
     Word(ArrayVec<Op, 4>),
-    /// A bracketed word with a destination: the opcodes before the one that takes it, that opcode, the
-    /// destination, and the spare bits, if they are stated.
-    WordTo(ArrayVec<Op, 4>, Op, Value, Option<u8>),
+    /// A bracketed word with a destination.
+    WordTo {
+        /// The opcodes before the one that takes the destination.
+        ops: ArrayVec<Op, 4>,
+        op: Op,
+        dest: Value,
+        /// The spare bits, if they are stated.
+        spare: Option<u8>,
+    },
     /// A word behind `,`.
     Plain(Value),
     /// What follows is data.
@@ -40,8 +48,8 @@ pub enum Item {
 }
 
 impl Item {
-    /// Whether the item makes a word.
-    pub fn makes_word(&self) -> bool
+    // Whether the item makes a word.
+    pub(crate) fn makes_word(&self) -> bool
         ensures { result ≡ words.makes_word (item_of self.now) }
     {
         !matches!(self, Item::Label(_) | Item::Align | Item::Data)
@@ -56,11 +64,4 @@ pub struct PlacedItem {
     pub place: Place,
     /// The place of the name of a label, where the item uses one as a destination or a word.
     pub name_place: Option<Place>,
-}
-
-/// The items of a node, and the names of its labels, each in the text's order.
-#[derive(Debug, Drop)]
-pub struct Section {
-    pub items: Vec<PlacedItem>,
-    pub labels: IndexSet<String>,
 }

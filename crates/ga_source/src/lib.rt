@@ -5,8 +5,15 @@ mod error;
 mod item;
 mod meaning;
 mod parser;
+mod program;
+mod section;
 mod token;
 
 pub use error::{SourceError, SourceErrorKind};
-pub use item::{Item, PlacedItem, Section, Value};
+pub use item::{Item, PlacedItem, Value};
+pub use program::{Program, parse};
+pub use section::Section;
 pub use token::{Place, Token, tokens};
+
+#[cfg(test)]
+mod tests;

@@ -1,5 +1,5 @@
 //! The parser: it takes one token at a time, and refuses the first with which no text goes on.
-ghost use Rattle.std.specs.Prelude.{◌≡◌, ◌+◌, ◌<◌, ◌≤◌, ◌++◌, ◌∷◌, [], length, map, true, false, IfOk, IfErr, OnOk, None, Some, List, ℕ, suc};
+ghost use Rattle.std.specs.Prelude.{◌≡◌, ◌+◌, ◌<◌, ◌≤◌, ◌++◌, ◌∷◌, [], length, map, false, IfOk, IfErr, OnOk, None, Some, List, ℕ, suc};
 ghost use Rattle.std.specs.Option.{option_map};
 ghost use Rattle.ga_pack.specs.Followers as counted;
 ghost use Rattle.ga_pack.specs.Model.Source as words;
@@ -8,9 +8,9 @@ ghost use Rattle.ga_pack.specs.Model.Text as model;
 ghost use Rattle.ga_pack.specs.Model.SourceFault as faults;
 ghost use Rattle.ga_pack.specs.Model.Token.{end};
 ghost use Rattle.ga_source.specs.Error.{kind_of};
-ghost use Rattle.ga_source.specs.Item.{item_of, section_of, value_of};
+ghost use Rattle.ga_source.specs.Item.{item_of, labels_in, placed_of, value_of};
 ghost use Rattle.ga_source.specs.Machine as machine;
-ghost use Rattle.ga_source.specs.Machine.{Good, IsConsistent, added, closed};
+ghost use Rattle.ga_source.specs.Machine.{Good, IsConsistent, added, closed, nothing};
 ghost use Rattle.ga_source.specs.Meaning.{meaning_of};
 ghost use Rattle.ga_source.specs.Parser.{Answered, Took, done_of, inside_of, labels_of, name_place_of, names_of, part_of, pending_of, state_of};
 ghost use Rattle.ga_source.specs.Token.{place_of};
@@ -19,8 +19,9 @@ ghost use Rattle.ga_source.specs.declared.parser.Part.TheVariants as part;
 ghost use Rattle.ga_source.specs.declared.parser.Position.TheVariants as at;
 
 use crate::error::SourceErrorKind;
-use crate::item::{Item, PlacedItem, Section, Value};
+use crate::item::{Item, PlacedItem, Value};
 use crate::meaning::{Meaning, is_reserved};
+use crate::section::Section;
 use crate::token::Place;
 use arrayvec::ArrayVec;
 use ga_place::Node;
@@ -64,7 +65,7 @@ enum Position<'a> {
 #[derive(Drop)]
 pub(crate) struct Parser<'a> {
     alloc: Global,
-    sections: IndexMap<Node, Section>,
+    pub(crate) sections: IndexMap<Node, Section>,
     node: Node,
     items: Vec<PlacedItem>,
     labels: IndexSet<String>,
@@ -100,6 +101,24 @@ impl<'a> Pending<'a> {
 }
 
 impl<'a> Parser<'a> {
+    /// A parser that has taken no token.
+    pub(crate) fn new(alloc: Global) -> Self
+        ensures { state_of result ≡ nothing }
+    {
+        Parser {
+            alloc,
+            sections: IndexMap::new(alloc),
+            node: Node::new(0).unwrap(),
+            items: Vec::new(alloc),
+            labels: IndexSet::new(alloc),
+            part: Part::Code(0),
+            has_word: false,
+            position: Position::Nothing,
+            place: Place { line: 1, column: 1 },
+            ops: ArrayVec::new(),
+        }
+    }
+
     // The item is whole; the next one stands in this part.
     fn add(
         &mut self,
@@ -176,7 +195,11 @@ impl<'a> Parser<'a> {
         ensures err { IfErr result (λ kind. kind ≡ Memory) }
     {
         let dest = value.value(self.alloc)?;
-        self.add(Item::Transfer(op, dest), value.name_place(), Part::Code(0))
+        self.add(
+            Item::Transfer { op, dest },
+            value.name_place(),
+            Part::Code(0),
+        )
     }
 
     // Behind an opcode that takes a destination, outside brackets.
@@ -334,7 +357,12 @@ impl<'a> Parser<'a> {
         let owed = followers(&self.ops);
         let ops = std::mem::replace(&mut self.ops, ArrayVec::new());
         self.add(
-            Item::WordTo(ops, op, value, spare),
+            Item::WordTo {
+                ops,
+                op,
+                dest: value,
+                spare,
+            },
             dest.name_place(),
             Part::Code(owed),
         )
@@ -485,6 +513,7 @@ impl<'a> Parser<'a> {
     // The section that is open ends.
     fn end_section(&mut self) -> Result<(), SourceErrorKind>
         requires new { words.is_named self.old.node (names_of self.old) ≡ false }
+        requires labels { labels_of self.old ≡ labels_in (map placed_of self.old.items.items) }
         ensures done { OnOk result (done_of self.new ≡ closed (inside_of self.old)) }
         ensures names { OnOk result (names_of self.new ≡ names_of self.old ++ self.old.node ∷ []) }
         ensures err { IfErr result (λ kind. kind ≡ Memory) }
