@@ -1,6 +1,6 @@
 ghost use Rattle.std.specs.Prelude.{◌≡◌, ℕ, ◌<◌, ◌↔◌, IsSome, IfSome, Some, find};
 ghost use Rattle.std.specs.Str.{bytes_eq};
-ghost use Rattle.ga_word.specs.Op.{code_of, ends_word, fits_slot3, name_of, takes_dest};
+ghost use Rattle.ga_word.specs.Op.{code_of, ends_word, fits_slot3, name_of, opcodes, takes_dest};
 
 use std::fmt;
 
@@ -111,13 +111,6 @@ const OPCODES: [Op; 32] = [
     Op::AStore,
 ];
 
-/// The first opcode in the table with this name.
-fn named(name: &str) -> Option<Op>
-    ensures { result ≡ find (λ op. bytes_eq (name_of op) name.now) OPCODES }
-{
-    OPCODES.iter().copied().find(|op| op.name() == name)
-}
-
 impl Op {
     /// The opcode with this code, or `None` from 20 (hexadecimal) up.
     pub fn from_code(code: u8) -> Option<Self>
@@ -214,7 +207,17 @@ impl Op {
         ensures found { IfSome result (λ op. name_of op ≡ name.now) }
         ensures all { (op : Op) → name_of op ≡ name.now → result ≡ Some op }
     {
-        named(name)
+        Op::from_bytes(name.as_bytes())
+    }
+
+    /// The opcode whose name has these bytes, or `None` where no opcode has it.
+    pub fn from_bytes(name: &[u8]) -> Option<Self>
+        ensures { result ≡ find (λ op. bytes_eq (name_of op) name.now) opcodes }
+    {
+        OPCODES
+            .iter()
+            .copied()
+            .find(|op| op.name().as_bytes() == name)
     }
 
     /// Whether slot 3 has room for the opcode: its lower two bits are 0.

@@ -12,9 +12,19 @@ use Rattle.ga_pack.specs.Model.Token.{BadToken, NumberRange, Token, op, number, 
 abbrev pub as_op : List ℕ → Option Token
 as_op text = option_map op (find (λ o. bytes_eq (name_of o) text) opcodes)
 
--- the names of numbers, the words and the marks
+-- the names of numbers: the ports of one side, io, the port of all sides, and the warm word
+abbrev pub number_names : List (List ℕ × ℕ)
+number_names = (codes "right", 0x1D5) ∷ (codes "down", 0x115) ∷ (codes "left", 0x175) ∷ (codes "up", 0x145) ∷ (codes "io", 0x15D) ∷ (codes "rdlu", 0x1A5) ∷ (codes "warm", 0x0A9) ∷ []
+
+abbrev pub number_named : List ℕ → Option ℕ
+number_named text = option_map (λ entry. entry.1) (find (λ entry. bytes_eq entry.0 text) number_names)
+
+abbrev pub as_number_name : List ℕ → Option Token
+as_number_name text = option_map number (number_named text)
+
+-- the words and the marks
 abbrev pub fixed : List (List ℕ × Token)
-fixed = (codes "right", number 0x1D5) ∷ (codes "down", number 0x115) ∷ (codes "left", number 0x175) ∷ (codes "up", number 0x145) ∷ (codes "io", number 0x15D) ∷ (codes "rdlu", number 0x1A5) ∷ (codes "warm", number 0x0A9) ∷ (codes "node", node) ∷ (codes "align", align) ∷ (codes "data", data_part) ∷ (codes "[", open_mark) ∷ (codes "]", close_mark) ∷ (codes ",", comma) ∷ (codes "/", slash) ∷ []
+fixed = (codes "node", node) ∷ (codes "align", align) ∷ (codes "data", data_part) ∷ (codes "[", open_mark) ∷ (codes "]", close_mark) ∷ (codes ",", comma) ∷ (codes "/", slash) ∷ []
 
 abbrev pub as_fixed : List ℕ → Option Token
 as_fixed text = option_map (λ entry. entry.1) (find (λ entry. bytes_eq entry.0 text) fixed)
@@ -23,26 +33,32 @@ as_fixed text = option_map (λ entry. entry.1) (find (λ entry. bytes_eq entry.0
 abbrev pub is_numeral : ℕ → List ℕ → Bool
 is_numeral radix digits = nat_le 1 (length digits) && nat_le (length digits) 8 && list_all (λ c. is_digit c radix) digits
 
+abbrev pub numeral : ℕ → List ℕ → Option ℕ
+numeral radix digits = if is_numeral radix digits then Some (digits_value radix digits) else None
+
 -- the number that a numeral writes, if a word holds it
 abbrev pub ranged : ℕ → Token
 ranged n = if nat_lt n (2 ^ 18) then number n else bad NumberRange
 
 abbrev pub as_decimal : List ℕ → Option Token
-as_decimal text = if is_numeral 10 text then Some (ranged (digits_value 10 text)) else None
+as_decimal text = option_map ranged (numeral 10 text)
 
 -- `$` and hex digits of either case
 abbrev pub as_hex : List ℕ → Option Token
 as_hex [] = None
-as_hex (c ∷ digits) = if (c == 36) && is_numeral 16 digits then Some (ranged (digits_value 16 digits)) else None
+as_hex (c ∷ digits) = if c == 36 then option_map ranged (numeral 16 digits) else None
 
 -- an ASCII letter or `_`
 abbrev pub is_letter : ℕ → Bool
 is_letter c = (nat_le 65 c && nat_le c 90) || (nat_le 97 c && nat_le c 122) || (c == 95)
 
+abbrev pub is_letter_or_digit : ℕ → Bool
+is_letter_or_digit c = is_letter c || is_digit c 10
+
 -- one to sixteen letters and digits, the first no digit
 abbrev pub is_name : List ℕ → Bool
 is_name [] = false
-is_name (c ∷ cs) = is_letter c && nat_lt (length cs) 16 && list_all (λ d. is_letter d || is_digit d 10) cs
+is_name (c ∷ cs) = is_letter c && nat_lt (length cs) 16 && list_all is_letter_or_digit cs
 
 abbrev pub as_name : List ℕ → Option Token
 as_name text = if is_name text then Some (name text) else None
@@ -58,11 +74,11 @@ as_label text = label_from [] text
 
 -- The names of opcodes and numbers, `node`, `align` and `data` are no names of labels.
 unfoldable pub is_reserved : List ℕ → Bool
-is_reserved text = is_some (as_op text) || is_some (as_fixed text)
+is_reserved text = is_some (as_op text) || is_some (as_number_name text) || is_some (as_fixed text)
 
 -- What a token means, but for the name of a node. Only a name may be written as something else too: it is reserved then.
 unfoldable pub meaning_of : List ℕ → Token
-meaning_of text = unwrap_or (option_or (as_op text) (option_or (as_fixed text) (option_or (as_decimal text) (option_or (as_hex text) (option_or (as_label text) (as_name text)))))) (bad BadToken)
+meaning_of text = unwrap_or (option_or (as_op text) (option_or (as_number_name text) (option_or (as_fixed text) (option_or (as_decimal text) (option_or (as_hex text) (option_or (as_label text) (as_name text))))))) (bad BadToken)
 
 -- three digits: a row from 0 to 7 and a column from 00 to 17
 abbrev pub as_node : List ℕ → Option Token

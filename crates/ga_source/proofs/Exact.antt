@@ -1,0 +1,326 @@
+-- The parser accepts exactly the texts, and refuses at the first token that no text goes on with.
+use Rattle.std.proofs.Common.{◌≡◌, ◌⊎◌, inl, inr, ⊎_elim, ℕ, zero, suc, ◌+◌, Bool, true, false, List, [], ◌∷◌, ◌++◌, length, Option, Some, None, Result, Ok, Err, refl, sym, ap, ◌∙◌, subst, append_assoc, arith}
+use Rattle.std.proofs.lemmas.Bool.{and_from, both_ways, lt-ltb}
+use Rattle.std.proofs.Math.Bool.{or-true}
+use Rattle.ga_pack.specs.Model.Meaning.{meanings, meaning_at, meaning_of}
+use Rattle.std.specs.Prelude.{codes, ◌==◌, ◌&&◌, ◌||◌, ◌^◌, nat_lt, if◌then◌else◌}
+use Rattle.ga_word.specs.declared.op.Op.{Op}
+use Rattle.ga_word.specs.declared.op.Op.TheVariants.{Nop}
+use Rattle.ga_word.specs.Op.{fits_slot3, takes_dest}
+use Rattle.ga_pack.specs.Followers.{followers, is_followed}
+use Rattle.ga_pack.specs.Model.Token.{SourceKind, Token, op, number, name, label, node, node_name, data_part, close_mark, comma, slash, bad, end, is_node}
+use Rattle.ga_pack.specs.Model.Meaning.{is_reserved}
+use Rattle.ga_pack.specs.Model.Source.{Value, Number, Label, Item, Transfer, Word, WordTo, Plain, Data, Section, Part, Code, Behind, Before, start, part_after, is_item, is_new, Items, Sections, Source, items_tokens, stand_from, is_below, is_spare, dest_bound, is_among, is_named}
+use Rattle.ga_pack.specs.Model.SourceFault.{Begins, GoesOn, ends_in_node}
+use Rattle.ga_source.proofs.PlainMachine.{At, between, behind_op, behind_comma, in_word, behind_dest_op, behind_dest, behind_slash, behind_spare, Inside, State, nothing, naming, inside, finished, closed, take, take_first, added, Good}
+use Rattle.ga_source.proofs.Completes.{Follows, Adds, Rest, Completes, with_item, nothing_more, led, led_back}
+use Rattle.ga_source.proofs.Steps.{Right, take_right, on_test, is_word, is_word_to}
+
+-- ---- each state but `naming` has a completion
+
+-- some texts complete it, wherever they stand
+abbrev Alive : State → Type 0
+Alive s = (texts : List (List ℕ)) × (p : List Section) × ((b : Bool) → Completes s (meanings b texts) p)
+
+-- one text, and more
+first_is : (b : Bool) (t : List ℕ) (ts : List (List ℕ)) (u : Token) → meaning_at b t ≡ u → is_node u ≡ false → meanings b (t ∷ ts) ≡ u ∷ meanings false ts
+unfolding meanings
+first_is b t ts u e n = ap (λ x. meaning_at b t ∷ meanings x ts) (ap is_node e ∙ n) ∙ ap (λ x. x ∷ meanings false ts) e
+
+zero_is : (b : Bool) → meaning_at b (codes "0") ≡ number 0
+unfolding meaning_at meaning_of
+zero_is true = refl
+zero_is false = refl
+
+close_is : (b : Bool) → meaning_at b (codes "]") ≡ close_mark
+unfolding meaning_at meaning_of
+close_is true = refl
+close_is false = refl
+
+nop_is : (b : Bool) → meaning_at b (codes ".") ≡ op Nop
+unfolding meaning_at meaning_of
+nop_is true = refl
+nop_is false = refl
+
+comma_is : (b : Bool) → meaning_at b (codes ",") ≡ comma
+unfolding meaning_at meaning_of
+comma_is true = refl
+comma_is false = refl
+
+data_is : (b : Bool) → meaning_at b (codes "data") ≡ data_part
+unfolding meaning_at meaning_of
+data_is true = refl
+data_is false = refl
+
+-- from any part a word of data can be reached
+last_items : Part → List Item
+last_items Behind = Plain (Number 0) ∷ []
+last_items (Code n) = Data ∷ Plain (Number 0) ∷ []
+
+last_texts : Part → List (List ℕ)
+last_texts Behind = codes "," ∷ codes "0" ∷ []
+last_texts (Code n) = codes "data" ∷ codes "," ∷ codes "0" ∷ []
+
+last_tokens : (b : Bool) (part : Part) → meanings b (last_texts part) ≡ items_tokens (last_items part) (end ∷ [])
+unfolding meanings last_texts last_items
+last_tokens b Behind = first_is b (codes ",") (codes "0" ∷ []) comma (comma_is b) refl ∙ ap (λ x. comma ∷ x) (first_is false (codes "0") [] (number 0) (zero_is false) refl)
+last_tokens b (Code n) = first_is b (codes "data") (codes "," ∷ codes "0" ∷ []) data_part (data_is b) refl ∙ ap (λ x. data_part ∷ x) (first_is false (codes ",") (codes "0" ∷ []) comma (comma_is false) refl ∙ ap (λ x. comma ∷ x) (first_is false (codes "0") [] (number 0) (zero_is false) refl))
+
+last_right : (part : Part) (b : Before) → b.part ≡ part → Items b (last_items part)
+unfolding Items is_item part_after last_items
+last_right Behind b e = (Behind, refl, refl, ap (λ x. part_after x (Plain (Number 0))) e, or-true b.has_word)
+last_right (Code (suc n)) b e = (Behind, refl, refl, ap (λ x. part_after x Data) e, (Behind, refl, refl, refl, or-true (b.has_word || false)))
+last_right (Code zero) b e = (Behind, refl, refl, ap (λ x. part_after x Data) e, (Behind, refl, refl, refl, or-true (b.has_word || false)))
+
+between_alive : (c : Inside) → Alive (inside c between)
+unfolding Sections
+between_alive c = (
+  last_texts c.before.part,
+  c.done ++ record { name = c.name; items = c.items ++ last_items c.before.part } ∷ [],
+  λ b. (last_items c.before.part, [], last_tokens b c.before.part, last_right c.before.part c.before refl, tt, refl),
+)
+
+-- an item that ends the one that is begun
+item_alive : (c : Inside) (at : At) (i : Item) (q : Part) → is_item i ≡ true → is_new i c.before.labels ≡ true → part_after c.before.part i ≡ Some q
+    → ((ys : List (List ℕ)) → (ts : List (List ℕ)) × ((b : Bool) → Rest at (meanings b ts) (meanings false ys) i)) → (ts : List (List ℕ)) × (p : List Section) × ((b : Bool) → (j : Item) × (more : List Token) × Rest at (meanings b ts) more j × Adds c j more p)
+item_alive c at i q a b e rest =
+    let l = between_alive (with_item c i q) in
+    let r = rest l.0 in
+    (r.0, l.1, λ x. (i, meanings false l.0, r.1 x, (q, a, b, e, l.2 false)))
+
+zero_close : (b : Bool) (ys : List (List ℕ)) → meanings b (codes "0" ∷ codes "]" ∷ ys) ≡ number 0 ∷ close_mark ∷ meanings false ys
+zero_close b ys = first_is b (codes "0") (codes "]" ∷ ys) (number 0) (zero_is b) refl ∙ ap (λ x. number 0 ∷ x) (first_is false (codes "]") ys close_mark (close_is false) refl)
+
+bound_above : (n : ℕ) → is_below (dest_bound n) (Number 0) ≡ true
+bound_above n = on_test (n == 0) (λ b. nat_lt 0 (if b then 2 ^ 10 else if n == 1 then 2 ^ 8 else 2 ^ 3) ≡ true) (λ e. refl) (λ e. on_test (n == 1) (λ b. nat_lt 0 (if b then 2 ^ 8 else 2 ^ 3) ≡ true) (λ e. refl) (λ e. refl))
+
+alive_op : (c : Inside) (o : Op) → Good (inside c (behind_op o)) → Alive (inside c (behind_op o))
+unfolding is_item part_after
+alive_op c o g = item_alive c (behind_op o) (Transfer o (Number 0)) (Code 0) (and_from (takes_dest o) true g.0 refl) refl (ap (λ x. part_after x (Transfer o (Number 0))) g.1) (λ ys. (codes "0" ∷ ys, λ b. (Number 0, first_is b (codes "0") ys (number 0) (zero_is b) refl, refl)))
+
+alive_comma : (c : Inside) → Good (inside c behind_comma) → Alive (inside c behind_comma)
+unfolding is_item
+alive_comma c g = item_alive c behind_comma (Plain (Number 0)) g.0 refl refl (g.1 (Number 0)) (λ ys. (codes "0" ∷ ys, λ b. (Number 0, first_is b (codes "0") ys (number 0) (zero_is b) refl, refl)))
+
+alive_word : (c : Inside) (ops : List Op) → Good (inside c (in_word ops)) → Alive (inside c (in_word ops))
+unfolding is_item part_after
+alive_word c [] g = item_alive c (in_word []) (Word (Nop ∷ [])) (Code 0) refl refl (ap (λ x. part_after x (Word (Nop ∷ []))) g.1) (λ ys. (codes "." ∷ codes "]" ∷ ys, λ b. inl (Nop ∷ [], first_is b (codes ".") (codes "]" ∷ ys) (op Nop) (nop_is b) refl ∙ ap (λ x. op Nop ∷ x) (first_is false (codes "]") ys close_mark (close_is false) refl), refl)))
+alive_word c (o ∷ ops) g = item_alive c (in_word (o ∷ ops)) (Word (o ∷ ops)) (Code (followers (o ∷ ops))) (is_word (o ∷ ops) (lt-ltb 0 (length (o ∷ ops)) (omega arith)) g.0) refl (ap (λ x. part_after x (Word (o ∷ ops))) g.1) (λ ys. (codes "]" ∷ ys, λ b. inl ([], first_is b (codes "]") ys close_mark (close_is b) refl, ap Word (sym (nothing_more (o ∷ ops))))))
+
+word_to_alive : (c : Inside) (at : At) (ops : List Op) (o : Op) (v : Value) (k : Option ℕ) → stand_from 0 ops ≡ true → nat_lt (length ops) 3 ≡ true → takes_dest o ≡ true → is_below (dest_bound (length ops)) v ≡ true → is_spare (length ops) k ≡ true → c.before.part ≡ Code 0
+    → ((ys : List (List ℕ)) → (ts : List (List ℕ)) × ((b : Bool) → Rest at (meanings b ts) (meanings false ys) (WordTo ops o v k))) → (ts : List (List ℕ)) × (p : List Section) × ((b : Bool) → (j : Item) × (more : List Token) × Rest at (meanings b ts) more j × Adds c j more p)
+unfolding part_after
+word_to_alive c at ops o v k a b d e f part rest = item_alive c at (WordTo ops o v k) (Code (followers ops)) (is_word_to ops o v k (record { stands = a; short = b; dest = d; below = e; spare = f })) refl (ap (λ x. part_after x (WordTo ops o v k)) part) rest
+
+-- a text that is whole, or the state is alive, or it waits for a name
+abbrev Goes : State → Type 0
+Goes s = ((p : List Section) × (s ≡ finished p)) ⊎ (Alive s ⊎ ((done : List Section) × (seen : List ℕ) × (s ≡ naming done seen)))
+
+-- a first section
+name_is : meaning_at true (codes "000") ≡ node_name 0
+unfolding meaning_at meaning_of
+name_is = refl
+
+node_is : (b : Bool) → meaning_at b (codes "node") ≡ node
+unfolding meaning_at meaning_of
+node_is true = refl
+node_is false = refl
+
+first_texts : List (List ℕ)
+first_texts = codes "000" ∷ last_texts (Code 0)
+
+first_tokens : meanings true first_texts ≡ node_name 0 ∷ items_tokens (last_items (Code 0)) (end ∷ [])
+unfolding first_texts
+first_tokens = first_is true (codes "000") (last_texts (Code 0)) (node_name 0) name_is refl ∙ ap (λ x. node_name 0 ∷ x) (last_tokens false (Code 0))
+
+nothing_tokens : (b : Bool) → meanings b (codes "node" ∷ first_texts) ≡ node ∷ node_name 0 ∷ items_tokens (last_items (Code 0)) (end ∷ [])
+unfolding meanings
+nothing_tokens b = ap (λ x. x ∷ meanings (is_node x) first_texts) (node_is b) ∙ ap (λ x. node ∷ x) first_tokens
+
+alive : (s : State) → Good s → Goes s
+unfolding Sections Source
+alive nothing g = inr (inl (codes "node" ∷ first_texts, record { name = 0; items = last_items (Code 0) } ∷ [], λ b. (nothing_tokens b, (refl, last_right (Code 0) start refl, tt))))
+alive (naming done seen) g = inr (inr (done, seen, refl))
+alive (inside c between) g = inr (inl (between_alive c))
+alive (inside c (behind_op o)) g = inr (inl (alive_op c o g))
+alive (inside c behind_comma) g = inr (inl (alive_comma c g))
+alive (inside c (in_word ops)) g = inr (inl (alive_word c ops g))
+alive (inside c (behind_dest_op ops o)) g = inr (inl (word_to_alive c (behind_dest_op ops o) ops o (Number 0) None g.0 g.1 g.2 (bound_above (length ops)) refl g.3 (λ ys. (codes "0" ∷ codes "]" ∷ ys, λ b. (Number 0, None, zero_close b ys, refl)))))
+alive (inside c (behind_dest ops o v)) g = inr (inl (word_to_alive c (behind_dest ops o v) ops o v None g.0 g.1 g.2 g.3 refl g.4 (λ ys. (codes "]" ∷ ys, λ b. (None, first_is b (codes "]") ys close_mark (close_is b) refl, refl)))))
+alive (inside c (behind_slash ops o v)) g = inr (inl (word_to_alive c (behind_slash ops o v) ops o v (Some 0) g.0 g.1 g.2 g.3 (and_from (length ops == 0) true g.4 refl) g.5 (λ ys. (codes "0" ∷ codes "]" ∷ ys, λ b. (0, zero_close b ys, refl)))))
+alive (inside c (behind_spare ops o v k)) g = inr (inl (word_to_alive c (behind_spare ops o v k) ops o v (Some k) g.0 g.1 g.2 g.3 (and_from (length ops == 0) (nat_lt k 8) g.4 g.5) g.6 (λ ys. (codes "]" ∷ ys, λ b. (first_is b (codes "]") ys close_mark (close_is b) refl, refl)))))
+alive (finished q) g = inl (q, refl)
+
+-- ---- only `node` leads to a name, and where `node` is refused the end is refused
+
+abbrev is_naming : Result State SourceKind → Bool
+is_naming (Ok (naming done seen)) = true
+is_naming _ = false
+
+either : (b : Bool) (x y : Result State SourceKind) → is_naming x ≡ false → is_naming y ≡ false → is_naming (if b then x else y) ≡ false
+either true x y e f = e
+either false x y e f = f
+
+with_part_no : (c : Inside) (i : Item) (o : Option Part) → is_naming (elim o [ None ↦ Err SourceKind.BadToken | Some p ↦ Ok (added c i p) ]) ≡ false
+with_part_no c i None = refl
+with_part_no c i (Some p) = refl
+
+first_not : (part : Part) (c : Inside) (t : Token) → is_naming (take_first part c t) ≡ false
+first_not Behind c comma = refl
+first_not Behind c _ = refl
+first_not (Code (suc n)) c comma = refl
+first_not (Code (suc n)) c data_part = refl
+first_not (Code (suc n)) c t = refl
+first_not (Code zero) c (op o) = either (takes_dest o) _ _ refl (either (is_followed o) _ _ refl refl)
+first_not (Code zero) c t = refl
+
+between_not : (c : Inside) (t : Token) → is_node t ≡ false → is_naming (take (inside c between) t) ≡ false
+between_not c (bad k) n = refl
+between_not c end n = either c.before.has_word _ _ refl refl
+between_not c node n = absurd (cc)
+between_not c (label s) n = either (is_reserved s) _ _ refl (either (is_among s c.before.labels) _ _ refl refl)
+between_not c t n = first_not c.before.part c t
+
+not_naming : (s : State) (t : Token) → is_node t ≡ false → is_naming (take s t) ≡ false
+not_naming nothing (bad k) n = refl
+not_naming nothing node n = absurd (cc)
+not_naming nothing t n = refl
+not_naming (naming done seen) (node_name m) n = either (is_named m seen) _ _ refl refl
+not_naming (naming done seen) t n = refl
+not_naming (inside c between) t n = between_not c t n
+not_naming (inside c (behind_op o)) (number m) n = either (nat_lt m (2 ^ 10)) _ _ refl refl
+not_naming (inside c (behind_op o)) t n = refl
+not_naming (inside c behind_comma) (number m) n = with_part_no c (Plain (Number m)) (part_after c.before.part (Plain (Number m)))
+not_naming (inside c behind_comma) (name s) n = with_part_no c (Plain (Label s)) (part_after c.before.part (Plain (Label s)))
+not_naming (inside c behind_comma) t n = refl
+not_naming (inside c (in_word ops)) (op o) n = either (takes_dest o) _ _ (either (nat_lt (length ops) 3) _ _ refl refl) (either (nat_lt (length ops) 3 || ((length ops == 3) && fits_slot3 o)) _ _ refl refl)
+not_naming (inside c (in_word ops)) close_mark n = either (nat_lt 0 (length ops)) _ _ (with_part_no c (Word ops) (part_after c.before.part (Word ops))) refl
+not_naming (inside c (in_word ops)) t n = refl
+not_naming (inside c (behind_dest_op ops o)) (number m) n = either (nat_lt m (dest_bound (length ops))) _ _ refl refl
+not_naming (inside c (behind_dest_op ops o)) t n = refl
+not_naming (inside c (behind_dest ops o v)) slash n = either (length ops == 0) _ _ refl refl
+not_naming (inside c (behind_dest ops o v)) close_mark n = with_part_no c (WordTo ops o v None) (part_after c.before.part (WordTo ops o v None))
+not_naming (inside c (behind_dest ops o v)) t n = refl
+not_naming (inside c (behind_slash ops o v)) (number k) n = either (nat_lt k 8) _ _ refl refl
+not_naming (inside c (behind_slash ops o v)) t n = refl
+not_naming (inside c (behind_spare ops o v k)) close_mark n = with_part_no c (WordTo ops o v (Some k)) (part_after c.before.part (WordTo ops o v (Some k)))
+not_naming (inside c (behind_spare ops o v k)) t n = refl
+not_naming (finished q) t n = refl
+
+-- what stands in front of the name of a section: nothing, or a whole text
+node_led : (s s' : State) → Good s → take s node ≡ Ok s' → ((s ≡ nothing) × (s' ≡ naming [] [])) ⊎ ((p : List Section) × Completes s (end ∷ []) p)
+node_led nothing s' g e = inl (refl, (cc))
+node_led (naming done seen) s' g e = absurd (cc)
+node_led (inside c between) s' g e = inr (on_test c.before.has_word (λ b. (if b then Ok (naming (closed c) (c.seen ++ c.name ∷ [])) else Err SourceKind.Empty) ≡ Ok s' → (p : List Section) × Follows c (end ∷ []) p)
+    (λ some h. (closed c, led_back c (end ∷ []) (closed c) (some, refl, refl))) (λ none h. absurd (cc)) e)
+node_led (inside c (behind_op o)) s' g e = absurd (cc)
+node_led (inside c behind_comma) s' g e = absurd (cc)
+node_led (inside c (in_word ops)) s' g e = absurd (cc)
+node_led (inside c (behind_dest_op ops o)) s' g e = absurd (cc)
+node_led (inside c (behind_dest ops o v)) s' g e = absurd (cc)
+node_led (inside c (behind_slash ops o v)) s' g e = absurd (cc)
+node_led (inside c (behind_spare ops o v k)) s' g e = absurd (cc)
+node_led (finished q) s' g e = absurd (cc)
+
+-- where `node` is refused no text ends
+node_refused : (s : State) (k : SourceKind) → Good s → take s node ≡ Err k → (p : List Section) → Completes s (end ∷ []) p → ⊥
+node_refused nothing k g e p h = absurd (cc)
+node_refused (naming done seen) k g e p h = take_right (naming done seen) end g [] p h
+node_refused (inside c between) k g e p h = on_test c.before.has_word (λ b. (if b then Ok (naming (closed c) (c.seen ++ c.name ∷ [])) else Err SourceKind.Empty) ≡ Err k → ⊥)
+    (λ some f. absurd (cc)) (λ none f. both_ways c.before.has_word none (led c (end ∷ []) p h).0) e
+node_refused (inside c (behind_op o)) k g e p h = take_right (inside c (behind_op o)) end g [] p h
+node_refused (inside c behind_comma) k g e p h = take_right (inside c behind_comma) end g [] p h
+node_refused (inside c (in_word ops)) k g e p h = take_right (inside c (in_word ops)) end g [] p h
+node_refused (inside c (behind_dest_op ops o)) k g e p h = take_right (inside c (behind_dest_op ops o)) end g [] p h
+node_refused (inside c (behind_dest ops o v)) k g e p h = take_right (inside c (behind_dest ops o v)) end g [] p h
+node_refused (inside c (behind_slash ops o v)) k g e p h = take_right (inside c (behind_slash ops o v)) end g [] p h
+node_refused (inside c (behind_spare ops o v n)) k g e p h = take_right (inside c (behind_spare ops o v n)) end g [] p h
+node_refused (finished q) k g e p h = take_right (finished q) end g [] p h
+
+-- ---- the parser behind the front of a text
+
+-- A state stands for the tokens that were read: they go on, and what completes the state is what completes them to a text.
+pub record Stands (front : List Token) (s : State) : Type 0 where
+  pub good : Good s
+  pub goes : GoesOn front
+  pub to : (rest : List Token) (p : List Section) → Source (front ++ rest) p → Completes s rest p
+  pub from : (rest : List Token) (p : List Section) → Completes s rest p → Source (front ++ rest) p
+
+goes_first : Goes nothing → GoesOn []
+unfolding GoesOn Begins
+goes_first (inl (p, e)) = absurd (cc)
+goes_first (inr (inl (ts, p, h))) = inl (inr (ts, p, h false))
+goes_first (inr (inr (done, seen, e))) = absurd (cc)
+
+pub stands_first : Stands [] nothing
+unfolding GoesOn Begins
+stands_first = record { good = tt; goes = goes_first (alive nothing tt); to = λ rest p h. h; from = λ rest p h. h }
+
+pub regroup : (front : List Token) (t : Token) (rest : List Token) → (front ++ t ∷ []) ++ rest ≡ front ++ t ∷ rest
+regroup front t rest = simp append_assoc
+
+begins : (front : List Token) (s : State) → ((rest : List Token) (p : List Section) → Completes s rest p → Source (front ++ rest) p) → Alive s → GoesOn front
+unfolding GoesOn Begins
+begins front s from (texts, p, h) = inl (inr (texts, p, from (meanings (ends_in_node front) texts) p (h (ends_in_node front))))
+
+node_last : (front : List Token) → ends_in_node (front ++ node ∷ []) ≡ true
+node_last [] = refl
+node_last (t ∷ []) = refl
+node_last (t ∷ u ∷ ts) = node_last (u ∷ ts)
+
+named_goes : (front : List Token) (s : State) (t : Token) (done : List Section) (seen : List ℕ) → Stands front s → take s t ≡ Ok (naming done seen) → ((rest : List Token) (p : List Section) → Completes (naming done seen) rest p → Source ((front ++ t ∷ []) ++ rest) p) → GoesOn (front ++ t ∷ [])
+unfolding GoesOn Begins Sections
+named_goes front s node done seen st e from = ⊎_elim
+    (λ (a, b). inl (inr (first_texts, [] ++ record { name = 0; items = last_items (Code 0) } ∷ [], subst (λ x. Source ((front ++ node ∷ []) ++ meanings x first_texts) ([] ++ record { name = 0; items = last_items (Code 0) } ∷ [])) (sym (node_last front)) (from (meanings true first_texts) ([] ++ record { name = 0; items = last_items (Code 0) } ∷ []) (subst (λ x. Completes x (meanings true first_texts) ([] ++ record { name = 0; items = last_items (Code 0) } ∷ [])) (sym b) (record { name = 0; items = last_items (Code 0) }, [], first_tokens, (refl, last_right (Code 0) start refl, tt), refl))))))
+    (λ (p, h). inr (front, p, refl, st.from (end ∷ []) p h))
+    (node_led s (naming done seen) st.good e)
+named_goes front s t done seen st e from = absurd (both_ways (is_naming (take s t)) (not_naming s t refl) (ap is_naming e))
+
+whole_goes : (ts : List Token) (p : List Section) → Source ts p → GoesOn ts
+unfolding GoesOn Begins
+whole_goes ts p h = inl (inl (p, h))
+
+next_goes : (front : List Token) (s s' : State) (t : Token) → Stands front s → take s t ≡ Ok s' → Good s' → ((rest : List Token) (p : List Section) → Completes s' rest p → Source ((front ++ t ∷ []) ++ rest) p) → GoesOn (front ++ t ∷ [])
+next_goes front s s' t st e g from = go (alive s' g)
+  where
+    go : Goes s' → GoesOn (front ++ t ∷ [])
+    go (inl (p, f)) = whole_goes (front ++ t ∷ []) p (subst (λ x. Source x p) (nothing_more (front ++ t ∷ [])) (from [] p (subst (λ x. Completes x [] p) (sym f) (refl, refl))))
+    go (inr (inl a)) = begins (front ++ t ∷ []) s' from a
+    go (inr (inr (done, seen, f))) = named_goes front s t done seen st (e ∙ ap Ok f) (subst (λ x. (rest : List Token) (p : List Section) → Completes x rest p → Source ((front ++ t ∷ []) ++ rest) p) f from)
+
+pub stands_next : (front : List Token) (s s' : State) (t : Token) → Stands front s → take s t ≡ Ok s' → Stands (front ++ t ∷ []) s'
+stands_next front s s' t st e =
+    let r : Right s t (Ok s') = subst (λ x. Right s t x) e (take_right s t st.good) in
+    let from : (rest : List Token) (p : List Section) → Completes s' rest p → Source ((front ++ t ∷ []) ++ rest) p = λ rest p h. subst (λ x. Source x p) (sym (regroup front t rest)) (st.from (t ∷ rest) p (r.2 rest p h)) in
+    record { good = r.0; goes = next_goes front s s' t st e r.0 from; to = λ rest p h. r.1 rest p (st.to (t ∷ rest) p (subst (λ x. Source x p) (regroup front t rest) h)); from = from }
+
+-- the two lists end alike
+last_same : (xs ys : List Token) (x y : Token) → xs ++ x ∷ [] ≡ ys ++ y ∷ [] → (xs ≡ ys) × (x ≡ y)
+last_same [] [] x y e = (refl, cc)
+last_same [] (b ∷ []) x y e = absurd (cc)
+last_same [] (b ∷ c ∷ ys) x y e = absurd (cc)
+last_same (a ∷ []) [] x y e = absurd (cc)
+last_same (a ∷ b ∷ xs) [] x y e = absurd (cc)
+last_same (a ∷ xs) (b ∷ ys) x y e = let h = last_same xs ys x y (cc) in let h0 = h.0 in ((cc), h.1)
+
+-- where the parser refuses a token, no text goes on with it
+pub refused : (front : List Token) (s : State) (t : Token) (k : SourceKind) → Stands front s → take s t ≡ Err k → GoesOn (front ++ t ∷ []) → ⊥
+unfolding GoesOn Begins
+refused front s t k st e (inl (inl (p, h))) =
+    let r : Right s t (Err k) = subst (λ x. Right s t x) e (take_right s t st.good) in
+    r [] p (st.to (t ∷ []) p h)
+refused front s t k st e (inl (inr (texts, p, h))) =
+    let r : Right s t (Err k) = subst (λ x. Right s t x) e (take_right s t st.good) in
+    let rest = meanings (ends_in_node (front ++ t ∷ [])) texts in
+    r rest p (st.to (t ∷ rest) p (subst (λ x. Source x p) (regroup front t rest) h))
+refused front s t k st e (inr (text, p, h, src)) =
+    let l = last_same front text t node h in
+    node_refused s k st.good (ap (λ x. take s x) (sym l.1) ∙ e) p (st.to (end ∷ []) p (subst (λ x. Source (x ++ end ∷ []) p) (sym l.0) src))
+
+pub length_snoc : (xs : List Token) (t : Token) → length (xs ++ t ∷ []) ≡ suc (length xs)
+length_snoc [] t = refl
+length_snoc (x ∷ xs) t = ap suc (length_snoc xs t)
+
+-- accepted: the program is the text's, and its only one
+pub accepted : (ts : List Token) (p : List Section) → Stands ts (finished p) → Source ts p × ((q : List Section) → Source ts q → q ≡ p)
+accepted ts p st = (subst (λ x. Source x p) (nothing_more ts) (st.from [] p (refl, refl)), λ q h. (st.to [] q (subst (λ x. Source x q) (sym (nothing_more ts)) h)).1)

@@ -1,0 +1,14 @@
+mod PlainMachine
+mod Completes
+mod Steps
+mod Exact
+mod FaultKinds
+mod Whole
+mod Erasure
+mod ParserSteps
+mod Placing
+mod Reading
+mod Scanning
+mod Scans
+mod Numerals
+mod Names

@@ -1,0 +1,76 @@
+-- Names, and names in front of `:`.
+use Rattle.std.proofs.Common.{◌≡◌, ◌∙◌, ◌++◌, ◌<◌, ◌≤◌, ℕ, zero, suc, Bool, true, false, List, [], ◌∷◌, Option, Result, Ok, Err, Some, None, length, refl, sym, ap, arith, append_assoc, inl, inr, lit<, eq-eqb}
+use Rattle.std.specs.Borrow.{Bor}
+use Rattle.std.specs.Result.{MatchResult, result_ok}
+use Rattle.std.specs.Option.{option_map}
+use Rattle.std.specs.Prelude.{◌==◌, ◌&&◌, nat_le, nat_lt, if◌then◌else◌}
+use Rattle.std.specs.List.{list_all}
+use Rattle.std.specs.Str.{IsAscii, IsUtf8}
+use Rattle.std.proofs.lemmas.Bool.{and_parts, cases_lt, false≢true, le-leb, le-ltb, lt-leb, ne_eqb}
+use Rattle.std.proofs.lemmas.List.{append-nil}
+use Rattle.std.proofs.lemmas.Str.{IsUtf8-from_ascii}
+use Rattle.ga_pack.specs.Model.Meaning.{as_label, as_name, is_letter, is_letter_or_digit, is_name, label_from}
+use Rattle.ga_pack.specs.Model.Token.{label, name}
+
+-- ---- a name and a last byte
+
+label_from-last : (front text : List ℕ) (last : ℕ) → label_from front (text ++ last ∷ []) ≡ (if (last == 58) && is_name (front ++ text) then Some (label (front ++ text)) else None)
+label_from-last front [] last = rw (append-nil front) refl
+label_from-last front (c ∷ []) last = refl
+label_from-last front (c ∷ d ∷ cs) last = label_from-last (front ++ c ∷ []) (d ∷ cs) last ∙ ap (λ (text : List ℕ). if (last == 58) && is_name text then Some (label text) else None) (append_assoc front (c ∷ []) (d ∷ cs))
+
+-- ---- a name is text
+
+no_letter : (c : ℕ) → 128 ≤ c → is_letter_or_digit c ≡ false
+no_letter c large =
+    let a : nat_le c 90 ≡ false = lt-leb c 90 (omega arith) in
+    let b : nat_le c 122 ≡ false = lt-leb c 122 (omega arith) in
+    let d : (c == 95) ≡ false = ne_eqb c 95 (λ h. omega (arith, h)) in
+    let f : nat_lt c 48 ≡ false = le-ltb c 48 (omega arith) in
+    let g : nat_lt c 58 ≡ false = le-ltb c 58 (omega arith) in
+    let h : nat_lt c 65 ≡ false = le-ltb c 65 (omega arith) in
+    let i : nat_lt c 91 ≡ false = le-ltb c 91 (omega arith) in
+    let j : nat_lt c 97 ≡ false = le-ltb c 97 (omega arith) in
+    let k : nat_lt c 123 ≡ false = le-ltb c 123 (omega arith) in
+    let m : nat_le 65 c ≡ true = le-leb 65 c (omega arith) in
+    let n : nat_le 97 c ≡ true = le-leb 97 c (omega arith) in
+    rw (m, n, a, b, d, f, g, h, i, j, k) refl
+
+letter_below : (c : ℕ) → is_letter_or_digit c ≡ true → c < 128
+letter_below c e = elim (cases_lt c 128) [ inl small ↦ small | inr large ↦ absurd (false≢true (sym (no_letter c large) ∙ e)) ]
+
+letters_below : (text : List ℕ) → list_all is_letter_or_digit text ≡ true → IsAscii text
+letters_below [] e i = lit< tt
+letters_below (c ∷ cs) e zero = letter_below c (and_parts (is_letter_or_digit c) (list_all is_letter_or_digit cs) e).0
+letters_below (c ∷ cs) e (suc i) = letters_below cs (and_parts (is_letter_or_digit c) (list_all is_letter_or_digit cs) e).1 i
+
+all_letters : (text : List ℕ) → is_name text ≡ true → list_all is_letter_or_digit text ≡ true
+all_letters [] e = refl
+all_letters (c ∷ cs) e =
+    let both = and_parts (is_letter c && nat_lt (length cs) 16) (list_all is_letter_or_digit cs) e in
+    let first = and_parts (is_letter c) (nat_lt (length cs) 16) both.0 in
+    rw (first.0, both.1) refl
+
+pub name-IsUtf8 : (text : List ℕ) → is_name text ≡ true → IsUtf8 text
+name-IsUtf8 text e = IsUtf8-from_ascii text (letters_below text (all_letters text e))
+
+-- what a text is as a name, which is read as UTF-8
+pub name_read : {E : Type 0} (text : List ℕ) (read : Result (Bor (List ℕ)) E) (Q : E → Type 0) → is_name text ≡ true → MatchResult read (λ s. (s.now ≡ text) × IsUtf8 text) (λ e. ¬ (IsUtf8 text) × Q e)
+    → option_map (λ t. name t.now) (result_ok read) ≡ as_name text
+name_read text (Ok s) Q e h = rw e (ap (λ (t : List ℕ). Some (name t)) h.0)
+name_read text (Err x) Q e h = absurd (h.0 (name-IsUtf8 text e))
+
+same_name : (b : Bool) (front : List ℕ) (read : Option (Bor (List ℕ))) → option_map (λ t. name t.now) read ≡ (if b then Some (name front) else None) → option_map (λ t. label t.now) read ≡ (if b then Some (label front) else None)
+same_name true front None e = absurd (cc)
+same_name true front (Some t) e = cc
+same_name false front None e = refl
+same_name false front (Some t) e = absurd (cc)
+
+-- the label that a name in front of `:` is
+pub label_read : (text front : List ℕ) (last : ℕ) (read : Option (Bor (List ℕ))) → text ≡ front ++ last ∷ [] → last ≡ 58 → option_map (λ t. name t.now) read ≡ as_name front → option_map (λ t. label t.now) read ≡ as_label text
+label_read text front last read cut colon e =
+    same_name (is_name front) front read e
+    ∙ sym (ap (label_from []) cut ∙ label_from-last [] front last ∙ ap (λ (t : Bool). if t && is_name front then Some (label front) else None) (eq-eqb last 58 colon))
+
+pub no_label : (text front : List ℕ) (last : ℕ) → text ≡ front ++ last ∷ [] → (last ≡ 58 → ⊥) → None ≡ as_label text
+no_label text front last cut other = sym (ap (label_from []) cut ∙ label_from-last [] front last ∙ ap (λ (t : Bool). if t && is_name front then Some (label front) else None) (ne_eqb last 58 other))

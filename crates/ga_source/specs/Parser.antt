@@ -1,0 +1,76 @@
+-- The parser's state, as its machine has it.
+use Rattle.std.specs.Prelude.{◌≡◌, ℕ, List, map, Option, Some, None, Result, Ok, Err}
+use Rattle.std.specs.Map.{keys_of}
+use Rattle.std.specs.String.{string_bytes}
+use Rattle.ga_source.specs.declared.error.SourceErrorKind.{SourceErrorKind}
+use Rattle.ga_source.specs.declared.parser.Parser as written
+use Rattle.ga_source.specs.declared.parser.Part as standing
+use Rattle.ga_source.specs.declared.parser.Part.TheVariants as part
+use Rattle.ga_source.specs.declared.parser.Pending.{Pending}
+use Rattle.ga_source.specs.declared.parser.Pending.TheVariants as pending
+use Rattle.ga_source.specs.declared.parser.Position.{Position}
+use Rattle.ga_source.specs.declared.parser.Position.TheVariants as position
+use Rattle.ga_source.specs.Error.{kind_of}
+use Rattle.ga_source.specs.Item.{placed_of}
+use Rattle.ga_source.specs.Section.{section_of}
+use Rattle.ga_source.specs.Machine.{Inside, State, nothing, naming, inside, finished, between, behind_op, behind_comma, in_word, behind_dest_op, behind_dest, behind_slash, behind_spare, take}
+use Rattle.ga_source.specs.Token.{place_of}
+use Rattle.ga_pack.specs.Model.Text.{Place}
+use Rattle.ga_pack.specs.Model.Token.{SourceKind, Token}
+use Rattle.ga_pack.specs.Model.Source.{Value, Number, Label, Part, Code, Behind}
+use Rattle.ga_pack.specs.Model.Program.{PlacedSection}
+
+abbrev pub part_of : standing.Part → Part
+part_of (part.Code owed) = Code owed
+part_of part.Data = Behind
+
+abbrev pub pending_of : Pending → Value
+pending_of (pending.Number n) = Number n
+pending_of (pending.Name s at) = Label s.now
+
+abbrev pub name_place_of : Pending → Option Place
+name_place_of (pending.Number n) = None
+name_place_of (pending.Name s at) = Some (place_of at)
+
+abbrev pub done_of : written.Parser → List PlacedSection
+done_of p = map section_of p.sections.entries
+
+abbrev pub names_of : written.Parser → List ℕ
+names_of p = keys_of p.sections.entries
+
+abbrev pub labels_of : written.Parser → List (List ℕ)
+labels_of p = map string_bytes p.labels.keys
+
+abbrev pub inside_of : written.Parser → Inside
+inside_of p = record { done = done_of p; seen = names_of p; name = p.node; items = map placed_of p.items.items; before = record { part = part_of p.part; labels = labels_of p; has_word = p.has_word } }
+
+abbrev pub at_position : Position → written.Parser → State
+at_position position.Nothing p = nothing
+at_position position.Naming p = naming (done_of p) (names_of p)
+at_position position.Between p = inside (inside_of p) between
+at_position (position.BehindOp o) p = inside (inside_of p) (behind_op (place_of p.place) o)
+at_position position.BehindComma p = inside (inside_of p) (behind_comma (place_of p.place))
+at_position position.InWord p = inside (inside_of p) (in_word (place_of p.place) p.ops.items)
+at_position (position.BehindDestOp o) p = inside (inside_of p) (behind_dest_op (place_of p.place) p.ops.items o)
+at_position (position.BehindDest o v) p = inside (inside_of p) (behind_dest (place_of p.place) p.ops.items o (pending_of v) (name_place_of v))
+at_position (position.BehindSlash o v) p = inside (inside_of p) (behind_slash (place_of p.place) p.ops.items o (pending_of v) (name_place_of v))
+at_position (position.BehindSpare o v k) p = inside (inside_of p) (behind_spare (place_of p.place) p.ops.items o (pending_of v) (name_place_of v) k)
+at_position position.Finished p = finished (done_of p)
+
+abbrev pub state_of : written.Parser → State
+state_of p = at_position p.position p
+
+-- what was refused, unless memory was
+abbrev pub RefusedAs : {A : Type 0} → Result A SourceKind → Option SourceKind → Type 0
+RefusedAs r None = Unit {0}
+RefusedAs r (Some k) = r ≡ Err k
+
+-- the answer of the parser's machine, unless memory was refused
+abbrev pub Answered : {A : Type 0} → Result State SourceKind → Result A SourceErrorKind → State → Type 0
+Answered r (Ok x) s' = r ≡ Ok s'
+Answered r (Err e) s' = RefusedAs r (kind_of e)
+
+-- the answer of the parser's machine to a token, unless memory was refused
+abbrev pub Took : {A : Type 0} → State → Token → Place → Result A SourceErrorKind → State → Type 0
+Took s t place (Ok x) s' = take s t place ≡ Ok s'
+Took s t place (Err e) s' = RefusedAs (take s t place) (kind_of e)

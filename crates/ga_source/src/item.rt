@@ -1,0 +1,67 @@
+ghost use Rattle.ga_pack.specs.Model.Source as words;
+ghost use Rattle.std.specs.Prelude.{◌≡◌};
+ghost use Rattle.ga_source.specs.Item.{item_of};
+
+use crate::token::Place;
+use arrayvec::ArrayVec;
+use ga_word::Op;
+
+/// A number, or the name of a label of the node, which stands for its address.
+#[derive(Debug, PartialEq, Eq, Drop)]
+pub enum Value {
+    /// Below 2^18 in a plain word, and as a destination below what its slot holds.
+    Number(u32),
+    Label(String),
+}
+
+/// What a section is made of. (The texts are this project's own: profile.)
+#[derive(Debug, PartialEq, Eq, Drop)]
+pub enum Item {
+    /// An opcode that takes no destination, and is neither `@p` nor `!p`.
+    Instruction(Op),
+    /// An opcode and its destination.
+    Transfer {
+        op: Op,
+        dest: Value,
+    },
+    /// A number below 2^18: `@p`, with the number as its follower.
+    Literal(u32),
+    /// A label, which names the next address.
+    Label(String),
+    /// The next item begins a word.
+    Align,
+    /// A bracketed word without a destination: its opcodes.
+    Word(ArrayVec<Op, 4>),
+    /// A bracketed word with a destination.
+    WordTo {
+        /// The opcodes before the one that takes the destination.
+        ops: ArrayVec<Op, 4>,
+        op: Op,
+        dest: Value,
+        /// The spare bits, if they are stated.
+        spare: Option<u8>,
+    },
+    /// A word behind `,`.
+    Plain(Value),
+    /// What follows is data.
+    Data,
+}
+
+impl Item {
+    // Whether the item makes a word.
+    pub(crate) fn makes_word(&self) -> bool
+        ensures { result ≡ words.makes_word (item_of self.now) }
+    {
+        !matches!(self, Item::Label(_) | Item::Align | Item::Data)
+    }
+}
+
+/// An item and where it stands in its text.
+#[derive(Debug, PartialEq, Eq, Drop)]
+pub struct PlacedItem {
+    pub item: Item,
+    /// The place of its first token.
+    pub place: Place,
+    /// The place of the name of a label, where the item uses one as a destination or a word.
+    pub name_place: Option<Place>,
+}

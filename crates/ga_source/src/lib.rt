@@ -1,0 +1,19 @@
+//! The source text of programs: its tokens, and the program that it is or its first fault.
+#![tactic(auto)]
+
+mod error;
+mod item;
+mod meaning;
+mod parser;
+mod program;
+mod section;
+mod token;
+
+pub use error::{SourceError, SourceErrorKind};
+pub use item::{Item, PlacedItem, Value};
+pub use program::{Program, parse};
+pub use section::Section;
+pub use token::{Place, Token, tokens};
+
+#[cfg(test)]
+mod tests;

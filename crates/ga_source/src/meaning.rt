@@ -1,0 +1,243 @@
+ghost use Rattle.std.specs.Prelude.{◌≡◌, ◌==◌, ◌^◌, ◌<◌, ◌≤◌, length};
+ghost use Rattle.std.specs.List.{list_all};
+ghost use Rattle.std.specs.Option.{option_map};
+ghost use Rattle.ga_pack.specs.Model.Meaning as model;
+ghost use Rattle.ga_pack.specs.Model.Token.{label, name, node_name};
+ghost use Rattle.ga_source.specs.Meaning.{meaning_of};
+
+use ga_place::Node;
+use ga_word::Op;
+use std::str;
+
+/// What a token means.
+#[derive(Clone, Copy)]
+pub(crate) enum Meaning<'a> {
+    Op(Op),
+    /// A number that a word holds.
+    Number(u32),
+    /// A name that is not reserved.
+    Name(&'a str),
+    /// A name, reserved or not, that stood in front of `:`.
+    Label(&'a str),
+    Node,
+    /// The name of a node, behind `node`.
+    NodeName(Node),
+    Align,
+    Data,
+    OpenMark,
+    CloseMark,
+    Comma,
+    Slash,
+    /// No token of the language.
+    BadToken,
+    /// A number over 3FFFF.
+    NumberRange,
+}
+
+/// What a token means that stands behind the token `node` or not.
+#[tactic(auto, unfolding(ga_pack::specs::Model::Meaning::meaning_at))]
+pub(crate) fn meaning_at(is_behind_node: bool, text: &[u8]) -> Meaning<'_>
+    ensures { meaning_of result ≡ model.meaning_at is_behind_node text.now }
+{
+    if is_behind_node {
+        if let Some(node) = node_named(text) {
+            return Meaning::NodeName(node);
+        }
+    }
+    plain_meaning(text)
+}
+
+/// Whether no label may have a name, since it is an opcode's or a number's, or a word of the language.
+#[tactic(auto, unfolding(ga_pack::specs::Model::Meaning::is_reserved))]
+pub(crate) fn is_reserved(name: &str) -> bool
+    ensures { result ≡ model.is_reserved name.now }
+{
+    let name = name.as_bytes();
+    Op::from_bytes(name).is_some() || number_named(name).is_some() || fixed(name).is_some()
+}
+
+/// What a token means, but for the name of a node.
+#[tactic(auto, unfolding(ga_pack::specs::Model::Meaning::meaning_of))]
+fn plain_meaning(text: &[u8]) -> Meaning<'_>
+    ensures { meaning_of result ≡ model.meaning_of text.now }
+{
+    if let Some(op) = Op::from_bytes(text) {
+        return Meaning::Op(op);
+    }
+    if let Some(number) = number_named(text) {
+        return Meaning::Number(number);
+    }
+    if let Some(meaning) = fixed(text) {
+        return meaning;
+    }
+    if let Some(number) = numeral(10, text) {
+        return ranged(number);
+    }
+    if let Some(number) = hex_numeral(text) {
+        return ranged(number);
+    }
+    if let Some(name) = label_name(text) {
+        return Meaning::Label(name);
+    }
+    match name_in(text) {
+        Some(name) => Meaning::Name(name),
+        None => Meaning::BadToken,
+    }
+}
+
+/// A number by its name: the port of a side, io, the ports of all sides, or the warm word.
+fn number_named(text: &[u8]) -> Option<u32>
+    ensures value { result ≡ model.number_named text.now }
+{
+    if b"right".as_slice() == text {
+        return Some(0x1D5);
+    }
+    if b"down".as_slice() == text {
+        return Some(0x115);
+    }
+    if b"left".as_slice() == text {
+        return Some(0x175);
+    }
+    if b"up".as_slice() == text {
+        return Some(0x145);
+    }
+    if b"io".as_slice() == text {
+        return Some(0x15D);
+    }
+    if b"rdlu".as_slice() == text {
+        return Some(0x1A5);
+    }
+    if b"warm".as_slice() == text {
+        return Some(0x0A9);
+    }
+    None
+}
+
+/// A word or a mark with a meaning of its own.
+fn fixed(text: &[u8]) -> Option<Meaning<'_>>
+    ensures { option_map meaning_of result ≡ model.as_fixed text.now }
+{
+    if b"node".as_slice() == text {
+        return Some(Meaning::Node);
+    }
+    if b"align".as_slice() == text {
+        return Some(Meaning::Align);
+    }
+    if b"data".as_slice() == text {
+        return Some(Meaning::Data);
+    }
+    if b"[".as_slice() == text {
+        return Some(Meaning::OpenMark);
+    }
+    if b"]".as_slice() == text {
+        return Some(Meaning::CloseMark);
+    }
+    if b",".as_slice() == text {
+        return Some(Meaning::Comma);
+    }
+    if b"/".as_slice() == text {
+        return Some(Meaning::Slash);
+    }
+    None
+}
+
+/// A number that a word holds, or not.
+fn ranged<'a>(number: u32) -> Meaning<'a>
+    ensures { meaning_of result ≡ model.ranged number }
+{
+    if number < 1 << 18 {
+        Meaning::Number(number)
+    } else {
+        Meaning::NumberRange
+    }
+}
+
+/// The number that one to eight digits write.
+fn numeral(radix: u32, digits: &[u8]) -> Option<u32>
+    requires { (2 ≤ radix) × (radix ≤ 16) }
+    ensures { result ≡ model.numeral radix digits.now }
+{
+    if digits.is_empty() || digits.len() > 8 {
+        return None;
+    }
+    let mut number = 0;
+    for byte in digits {
+        let digit = char::from(*byte).to_digit(radix)?;
+        number = number * radix + digit;
+    }
+    Some(number)
+}
+
+/// The number that `$` and hex digits write.
+fn hex_numeral(text: &[u8]) -> Option<u32>
+    ensures { option_map model.ranged result ≡ model.as_hex text.now }
+{
+    let (first, digits) = text.split_first()?;
+    if *first != b'$' {
+        return None;
+    }
+    numeral(16, digits)
+}
+
+/// The node whose name three digits write.
+fn node_named(text: &[u8]) -> Option<Node>
+    ensures { option_map node_name result ≡ model.as_node text.now }
+{
+    if text.len() != 3 {
+        return None;
+    }
+    let name = u16::try_from(numeral(10, text)?).ok()?;
+    Node::new(name)
+}
+
+/// The name in front of `:`.
+fn label_name(text: &[u8]) -> Option<&str>
+    ensures { option_map (λ text. label text.now) result ≡ model.as_label text.now }
+{
+    let (last, name) = text.split_last()?;
+    if *last != b':' {
+        return None;
+    }
+    name_in(name)
+}
+
+/// A text that is a name, reserved or not.
+fn name_in(text: &[u8]) -> Option<&str>
+    ensures { option_map (λ text. name text.now) result ≡ model.as_name text.now }
+{
+    if is_name(text) {
+        return str::from_utf8(text).ok();
+    }
+    None
+}
+
+/// One to sixteen letters and digits, the first no digit.
+fn is_name(text: &[u8]) -> bool
+    ensures { result ≡ model.is_name text.now }
+{
+    match text.split_first() {
+        Some((first, rest)) => {
+            is_letter(*first) && rest.len() < 16 && are_letters_or_digits(rest)
+        }
+        None => false,
+    }
+}
+
+fn are_letters_or_digits(text: &[u8]) -> bool
+    ensures { result ≡ list_all model.is_letter_or_digit text.now }
+{
+    text.iter().all(|byte| is_letter_or_digit(*byte))
+}
+
+/// An ASCII letter or `_`.
+fn is_letter(byte: u8) -> bool
+    ensures { result ≡ model.is_letter byte }
+{
+    matches!(byte, b'A'..=b'Z' | b'a'..=b'z' | b'_')
+}
+
+fn is_letter_or_digit(byte: u8) -> bool
+    ensures { result ≡ model.is_letter_or_digit byte }
+{
+    is_letter(byte) || byte.is_ascii_digit()
+}

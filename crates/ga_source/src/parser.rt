@@ -1,0 +1,647 @@
+//! The parser: it takes one token at a time, and refuses the first with which no text goes on.
+ghost use Rattle.std.specs.Prelude.{◌≡◌, ◌+◌, ◌<◌, ◌≤◌, ◌++◌, ◌∷◌, [], length, map, false, IfOk, IfErr, OnOk, None, Some, List, ℕ, suc};
+ghost use Rattle.std.specs.Option.{option_map};
+ghost use Rattle.ga_pack.specs.Followers as counted;
+ghost use Rattle.ga_pack.specs.Model.Source as words;
+ghost use Rattle.ga_pack.specs.Model.Source.{Behind, Code, Plain, Transfer, Word, WordTo, labels_with};
+ghost use Rattle.ga_pack.specs.Model.Text as model;
+ghost use Rattle.ga_pack.specs.Model.SourceFault as faults;
+ghost use Rattle.ga_pack.specs.Model.Token.{end};
+ghost use Rattle.ga_source.specs.Error.{kind_of};
+ghost use Rattle.ga_source.specs.Item.{item_of, labels_in, placed_of, value_of};
+ghost use Rattle.ga_source.specs.Machine as machine;
+ghost use Rattle.ga_source.specs.Machine.{Good, IsConsistent, added, closed, nothing};
+ghost use Rattle.ga_source.specs.Meaning.{meaning_of};
+ghost use Rattle.ga_source.specs.Parser.{Answered, Took, done_of, inside_of, labels_of, name_place_of, names_of, part_of, pending_of, state_of};
+ghost use Rattle.ga_source.specs.Token.{place_of};
+ghost use Rattle.ga_source.specs.declared.error.SourceErrorKind.TheVariants.{Memory};
+ghost use Rattle.ga_source.specs.declared.parser.Part.TheVariants as part;
+ghost use Rattle.ga_source.specs.declared.parser.Position.TheVariants as at;
+
+use crate::error::SourceErrorKind;
+use crate::item::{Item, PlacedItem, Value};
+use crate::meaning::{Meaning, is_reserved};
+use crate::section::Section;
+use crate::token::Place;
+use arrayvec::ArrayVec;
+use ga_place::Node;
+use ga_word::Op;
+use indexmap::{IndexMap, IndexSet};
+use std::alloc::{AllocError, Global};
+
+// Where an item stands.
+#[derive(Clone, Copy)]
+enum Part {
+    // In the code part, where so many followers of a bracketed word are owed.
+    Code(u32),
+    // Behind `data`.
+    Data,
+}
+
+// A value of the item that is begun. A name has its place.
+#[derive(Clone, Copy)]
+enum Pending<'a> {
+    Number(u32),
+    Name(&'a str, Place),
+}
+
+// Where the parser stands.
+#[derive(Clone, Copy)]
+enum Position<'a> {
+    Nothing,
+    Naming,
+    Between,
+    BehindOp(Op),
+    BehindComma,
+    InWord,
+    BehindDestOp(Op),
+    BehindDest(Op, Pending<'a>),
+    BehindSlash(Op, Pending<'a>),
+    BehindSpare(Op, Pending<'a>, u8),
+    Finished,
+}
+
+// The sections that are done, the section that is open, and the item that is begun.
+#[derive(Drop)]
+pub(crate) struct Parser<'a> {
+    alloc: Global,
+    pub(crate) sections: IndexMap<Node, Section>,
+    node: Node,
+    items: Vec<PlacedItem>,
+    labels: IndexSet<String>,
+    part: Part,
+    has_word: bool,
+    position: Position<'a>,
+    // The place of the item's first token.
+    place: Place,
+    // The opcodes of a bracketed word, but for one that takes a destination.
+    ops: ArrayVec<Op, 4>,
+}
+
+impl<'a> Pending<'a> {
+    // The value, which owns its name.
+    fn value(self, alloc: Global) -> Result<Value, AllocError>
+        ensures { IfOk result (λ value. value_of value ≡ pending_of self.entry) }
+    {
+        match self {
+            Pending::Number(number) => Ok(Value::Number(number)),
+            Pending::Name(name, _) => Ok(Value::Label(String::from_str(alloc, name)?)),
+        }
+    }
+
+    // The place of the name.
+    fn name_place(self) -> Option<Place>
+        ensures { option_map place_of result ≡ name_place_of self.entry }
+    {
+        match self {
+            Pending::Number(_) => None,
+            Pending::Name(_, place) => Some(place),
+        }
+    }
+}
+
+impl<'a> Parser<'a> {
+    /// A parser that has taken no token.
+    pub(crate) fn new(alloc: Global) -> Self
+        ensures { state_of result ≡ nothing }
+    {
+        Parser {
+            alloc,
+            sections: IndexMap::new(alloc),
+            node: Node::new(0).unwrap(),
+            items: Vec::new(alloc),
+            labels: IndexSet::new(alloc),
+            part: Part::Code(0),
+            has_word: false,
+            position: Position::Nothing,
+            place: Place { line: 1, column: 1 },
+            ops: ArrayVec::new(),
+        }
+    }
+
+    // The item is whole; the next one stands in this part.
+    fn add(
+        &mut self,
+        item: Item,
+        name_place: Option<Place>,
+        part: Part,
+    ) -> Result<(), SourceErrorKind>
+        requires no_label { (labels : List (List ℕ)) → labels_with (item_of item) labels ≡ labels }
+        ensures ok { OnOk result (state_of self.new ≡ added (inside_of self.old) (item_of item) (place_of self.old.place) (option_map place_of name_place) (part_of part)) }
+        ensures err { IfErr result (λ kind. kind ≡ Memory) }
+    {
+        let makes_word = item.makes_word();
+        let place = self.place;
+        self.items.push(PlacedItem {
+            item,
+            place,
+            name_place,
+        })?;
+        self.has_word = self.has_word || makes_word;
+        self.part = part;
+        self.position = Position::Between;
+        Ok(())
+    }
+
+    fn take_nothing(&mut self, token: &Meaning<'a>, place: Place) -> Result<(), SourceErrorKind>
+        requires position { self.old.position ≡ at.Nothing }
+        ensures { Took (state_of self.old) (meaning_of token.now) (place_of place) result (state_of self.new) }
+    {
+        match *token {
+            Meaning::Node => {
+                self.sections = IndexMap::new(self.alloc);
+                self.position = Position::Naming;
+                Ok(())
+            }
+            Meaning::BadToken => Err(SourceErrorKind::BadToken),
+            Meaning::NumberRange => Err(SourceErrorKind::NumberRange),
+            _ => Err(SourceErrorKind::NoNode),
+        }
+    }
+
+    // A section of this node was begun before.
+    fn is_begun(&self, node: Node) -> bool
+        ensures { result ≡ words.is_named node (names_of self.now) }
+    {
+        self.sections.contains_key(&node)
+    }
+
+    fn take_name(&mut self, token: &Meaning<'a>, place: Place) -> Result<(), SourceErrorKind>
+        requires position { self.old.position ≡ at.Naming }
+        ensures { Took (state_of self.old) (meaning_of token.now) (place_of place) result (state_of self.new) }
+    {
+        match *token {
+            Meaning::NodeName(node) => {
+                if self.is_begun(node) {
+                    return Err(SourceErrorKind::DuplicateNode);
+                }
+                self.node = node;
+                self.items = Vec::new(self.alloc);
+                self.labels = IndexSet::new(self.alloc);
+                self.part = Part::Code(0);
+                self.has_word = false;
+                self.position = Position::Between;
+                Ok(())
+            }
+            Meaning::BadToken => Err(SourceErrorKind::BadToken),
+            Meaning::NumberRange => Err(SourceErrorKind::NumberRange),
+            _ => Err(SourceErrorKind::BadNode),
+        }
+    }
+
+    // An opcode outside brackets and its destination are whole.
+    fn add_transfer(&mut self, op: Op, value: Pending<'a>) -> Result<(), SourceErrorKind>
+        ensures ok { OnOk result (state_of self.new ≡ added (inside_of self.old) (Transfer op (pending_of value.entry)) (place_of self.old.place) (name_place_of value.entry) (Code 0)) }
+        ensures err { IfErr result (λ kind. kind ≡ Memory) }
+    {
+        let dest = value.value(self.alloc)?;
+        self.add(
+            Item::Transfer { op, dest },
+            value.name_place(),
+            Part::Code(0),
+        )
+    }
+
+    // Behind an opcode that takes a destination, outside brackets.
+    fn take_dest(
+        &mut self,
+        op: Op,
+        token: &Meaning<'a>,
+        place: Place,
+    ) -> Result<(), SourceErrorKind>
+        requires position { self.old.position ≡ at.BehindOp op }
+        ensures { Took (state_of self.old) (meaning_of token.now) (place_of place) result (state_of self.new) }
+    {
+        match *token {
+            Meaning::Number(number) if number < 0x400 => {
+                self.add_transfer(op, Pending::Number(number))
+            }
+            Meaning::Number(_) => Err(SourceErrorKind::NumberRange),
+            Meaning::Name(name) => self.add_transfer(op, Pending::Name(name, place)),
+            Meaning::NumberRange => Err(SourceErrorKind::NumberRange),
+            _ => Err(SourceErrorKind::BadToken),
+        }
+    }
+
+    // A plain word is whole.
+    fn add_plain(&mut self, value: Pending<'a>) -> Result<(), SourceErrorKind>
+        requires owed { (owed : ℕ) → self.old.part ≡ part.Code owed → 0 < owed }
+        ensures { Answered (machine.with_part (inside_of self.old) (Plain (pending_of value.entry)) (place_of self.old.place) (name_place_of value.entry)) result (state_of self.new) }
+    {
+        let part = match self.part {
+            Part::Code(owed) => Part::Code(owed - 1),
+            Part::Data => Part::Data,
+        };
+        let word = value.value(self.alloc)?;
+        self.add(Item::Plain(word), value.name_place(), part)
+    }
+
+    // Behind a comma.
+    fn take_plain(&mut self, token: &Meaning<'a>, place: Place) -> Result<(), SourceErrorKind>
+        requires position { self.old.position ≡ at.BehindComma }
+        requires owed { (owed : ℕ) → self.old.part ≡ part.Code owed → 0 < owed }
+        ensures { Took (state_of self.old) (meaning_of token.now) (place_of place) result (state_of self.new) }
+    {
+        match *token {
+            Meaning::Number(number) => self.add_plain(Pending::Number(number)),
+            Meaning::Name(name) => self.add_plain(Pending::Name(name, place)),
+            Meaning::NumberRange => Err(SourceErrorKind::NumberRange),
+            _ => Err(SourceErrorKind::BadToken),
+        }
+    }
+
+    // In brackets, before an opcode with a destination.
+    fn take_slot(&mut self, token: &Meaning<'a>, place: Place) -> Result<(), SourceErrorKind>
+        requires position { self.old.position ≡ at.InWord }
+        requires code { part_of self.old.part ≡ Code 0 }
+        ensures { Took (state_of self.old) (meaning_of token.now) (place_of place) result (state_of self.new) }
+    {
+        match *token {
+            Meaning::Op(op) => {
+                let slot = self.ops.len();
+                if op.takes_dest() {
+                    if slot >= 3 {
+                        return Err(SourceErrorKind::BadWord);
+                    }
+                    self.position = Position::BehindDestOp(op);
+                    return Ok(());
+                }
+                if slot < 3 || slot == 3 && op.fits_slot3() {
+                    self.ops.push(op);
+                    return Ok(());
+                }
+                Err(SourceErrorKind::BadWord)
+            }
+            Meaning::CloseMark => {
+                if self.ops.is_empty() {
+                    return Err(SourceErrorKind::BadWord);
+                }
+                self.close_word()
+            }
+            _ => Err(bracket_fault(token)),
+        }
+    }
+
+    // In brackets, behind an opcode that takes a destination.
+    fn take_field(
+        &mut self,
+        op: Op,
+        token: &Meaning<'a>,
+        place: Place,
+    ) -> Result<(), SourceErrorKind>
+        requires position { self.old.position ≡ at.BehindDestOp op }
+        ensures { Took (state_of self.old) (meaning_of token.now) (place_of place) result (state_of self.new) }
+    {
+        match *token {
+            Meaning::Number(number) => {
+                let bound = match self.ops.len() {
+                    0 => 0x400,
+                    1 => 0x100,
+                    _ => 8,
+                };
+                if number >= bound {
+                    return Err(SourceErrorKind::BadWord);
+                }
+                self.position = Position::BehindDest(op, Pending::Number(number));
+                Ok(())
+            }
+            Meaning::Name(name) => {
+                self.position = Position::BehindDest(op, Pending::Name(name, place));
+                Ok(())
+            }
+            _ => Err(bracket_fault(token)),
+        }
+    }
+
+    // In brackets, behind a destination.
+    fn take_behind_dest(
+        &mut self,
+        op: Op,
+        dest: Pending<'a>,
+        token: &Meaning<'a>,
+        place: Place,
+    ) -> Result<(), SourceErrorKind>
+        requires position { self.old.position ≡ at.BehindDest op dest }
+        requires code { part_of self.old.part ≡ Code 0 }
+        ensures { Took (state_of self.old) (meaning_of token.now) (place_of place) result (state_of self.new) }
+    {
+        match *token {
+            Meaning::Slash => {
+                if !self.ops.is_empty() {
+                    return Err(SourceErrorKind::BadWord);
+                }
+                self.position = Position::BehindSlash(op, dest);
+                Ok(())
+            }
+            Meaning::CloseMark => self.close(op, dest, None),
+            _ => Err(bracket_fault(token)),
+        }
+    }
+
+    // A bracketed word without a destination is whole.
+    fn close_word(&mut self) -> Result<(), SourceErrorKind>
+        requires code { part_of self.old.part ≡ Code 0 }
+        ensures { Answered (machine.with_part (inside_of self.old) (Word self.old.ops.items) (place_of self.old.place) None) result (state_of self.new) }
+    {
+        let owed = followers(&self.ops);
+        let ops = std::mem::replace(&mut self.ops, ArrayVec::new());
+        self.add(Item::Word(ops), None, Part::Code(owed))
+    }
+
+    // A bracketed word with a destination is whole.
+    fn close(&mut self, op: Op, dest: Pending<'a>, spare: Option<u8>) -> Result<(), SourceErrorKind>
+        requires code { part_of self.old.part ≡ Code 0 }
+        ensures { Answered (machine.with_part (inside_of self.old) (WordTo self.old.ops.items op (pending_of dest.entry) spare) (place_of self.old.place) (name_place_of dest.entry)) result (state_of self.new) }
+    {
+        let value = dest.value(self.alloc)?;
+        let owed = followers(&self.ops);
+        let ops = std::mem::replace(&mut self.ops, ArrayVec::new());
+        self.add(
+            Item::WordTo {
+                ops,
+                op,
+                dest: value,
+                spare,
+            },
+            dest.name_place(),
+            Part::Code(owed),
+        )
+    }
+
+    // In brackets, behind `/`.
+    fn take_spare(
+        &mut self,
+        op: Op,
+        dest: Pending<'a>,
+        token: &Meaning<'a>,
+        place: Place,
+    ) -> Result<(), SourceErrorKind>
+        requires position { self.old.position ≡ at.BehindSlash op dest }
+        ensures { Took (state_of self.old) (meaning_of token.now) (place_of place) result (state_of self.new) }
+    {
+        match *token {
+            Meaning::Number(spare) if spare < 8 => {
+                self.position = Position::BehindSpare(op, dest, spare as u8);
+                Ok(())
+            }
+            Meaning::Number(_) => Err(SourceErrorKind::BadWord),
+            _ => Err(bracket_fault(token)),
+        }
+    }
+
+    // In brackets, behind spare bits.
+    fn take_close(
+        &mut self,
+        op: Op,
+        dest: Pending<'a>,
+        spare: u8,
+        token: &Meaning<'a>,
+        place: Place,
+    ) -> Result<(), SourceErrorKind>
+        requires position { self.old.position ≡ at.BehindSpare op dest spare }
+        requires code { part_of self.old.part ≡ Code 0 }
+        ensures { Took (state_of self.old) (meaning_of token.now) (place_of place) result (state_of self.new) }
+    {
+        match *token {
+            Meaning::CloseMark => self.close(op, dest, Some(spare)),
+            _ => Err(bracket_fault(token)),
+        }
+    }
+
+    // An opcode outside brackets, where no follower is owed.
+    fn take_op(&mut self, op: Op) -> Result<(), SourceErrorKind>
+        requires position { self.old.position ≡ at.Between }
+        ensures { Answered (machine.take_op (inside_of self.old) op (place_of self.old.place)) result (state_of self.new) }
+    {
+        if op.takes_dest() {
+            self.position = Position::BehindOp(op);
+            return Ok(());
+        }
+        if is_followed(op) {
+            return Err(SourceErrorKind::BadToken);
+        }
+        self.add(Item::Instruction(op), None, Part::Code(0))
+    }
+
+    // Behind `data`.
+    fn take_data(&mut self, token: &Meaning<'a>) -> Result<(), SourceErrorKind>
+        requires position { self.old.position ≡ at.Between }
+        ensures { Answered (machine.take_first Behind (inside_of self.old) (meaning_of token.now) (place_of self.old.place)) result (state_of self.new) }
+    {
+        match *token {
+            Meaning::Comma => {
+                self.position = Position::BehindComma;
+                Ok(())
+            }
+            _ => Err(SourceErrorKind::BadToken),
+        }
+    }
+
+    // In the code part, where followers are owed.
+    fn take_owed(&mut self, token: &Meaning<'a>) -> Result<(), SourceErrorKind>
+        requires position { self.old.position ≡ at.Between }
+        ensures { (owed : ℕ) → Answered (machine.take_first (Code (suc owed)) (inside_of self.old) (meaning_of token.now) (place_of self.old.place)) result (state_of self.new) }
+    {
+        match *token {
+            Meaning::Comma => {
+                self.position = Position::BehindComma;
+                Ok(())
+            }
+            Meaning::Data => self.add(Item::Data, None, Part::Data),
+            Meaning::Op(op) if !is_followed(op) => Err(SourceErrorKind::BadWord),
+            Meaning::Number(_) | Meaning::Align | Meaning::OpenMark => Err(
+                SourceErrorKind::BadWord,
+            ),
+            _ => Err(SourceErrorKind::BadToken),
+        }
+    }
+
+    // In the code part, where none is.
+    fn take_code(&mut self, token: &Meaning<'a>) -> Result<(), SourceErrorKind>
+        requires position { self.old.position ≡ at.Between }
+        ensures { Answered (machine.take_first (Code 0) (inside_of self.old) (meaning_of token.now) (place_of self.old.place)) result (state_of self.new) }
+    {
+        match *token {
+            Meaning::Op(op) => self.take_op(op),
+            Meaning::Number(number) => self.add(Item::Literal(number), None, Part::Code(0)),
+            Meaning::Align => self.add(Item::Align, None, Part::Code(0)),
+            Meaning::Data => self.add(Item::Data, None, Part::Data),
+            Meaning::OpenMark => {
+                self.ops = ArrayVec::new();
+                self.position = Position::InWord;
+                Ok(())
+            }
+            _ => Err(SourceErrorKind::BadToken),
+        }
+    }
+
+    // What begins an item, but for a label.
+    fn take_item(&mut self, token: &Meaning<'a>) -> Result<(), SourceErrorKind>
+        requires position { self.old.position ≡ at.Between }
+        ensures { Answered (machine.take_first (part_of self.old.part) (inside_of self.old) (meaning_of token.now) (place_of self.old.place)) result (state_of self.new) }
+    {
+        match self.part {
+            Part::Data => self.take_data(token),
+            Part::Code(0) => self.take_code(token),
+            Part::Code(_) => self.take_owed(token),
+        }
+    }
+
+    // Where an item is whole.
+    fn take_between(&mut self, token: &Meaning<'a>, place: Place) -> Result<(), SourceErrorKind>
+        requires position { self.old.position ≡ at.Between }
+        requires consistent { IsConsistent (state_of self.old) }
+        ensures { Took (state_of self.old) (meaning_of token.now) (place_of place) result (state_of self.new) }
+    {
+        self.place = place;
+        match *token {
+            Meaning::BadToken => Err(SourceErrorKind::BadToken),
+            Meaning::NumberRange => Err(SourceErrorKind::NumberRange),
+            Meaning::Node => {
+                if !self.has_word {
+                    return Err(SourceErrorKind::Empty);
+                }
+                self.end_section()?;
+                self.position = Position::Naming;
+                Ok(())
+            }
+            Meaning::Label(name) => self.take_label(name),
+            _ => self.take_item(token),
+        }
+    }
+
+    // The section that is open ends.
+    fn end_section(&mut self) -> Result<(), SourceErrorKind>
+        requires new { words.is_named self.old.node (names_of self.old) ≡ false }
+        requires labels { labels_of self.old ≡ labels_in (map placed_of self.old.items.items) }
+        ensures done { OnOk result (done_of self.new ≡ closed (inside_of self.old)) }
+        ensures names { OnOk result (names_of self.new ≡ names_of self.old ++ self.old.node ∷ []) }
+        ensures err { IfErr result (λ kind. kind ≡ Memory) }
+    {
+        let items = std::mem::replace(&mut self.items, Vec::new(self.alloc));
+        let labels = std::mem::replace(&mut self.labels, IndexSet::new(self.alloc));
+        self.sections.insert(self.node, Section { items, labels })?;
+        Ok(())
+    }
+
+    // The open section has this label.
+    fn has_label(&self, name: &str) -> bool
+        ensures { result ≡ words.is_among name.now (labels_of self.now) }
+    {
+        self.labels.contains(name)
+    }
+
+    // The open section gets a label, which it has not.
+    fn add_label(&mut self, name: &str) -> Result<(), SourceErrorKind>
+        requires new { words.is_among name.now (labels_of self.old) ≡ false }
+        ensures ok { OnOk result (self.new ≡ record self.old { labels = self.new.labels }) }
+        ensures labels { OnOk result (labels_of self.new ≡ labels_of self.old ++ name.now ∷ []) }
+        ensures err { IfErr result (λ kind. kind ≡ Memory) }
+    {
+        self.labels.insert(String::from_str(self.alloc, name)?)?;
+        Ok(())
+    }
+
+    fn take_label(&mut self, name: &'a str) -> Result<(), SourceErrorKind>
+        requires position { self.old.position ≡ at.Between }
+        ensures { Answered (machine.take_label (inside_of self.old) name.now (place_of self.old.place)) result (state_of self.new) }
+    {
+        if is_reserved(name) {
+            return Err(SourceErrorKind::ReservedLabel);
+        }
+        if self.has_label(name) {
+            return Err(SourceErrorKind::DuplicateLabel);
+        }
+        self.add_label(name)?;
+        let place = self.place;
+        let item = Item::Label(String::from_str(self.alloc, name)?);
+        self.items.push(PlacedItem {
+            item,
+            place,
+            name_place: None,
+        })?;
+        Ok(())
+    }
+
+    /// Takes a token, or refuses it.
+    pub(crate) fn take(&mut self, token: &Meaning<'a>, place: Place) -> Result<(), SourceErrorKind>
+        requires good { Good (state_of self.old) }
+        requires consistent { IsConsistent (state_of self.old) }
+        ensures { Took (state_of self.old) (meaning_of token.now) (place_of place) result (state_of self.new) }
+    {
+        match self.position {
+            Position::Nothing => self.take_nothing(token, place),
+            Position::Naming => self.take_name(token, place),
+            Position::Between => self.take_between(token, place),
+            Position::BehindOp(op) => self.take_dest(op, token, place),
+            Position::BehindComma => self.take_plain(token, place),
+            Position::InWord => self.take_slot(token, place),
+            Position::BehindDestOp(op) => self.take_field(op, token, place),
+            Position::BehindDest(op, dest) => self.take_behind_dest(op, dest, token, place),
+            Position::BehindSlash(op, dest) => self.take_spare(op, dest, token, place),
+            Position::BehindSpare(op, dest, spare) => self.take_close(
+                op, dest, spare, token, place,
+            ),
+            Position::Finished => Err(SourceErrorKind::BadToken),
+        }
+    }
+
+    /// Takes the text's end, or refuses it.
+    pub(crate) fn finish(&mut self) -> Result<(), SourceErrorKind>
+        requires consistent { IsConsistent (state_of self.old) }
+        ensures { (place : model.Place) → Took (state_of self.old) end place result (state_of self.new) }
+    {
+        match self.position {
+            Position::Nothing => Err(SourceErrorKind::NoNode),
+            Position::Naming => Err(SourceErrorKind::BadNode),
+            Position::Between => {
+                if !self.has_word {
+                    return Err(SourceErrorKind::Empty);
+                }
+                self.end_section()?;
+                self.position = Position::Finished;
+                Ok(())
+            }
+            Position::BehindOp(_) | Position::BehindComma | Position::Finished => {
+                Err(SourceErrorKind::BadToken)
+            }
+            _ => Err(SourceErrorKind::OpenBracket),
+        }
+    }
+}
+
+// `@p` and `!p` have a follower.
+fn is_followed(op: Op) -> bool
+    ensures { result ≡ counted.is_followed op }
+{
+    matches!(op, Op::FetchP | Op::StoreP)
+}
+
+// The `@p` and `!p` up to the first opcode that ends the word.
+fn followers(ops: &[Op]) -> u32
+    requires { length ops.now ≤ 4 }
+    ensures { result ≡ counted.followers ops.now }
+{
+    let mut count = 0;
+    for op in ops {
+        if op.ends_word() {
+            return count;
+        }
+        if is_followed(*op) {
+            count += 1;
+        }
+    }
+    count
+}
+
+// The fault of a token that may not stand in brackets.
+fn bracket_fault(token: &Meaning<'_>) -> SourceErrorKind
+    ensures { kind_of result ≡ Some (faults.bracket_fault (meaning_of token.now)) }
+{
+    match *token {
+        Meaning::BadToken => SourceErrorKind::BadToken,
+        Meaning::NumberRange => SourceErrorKind::NumberRange,
+        Meaning::OpenMark => SourceErrorKind::OpenBracket,
+        _ => SourceErrorKind::BadWord,
+    }
+}

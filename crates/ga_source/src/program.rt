@@ -1,0 +1,96 @@
+//! The program of a text.
+ghost use Rattle.std.specs.Prelude.{◌≡◌, IfErr, IfOk, List, map};
+ghost use Rattle.ga_pack.specs.Model.Program.{IsProgram, PlacedSection};
+ghost use Rattle.ga_pack.specs.Model.Token as token;
+ghost use Rattle.ga_source.specs.Error.{error_place, kind_of};
+ghost use Rattle.ga_source.specs.Section.{section_of};
+ghost use Rattle.ga_source.specs.Meaning.{meaning_of};
+ghost use Rattle.ga_source.specs.Program.{IsFirstFault, IsRight};
+
+use crate::error::{SourceError, SourceErrorKind};
+use crate::meaning::{Meaning, meaning_at};
+use crate::parser::Parser;
+use crate::section::Section;
+use crate::token::{Place, end_place, tokens};
+use ga_place::Node;
+use indexmap::IndexMap;
+use std::alloc::Global;
+use std::marker::Model;
+
+/// The program of a text: a section for each node that the text names, in its order. A contract sees
+/// it as the list of its sections.
+#[derive(Debug, Drop)]
+pub struct Program {
+    sections: IndexMap<Node, Section>,
+}
+
+impl Model for Program {
+    ghost Value = { List PlacedSection };
+
+    ghost view = { λ program. map section_of program.sections.entries };
+
+    ghost invariant = { λ program. IsRight (map section_of program.sections.entries) };
+}
+
+impl Program {
+    /// The sections by their nodes, in the text's order.
+    pub fn sections(&self) -> &IndexMap<Node, Section>
+        ensures value { map section_of result.now.entries ≡ self.now }
+        ensures right { IsRight self.now }
+    {
+        &self.sections
+    }
+}
+
+/// The program of a text, or the first fault of the text with its place. (The texts are this project's
+/// own: profile.)
+///
+/// It fails as `Memory` only where memory is refused. Each other kind is that of the first token, or of
+/// the text's end, with which no text goes on that begins as this one does.
+pub fn parse(alloc: Global, text: &str) -> Result<Program, SourceError>
+    ensures program { IfOk result (λ program. IsProgram text.now program) }
+    // it is the only program of the text
+    ensures only { IfOk result (λ program. (other : List PlacedSection) → IsProgram text.now other → other ≡ program) }
+    // each fault but `Memory` is the first one, told at its place
+    ensures fault { IfErr result (λ error. IsFirstFault text.now (kind_of error.kind) (error_place error)) }
+{
+    let mut place = Place { line: 1, column: 1 };
+    let Ok(tokens) = tokens(alloc, text) else {
+        return Err(fault_at(place, SourceErrorKind::Memory));
+    };
+    let mut parser = Parser::new(alloc);
+    let mut is_behind_node = false;
+    for token in &tokens {
+        let meaning = meaning_at(is_behind_node, &text.as_bytes()[token.start..token.end]);
+        place = Place {
+            line: token.line,
+            column: token.column,
+        };
+        if let Err(kind) = parser.take(&meaning, place) {
+            return Err(fault_at(place, kind));
+        }
+        is_behind_node = is_node(&meaning);
+    }
+    match parser.finish() {
+        Ok(()) => Ok(Program {
+            sections: parser.sections,
+        }),
+        Err(kind) => Err(fault_at(end_place(text), kind)),
+    }
+}
+
+fn is_node(meaning: &Meaning<'_>) -> bool
+    ensures { result ≡ token.is_node (meaning_of meaning.now) }
+{
+    matches!(*meaning, Meaning::Node)
+}
+
+fn fault_at(place: Place, kind: SourceErrorKind) -> SourceError
+    ensures { result ≡ record { kind = kind; line = place.line; column = place.column } }
+{
+    SourceError {
+        kind,
+        line: place.line,
+        column: place.column,
+    }
+}

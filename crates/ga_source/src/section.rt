@@ -1,0 +1,15 @@
+ghost use Rattle.std.specs.Prelude.{◌≡◌, map};
+ghost use Rattle.std.specs.String.{string_bytes};
+ghost use Rattle.ga_source.specs.Item.{labels_in, placed_of};
+
+use crate::item::PlacedItem;
+use indexmap::IndexSet;
+
+/// The items of a node, and the names of its labels, each in the text's order.
+#[derive(Debug, Drop)]
+pub struct Section {
+    pub items: Vec<PlacedItem>,
+    pub labels: IndexSet<String>,
+    // The labels are those of the items.
+    ghost labels_of_items: { map string_bytes labels.keys ≡ labels_in (map placed_of items.items) },
+}

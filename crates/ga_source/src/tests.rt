@@ -1,0 +1,280 @@
+use crate::{Item, Place, PlacedItem, SourceError, SourceErrorKind, Token, Value, parse, tokens};
+use arrayvec::ArrayVec;
+use ga_place::Node;
+use ga_word::Op;
+use std::alloc::Global;
+use std::test::Fail;
+
+fn fault(alloc: Global, text: &str) -> Option<SourceError> {
+    parse(alloc, text).err()
+}
+
+fn at(kind: SourceErrorKind, line: usize, column: usize) -> Option<SourceError> {
+    Some(SourceError { kind, line, column })
+}
+
+fn item(item: Item, line: usize, column: usize) -> PlacedItem {
+    PlacedItem {
+        item,
+        place: Place { line, column },
+        name_place: None,
+    }
+}
+
+/// An item that uses a name as a value.
+fn using(item: Item, place: (usize, usize), name_place: (usize, usize)) -> PlacedItem {
+    PlacedItem {
+        item,
+        place: Place {
+            line: place.0,
+            column: place.1,
+        },
+        name_place: Some(Place {
+            line: name_place.0,
+            column: name_place.1,
+        }),
+    }
+}
+
+/// A section for each node, each of one word and on a line of its own.
+fn sections_of_all_nodes(alloc: Global) -> Result<String, Fail> {
+    let mut text = String::new(alloc);
+    for row in 0..8u16 {
+        for column in 0..18u16 {
+            let node = Node::new(row * 100 + column).ok_or("no node")?;
+            let line = format!(in alloc; "node {node} dup\n")?;
+            text.push_str(line.as_str())?;
+        }
+    }
+    Ok(text)
+}
+
+#[test]
+fn faults_on_a_line(rt: HostRuntime) -> Result<(), Fail> {
+    let cases = [
+        ("dup", SourceErrorKind::NoNode, 1),
+        ("]", SourceErrorKind::NoNode, 1),
+        ("/", SourceErrorKind::NoNode, 1),
+        ("foo$", SourceErrorKind::BadToken, 1),
+        ("node 820", SourceErrorKind::BadNode, 6),
+        ("node 718", SourceErrorKind::BadNode, 6),
+        ("node 8", SourceErrorKind::BadNode, 6),
+        ("node node 000", SourceErrorKind::BadNode, 6),
+        ("node 008 dup node 008", SourceErrorKind::DuplicateNode, 19),
+        ("node 000 x: x: dup", SourceErrorKind::DuplicateLabel, 13),
+        ("node 000 dup:", SourceErrorKind::ReservedLabel, 10),
+        ("node 000 io:", SourceErrorKind::ReservedLabel, 10),
+        ("node 000 [ dup [", SourceErrorKind::OpenBracket, 16),
+        ("node 000 [ ]", SourceErrorKind::BadWord, 12),
+        (
+            "node 000 [ dup dup dup drop ]",
+            SourceErrorKind::BadWord,
+            24,
+        ),
+        ("node 000 [ dup jump 256 ]", SourceErrorKind::BadWord, 21),
+        ("node 000 [ dup jump 0 / 1 ]", SourceErrorKind::BadWord, 23),
+        ("node 000 [ jump 0 / 8 ]", SourceErrorKind::BadWord, 21),
+        ("node 000 [ @p ] dup", SourceErrorKind::BadWord, 17),
+        ("node 000 $40000", SourceErrorKind::NumberRange, 10),
+        ("node 000 jump 1024", SourceErrorKind::NumberRange, 15),
+        ("node 000 #", SourceErrorKind::BadToken, 10),
+        ("node 000 ]", SourceErrorKind::BadToken, 10),
+        ("node 000 @p", SourceErrorKind::BadToken, 10),
+        ("node 000 foo", SourceErrorKind::BadToken, 10),
+        ("node 000 , 1", SourceErrorKind::BadToken, 10),
+        ("node 000 $", SourceErrorKind::BadToken, 10),
+        ("node 000 000000001", SourceErrorKind::BadToken, 10),
+        (
+            "node 000 jump abcdefghijklmnopq",
+            SourceErrorKind::BadToken,
+            15,
+        ),
+        ("node 000 DUP", SourceErrorKind::BadToken, 10),
+        ("node 000 data dup", SourceErrorKind::BadToken, 15),
+        ("node 000 dup é", SourceErrorKind::BadToken, 14),
+        ("\u{FEFF}node 000 dup", SourceErrorKind::BadToken, 1),
+    ];
+    for (text, kind, column) in cases {
+        assert_eq!(rt; fault(rt.alloc(), text), at(kind, 1, column));
+    }
+    Ok(())
+}
+
+#[test]
+fn faults_at_the_end(rt: HostRuntime) -> Result<(), Fail> {
+    let cases = [
+        ("", SourceErrorKind::NoNode, 1, 1),
+        ("\\ dup\n\\ dup\n", SourceErrorKind::NoNode, 3, 1),
+        ("node", SourceErrorKind::BadNode, 1, 5),
+        ("node 000", SourceErrorKind::Empty, 1, 9),
+        ("node 000 x: align data", SourceErrorKind::Empty, 1, 23),
+        ("node 000 jump", SourceErrorKind::BadToken, 1, 14),
+        ("node 000 data ,", SourceErrorKind::BadToken, 1, 16),
+        ("node 000 [ dup", SourceErrorKind::OpenBracket, 1, 15),
+        ("node 000 [ jump 0 / 1", SourceErrorKind::OpenBracket, 1, 22),
+        ("node 000\r\n  \r\n", SourceErrorKind::Empty, 3, 1),
+        ("node 000 \\ é€\u{1D11E}", SourceErrorKind::Empty, 1, 15),
+    ];
+    for (text, kind, line, column) in cases {
+        assert_eq!(rt; fault(rt.alloc(), text), at(kind, line, column));
+    }
+    Ok(())
+}
+
+#[test]
+fn lines(rt: HostRuntime) -> Result<(), Fail> {
+    let crlf = "node 000\r\ndup\r\n\tfoo\r\n";
+    assert_eq!(rt;
+        fault(rt.alloc(), crlf),
+        at(SourceErrorKind::BadToken, 3, 2)
+    );
+    let comments = "\\ é€\u{1D11E} node\nnode 000 \\ dup\n  dup ]";
+    assert_eq!(rt;
+        fault(rt.alloc(), comments),
+        at(SourceErrorKind::BadToken, 3, 7)
+    );
+    Ok(())
+}
+
+#[test]
+fn every_node_once(rt: HostRuntime) -> Result<(), Fail> {
+    let alloc = rt.alloc();
+    let text = sections_of_all_nodes(alloc)?;
+    let program = parse(alloc, text.as_str())?;
+    assert_eq!(rt; program.sections().len(), 144);
+    let cases = [
+        ("node", SourceErrorKind::BadNode, 5),
+        ("node dup", SourceErrorKind::BadNode, 6),
+        ("node 000", SourceErrorKind::DuplicateNode, 6),
+        ("node 717", SourceErrorKind::DuplicateNode, 6),
+    ];
+    for (more, kind, column) in cases {
+        let longer = format!(in alloc; "{text}{more}")?;
+        assert_eq!(rt; fault(alloc, longer.as_str()), at(kind, 145, column));
+    }
+    Ok(())
+}
+
+#[test]
+fn items_and_places(rt: HostRuntime) -> Result<(), Fail> {
+    let alloc = rt.alloc();
+    let text =
+        "node 008 \\ é\n  loop: dup 5 if loop\n  [ @p . ] , loop\n  [ next loop / 3 ]\r\n [ @p jump 7 ] , 1 align data , $3FFFF\nnode 717 DUP: jump DUP";
+    let program = parse(alloc, text)?;
+    let sections = program.sections();
+    assert_eq!(rt; sections.len(), 2);
+    let node = Node::new(8).ok_or("no node")?;
+    let section = sections.get(&node).ok_or("no section")?;
+    let name = || String::from_str(alloc, "loop");
+    let mut with_follower = ArrayVec::new();
+    with_follower.push(Op::FetchP);
+    let mut word = ArrayVec::new();
+    word.push(Op::FetchP);
+    word.push(Op::Nop);
+    let expected = vec![in alloc;
+        item(Item::Label(name()?), 2, 3),
+        item(Item::Instruction(Op::Dup), 2, 9),
+        item(Item::Literal(5), 2, 13),
+        using(
+            Item::Transfer {
+                op: Op::If,
+                dest: Value::Label(name()?)
+            },
+            (2, 15),
+            (2, 18)
+        ),
+        item(Item::Word(word), 3, 3),
+        using(Item::Plain(Value::Label(name()?)), (3, 12), (3, 14)),
+        using(
+            Item::WordTo {
+                ops: ArrayVec::new(),
+                op: Op::Next,
+                dest: Value::Label(name()?),
+                spare: Some(3)
+            },
+            (4, 3),
+            (4, 10),
+        ),
+        item(
+            Item::WordTo {
+                ops: with_follower,
+                op: Op::Jump,
+                dest: Value::Number(7),
+                spare: None
+            },
+            5,
+            2,
+        ),
+        item(Item::Plain(Value::Number(1)), 5, 16),
+        item(Item::Align, 5, 20),
+        item(Item::Data, 5, 26),
+        item(Item::Plain(Value::Number(0x3FFFF)), 5, 31),
+    ]?;
+    assert!(rt; section.items == expected);
+    assert_eq!(rt; section.labels.len(), 1);
+    assert!(rt; section.labels.contains("loop"));
+    Ok(())
+}
+
+#[test]
+fn upper_case_is_a_name(rt: HostRuntime) -> Result<(), Fail> {
+    let alloc = rt.alloc();
+    let program = parse(alloc, "node 717 DUP: jump DUP")?;
+    let node = Node::new(717).ok_or("no node")?;
+    let section = program.sections().get(&node).ok_or("no section")?;
+    let name = || String::from_str(alloc, "DUP");
+    let expected = vec![in alloc;
+        item(Item::Label(name()?), 1, 10),
+        using(
+            Item::Transfer {
+                op: Op::Jump,
+                dest: Value::Label(name()?)
+            },
+            (1, 15),
+            (1, 20)
+        ),
+    ]?;
+    assert!(rt; section.items == expected);
+    Ok(())
+}
+
+#[test]
+fn printed_faults(rt: HostRuntime) -> Result<(), Fail> {
+    let error = fault(rt.alloc(), "node 000 [ dup dup dup drop ]").ok_or("no fault")?;
+    assert!(rt; error.to_string(rt.alloc())?.as_str() == "1:24 BadWord");
+    assert!(rt; SourceErrorKind::Memory.to_string(rt.alloc())?.as_str() == "Memory");
+    Ok(())
+}
+
+#[test]
+fn tokens_of_texts(rt: HostRuntime) -> Result<(), Fail> {
+    let one = tokens(rt.alloc(), "dup")?;
+    let dup = Token {
+        start: 0,
+        end: 3,
+        line: 1,
+        column: 1,
+    };
+    assert!(rt; one.as_slice() == [dup].as_slice());
+    let mixed = tokens(rt.alloc(), "é €x \u{1D11E} dup \\ dup\r\n\tdup")?;
+    let places = [
+        (0, 2, 1, 1),
+        (3, 7, 1, 3),
+        (8, 12, 1, 6),
+        (13, 16, 1, 8),
+        (25, 28, 2, 2),
+    ];
+    assert_eq!(rt; mixed.len(), places.len());
+    for (token, (start, end, line, column)) in mixed.iter().zip(places) {
+        assert_eq!(rt;
+            *token,
+            Token {
+                start,
+                end,
+                line,
+                column
+            }
+        );
+    }
+    Ok(())
+}
