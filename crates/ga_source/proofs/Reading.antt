@@ -16,12 +16,13 @@ use Rattle.ga_source.specs.declared.token.Token as written
 use Rattle.ga_source.specs.Machine.{State, Good, IsConsistent, nothing, finished, take}
 use Rattle.ga_source.specs.Meaning.{meaning_of}
 use Rattle.ga_source.specs.Parser.{RefusedAs, at_position, done_of, state_of}
-use Rattle.ga_source.specs.Program.{IsFirstFault, IsRight, sections_in}
+use Rattle.ga_source.specs.Program.{HasNoProgram, IsFirstFault, IsRight, sections_in}
 use Rattle.ga_source.specs.Token.{token_of}
 use Rattle.ga_source.proofs.Erasure.{answer_in, good_in, state_in, take_in}
 use Rattle.ga_source.proofs.Exact.{length_snoc, regroup}
 use Rattle.ga_source.proofs.Placing.{Kept, KeptBy, kept_consistent, take_kept}
 use Rattle.ga_source.proofs.PlainMachine as plain
+use Rattle.ga_source.proofs.Steps.{Right, take_right}
 use Rattle.ga_source.proofs.Whole.{ReadSoFar, at_end, at_fault, at_first, at_next, is_end}
 
 -- so many tokens were read, the last of which was `node` or not
@@ -71,13 +72,21 @@ unfolding IsFault
 fault_is text i front rest s t k place e c r f p =
     (i, subst (λ n. SourceFault (tokens_of text) n k) c (subst (λ ts. SourceFault ts (length front) k) (sym e) (at_fault front rest (state_in s) t k r (plain_step s t place (Err k) f))), p)
 
+no_program : (text : List ℕ) (front rest : List Token) (s : State) (t : Token) (k : SourceKind) (place : Place) → tokens_of text ≡ front ++ t ∷ rest → ReadSoFar front (state_in s) → take s t place ≡ Err k
+    → (program : List PlacedSection) → IsProgram text program → ⊥
+unfolding IsProgram
+no_program text front rest s t k place e r f program (sections, src, at) =
+    let right : Right (state_in s) t (Err k) = subst (Right (state_in s) t) (plain_step s t place (Err k) f) (take_right (state_in s) t r.stands.good) in
+    right rest sections (r.stands.to (t ∷ rest) sections (subst (λ ts. Source ts sections) e src))
+
 -- a token is refused
 pub reading_fault : (text : List ℕ) (i : ℕ) (behind : Bool) (s : State) (t : List ℕ) (o : Option SourceKind) (place : Place) → Reading text i behind s → drop i (texts_of text) ≡ t ∷ drop (suc i) (texts_of text)
-    → place ≡ place_at (places_of text) i → RefusedAs (take s (meaning_at behind t) place) o → IsFirstFault text o place
-reading_fault text i behind s t None place r f p e = tt
+    → place ≡ place_at (places_of text) i → RefusedAs (take s (meaning_at behind t) place) o → IsFirstFault text o place × HasNoProgram text o
+reading_fault text i behind s t None place r f p e = (tt, tt)
 reading_fault text i behind s t (Some k) place r f p e =
-    fault_is text i r.front (meanings (is_node (meaning_at behind t)) (drop (suc i) (texts_of text))) s (meaning_at behind t) k place
-    (cut_more text i behind r.front t (drop (suc i) (texts_of text)) r.cut f) r.count r.reads e p
+    let rest = meanings (is_node (meaning_at behind t)) (drop (suc i) (texts_of text)) in
+    let cut = cut_more text i behind r.front t (drop (suc i) (texts_of text)) r.cut f in
+    (fault_is text i r.front rest s (meaning_at behind t) k place cut r.count r.reads e p, no_program text r.front rest s (meaning_at behind t) k place cut r.reads e)
 
 cut_end : (text : List ℕ) (i : ℕ) (behind : Bool) (front : List Token) → tokens_of text ≡ front ++ meanings behind (drop i (texts_of text)) → drop i (texts_of text) ≡ [] → tokens_of text ≡ front ++ end ∷ []
 unfolding meanings
@@ -85,9 +94,11 @@ cut_end text i behind front e f = e ∙ ap (λ ts. front ++ meanings behind ts) 
 
 -- the text's end is refused
 pub reading_fault_end : (text : List ℕ) (i : ℕ) (behind : Bool) (s : State) (o : Option SourceKind) (place : Place) → Reading text i behind s → drop i (texts_of text) ≡ []
-    → place ≡ place_at (places_of text) i → RefusedAs (take s end place) o → IsFirstFault text o place
-reading_fault_end text i behind s None place r f p e = tt
-reading_fault_end text i behind s (Some k) place r f p e = fault_is text i r.front [] s end k place (cut_end text i behind r.front r.cut f) r.count r.reads e p
+    → place ≡ place_at (places_of text) i → RefusedAs (take s end place) o → IsFirstFault text o place × HasNoProgram text o
+reading_fault_end text i behind s None place r f p e = (tt, tt)
+reading_fault_end text i behind s (Some k) place r f p e =
+    let cut = cut_end text i behind r.front r.cut f in
+    (fault_is text i r.front [] s end k place cut r.count r.reads e p, no_program text r.front [] s end k place cut r.reads e)
 
 -- the text's end is taken
 finished_as : (at : Position) (p : the.Parser) (q : List Section) → state_in (at_position at p) ≡ plain.finished q → (q ≡ sections_in (done_of p)) × (at_position at p ≡ finished (done_of p))
@@ -219,7 +230,7 @@ module _ (text : List ℕ) (ts all : List written.Token) (same : ts ≡ all) (ar
 
   pub step_fault : (i : ℕ) (d : written.Token) (behind : Bool) (s : State) (m : Token) (o : Option SourceKind) → i < length ts → Reading text i behind s
       → m ≡ meaning_at behind (slice_range text (get_or ts i d).start (get_or ts i d).end)
-      → RefusedAs (take s m (record { line = (get_or ts i d).line; column = (get_or ts i d).column })) o → IsFirstFault text o (record { line = (get_or ts i d).line; column = (get_or ts i d).column })
+      → RefusedAs (take s m (record { line = (get_or ts i d).line; column = (get_or ts i d).column })) o → IsFirstFault text o (record { line = (get_or ts i d).line; column = (get_or ts i d).column }) × HasNoProgram text o
   step_fault i d behind s m o h r e f =
       let place : Place = record { line = (get_or ts i d).line; column = (get_or ts i d).column } in
       reading_fault text i behind s (slice_range text (get_or ts i d).start (get_or ts i d).end) o place r (token_text text ts i d texts h) (token_place text ts i d are h)
@@ -229,7 +240,7 @@ module _ (text : List ℕ) (ts all : List written.Token) (same : ts ≡ all) (ar
   at_the_end i h k = omega (arith, h, k)
 
   pub end_fault : (i : ℕ) (behind : Bool) (s : State) (o : Option SourceKind) (place : Place) → length ts ≤ i → i ≤ length ts → Reading text i behind s → place ≡ end_of text
-      → RefusedAs (take s end place) o → IsFirstFault text o place
+      → RefusedAs (take s end place) o → IsFirstFault text o place × HasNoProgram text o
   end_fault i behind s o place h k r e f =
       reading_fault_end text i behind s o place r (no_text text ts i texts (at_the_end i h k)) (e ∙ end_place text ts i are (at_the_end i h k)) f
 

@@ -3,7 +3,7 @@ use Rattle.std.specs.Prelude.{ℕ, List, [], ◌∷◌, Option, Some, None}
 use Rattle.ga_pack.specs.Model.Text.{Place}
 use Rattle.ga_pack.specs.Model.Token.{SourceKind}
 use Rattle.ga_pack.specs.Model.Source.{Item, Section, Sections}
-use Rattle.ga_pack.specs.Model.Program.{IsFault, PlacedItem, PlacedSection}
+use Rattle.ga_pack.specs.Model.Program.{IsFault, IsProgram, PlacedItem, PlacedSection}
 
 -- items without their places
 abbrev pub items_in : List PlacedItem → List Item
@@ -27,3 +27,8 @@ IsRight program = Sections [] (sections_in program)
 abbrev pub IsFirstFault : List ℕ → Option SourceKind → Place → Type 0
 IsFirstFault text None place = Unit {0}
 IsFirstFault text (Some kind) place = IsFault text kind place
+
+-- the text has no program, unless memory was refused
+abbrev pub HasNoProgram : List ℕ → Option SourceKind → Type 0
+HasNoProgram text None = Unit {0}
+HasNoProgram text (Some kind) = (program : List PlacedSection) → IsProgram text program → ⊥

@@ -29,7 +29,7 @@ use ga_word::Op;
 use indexmap::{IndexMap, IndexSet};
 use std::alloc::{AllocError, Global};
 
-// Where an item stands.
+// Which part of a section an item stands in.
 #[derive(Clone, Copy)]
 enum Part {
     // In the code part, where so many followers of a bracketed word are owed.
@@ -48,16 +48,23 @@ enum Pending<'a> {
 // Where the parser stands.
 #[derive(Clone, Copy)]
 enum Position<'a> {
+    // No token was taken.
     Nothing,
+    // Behind `node`.
     Naming,
+    // In a section, where an item is whole or the section begins.
     Between,
+    // Behind an opcode that takes a destination, outside brackets.
     BehindOp(Op),
     BehindComma,
+    // In brackets, behind opcodes that take no destination.
     InWord,
+    // In brackets, behind an opcode that takes a destination; and behind its destination, `/` and spare bits.
     BehindDestOp(Op),
     BehindDest(Op, Pending<'a>),
     BehindSlash(Op, Pending<'a>),
     BehindSpare(Op, Pending<'a>, u8),
+    // The text's end was taken.
     Finished,
 }
 
@@ -143,9 +150,10 @@ impl<'a> Parser<'a> {
         Ok(())
     }
 
-    fn take_nothing(&mut self, token: &Meaning<'a>, place: Place) -> Result<(), SourceErrorKind>
+    // Before the first `node`.
+    fn take_nothing(&mut self, token: &Meaning<'a>) -> Result<(), SourceErrorKind>
         requires position { self.old.position ≡ at.Nothing }
-        ensures { Took (state_of self.old) (meaning_of token.now) (place_of place) result (state_of self.new) }
+        ensures { (place : model.Place) → Took (state_of self.old) (meaning_of token.now) place result (state_of self.new) }
     {
         match *token {
             Meaning::Node => {
@@ -166,9 +174,10 @@ impl<'a> Parser<'a> {
         self.sections.contains_key(&node)
     }
 
-    fn take_name(&mut self, token: &Meaning<'a>, place: Place) -> Result<(), SourceErrorKind>
+    // Behind `node`.
+    fn take_name(&mut self, token: &Meaning<'a>) -> Result<(), SourceErrorKind>
         requires position { self.old.position ≡ at.Naming }
-        ensures { Took (state_of self.old) (meaning_of token.now) (place_of place) result (state_of self.new) }
+        ensures { (place : model.Place) → Took (state_of self.old) (meaning_of token.now) place result (state_of self.new) }
     {
         match *token {
             Meaning::NodeName(node) => {
@@ -250,11 +259,11 @@ impl<'a> Parser<'a> {
         }
     }
 
-    // In brackets, before an opcode with a destination.
-    fn take_slot(&mut self, token: &Meaning<'a>, place: Place) -> Result<(), SourceErrorKind>
+    // In brackets, where no opcode with a destination stands yet.
+    fn take_slot(&mut self, token: &Meaning<'a>) -> Result<(), SourceErrorKind>
         requires position { self.old.position ≡ at.InWord }
         requires code { part_of self.old.part ≡ Code 0 }
-        ensures { Took (state_of self.old) (meaning_of token.now) (place_of place) result (state_of self.new) }
+        ensures { (place : model.Place) → Took (state_of self.old) (meaning_of token.now) place result (state_of self.new) }
     {
         match *token {
             Meaning::Op(op) => {
@@ -319,11 +328,10 @@ impl<'a> Parser<'a> {
         op: Op,
         dest: Pending<'a>,
         token: &Meaning<'a>,
-        place: Place,
     ) -> Result<(), SourceErrorKind>
         requires position { self.old.position ≡ at.BehindDest op dest }
         requires code { part_of self.old.part ≡ Code 0 }
-        ensures { Took (state_of self.old) (meaning_of token.now) (place_of place) result (state_of self.new) }
+        ensures { (place : model.Place) → Took (state_of self.old) (meaning_of token.now) place result (state_of self.new) }
     {
         match *token {
             Meaning::Slash => {
@@ -374,10 +382,9 @@ impl<'a> Parser<'a> {
         op: Op,
         dest: Pending<'a>,
         token: &Meaning<'a>,
-        place: Place,
     ) -> Result<(), SourceErrorKind>
         requires position { self.old.position ≡ at.BehindSlash op dest }
-        ensures { Took (state_of self.old) (meaning_of token.now) (place_of place) result (state_of self.new) }
+        ensures { (place : model.Place) → Took (state_of self.old) (meaning_of token.now) place result (state_of self.new) }
     {
         match *token {
             Meaning::Number(spare) if spare < 8 => {
@@ -396,11 +403,10 @@ impl<'a> Parser<'a> {
         dest: Pending<'a>,
         spare: u8,
         token: &Meaning<'a>,
-        place: Place,
     ) -> Result<(), SourceErrorKind>
         requires position { self.old.position ≡ at.BehindSpare op dest spare }
         requires code { part_of self.old.part ≡ Code 0 }
-        ensures { Took (state_of self.old) (meaning_of token.now) (place_of place) result (state_of self.new) }
+        ensures { (place : model.Place) → Took (state_of self.old) (meaning_of token.now) place result (state_of self.new) }
     {
         match *token {
             Meaning::CloseMark => self.close(op, dest, Some(spare)),
@@ -456,7 +462,7 @@ impl<'a> Parser<'a> {
         }
     }
 
-    // In the code part, where none is.
+    // In the code part, where no follower is owed.
     fn take_code(&mut self, token: &Meaning<'a>) -> Result<(), SourceErrorKind>
         requires position { self.old.position ≡ at.Between }
         ensures { Answered (machine.take_first (Code 0) (inside_of self.old) (meaning_of token.now) (place_of self.old.place)) result (state_of self.new) }
@@ -542,6 +548,7 @@ impl<'a> Parser<'a> {
         Ok(())
     }
 
+    // A label, which may stand wherever an item may.
     fn take_label(&mut self, name: &'a str) -> Result<(), SourceErrorKind>
         requires position { self.old.position ≡ at.Between }
         ensures { Answered (machine.take_label (inside_of self.old) name.now (place_of self.old.place)) result (state_of self.new) }
@@ -570,18 +577,16 @@ impl<'a> Parser<'a> {
         ensures { Took (state_of self.old) (meaning_of token.now) (place_of place) result (state_of self.new) }
     {
         match self.position {
-            Position::Nothing => self.take_nothing(token, place),
-            Position::Naming => self.take_name(token, place),
+            Position::Nothing => self.take_nothing(token),
+            Position::Naming => self.take_name(token),
             Position::Between => self.take_between(token, place),
             Position::BehindOp(op) => self.take_dest(op, token, place),
             Position::BehindComma => self.take_plain(token, place),
-            Position::InWord => self.take_slot(token, place),
+            Position::InWord => self.take_slot(token),
             Position::BehindDestOp(op) => self.take_field(op, token, place),
-            Position::BehindDest(op, dest) => self.take_behind_dest(op, dest, token, place),
-            Position::BehindSlash(op, dest) => self.take_spare(op, dest, token, place),
-            Position::BehindSpare(op, dest, spare) => self.take_close(
-                op, dest, spare, token, place,
-            ),
+            Position::BehindDest(op, dest) => self.take_behind_dest(op, dest, token),
+            Position::BehindSlash(op, dest) => self.take_spare(op, dest, token),
+            Position::BehindSpare(op, dest, spare) => self.take_close(op, dest, spare, token),
             Position::Finished => Err(SourceErrorKind::BadToken),
         }
     }

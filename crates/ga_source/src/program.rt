@@ -5,7 +5,7 @@ ghost use Rattle.ga_pack.specs.Model.Token as token;
 ghost use Rattle.ga_source.specs.Error.{error_place, kind_of};
 ghost use Rattle.ga_source.specs.Section.{section_of};
 ghost use Rattle.ga_source.specs.Meaning.{meaning_of};
-ghost use Rattle.ga_source.specs.Program.{IsFirstFault, IsRight};
+ghost use Rattle.ga_source.specs.Program.{HasNoProgram, IsFirstFault, IsRight};
 
 use crate::error::{SourceError, SourceErrorKind};
 use crate::meaning::{Meaning, meaning_at};
@@ -53,6 +53,8 @@ pub fn parse(alloc: Global, text: &str) -> Result<Program, SourceError>
     ensures only { IfOk result (λ program. (other : List PlacedSection) → IsProgram text.now other → other ≡ program) }
     // each fault but `Memory` is the first one, told at its place
     ensures fault { IfErr result (λ error. IsFirstFault text.now (kind_of error.kind) (error_place error)) }
+    // and the text has no program
+    ensures none { IfErr result (λ error. HasNoProgram text.now (kind_of error.kind)) }
 {
     let mut place = Place { line: 1, column: 1 };
     let Ok(tokens) = tokens(alloc, text) else {
