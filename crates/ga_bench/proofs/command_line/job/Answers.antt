@@ -17,10 +17,10 @@ returns-in_err-matches-clause-right c =
     each_error c.from_residual-in_err-matches.result words (λ fault. kind_of c.in_err-matches.field-0.0 ≡ OutOfMemory → fault ≡ Memory) c.from_residual-in_err-matches.ensures.1 (λ error gives job right.
     gives (c.in_err-matches.ensures.passes (ap (λ (app : App). takes app words) c.in_ok-command.ensures.0 ∙ right.0)))
 
--- a refusal of the numbers of `one` is right, since right words that name `one` have them
-one_refused : (name : Text) (rows : List Row) (error : LineError) → ((tries : ℕ) → IsOneInRange tries → IsNumberAt (codes "TRIES") rows tries → error ≡ Memory)
+-- A refusal of the numbers of `one` is right, since right words that name `one` have them; and they name no other job.
+one_refused : (name : Text) (rows : List Row) (error : LineError) → name ≡ codes "one" → ((tries : ℕ) → IsOneInRange tries → IsNumberAt (codes "TRIES") rows tries → error ≡ Memory)
     → (job : Job) → AsksFor (name, rows) job × InRange job → error ≡ Memory
-one_refused name rows error refused (One tries) asks = refused tries asks.1 asks.0.1
+one_refused name rows error is refused (One tries) asks = refused tries asks.1 asks.0.1
 
 pub returns-in_err-tries_of-in-Some-one-default-clause-right : goal.returns-in_err-tries_of-in-Some-one-default-clause-right
 returns-in_err-tries_of-in-Some-one-default-clause-right c =
@@ -28,4 +28,4 @@ returns-in_err-tries_of-in-Some-one-default-clause-right c =
     let met = c.in-Some-one-default in
     let refused = c.in_err-tries_of-in-Some-one-default in
     let asks = asked c.in_ok-command.field-0 words c.in_ok-matches.matches met.field-0-0.now (rows_of (found_of met.found.now)) c.in_ok-command.ensures c.in_ok-matches.ensures.matches met.ensures.name met.ensures.rows in
-    each_error c.from_residual-in_err-tries_of-in-Some-one-default.result words (λ fault. fault ≡ refused.field-0.0) c.from_residual-in_err-tries_of-in-Some-one-default.ensures.1 (λ error same job right. same ∙ one_refused met.field-0-0.now (rows_of (found_of met.found.now)) refused.field-0.0 refused.ensures.right job (asks job right))
+    each_error c.from_residual-in_err-tries_of-in-Some-one-default.result words (λ fault. fault ≡ refused.field-0.0) c.from_residual-in_err-tries_of-in-Some-one-default.ensures.1 (λ error same job right. same ∙ one_refused met.field-0-0.now (rows_of (found_of met.found.now)) refused.field-0.0 met.is-one refused.ensures.right job (asks job right))
