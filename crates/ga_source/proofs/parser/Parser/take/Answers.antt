@@ -1,4 +1,4 @@
-use Rattle.std.proofs.Common.{◌≡◌, subst}
+use Rattle.std.proofs.Common.{subst}
 use Rattle.ga_source.specs.Machine.{Good}
 use Rattle.ga_source.specs.Parser.{at_position}
 use Rattle.ga_source.proofs.ParserSteps.{owed_more}
