@@ -1,5 +1,5 @@
 -- What tokens lead from a state of the parser to a program.
-use Rattle.std.proofs.Common.{◌≡◌, ◌⊎◌, inl, inr, ℕ, ◌+◌, true, List, [], ◌∷◌, ◌++◌, Option, Some, refl, sym, ap, ◌∙◌, subst, append_assoc}
+use Rattle.std.proofs.Common.{◌≡◌, ◌⊎◌, inl, inr, ℕ, true, List, [], ◌∷◌, ◌++◌, Option, Some, refl, sym, ap, ◌∙◌, subst, append_assoc}
 use Rattle.ga_word.specs.declared.op.Op.{Op}
 use Rattle.ga_pack.specs.Model.Token.{Token, op, number, name, label, node, node_name, align, data_part, open_mark, close_mark, comma, slash, bad, end}
 use Rattle.ga_pack.specs.Model.Source.{Value, Item, Instruction, Transfer, Literal, Here, Align, Word, WordTo, Plain, Data, Section, Part, after, part_after, is_item, is_new, Items, Sections, Source, text_tokens, items_tokens, item_tokens, op_tokens, value_token, spare_tokens}

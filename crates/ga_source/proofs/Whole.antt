@@ -1,5 +1,5 @@
 -- The parser accepts exactly the texts, and its fault is that of the definition.
-use Rattle.std.proofs.Common.{◌≡◌, zero, suc, ◌+◌, Bool, true, false, List, [], ◌∷◌, ◌++◌, length, reverse, Option, Some, None, Result, Ok, Err, refl, sym, ap, ◌∙◌, subst}
+use Rattle.std.proofs.Common.{◌≡◌, zero, suc, Bool, true, false, List, [], ◌∷◌, ◌++◌, length, reverse, Option, Some, None, Result, Ok, Err, refl, sym, ap, ◌∙◌, subst}
 use Rattle.std.specs.Prelude.{◌==◌, ◌&&◌, ◌||◌, ◌^◌, nat_lt, if◌then◌else◌}
 use Rattle.ga_word.specs.Op.{fits_slot3, takes_dest}
 use Rattle.ga_pack.specs.Followers.{is_followed}

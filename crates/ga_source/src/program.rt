@@ -56,15 +56,15 @@ pub fn parse(alloc: Global, text: &str) -> Result<Program, SourceError>
     // and the text has no program
     ensures none { IfErr result (λ error. HasNoProgram text.now (kind_of error.kind)) }
 {
-    let mut place = Place { line: 1, column: 1 };
     let Ok(tokens) = tokens(alloc, text) else {
-        return Err(fault_at(place, SourceErrorKind::Memory));
+        let start = Place { line: 1, column: 1 };
+        return Err(fault_at(start, SourceErrorKind::Memory));
     };
     let mut parser = Parser::new(alloc);
     let mut is_behind_node = false;
     for token in &tokens {
         let meaning = meaning_at(is_behind_node, &text.as_bytes()[token.start..token.end]);
-        place = Place {
+        let place = Place {
             line: token.line,
             column: token.column,
         };

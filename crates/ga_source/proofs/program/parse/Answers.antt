@@ -1,4 +1,4 @@
-use Rattle.std.proofs.Common.{◌≡◌, ◌≤◌, ◌∙◌, ap, arith, false, get_or, subst, sym}
+use Rattle.std.proofs.Common.{◌≡◌, ◌∙◌, ap, arith, false, get_or, subst, sym}
 use Rattle.std.specs.Prelude.{slice_range}
 use Rattle.ga_pack.specs.Model.Meaning.{meaning_at}
 use Rattle.ga_source.specs.Error.{error_place, kind_of}
