@@ -101,11 +101,7 @@ mod tests {
 
     #[test]
     fn reads_words(rt: HostRuntime) -> Result<(), Fail> {
-        let table: [(u32, &[Op], Option<u16>, u8); 11] = [
-            (0x2_572A, &[Op::Dup, Op::Jump], Some(0x02A), 0),
-            (0x1_01D5, &[Op::Jump], Some(0x1D5), 0),
-            (0x1_2001, &[Op::Call], Some(0x001), 0),
-            (0x1_0BD5, &[Op::Jump], Some(0x3D5), 2),
+        let table: [(u32, &[Op], Option<u16>, u8); 7] = [
             (0x2_C9B2, &[Op::Nop, Op::Nop, Op::Nop, Op::Nop], None, 0),
             (
                 0x0_4A12,

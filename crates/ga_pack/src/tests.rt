@@ -20,7 +20,7 @@ fn four(a: Op, b: Op, c: Op, d: Op) -> Packed {
 }
 
 #[test]
-fn encodes_words(rt: HostRuntime) -> Result<(), Fail> {
+fn filler_words(rt: HostRuntime) -> Result<(), Fail> {
     let table = [
         // `. . . .`
         (four(Op::Nop, Op::Nop, Op::Nop, Op::Nop), 0x2_C9B2),
@@ -39,15 +39,34 @@ fn encodes_words(rt: HostRuntime) -> Result<(), Fail> {
             0x0_5A72,
         ),
         (four(Op::Dup, Op::Dup, Op::Dup, Op::Dup), 0x2_4D93),
-        (packed(&[Op::Jump], Some(0x1D5), 0), 0x1_01D5),
-        (packed(&[Op::Call], Some(0x001), 0), 0x1_2001),
-        (packed(&[Op::Dup, Op::Jump], Some(0x02A), 0), 0x2_572A),
-        (packed(&[Op::Dup, Op::Drop, Op::Jump], Some(2), 0), 0x2_4242),
-        (packed(&[Op::Jump], Some(0x3D5), 2), 0x1_0BD5),
     ];
     for (packed, number) in &table {
         let word = encode(packed).map(|word| word.get());
         assert_eq!(rt; word, Ok(*number), "the word of {packed:?}");
+    }
+    Ok(())
+}
+
+#[test]
+fn destinations_by_slot(rt: HostRuntime) -> Result<(), Fail> {
+    let table = [
+        // `jump right` and `call $001`
+        (packed(&[Op::Jump], Some(0x1D5), 0), 0x1_01D5),
+        (packed(&[Op::Call], Some(0x001), 0), 0x1_2001),
+        // with spare bits
+        (packed(&[Op::Jump], Some(0x3D5), 2), 0x1_0BD5),
+        // `dup jump $02A`
+        (packed(&[Op::Dup, Op::Jump], Some(0x02A), 0), 0x2_572A),
+        // `dup drop jump $002` at address 0
+        (packed(&[Op::Dup, Op::Drop, Op::Jump], Some(2), 0), 0x2_4242),
+        // `dup`, before a `jump right` in the next word
+        (four(Op::Dup, Op::Nop, Op::Nop, Op::Nop), 0x2_49B2),
+    ];
+    for (packed, number) in &table {
+        let word = encode(packed).map(|word| word.get());
+        assert_eq!(rt; word, Ok(*number), "the word of {packed:?}");
+        let word = Word18::new(*number).ok_or("no word")?;
+        assert_eq!(rt; decode(word), *packed, "the reading of {number:05X}");
     }
     Ok(())
 }

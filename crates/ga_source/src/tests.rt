@@ -50,7 +50,7 @@ fn sections_of_all_nodes(alloc: Global) -> Result<String, Fail> {
 }
 
 #[test]
-fn faults_on_a_line(rt: HostRuntime) -> Result<(), Fail> {
+fn source_faults(rt: HostRuntime) -> Result<(), Fail> {
     let cases = [
         ("dup", SourceErrorKind::NoNode, 1),
         ("]", SourceErrorKind::NoNode, 1),
