@@ -4,7 +4,7 @@ use Rattle.std.specs.Option.{option_map}
 use Rattle.ga_pack.specs.Model.Text.{Place, places_of, texts_of}
 use Rattle.ga_pack.specs.Model.Token.{SourceKind, Token}
 use Rattle.ga_pack.specs.Model.Meaning.{meanings}
-use Rattle.ga_pack.specs.Model.Source.{Number, Label, Item, Transfer, WordTo, Plain, Section, Source, item_tokens, items_tokens}
+use Rattle.ga_pack.specs.Model.Source.{Label, Item, Transfer, WordTo, Plain, Section, Source, item_tokens, items_tokens}
 use Rattle.ga_pack.specs.Model.SourceFault.{SourceFault}
 
 -- the tokens of a text, and its end

@@ -1,7 +1,7 @@
 -- The tokens of a source text and where they stand.
 --
 -- A text is the list of its bytes in UTF-8. Blanks and line ends are bytes below 128, so no character is cut.
-use Rattle.std.specs.Prelude.{◌==◌, ◌||◌, ℕ, ◌+◌, Bool, true, false, not, List, [], ◌∷◌, ◌++◌, codes, count_by, filter, length, map, nat_le, nat_lt, take, if◌then◌else◌}
+use Rattle.std.specs.Prelude.{◌==◌, ◌||◌, ℕ, ◌+◌, Bool, not, List, [], ◌∷◌, ◌++◌, codes, count_by, filter, length, map, nat_le, nat_lt, take, if◌then◌else◌}
 use Rattle.std.specs.List.{slice_split}
 use Rattle.std.specs.Str.{bytes_eq}
 use Rattle.ga_word.specs.Text.{is_blank, is_empty}
