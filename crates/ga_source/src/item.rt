@@ -4,13 +4,13 @@ ghost use Rattle.ga_source.specs.Item.{item_of};
 
 use crate::token::Place;
 use arrayvec::ArrayVec;
-use ga_word::Op;
+use ga_word::{Op, Word18};
 
 /// A number, or the name of a label of the node, which stands for its address.
 #[derive(Debug, PartialEq, Eq, Drop)]
 pub enum Value {
-    /// Below 2^18 in a plain word, and as a destination below what its slot holds.
-    Number(u32),
+    /// As a destination below what its slot holds.
+    Number(Word18),
     Label(String),
 }
 
@@ -24,8 +24,8 @@ pub enum Item {
         op: Op,
         dest: Value,
     },
-    /// A number below 2^18: `@p`, with the number as its follower.
-    Literal(u32),
+    /// A number: `@p`, with the number as its follower.
+    Literal(Word18),
     /// A label, which names the next address.
     Label(String),
     /// The next item begins a word.

@@ -6,7 +6,7 @@ ghost use Rattle.ga_pack.specs.Model.Token.{label, name, node_name};
 ghost use Rattle.ga_source.specs.Meaning.{meaning_of};
 
 use ga_place::Node;
-use ga_word::Op;
+use ga_word::{Op, Word18};
 use std::str;
 
 /// What a token means.
@@ -14,7 +14,7 @@ use std::str;
 pub(crate) enum Meaning<'a> {
     Op(Op),
     /// A number that a word holds.
-    Number(u32),
+    Number(Word18),
     /// A name that is not reserved.
     Name(&'a str),
     /// A name, reserved or not, that stood in front of `:`.
@@ -86,29 +86,29 @@ fn plain_meaning(text: &[u8]) -> Meaning<'_>
 }
 
 /// A number by its name: the port of a side, io, the ports of all sides, or the warm word.
-fn number_named(text: &[u8]) -> Option<u32>
+fn number_named(text: &[u8]) -> Option<Word18>
     ensures value { result ≡ model.number_named text.now }
 {
     if b"right".as_slice() == text {
-        return Some(0x1D5);
+        return Word18::new(0x1D5);
     }
     if b"down".as_slice() == text {
-        return Some(0x115);
+        return Word18::new(0x115);
     }
     if b"left".as_slice() == text {
-        return Some(0x175);
+        return Word18::new(0x175);
     }
     if b"up".as_slice() == text {
-        return Some(0x145);
+        return Word18::new(0x145);
     }
     if b"io".as_slice() == text {
-        return Some(0x15D);
+        return Word18::new(0x15D);
     }
     if b"rdlu".as_slice() == text {
-        return Some(0x1A5);
+        return Word18::new(0x1A5);
     }
     if b"warm".as_slice() == text {
-        return Some(0x0A9);
+        return Word18::new(0x0A9);
     }
     None
 }
@@ -145,10 +145,9 @@ fn fixed(text: &[u8]) -> Option<Meaning<'_>>
 fn ranged<'a>(number: u32) -> Meaning<'a>
     ensures { meaning_of result ≡ model.ranged number }
 {
-    if number < 1 << 18 {
-        Meaning::Number(number)
-    } else {
-        Meaning::NumberRange
+    match Word18::new(number) {
+        Some(number) => Meaning::Number(number),
+        None => Meaning::NumberRange,
     }
 }
 

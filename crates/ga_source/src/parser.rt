@@ -25,7 +25,7 @@ use crate::section::Section;
 use crate::token::Place;
 use arrayvec::ArrayVec;
 use ga_place::Node;
-use ga_word::Op;
+use ga_word::{Op, Word18};
 use indexmap::{IndexMap, IndexSet};
 use std::alloc::{AllocError, Global};
 
@@ -38,10 +38,10 @@ enum Part {
     Data,
 }
 
-// A value of the item that is begun. A name has its place.
+// A destination. A name has its place.
 #[derive(Clone, Copy)]
 enum Pending<'a> {
-    Number(u32),
+    Number(u16),
     Name(&'a str, Place),
 }
 
@@ -91,7 +91,7 @@ impl<'a> Pending<'a> {
         ensures { IfOk result (λ value. value_of value ≡ pending_of self.entry) }
     {
         match self {
-            Pending::Number(number) => Ok(Value::Number(number)),
+            Pending::Number(number) => Ok(Value::Number(Word18::new(u32::from(number)).unwrap())),
             Pending::Name(name, _) => Ok(Value::Label(String::from_str(alloc, name)?)),
         }
     }
@@ -222,8 +222,8 @@ impl<'a> Parser<'a> {
         ensures { Took (state_of self.old) (meaning_of token.now) (place_of place) result (state_of self.new) }
     {
         match *token {
-            Meaning::Number(number) if number < 0x400 => {
-                self.add_transfer(op, Pending::Number(number))
+            Meaning::Number(number) if number.get() < 0x400 => {
+                self.add_transfer(op, Pending::Number(number.get() as u16))
             }
             Meaning::Number(_) => Err(SourceErrorKind::NumberRange),
             Meaning::Name(name) => self.add_transfer(op, Pending::Name(name, place)),
@@ -233,16 +233,15 @@ impl<'a> Parser<'a> {
     }
 
     // A plain word is whole.
-    fn add_plain(&mut self, value: Pending<'a>) -> Result<(), SourceErrorKind>
+    fn add_plain(&mut self, value: Value, name_place: Option<Place>) -> Result<(), SourceErrorKind>
         requires owed { (owed : ℕ) → self.old.part ≡ part.Code owed → 0 < owed }
-        ensures { Answered (machine.with_part (inside_of self.old) (Plain (pending_of value.entry)) (place_of self.old.place) (name_place_of value.entry)) result (state_of self.new) }
+        ensures { Answered (machine.with_part (inside_of self.old) (Plain (value_of value)) (place_of self.old.place) (option_map place_of name_place)) result (state_of self.new) }
     {
         let part = match self.part {
             Part::Code(owed) => Part::Code(owed - 1),
             Part::Data => Part::Data,
         };
-        let word = value.value(self.alloc)?;
-        self.add(Item::Plain(word), value.name_place(), part)
+        self.add(Item::Plain(value), name_place, part)
     }
 
     // Behind a comma.
@@ -252,8 +251,11 @@ impl<'a> Parser<'a> {
         ensures { Took (state_of self.old) (meaning_of token.now) (place_of place) result (state_of self.new) }
     {
         match *token {
-            Meaning::Number(number) => self.add_plain(Pending::Number(number)),
-            Meaning::Name(name) => self.add_plain(Pending::Name(name, place)),
+            Meaning::Number(number) => self.add_plain(Value::Number(number), None),
+            Meaning::Name(name) => {
+                let label = String::from_str(self.alloc, name)?;
+                self.add_plain(Value::Label(label), Some(place))
+            }
             Meaning::NumberRange => Err(SourceErrorKind::NumberRange),
             _ => Err(SourceErrorKind::BadToken),
         }
@@ -308,10 +310,10 @@ impl<'a> Parser<'a> {
                     1 => 0x100,
                     _ => 8,
                 };
-                if number >= bound {
+                if number.get() >= bound {
                     return Err(SourceErrorKind::BadWord);
                 }
-                self.position = Position::BehindDest(op, Pending::Number(number));
+                self.position = Position::BehindDest(op, Pending::Number(number.get() as u16));
                 Ok(())
             }
             Meaning::Name(name) => {
@@ -387,8 +389,8 @@ impl<'a> Parser<'a> {
         ensures { (place : model.Place) → Took (state_of self.old) (meaning_of token.now) place result (state_of self.new) }
     {
         match *token {
-            Meaning::Number(spare) if spare < 8 => {
-                self.position = Position::BehindSpare(op, dest, spare as u8);
+            Meaning::Number(spare) if spare.get() < 8 => {
+                self.position = Position::BehindSpare(op, dest, spare.get() as u8);
                 Ok(())
             }
             Meaning::Number(_) => Err(SourceErrorKind::BadWord),

@@ -1,7 +1,7 @@
 use crate::{Item, Place, PlacedItem, SourceError, SourceErrorKind, Token, Value, parse, tokens};
 use arrayvec::ArrayVec;
 use ga_place::Node;
-use ga_word::Op;
+use ga_word::{Op, Word18};
 use std::alloc::Global;
 use std::test::Fail;
 
@@ -19,6 +19,10 @@ fn item(item: Item, line: usize, column: usize) -> PlacedItem {
         place: Place { line, column },
         name_place: None,
     }
+}
+
+fn number(value: u32) -> Result<Word18, Fail> {
+    Ok(Word18::new(value).ok_or("more than 18 bits")?)
 }
 
 /// An item that uses a name as a value.
@@ -158,6 +162,7 @@ fn every_node_once(rt: HostRuntime) -> Result<(), Fail> {
 #[test]
 fn items_and_places(rt: HostRuntime) -> Result<(), Fail> {
     let alloc = rt.alloc();
+    let (one, five, seven, ones) = (number(1)?, number(5)?, number(7)?, number(0x3FFFF)?);
     let text =
         "node 008 \\ é\n  loop: dup 5 if loop\n  [ @p . ] , loop\n  [ next loop / 3 ]\r\n [ @p jump 7 ] , 1 align data , $3FFFF\nnode 717 DUP: jump DUP";
     let program = parse(alloc, text)?;
@@ -174,7 +179,7 @@ fn items_and_places(rt: HostRuntime) -> Result<(), Fail> {
     let expected = vec![in alloc;
         item(Item::Label(name()?), 2, 3),
         item(Item::Instruction(Op::Dup), 2, 9),
-        item(Item::Literal(5), 2, 13),
+        item(Item::Literal(five), 2, 13),
         using(
             Item::Transfer {
                 op: Op::If,
@@ -199,16 +204,16 @@ fn items_and_places(rt: HostRuntime) -> Result<(), Fail> {
             Item::WordTo {
                 ops: with_follower,
                 op: Op::Jump,
-                dest: Value::Number(7),
+                dest: Value::Number(seven),
                 spare: None
             },
             5,
             2,
         ),
-        item(Item::Plain(Value::Number(1)), 5, 16),
+        item(Item::Plain(Value::Number(one)), 5, 16),
         item(Item::Align, 5, 20),
         item(Item::Data, 5, 26),
-        item(Item::Plain(Value::Number(0x3FFFF)), 5, 31),
+        item(Item::Plain(Value::Number(ones)), 5, 31),
     ]?;
     assert!(rt; section.items == expected);
     assert_eq!(rt; section.labels.len(), 1);

@@ -1,30 +1,22 @@
-use Rattle.std.proofs.Common.{◌≡◌, ◌∙◌, ap, Some}
+use Rattle.std.proofs.Common.{◌≡◌, Some}
 use Rattle.std.specs.Option.{option_map}
 use Rattle.ga_pack.specs.Model.Source.{Plain, part_after}
 use Rattle.ga_source.specs.Item.{value_of}
-use Rattle.ga_source.specs.Machine.{added}
-use Rattle.ga_source.specs.Parser.{name_place_of, pending_of, state_of, inside_of, part_of}
+use Rattle.ga_source.specs.Parser.{state_of, inside_of, part_of}
 use Rattle.ga_source.specs.Token.{place_of}
-use Rattle.ga_source.proofs.ParserSteps.{answered_added, on_ok_to, plain_data, plain_owed}
+use Rattle.ga_source.proofs.ParserSteps.{answered_added, plain_data, plain_owed}
 use Rattle.ga_source.proofs.parser.Parser.add_plain.Goals as goal
 use Rattle.ga_source.proofs.parser.Parser.add_plain.Goals.{in-Code, in-Data}
 
 pub returns : goal.returns
 returns c =
     let self = c.args.self.now in
-    let place = place_of self.place in
     let part = c.match-self.part in
-    let v = pending_of c.args.value in
-    let at = name_place_of c.args.value in
-    let w = value_of c.in_ok-word.word in
-    let at' = option_map place_of c.name_place.result in
-    let value : w ≡ v = c.in_ok-word.ensures in
-    let name_place : at' ≡ at = c.name_place.ensures in
+    let v = value_of c.args.value in
     let stands : part_after (part_of self.part) (Plain v) ≡ Some (part_of part) = elim c.match-self.branch [
       | in-Code w ↦ plain_owed self.part part w.in-Code.owed v w.in-Code.is w.part-is (c.requires.owed w.in-Code.owed w.in-Code.is)
       | in-Data w ↦ plain_data self.part part v w.in-Data.is w.part-is
     ] in
-    answered_added (inside_of self) (Plain v) place at (part_of part) c.add.result (state_of c.add.new.self) stands
-    (on_ok_to c.add.result (state_of c.add.new.self) (added (inside_of self) (Plain w) place at' (part_of part)) (added (inside_of self) (Plain v) place at (part_of part))
-    (ap (λ x. added (inside_of self) (Plain x) place at' (part_of part)) value ∙ ap (λ x. added (inside_of self) (Plain v) place x (part_of part)) name_place) c.add.ensures.ok)
+    answered_added (inside_of self) (Plain v) (place_of self.place) (option_map place_of c.args.name_place) (part_of part) c.add.result (state_of c.add.new.self) stands
+    c.add.ensures.ok
     c.add.ensures.err
