@@ -1,0 +1,5 @@
+mod Tests
+mod LabelLists
+mod Summary
+mod RightItems
+mod LayingSteps

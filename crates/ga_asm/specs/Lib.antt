@@ -1,0 +1,4 @@
+pub mod Error
+pub mod Image
+pub mod Layout
+pub mod Assembling

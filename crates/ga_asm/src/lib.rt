@@ -1,0 +1,9 @@
+//! The assembler: the images of a program's nodes, or the first fault of the program.
+#![tactic(auto)]
+
+mod error;
+mod image;
+mod layout;
+
+pub use error::{AsmError, AsmErrorKind};
+pub use image::Image;
