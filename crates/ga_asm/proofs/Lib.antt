@@ -3,3 +3,4 @@ mod LabelLists
 mod Summary
 mod RightItems
 mod LayingSteps
+mod MakingSteps

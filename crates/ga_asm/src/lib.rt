@@ -4,6 +4,7 @@
 mod error;
 mod image;
 mod layout;
+mod making;
 
 pub use error::{AsmError, AsmErrorKind};
 pub use image::Image;
