@@ -4,3 +4,4 @@ mod Summary
 mod RightItems
 mod LayingSteps
 mod MakingSteps
+mod Groups

@@ -65,7 +65,7 @@ unfolding IsGroup
 group_some labels [] group = absurd group
 group_some labels (i ∷ items) group = omega arith
 
-plain_length : (items : List placed.PlacedItem) → length (plain items) ≡ length items
+pub plain_length : (items : List placed.PlacedItem) → length (plain items) ≡ length items
 plain_length [] = refl
 plain_length (i ∷ items) = let e = plain_length items in omega arith
 

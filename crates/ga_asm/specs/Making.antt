@@ -1,9 +1,9 @@
 -- What is kept of the words of a node while they are made, with the labels of the whole node.
 use Rattle.std.specs.Prelude.{◌≡◌, ◌≤◌, ℕ, Bool, true, false, List, [], ◌∷◌, ◌++◌, drop, length, map, Option, Some, None, if◌then◌else◌}
-use Rattle.std.specs.Option.{option_map}
+use Rattle.std.specs.Option.{unwrap_or}
 use Rattle.ga_word.specs.declared.op.Op.{Op}
 use Rattle.ga_pack.specs.Encoding.{pack_fault}
-use Rattle.ga_pack.specs.Model.Layout.{Labels, Group, Shared, Alone, GroupWords, StandIn, Words, address_after, all_in_reach, dest_in, is_loose, items_of, labels_after, last_dest, names_in, ops_of, with_fillers}
+use Rattle.ga_pack.specs.Model.Layout.{Labels, Group, Shared, Alone, GroupWords, Laid, StandIn, Words, address_after, all_in_reach, dest_in, is_loose, items_of, labels_after, last_dest, names_in, ops_of, with_fillers}
 use Rattle.ga_pack.specs.Model.LayoutFault.{AsmKind, Passed, SecondPassFault}
 use Rattle.ga_pack.specs.Model.Source.{Item, Transfer, is_item}
 use Rattle.ga_asm.specs.Image.{labels_of}
@@ -56,9 +56,17 @@ pub record Making (items : List Item) (l : the.Layout) (done : ℕ) (rest : List
   pub rest_is : rest ≡ items_of back
   pub counts_are : drop done l.counts.items ≡ map count_of back
   pub words_are : Words (labels_of l.labels.entries) front words
+  pub count : length words ≡ address_after 0 front
   pub near : all_in_reach (labels_of l.labels.entries) 0 front ≡ true
 
 -- The first fault of the second pass, unless memory was refused.
 abbrev pub IsSecondPassFault : List Item → ℕ → Option AsmKind → Type 0
 IsSecondPassFault items at None = Unit {0}
 IsSecondPassFault items at (Some kind) = SecondPassFault items at kind
+
+-- All words are made, and no name is out of reach.
+pub record IsMade (items : List Item) (l : the.Layout) (words : List ℕ) : Type 0 where
+  pub laid : Laid items words (labels_of l.labels.entries) (unwrap_or l.data_start l.address)
+  pub passed : Passed (names_in items) [] items
+  pub count : length words ≡ l.address
+  pub within : unwrap_or l.data_start l.address ≤ length words

@@ -13,7 +13,7 @@ ghost use Rattle.ga_asm.specs.Error.{kind_of};
 ghost use Rattle.ga_asm.specs.Image.{labels_of};
 ghost use Rattle.ga_asm.specs.Layout.{Placing, plain};
 ghost use Rattle.ga_asm.specs.Making as made;
-ghost use Rattle.ga_asm.specs.Making.{IsGroup, IsPackable, IsSecondPassFault, MoreWords, follower_list};
+ghost use Rattle.ga_asm.specs.Making.{IsGroup, IsMade, IsPackable, IsSecondPassFault, MoreWords, follower_list};
 ghost use Rattle.ga_asm.specs.declared.error.AsmErrorKind.TheVariants.{Memory};
 
 use crate::error::AsmErrorKind;
@@ -201,4 +201,35 @@ fn push_group(
     } else {
         push_alone(labels, first, words)
     }
+}
+
+/// The words of items that are placed, or the first fault of the second pass: a name in brackets out of
+/// reach.
+pub(crate) fn second_pass(
+    alloc: Global,
+    items: &[PlacedItem],
+    layout: &Layout,
+) -> Result<Vec<Word18>, Refusal>
+    requires placed { Placing (plain items.now) layout.now }
+    requires right { list_all source.is_item (plain items.now) ≡ true }
+    ensures ok { IfOk result (λ made. IsMade (plain items.now) layout.now made.items) }
+    ensures err { IfErr result (λ refusal. IsSecondPassFault (plain items.now) refusal.at (kind_of refusal.kind)) }
+    ensures at { IfErr result (λ refusal. refusal.at < length items.now) }
+{
+    let mut words = Vec::new(alloc);
+    let mut rest = items;
+    for count in &layout.counts {
+        let (group, behind) = rest.split_at(*count);
+        let at = items.len() - rest.len();
+        let address = words.len() as u8;
+        if !is_in_reach(&layout.labels, address, &group[0].item) {
+            let kind = AsmErrorKind::OutOfReach;
+            return Err(Refusal { at, kind });
+        }
+        if let Err(kind) = push_group(&layout.labels, group, &mut words) {
+            return Err(Refusal { at, kind });
+        }
+        rest = behind;
+    }
+    Ok(words)
 }

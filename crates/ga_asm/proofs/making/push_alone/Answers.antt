@@ -29,9 +29,9 @@ word-requires-in-WordTo c =
     let ops = c.in-WordTo.ops.items in
     let right = subst (λ t. is_item (item_of t) ≡ true) c.in-WordTo.is c.requires.right in
     let same : c.push-in-WordTo.new.self.items ≡ ops ++ c.in-WordTo.op ∷ [] =
-        c.push-in-WordTo.ensures.items ∙ ap (λ t. t ++ c.in-WordTo.op ∷ []) (c.slots_of-slots.ensures ∙ c.as_slice-in-WordTo.ensures.value) in
+    c.push-in-WordTo.ensures.items ∙ ap (λ t. t ++ c.in-WordTo.op ∷ []) (c.slots_of-slots.ensures ∙ c.as_slice-in-WordTo.ensures.value) in
     let dest : c.dest_in-dest.result ≡ dest_in labels (length ops) (value_of c.in-WordTo.dest) =
-        c.dest_in-dest.ensures ∙ ap (λ t. dest_in labels t (value_of c.in-WordTo.dest)) c.len.ensures.value in
+    c.dest_in-dest.ensures ∙ ap (λ t. dest_in labels t (value_of c.in-WordTo.dest)) c.len.ensures.value in
     ap (λ t. pack_fault t (Some c.dest_in-dest.result) c.unwrap_or.result) same
     ∙ ap (λ t. pack_fault (ops ++ c.in-WordTo.op ∷ []) (Some t) c.unwrap_or.result) dest
     ∙ ap (λ t. pack_fault (ops ++ c.in-WordTo.op ∷ []) (Some (dest_in labels (length ops) (value_of c.in-WordTo.dest))) t) c.unwrap_or.ensures
