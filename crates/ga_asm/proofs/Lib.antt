@@ -5,3 +5,4 @@ mod RightItems
 mod LayingSteps
 mod MakingSteps
 mod Groups
+mod Sections

@@ -171,7 +171,7 @@ fn op_fits(slot: usize, op: Op) -> bool
     slot < 3 || slot == 3 && op.fits_slot3()
 }
 
-fn address_of(labels: &IndexMap<String, u8>, name: &str) -> Option<u8>
+pub(crate) fn address_of(labels: &IndexMap<String, u8>, name: &str) -> Option<u8>
     ensures { result ≡ laid.address_of (labels_of labels.now.entries) name.now }
 {
     labels.get(name).copied()
