@@ -1,0 +1,80 @@
+-- Labels in a map, and as the model has them.
+use Rattle.std.proofs.Common.{◌≡◌, ◌∙◌, ◌≤◌, ℕ, Bool, true, false, List, [], ◌∷◌, ◌++◌, Option, Some, None, refl, sym, ap, arith, map}
+use Rattle.std.proofs.lemmas.Bool.{and_parts, leb-true}
+use Rattle.std.proofs.lemmas.Grind.{common_steps}
+use Rattle.std.specs.Prelude.{String, codes, ◌||◌, cond, nat_le, if◌then◌else◌}
+use Rattle.std.specs.List.{list_all, list_any}
+use Rattle.std.specs.Map.{lookup}
+use Rattle.std.specs.Option.{unwrap_or}
+use Rattle.std.specs.Str.{bytes_eq}
+use Rattle.std.specs.String.{string_bytes, string_eq}
+use Rattle.indexmap.specs.IndexMap.{insert_entry}
+use Rattle.ga_pack.specs.Model.Layout.{Labels, address_of, names_in}
+use Rattle.ga_pack.specs.Model.Source.{is_among}
+use Rattle.ga_source.specs.declared.item.PlacedItem as placed
+use Rattle.ga_source.specs.declared.item.Item.{Item}
+use Rattle.ga_source.specs.declared.item.Item.TheVariants as item
+use Rattle.ga_source.specs.Item.{item_of, label_before, labels_in, placed_of}
+use Rattle.ga_asm.specs.Image.{all_near, entry_of, labels_of}
+use Rattle.ga_asm.specs.Layout.{names_of, plain}
+
+-- a test of mapped elements
+pub list_any_map : {X Y : Type 0} (p : Y → Bool) (f : X → Y) (xs : List X) → list_any p (map f xs) ≡ list_any (λ x. p (f x)) xs
+list_any_map p f [] = refl
+list_any_map p f (x ∷ xs) = ap (λ r. p (f x) || r) (list_any_map p f xs)
+
+pub lookup_labels : {A : Type 0} (name : List ℕ) (entries : List (String A × ℕ)) → lookup (λ k. bytes_eq name (string_bytes k)) entries ≡ address_of (labels_of entries) name
+lookup_labels name [] = refl
+lookup_labels name (entry ∷ entries) = ap (λ r. if bytes_eq name (string_bytes entry.0) then Some entry.1 else r) (lookup_labels name entries)
+
+-- a label that is new goes last
+more_by : {A : Type 0} (name : List ℕ) (key : String A) (address : ℕ) (entry : String A × ℕ) (entries : List (String A × ℕ)) (b c : Bool) → c ≡ b
+    → (b || is_among name (names_of (labels_of entries))) ≡ false
+    → (is_among name (names_of (labels_of entries)) ≡ false → labels_of (insert_entry string_eq entries key address) ≡ labels_of entries ++ (name, address) ∷ [])
+    → labels_of (if c then (entry.0, address) ∷ entries else entry ∷ insert_entry string_eq entries key address) ≡ labels_of (entry ∷ entries) ++ (name, address) ∷ []
+more_by name key address entry entries true c same g rest = absurd (cc)
+more_by name key address entry entries false true same g rest = absurd (cc)
+more_by name key address entry entries false false same g rest = ap (λ r. (string_bytes entry.0, entry.1) ∷ r) (rest g)
+
+pub labels_more : {A : Type 0} (name : List ℕ) (key : String A) (address : ℕ) (entries : List (String A × ℕ)) → string_bytes key ≡ name → is_among name (names_of (labels_of entries)) ≡ false
+    → labels_of (insert_entry string_eq entries key address) ≡ labels_of entries ++ (name, address) ∷ []
+labels_more name key address [] e h = ap (λ t. (t, address) ∷ []) e
+labels_more name key address (entry ∷ entries) e h =
+    more_by name key address entry entries (bytes_eq name (string_bytes entry.0)) (bytes_eq (string_bytes key) (string_bytes entry.0))
+    (ap (λ t. bytes_eq t (string_bytes entry.0)) e) h (labels_more name key address entries e)
+
+-- a label that is found is near
+near_by : (labels : Labels) (name : List ℕ) (address near : ℕ) (b : Bool) → near ≤ 64 → (address_of labels name ≡ Some address → address ≤ 64)
+    → (if b then Some near else address_of labels name) ≡ Some address → address ≤ 64
+near_by labels name address near true h rest f = let same : near ≡ address = cc in omega arith
+near_by labels name address near false h rest f = rest f
+
+pub near_found : (labels : Labels) (name : List ℕ) (address : ℕ) → all_near labels ≡ true → address_of labels name ≡ Some address → address ≤ 64
+near_found [] name address h e = absurd (cc)
+near_found (label ∷ labels) name address h e =
+    let parts = and_parts (nat_le label.1 64) (all_near labels) h in
+    near_by labels name address label.1 (bytes_eq name label.0) (leb-true label.1 64 parts.0) (near_found labels name address parts.1) e
+
+pub near_entry : (labels : Labels) → all_near labels ≡ true → entry_of labels ≤ 64
+near_entry labels h = by (address_of labels (codes "main")) (near_found labels (codes "main"))
+  where
+    by : (r : Option ℕ) → ((address : ℕ) → all_near labels ≡ true → r ≡ Some address → address ≤ 64) → unwrap_or r 0 ≤ 64
+    by None found = omega arith
+    by (Some address) found = found address h refl
+
+-- the labels of a section's items
+names_by : (x : Item) (items : List placed.PlacedItem) → labels_in (map placed_of items) ≡ names_in (plain items)
+    → label_before (item_of x) (labels_in (map placed_of items)) ≡ names_in (item_of x ∷ plain items)
+names_by (item.Label s) items e = ap (λ r. string_bytes s ∷ r) e
+names_by (item.Instruction o) items e = e
+names_by (item.Transfer o v) items e = e
+names_by (item.Literal n) items e = e
+names_by item.Align items e = e
+names_by (item.Word ops) items e = e
+names_by (item.WordTo ops o v spare) items e = e
+names_by (item.Plain v) items e = e
+names_by item.Data items e = e
+
+pub names_are : (items : List placed.PlacedItem) → labels_in (map placed_of items) ≡ names_in (plain items)
+names_are [] = refl
+names_are (i ∷ items) = names_by i.item items (names_are items)

@@ -1,0 +1,203 @@
+-- The first pass over the items of a node, an item at a time.
+use Rattle.std.proofs.Common.{◌≡◌, ◌∙◌, ◌<◌, ◌≤◌, ℕ, zero, suc, ◌+◌, Bool, true, false, List, [], ◌∷◌, ◌++◌, length, map, drop, get_or, Option, Some, None, refl, sym, ap, subst, append_assoc, append-nil, arith}
+use Rattle.std.proofs.Common.{take as first}
+use Rattle.std.proofs.lemmas.Bool.{and_from, le-leb}
+use Rattle.std.proofs.lemmas.Grind.{common_steps}
+use Rattle.std.proofs.lemmas.List.Folds.{list_all-append}
+use Rattle.std.specs.Prelude.{◌&&◌, nat_le}
+use Rattle.ga_pack.specs.Model.Layout.{Labels, Arranged, address_after, labels_after, names_in}
+use Rattle.ga_pack.specs.Model.LayoutFault.{AsmKind, Judged, Passed, fault_at, fault_behind, joins_last, words_added}
+use Rattle.ga_pack.specs.Model.Source.{Item, Instruction, Transfer, Literal, Here, Align, Word, WordTo, Plain, Data, Items, is_new, start}
+use Rattle.ga_pack.proofs.Placed.{add, add_stands}
+use Rattle.ga_source.specs.declared.item.PlacedItem as placed
+use Rattle.ga_source.specs.Item.{item_of}
+use Rattle.ga_asm.specs.Image.{all_near, labels_of}
+use Rattle.ga_asm.specs.Layout.{IsFirstPassFault, Laying, Open, Placing, closed_counts, counts_after, data_after, data_at, joins_open, labels_with, names_of, open_after, open_at, open_count, open_if, open_of, plain}
+use Rattle.ga_asm.specs.declared.layout.Layout as the
+use Rattle.ga_asm.proofs.RightItems.{items_new}
+use Rattle.ga_asm.proofs.Summary.{address_add, counts_add, counts_closed, data_add, joins_is, labels_add, open_add}
+
+-- ---- one item more
+
+passed_more : (names : List (List ℕ)) (front items : List Item) (x : Item) → Passed names front items → Judged names (front ++ items) x None → Passed names front (items ++ x ∷ [])
+unfolding Passed
+passed_more names front [] x passed judged = (rw append-nil at judged, tt)
+passed_more names front (i ∷ items) x passed judged =
+    (passed.0, passed_more names (front ++ i ∷ []) items x passed.1 (subst (λ t. Judged names t x None) (sym (append_assoc front (i ∷ []) items)) judged))
+
+names_snoc : (front : List Item) (x : Item) → names_in (front ++ x ∷ []) ≡ names_in front ++ names_in (x ∷ [])
+names_snoc [] x = refl
+names_snoc (Here s ∷ front) x = ap (λ r. s ∷ r) (names_snoc front x)
+names_snoc (i ∷ front) x = names_snoc front x
+
+names_append : (labels more : Labels) → names_of (labels ++ more) ≡ names_of labels ++ names_of more
+names_append [] more = refl
+names_append (label ∷ labels) more = ap (λ r. label.0 ∷ r) (names_append labels more)
+
+names_with : (labels : Labels) (address : ℕ) (x : Item) → names_of (labels_with labels address x) ≡ names_of labels ++ names_in (x ∷ [])
+names_with labels address (Here s) = names_append labels ((s, address) ∷ [])
+names_with labels address x = sym (append-nil (names_of labels))
+
+near_with : (labels : Labels) (address : ℕ) (x : Item) → address ≤ 64 → all_near labels ≡ true → all_near (labels_with labels address x) ≡ true
+near_with labels address (Here s) few near =
+    let is_near : (List ℕ × ℕ) → Bool = λ label. nat_le label.1 64 in
+    list_all-append is_near labels ((s, address) ∷ []) ∙ and_from (all_near labels) (nat_le address 64 && true) near (and_from (nat_le address 64) true (le-leb address 64 few) refl)
+near_with labels address x few near = near
+
+joins_same : (names : List (List ℕ)) (before : List Item) (l : the.Layout) (laying : Laying names before l) (x : Item)
+    → joins_last [] 0 laying.groups x ≡ joins_open (labels_of l.labels.entries) (open_of l) x
+joins_same names before l laying x =
+    joins_is [] 0 laying.groups x
+    ∙ ap (λ t. joins_open t (open_at 0 laying.groups) x) (sym laying.labels_are)
+    ∙ ap (λ t. joins_open (labels_of l.labels.entries) t x) (sym laying.open_is)
+
+fault_same : (names : List (List ℕ)) (before : List Item) (l : the.Layout) (laying : Laying names before l) (x : Item)
+    → fault_behind names laying.groups x ≡ fault_at names (labels_of l.labels.entries) l.address (joins_open (labels_of l.labels.entries) (open_of l) x) x
+unfolding fault_behind
+fault_same names before l laying x =
+    ap (λ t. fault_at names (labels_after [] 0 laying.groups) (address_after 0 laying.groups) t x) (joins_same names before l laying x)
+    ∙ ap (λ t. fault_at names t (address_after 0 laying.groups) (joins_open (labels_of l.labels.entries) (open_of l) x) x) (sym laying.labels_are)
+    ∙ ap (λ t. fault_at names (labels_of l.labels.entries) t (joins_open (labels_of l.labels.entries) (open_of l) x) x) (sym laying.address_is)
+
+not_long : (names : List (List ℕ)) (labels : Labels) (address : ℕ) (joined : Bool) (x : Item) → fault_at names labels address joined x ≡ None → address + words_added joined x ≤ 64
+not_long names labels address joined x h = grind (arith, common_steps)
+
+-- what laying an item does
+pub record Step (x : Item) (joined : Bool) (l m : the.Layout) : Type 0 where
+  pub labels : labels_of m.labels.entries ≡ labels_with (labels_of l.labels.entries) l.address x
+  pub address : m.address ≡ l.address + words_added joined x
+  pub word : open_of m ≡ open_after joined (open_of l) l.address x
+  pub counts : m.counts.items ≡ counts_after joined (open_of l) l.counts.items x
+  pub data_start : m.data_start ≡ data_after l.data_start l.address x
+  pub near : m.word ≤ 64
+
+pub laying_next : (names : List (List ℕ)) (before : List Item) (l m : the.Layout) (x : Item) → Laying names before l
+    → fault_at names (labels_of l.labels.entries) l.address (joins_open (labels_of l.labels.entries) (open_of l) x) x ≡ None
+    → Step x (joins_open (labels_of l.labels.entries) (open_of l) x) l m → Laying names (before ++ x ∷ []) m
+laying_next names before l m x laying none step =
+    let joined = joins_open (labels_of l.labels.entries) (open_of l) x in
+    let same = joins_same names before l laying x in
+    let none' = fault_same names before l laying x ∙ none in
+    let long = not_long names (labels_of l.labels.entries) l.address joined x none in
+    let groups = laying.groups in
+    record {
+      groups = add [] 0 groups x;
+      stand_in = add_stands names x laying.stand_in none';
+      passed = passed_more names [] before x laying.passed (record { groups = groups; stand_in = laying.stand_in; fault_is = none' });
+      labels_are =
+          step.labels ∙ ap (λ t. labels_with t l.address x) laying.labels_are ∙ ap (λ t. labels_with (labels_after [] 0 groups) t x) laying.address_is
+          ∙ sym (labels_add [] 0 groups x);
+      names_are =
+          ap names_of step.labels ∙ names_with (labels_of l.labels.entries) l.address x ∙ ap (λ t. t ++ names_in (x ∷ [])) laying.names_are
+          ∙ sym (names_snoc before x);
+      address_is =
+          step.address ∙ ap (λ t. t + words_added joined x) laying.address_is ∙ ap (λ t. address_after 0 groups + words_added t x) (sym same)
+          ∙ sym (address_add [] 0 groups x);
+      open_is =
+          step.word ∙ ap (λ t. open_after t (open_of l) l.address x) (sym same)
+          ∙ ap (λ t. open_after (joins_last [] 0 groups x) t l.address x) laying.open_is
+          ∙ ap (λ t. open_after (joins_last [] 0 groups x) (open_at 0 groups) t x) laying.address_is
+          ∙ sym (open_add [] 0 groups x);
+      counts_are =
+          step.counts ∙ ap (λ t. counts_after t (open_of l) l.counts.items x) (sym same)
+          ∙ ap (λ t. counts_after (joins_last [] 0 groups x) t l.counts.items x) laying.open_is
+          ∙ ap (λ t. counts_after (joins_last [] 0 groups x) (open_at 0 groups) t x) laying.counts_are
+          ∙ sym (counts_add [] 0 groups x);
+      data_is =
+          step.data_start ∙ ap (λ t. data_after t l.address x) laying.data_is ∙ ap (λ t. data_after (data_at 0 groups) t x) laying.address_is
+          ∙ sym (data_add [] 0 groups x);
+      few = omega arith;
+      near = step.near;
+      labels_near = ap all_near step.labels ∙ near_with (labels_of l.labels.entries) l.address x laying.few laying.labels_near;
+    }
+
+-- ---- the items as they stand in the text
+
+cut : (items : List placed.PlacedItem) (at : ℕ) (d : placed.PlacedItem) → at < length items → plain items ≡ plain (first at items) ++ (item_of (get_or items at d).item ∷ plain (drop (suc at) items))
+cut [] at d h = absurd (omega arith)
+cut (i ∷ items) zero d h = refl
+cut (i ∷ items) (suc at) d h = ap (λ t. item_of i.item ∷ t) (cut items at d (omega arith))
+
+cut_is : (items : List placed.PlacedItem) (at : ℕ) (d : placed.PlacedItem) → at < length items → d ≡ get_or items at d → plain items ≡ plain (first at items) ++ (item_of d.item ∷ plain (drop (suc at) items))
+cut_is items at d h is = cut items at d h ∙ ap (λ t. plain (first at items) ++ (item_of t.item ∷ plain (drop (suc at) items))) (sym is)
+
+front_length : (items : List placed.PlacedItem) (at : ℕ) → at ≤ length items → length (plain (first at items)) ≡ at
+front_length items zero h = refl
+front_length [] (suc at) h = absurd (omega arith)
+front_length (i ∷ items) (suc at) h = let e = front_length items at (omega arith) in omega arith
+
+front_more : (items : List placed.PlacedItem) (at : ℕ) (d : placed.PlacedItem) → at < length items → plain (first (at + 1) items) ≡ plain (first at items) ++ item_of (get_or items at d).item ∷ []
+front_more [] at d h = absurd (omega arith)
+front_more (i ∷ items) zero d h = refl
+front_more (i ∷ items) (suc at) d h =
+    let e : suc at + 1 ≡ suc (at + 1) = omega arith in
+    ap (λ k. plain (first k (i ∷ items))) e ∙ ap (λ t. item_of i.item ∷ t) (front_more items at d (omega arith))
+
+pub front_next : (items : List placed.PlacedItem) (at : ℕ) (d : placed.PlacedItem) → at < length items → d ≡ get_or items at d → plain (first (at + 1) items) ≡ plain (first at items) ++ item_of d.item ∷ []
+front_next items at d h is = front_more items at d h ∙ ap (λ t. plain (first at items) ++ item_of t.item ∷ []) (sym is)
+
+pub front_all : (items : List placed.PlacedItem) (at : ℕ) → length items ≤ at → first at items ≡ items
+front_all [] zero h = refl
+front_all [] (suc at) h = refl
+front_all (i ∷ items) zero h = absurd (omega arith)
+front_all (i ∷ items) (suc at) h = ap (λ t. i ∷ t) (front_all items at (omega arith))
+
+-- a label that is laid is new
+pub next_new : (names : List (List ℕ)) (items : List placed.PlacedItem) (at : ℕ) (d : placed.PlacedItem) (l : the.Layout) → at < length items → d ≡ get_or items at d
+    → Items start (plain items) → Laying names (plain (first at items)) l → is_new (item_of d.item) (names_of (labels_of l.labels.entries)) ≡ true
+next_new names items at d l h is right laying =
+    let right' = subst (λ t. Items start t) (cut_is items at d h is) right in
+    subst (λ t. is_new (item_of d.item) t ≡ true) (sym laying.names_are) (items_new start (plain (first at items)) (item_of d.item) (plain (drop (suc at) items)) right')
+
+pub laying_fault : (items : List placed.PlacedItem) (at : ℕ) (d : placed.PlacedItem) (l : the.Layout) (kind : Option AsmKind) → at < length items → d ≡ get_or items at d
+    → Laying (names_in (plain items)) (plain (first at items)) l
+    → kind ≡ fault_at (names_in (plain items)) (labels_of l.labels.entries) l.address (joins_open (labels_of l.labels.entries) (open_of l) (item_of d.item)) (item_of d.item)
+    → IsFirstPassFault (plain items) at kind
+laying_fault items at d l None h is laying e = tt
+laying_fault items at d l (Some kind) h is laying e = record {
+  before = plain (first at items);
+  item = item_of d.item;
+  rest = plain (drop (suc at) items);
+  split = cut_is items at d h is;
+  at_is = sym (front_length items at (omega arith));
+  passed = laying.passed;
+  judged = record { groups = laying.groups; stand_in = laying.stand_in; fault_is = fault_same (names_in (plain items)) (plain (first at items)) l laying (item_of d.item) ∙ sym e };
+}
+
+-- ---- the beginning and the end
+
+pub laying_none : (names : List (List ℕ)) (l : the.Layout) → l.labels.entries ≡ [] → l.address ≡ 0 → l.is_open ≡ false → l.word ≡ 0 → l.counts.items ≡ [] → l.data_start ≡ None → Laying names [] l
+unfolding Arranged Passed
+laying_none names l labels address closed word counts data_start = record {
+  groups = [];
+  stand_in = record { in_order = refl; arranged = tt };
+  passed = tt;
+  labels_are = ap labels_of labels;
+  names_are = ap (λ t. names_of (labels_of t)) labels;
+  address_is = address;
+  open_is = ap (λ t. open_if t l.word l.ops.items) closed;
+  counts_are = counts;
+  data_is = data_start;
+  few = omega arith;
+  near = omega arith;
+  labels_near = ap (λ t. all_near (labels_of t)) labels;
+}
+
+pub laying_all : (items : List Item) (l m : the.Layout) → Laying (names_in items) items l → m ≡ record l { is_open = false; counts = m.counts } → m.counts.items ≡ l.counts.items ++ open_count (open_of l) → Placing items m
+laying_all items l m laying same counts =
+    let labels : m.labels.entries ≡ l.labels.entries = ap (λ t. t.labels.entries) same in
+    let address : m.address ≡ l.address = ap (λ t. t.address) same in
+    let data_start : m.data_start ≡ l.data_start = ap (λ t. t.data_start) same in
+    record {
+      groups = laying.groups;
+      stand_in = laying.stand_in;
+      passed = laying.passed;
+      labels_are = ap labels_of labels ∙ laying.labels_are;
+      address_is = address ∙ laying.address_is;
+      counts_are =
+          counts ∙ ap (λ t. t ++ open_count (open_of l)) laying.counts_are ∙ ap (λ t. closed_counts laying.groups ++ open_count t) laying.open_is
+          ∙ counts_closed 0 laying.groups;
+      data_is = data_start ∙ laying.data_is;
+      few = rw address laying.few;
+      labels_near = ap (λ t. all_near (labels_of t)) labels ∙ laying.labels_near;
+    }

@@ -1,0 +1,8 @@
+mod Tests
+mod LabelLists
+mod Summary
+mod RightItems
+mod LayingSteps
+mod MakingSteps
+mod Groups
+mod Sections

@@ -1,0 +1,118 @@
+-- The words of the groups, one group at a time.
+use Rattle.std.proofs.Common.{◌≡◌, ◌∙◌, ◌<◌, ◌≤◌, ℕ, zero, suc, ◌+◌, Bool, true, false, List, [], ◌∷◌, ◌++◌, length, map, drop, get_or, Option, Some, None, Result, Ok, Err, OnOk, refl, sym, ap, subst, append_assoc, append-nil, arith}
+use Rattle.std.proofs.lemmas.Grind.{common_steps}
+use Rattle.ga_word.specs.declared.op.Op.{Op}
+use Rattle.ga_word.specs.declared.op.Op.TheVariants.{Nop}
+use Rattle.ga_pack.specs.Model.Layout.{Labels, Group, Shared, Alone, GroupWords, IsWord, filled, is_loose, last_dest, literals, ops_of}
+use Rattle.std.specs.Prelude.{◌&&◌, nat_lt, if◌then◌else◌}
+use Rattle.ga_pack.specs.Model.Source.{Item, Literal, Transfer, Value, WordTo, dest_bound, is_below, is_item, is_spare, stand_from}
+use Rattle.ga_word.specs.Op.{takes_dest}
+use Rattle.std.proofs.lemmas.Bool.{and_parts, ltb-true}
+use Rattle.ga_source.specs.declared.item.PlacedItem as placed
+use Rattle.ga_source.specs.Item.{item_of}
+use Rattle.ga_asm.specs.Layout.{plain}
+use Rattle.ga_asm.specs.Making.{IsGroup, IsGroupBy, IsPackable, MoreWords, group_of, item_dest}
+
+-- ---- a word
+
+pub filled_more : (room : ℕ) (ops : List Op) → length ops < room → filled room (ops ++ Nop ∷ []) ≡ filled room ops
+filled_more zero ops h = absurd (omega arith)
+filled_more (suc room) [] h = refl
+filled_more (suc room) (o ∷ ops) h = ap (λ r. o ∷ r) (filled_more room ops (omega arith))
+
+pub filled_all : (room : ℕ) (ops : List Op) → length ops ≡ room → filled room ops ≡ ops
+filled_all zero [] h = refl
+filled_all zero (o ∷ ops) h = absurd (omega arith)
+filled_all (suc room) [] h = absurd (omega arith)
+filled_all (suc room) (o ∷ ops) h = ap (λ r. o ∷ r) (filled_all room ops (omega arith))
+
+one_dest : (labels : Labels) (slot n : ℕ) (x : Item) → n ≡ slot → last_dest labels slot (x ∷ []) ≡ item_dest labels n x
+one_dest labels slot n x e = rw e (by x)
+  where
+    by : (x : Item) → last_dest labels slot (x ∷ []) ≡ item_dest labels slot x
+    by (Transfer o v) = refl
+    by x = refl
+
+skip_dest : (labels : Labels) (slot : ℕ) (i j : Item) (is : List Item) → last_dest labels slot (i ∷ j ∷ is) ≡ last_dest labels (suc slot) (j ∷ is)
+skip_dest labels slot (Transfer o v) j is = refl
+skip_dest labels slot i j is = refl
+
+pub dest_snoc : (labels : Labels) (slot n : ℕ) (is : List Item) (x : Item) → n ≡ slot + length is → last_dest labels slot (is ++ x ∷ []) ≡ item_dest labels n x
+dest_snoc labels slot n [] x e = one_dest labels slot n x (omega arith)
+dest_snoc labels slot n (i ∷ []) x e = skip_dest labels slot i x [] ∙ one_dest labels (suc slot) n x (omega arith)
+dest_snoc labels slot n (i ∷ j ∷ is) x e = skip_dest labels slot i j (is ++ x ∷ []) ∙ dest_snoc labels (suc slot) n (j ∷ is) x (omega arith)
+
+pub literals_append : (is js : List Item) → literals (is ++ js) ≡ literals is ++ literals js
+literals_append [] js = refl
+literals_append (Literal n ∷ is) js = ap (λ r. n ∷ r) (literals_append is js)
+literals_append (i ∷ is) js = literals_append is js
+
+pub followers_some : (old words more : List ℕ) (all front : List Item) (x : Item) (n m : ℕ) → all ≡ front ++ x ∷ [] → words ≡ old ++ literals front → literals (x ∷ []) ≡ n ∷ [] → m ≡ n → more ≡ words ++ m ∷ []
+    → more ≡ old ++ literals all
+followers_some old words more all front x n m all_is words_are one same more_are =
+    more_are ∙ ap (λ t. t ++ m ∷ []) words_are ∙ append_assoc old (literals front) (m ∷ []) ∙ ap (λ t. old ++ (literals front ++ t ∷ [])) same
+    ∙ ap (λ t. old ++ (literals front ++ t)) (sym one) ∙ ap (λ t. old ++ t) (sym (literals_append front (x ∷ [])) ∙ ap literals (sym all_is))
+
+pub followers_none : (old words more : List ℕ) (all front : List Item) (x : Item) → all ≡ front ++ x ∷ [] → words ≡ old ++ literals front → literals (x ∷ []) ≡ [] → more ≡ words
+    → more ≡ old ++ literals all
+followers_none old words more all front x all_is words_are none more_are =
+    more_are ∙ words_are ∙ ap (λ t. old ++ t) (sym (append-nil (literals front)) ∙ ap (λ t. literals front ++ t) (sym none) ∙ sym (literals_append front (x ∷ [])) ∙ ap literals (sym all_is))
+
+-- ---- the words of a group
+
+pub group_some : (labels : Labels) (items : List placed.PlacedItem) → IsGroup labels (plain items) → 0 < length items
+unfolding IsGroup
+group_some labels [] group = absurd group
+group_some labels (i ∷ items) group = omega arith
+
+pub plain_length : (items : List placed.PlacedItem) → length (plain items) ≡ length items
+plain_length [] = refl
+plain_length (i ∷ items) = let e = plain_length items in omega arith
+
+pub group_shared : (labels : Labels) (items : List placed.PlacedItem) (d : placed.PlacedItem) → IsGroup labels (plain items) → is_loose (item_of (get_or items 0 d).item) ≡ true
+    → (length items ≤ 4) × IsPackable (ops_of (plain items)) (last_dest labels 0 (plain items)) 0
+unfolding IsGroup
+group_shared labels [] d group loose = absurd group
+group_shared labels (i ∷ items) d group loose =
+    let shared = subst (λ b. IsGroupBy labels b (item_of i.item) (plain items)) loose group in
+    let few = shared.0 in
+    let e = plain_length items in
+    (omega arith, shared.1)
+
+pub group_alone : (labels : Labels) (items : List placed.PlacedItem) (d : placed.PlacedItem) → IsGroup labels (plain items) → is_loose (item_of (get_or items 0 d).item) ≡ false
+    → is_item (item_of (get_or items 0 d).item) ≡ true
+unfolding IsGroup
+group_alone labels [] d group alone = absurd group
+group_alone labels (i ∷ items) d group alone = subst (λ b. IsGroupBy labels b (item_of i.item) (plain items)) alone group
+
+pub shared_more : (labels : Labels) (items : List placed.PlacedItem) (d : placed.PlacedItem) (word : ℕ) (words one more : List ℕ) → 0 < length items → is_loose (item_of (get_or items 0 d).item) ≡ true
+    → IsWord word (ops_of (plain items)) (last_dest labels 0 (plain items)) 0 → one ≡ words ++ word ∷ [] → more ≡ one ++ literals (plain items) → MoreWords labels (plain items) words more
+unfolding MoreWords GroupWords
+shared_more labels [] d word words one more some loose is_word one_is more_is = absurd (omega arith)
+shared_more labels (i ∷ items) d word words one more some loose is_word one_is more_is =
+    let new = word ∷ literals (plain (i ∷ items)) in
+    let made : GroupWords labels (Shared (item_of i.item) (plain items)) new = (word, is_word, refl) in (
+      new,
+      subst (λ b. GroupWords labels (if b then Shared (item_of i.item) (plain items) else Alone (item_of i.item)) new) (sym loose) made,
+      more_is ∙ ap (λ t. t ++ literals (plain (i ∷ items))) one_is ∙ append_assoc words (word ∷ []) (literals (plain (i ∷ items))),
+    )
+
+pub alone_more : (labels : Labels) (items : List placed.PlacedItem) (d : placed.PlacedItem) (words more : List ℕ) → 0 < length items → is_loose (item_of (get_or items 0 d).item) ≡ false
+    → ((new : List ℕ) × GroupWords labels (Alone (item_of (get_or items 0 d).item)) new × (more ≡ words ++ new)) → MoreWords labels (plain items) words more
+unfolding MoreWords
+alone_more labels [] d words more some alone made = absurd (omega arith)
+alone_more labels (i ∷ items) d words more some alone made =
+    (made.0, subst (λ b. GroupWords labels (if b then Shared (item_of i.item) (plain items) else Alone (item_of i.item)) made.0) (sym alone) made.1, made.2)
+
+pub on_ok : {A E P Q : Type 0} (r : Result A E) → (P → Q) → OnOk r P → OnOk r Q
+on_ok (Ok a) f p = f p
+on_ok (Err e) f p = p
+
+-- a bracketed word with a destination has three opcodes at most
+pub few_ops : (ops : List Op) (o : Op) (v : Value) (spare : Option ℕ) → is_item (WordTo ops o v spare) ≡ true → length ops < 3
+unfolding is_item
+few_ops ops o v spare h =
+    let four = and_parts (stand_from 0 ops && nat_lt (length ops) 3 && takes_dest o && is_below (dest_bound (length ops)) v) (is_spare (length ops) spare) h in
+    let three = and_parts (stand_from 0 ops && nat_lt (length ops) 3 && takes_dest o) (is_below (dest_bound (length ops)) v) four.0 in
+    let two = and_parts (stand_from 0 ops && nat_lt (length ops) 3) (takes_dest o) three.0 in
+    ltb-true (length ops) 3 (and_parts (stand_from 0 ops) (nat_lt (length ops) 3) two.0).1

@@ -1,0 +1,17 @@
+use Rattle.std.proofs.Common.{◌≡◌, ◌∙◌, sym, ap, refl, Some, None}
+use Rattle.std.specs.Option.{option_map, unwrap_or}
+use Rattle.ga_pack.specs.Model.LayoutFault.{fault_place}
+use Rattle.ga_source.specs.Item.{placed_of}
+use Rattle.ga_source.specs.Token.{place_of}
+use Rattle.ga_asm.specs.Assembling.{IsPlaceOf}
+use Rattle.ga_asm.proofs.Sections.{place_at, told_name, told_place}
+use Rattle.ga_asm.proofs.assembling.error_at.Goals as goal
+use Rattle.ga_asm.proofs.assembling.error_at.Goals.{in-Some, in-None}
+
+pub returns-clause-place : goal.returns-clause-place
+returns-clause-place c =
+    place_at c.args.items.now c.args.refusal.at c.index-items-refusal.result _ c.requires c.index-items-refusal.is
+    (elim c.match-placed.branch [
+      | in-Some w ↦ told_name c.index-items-refusal.result c.match-placed.place w.in-Some.place w.place-is w.in-Some.is
+      | in-None w ↦ told_place c.index-items-refusal.result c.match-placed.place w.place-is w.in-None.is
+    ])

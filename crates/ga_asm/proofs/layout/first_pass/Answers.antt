@@ -1,0 +1,48 @@
+use Rattle.std.proofs.Common.{◌≡◌, ◌∙◌, ap, sym, subst, refl, map, take, None}
+use Rattle.ga_pack.specs.Model.Layout.{names_in}
+use Rattle.ga_pack.specs.Model.LayoutFault.{fault_at}
+use Rattle.ga_source.specs.Item.{item_of}
+use Rattle.ga_asm.specs.Error.{kind_of, kind_in}
+use Rattle.ga_asm.specs.Image.{labels_of}
+use Rattle.ga_asm.specs.Layout.{Laying, joins_open, open_of, plain}
+use Rattle.ga_asm.proofs.LabelLists.{names_are}
+use Rattle.ga_asm.proofs.LayingSteps.{front_all, front_next, laying_all, laying_fault, laying_next, laying_none, next_new}
+use Rattle.ga_asm.proofs.RightItems.{items_some}
+use Rattle.ga_asm.proofs.layout.first_pass.Goals as goal
+
+pub loop-at-init : goal.loop-at-init
+loop-at-init c = laying_none (names_in (plain c.args.items.now)) _ c.new.ensures.empty refl refl refl c.new-3.ensures.items refl
+
+pub returns-in-Some-clause-err : goal.returns-in-Some-clause-err
+returns-in-Some-clause-err c =
+    let items = c.args.items.now in
+    let l = c.loop-at.layout in
+    let x = item_of c.index-items-at.result.item in
+    laying_fault items c.loop-at.at c.index-items-at.result l (kind_of c.in-Some.kind) c.loop-at-test.true c.index-items-at.is c.loop-at.invariant
+    (c.in-Some.ensures ∙ ap (λ t. fault_at t (labels_of l.labels.entries) l.address (joins_open (labels_of l.labels.entries) (open_of l) x) x) c.requires.names)
+
+pub add-requires-clause-new : goal.add-requires-clause-new
+add-requires-clause-new c =
+    next_new (names_in (plain c.args.items.now)) c.args.items.now c.loop-at.at c.index-items-at.result c.loop-at.layout c.loop-at-test.true c.index-items-at.is c.requires.right c.loop-at.invariant
+
+pub loop-at-preserved : goal.loop-at-preserved
+loop-at-preserved c =
+    let items = c.args.items.now in
+    let l = c.loop-at.layout in
+    let m = c.add.new.self in
+    let names = names_in (plain items) in
+    let x = item_of c.index-items-at.result.item in
+    let e = c.in_default-add.ensures in
+    subst (λ t. Laying names t m) (sym (front_next items c.loop-at.at c.index-items-at.result c.loop-at-test.true c.index-items-at.is))
+    (laying_next names (plain (take c.loop-at.at items)) l m x c.loop-at.invariant
+    (sym (c.in_default.ensures ∙ ap (λ t. fault_at t (labels_of l.labels.entries) l.address (joins_open (labels_of l.labels.entries) (open_of l) x) x) c.requires.names))
+    (record { labels = e.labels; address = e.address; word = e.word; counts = e.counts; data_start = e.data; near = e.near }))
+
+pub returns-in-Ok-clause-ok : goal.returns-in-Ok-clause-ok
+returns-in-Ok-clause-ok c =
+    let items = c.args.items.now in
+    let laying = subst (λ t. Laying (names_in (plain items)) (plain t) c.loop-at.layout) (front_all items c.loop-at.at c.loop-at-test.false) c.loop-at.invariant in
+    laying_all (plain items) c.loop-at.layout c.close.new.self laying c.in-Ok.ensures.ok c.in-Ok.ensures.counts
+
+pub returns-in-Err-close-clause-at : goal.returns-in-Err-close-clause-at
+returns-in-Err-close-clause-at c = items_some c.args.items.now c.requires.right

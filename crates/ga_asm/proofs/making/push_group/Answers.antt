@@ -1,0 +1,40 @@
+use Rattle.std.proofs.Common.{◌≡◌, ◌∙◌, sym, OnOk}
+use Rattle.ga_asm.specs.Image.{labels_of}
+use Rattle.ga_asm.specs.Layout.{plain}
+use Rattle.ga_asm.proofs.MakingSteps.{alone_more, group_alone, group_shared, group_some, on_ok, shared_more}
+use Rattle.ga_asm.proofs.making.push_group.Goals as goal
+
+pub bounds-items-0 : goal.bounds-items-0
+bounds-items-0 c = group_some (labels_of c.args.labels.now.entries) c.args.items.now c.requires
+
+pub shared_word-requires-clause-few : goal.shared_word-requires-clause-few
+shared_word-requires-clause-few c =
+    (group_shared (labels_of c.args.labels.now.entries) c.args.items.now c.index-items-0.result c.requires (sym c.is_loose.ensures ∙ c.if-is_loose.true)).0
+
+pub shared_word-requires-clause-packable : goal.shared_word-requires-clause-packable
+shared_word-requires-clause-packable c =
+    (group_shared (labels_of c.args.labels.now.entries) c.args.items.now c.index-items-0.result c.requires (sym c.is_loose.ensures ∙ c.if-is_loose.true)).1
+
+pub push_alone-requires-clause-right : goal.push_alone-requires-clause-right
+push_alone-requires-clause-right c =
+    group_alone (labels_of c.args.labels.now.entries) c.args.items.now c.index-items-0.result c.requires (sym c.is_loose.ensures ∙ c.if-is_loose.false)
+
+pub push_alone-requires-clause-alone : goal.push_alone-requires-clause-alone
+push_alone-requires-clause-alone c = sym c.is_loose.ensures ∙ c.if-is_loose.false
+
+pub returns-in_ok-push-clause-ok : goal.returns-in_ok-push-clause-ok
+returns-in_ok-push-clause-ok c =
+    let labels = labels_of c.args.labels.now.entries in
+    let items = c.args.items.now in
+    on_ok c.push_followers.result
+    (shared_more labels items c.index-items-0.result c.shared_word.result c.args.words.now.items c.push.new.self.items c.push_followers.new.words.items
+    (group_some labels items c.requires) (sym c.is_loose.ensures ∙ c.if-is_loose.true) c.shared_word.ensures c.in_ok-push.ensures.items)
+    c.push_followers.ensures.ok
+
+pub returns-else-is_loose-clause-ok : goal.returns-else-is_loose-clause-ok
+returns-else-is_loose-clause-ok c =
+    let labels = labels_of c.args.labels.now.entries in
+    let items = c.args.items.now in
+    on_ok c.push_alone.result
+    (alone_more labels items c.index-items-0.result c.args.words.now.items c.push_alone.new.words.items (group_some labels items c.requires) (sym c.is_loose.ensures ∙ c.if-is_loose.false))
+    c.push_alone.ensures.ok

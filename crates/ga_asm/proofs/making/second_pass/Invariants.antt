@@ -1,0 +1,6 @@
+use Rattle.ga_asm.specs.Layout.{plain}
+use Rattle.ga_asm.specs.Making.{Making}
+use Rattle.ga_asm.proofs.making.second_pass.Given as goal
+
+abbrev pub invariant-loop-count : goal.invariant-loop-count
+invariant-loop-count l = Making (plain l.items) l.layout l.count-index (plain l.rest) l.words.items

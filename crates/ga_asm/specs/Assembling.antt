@@ -1,0 +1,48 @@
+-- The images of a program, and its first fault, as the contracts have them.
+use Rattle.std.specs.Prelude.{◌≡◌, ℕ, List, [], ◌∷◌, ◌++◌, length, map, Option, Some, None}
+use Rattle.ga_pack.specs.Model.Layout.{names_in}
+use Rattle.ga_pack.specs.Model.LayoutFault.{AsmFault, AsmKind, Passed, ProgramFault, fault_place, plain_items}
+use Rattle.ga_pack.specs.Model.Program.{PlacedItem, PlacedSection}
+use Rattle.ga_pack.specs.Model.Source.{Item}
+use Rattle.ga_pack.specs.Model.Text.{Place}
+use Rattle.ga_source.specs.Item.{placed_of}
+use Rattle.ga_source.specs.declared.item.PlacedItem as placed
+use Rattle.ga_asm.specs.Image.{ImageView, IsImage}
+
+-- These are the images of a program's sections, in their order, each with its node.
+unfoldable pub IsAssembled : List PlacedSection → List (ℕ × ImageView) → Type 0
+IsAssembled [] [] = Unit {0}
+IsAssembled [] (image ∷ images) = ⊥
+IsAssembled (section ∷ sections) [] = ⊥
+IsAssembled (section ∷ sections) (image ∷ images) =
+    (image.0 ≡ section.name) × IsImage (plain_items section) image.1 × IsAssembled sections images
+
+-- the first fault of a program, of a node and at a place, unless memory was refused
+abbrev pub IsFirstFault : List PlacedSection → ℕ → Place → Option AsmKind → Type 0
+IsFirstFault program node place None = Unit {0}
+IsFirstFault program node place (Some kind) = ProgramFault program node place kind
+
+-- the program has no fault
+abbrev pub HasNoFault : List PlacedSection → Type 0
+HasNoFault program = (node : ℕ) (place : Place) (kind : AsmKind) → ProgramFault program node place kind → ⊥
+
+-- ---- of one node
+
+-- an image of items without a fault
+pub record IsFaultless (items : List Item) (image : ImageView) : Type 0 where
+  pub image_is : IsImage items image
+  pub passed : Passed (names_in items) [] items
+
+-- the first fault of a node's items, unless memory was refused
+abbrev pub IsNodeFault : List Item → ℕ → Option AsmKind → Type 0
+IsNodeFault items at None = Unit {0}
+IsNodeFault items at (Some kind) = AsmFault items at kind
+
+-- the place where a fault of the item behind so many others is told
+pub record IsPlaceOf (items : List placed.PlacedItem) (at : ℕ) (place : Place) : Type 0 where
+  pub front : List PlacedItem
+  pub item : PlacedItem
+  pub back : List PlacedItem
+  pub split : map placed_of items ≡ front ++ item ∷ back
+  pub at_is : at ≡ length front
+  pub place_is : place ≡ fault_place item

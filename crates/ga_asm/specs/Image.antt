@@ -1,0 +1,39 @@
+-- What the words of a node are: the image of its items.
+use Rattle.std.specs.Prelude.{String, ◌≡◌, ◌<◌, ◌≤◌, ℕ, Bool, true, List, [], ◌∷◌, codes, length, map, nat_le}
+use Rattle.std.specs.List.{list_all}
+use Rattle.std.specs.Option.{unwrap_or}
+use Rattle.std.specs.String.{string_bytes}
+use Rattle.ga_pack.specs.Model.Layout.{Laid, Labels, address_of}
+use Rattle.ga_pack.specs.Model.Source.{Item}
+
+-- the words, how many of them are code, the address where the node begins, and the labels with their addresses
+pub record ImageView : Type 0 where
+  pub words : List ℕ
+  pub code_len : ℕ
+  pub entry : ℕ
+  pub labels : Labels
+
+-- labels as the model has them
+abbrev pub labels_of : {A : Type 0} → List (String A × ℕ) → Labels
+labels_of entries = map (λ entry. (string_bytes entry.0, entry.1)) entries
+
+-- the address of the label `main`, or 0 where no label is `main`
+abbrev pub entry_of : Labels → ℕ
+entry_of labels = unwrap_or (address_of labels (codes "main")) 0
+
+-- addresses of words, or the one behind the last word that a node may have
+abbrev pub all_near : Labels → Bool
+all_near labels = list_all (λ label. nat_le label.1 64) labels
+
+-- a node has room for it, and has at least a word
+pub record Fits (image : ImageView) : Type 0 where
+  pub some : 0 < length image.words
+  pub most : length image.words ≤ 64
+  pub code_within : image.code_len ≤ length image.words
+  pub entry_near : image.entry ≤ 64
+  pub labels_near : all_near image.labels ≡ true
+
+-- The items are laid as the words, the labels and the length of code of an image, and its entry is that of its labels.
+pub record IsImage (items : List Item) (image : ImageView) : Type 0 where
+  pub laid : Laid items image.words image.labels image.code_len
+  pub entry_is : image.entry ≡ entry_of image.labels

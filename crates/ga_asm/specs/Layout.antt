@@ -1,0 +1,121 @@
+-- What is kept of the items of a node while they are laid.
+use Rattle.std.specs.Prelude.{◌≡◌, ◌≤◌, ℕ, ◌+◌, Bool, true, false, List, [], ◌∷◌, ◌++◌, length, map, Option, Some, None, if◌then◌else◌}
+use Rattle.std.specs.Option.{option_or}
+use Rattle.ga_word.specs.declared.op.Op.{Op}
+use Rattle.ga_pack.specs.Model.Layout.{Labels, Group, Shared, Alone, StandIn, address_after, is_loose, joins, labels_after, labels_behind, names_in, op_of, ops_of, size}
+use Rattle.ga_pack.specs.Model.LayoutFault.{AsmKind, FirstPassFault, Passed, words_added}
+use Rattle.ga_pack.specs.Model.Source.{Item, Here, Data}
+use Rattle.ga_source.specs.declared.item.PlacedItem as placed
+use Rattle.ga_source.specs.Item.{item_of}
+use Rattle.ga_asm.specs.Image.{all_near, labels_of}
+use Rattle.ga_asm.specs.declared.layout.Layout as the
+
+-- items without their places
+abbrev pub plain : List placed.PlacedItem → List Item
+plain items = map (λ i. item_of i.item) items
+
+-- the address and the opcodes of the word that the next item may join
+abbrev pub Open : Type 0
+Open = Option (ℕ × List Op)
+
+abbrev pub open_if : Bool → ℕ → List Op → Open
+open_if true word ops = Some (word, ops)
+open_if false word ops = None
+
+abbrev pub open_of : the.Layout → Open
+open_of l = open_if l.is_open l.word l.ops.items
+
+-- the item joins that word
+abbrev pub joins_open : Labels → Open → Item → Bool
+joins_open labels None i = false
+joins_open labels (Some word) i = joins labels word.0 word.1 i
+
+-- the open word behind an item, which joins it, or begins a word at an address, or makes no word that is open
+abbrev pub open_after : Bool → Open → ℕ → Item → Open
+open_after true None address i = None
+open_after true (Some word) address i = Some (word.0, word.1 ++ op_of i ∷ [])
+open_after false open_word address i = if is_loose i then Some (address, op_of i ∷ []) else None
+
+-- how many items the open word has, if a word is open
+abbrev pub open_count : Open → List ℕ
+open_count None = []
+open_count (Some word) = length word.1 ∷ []
+
+-- how many items each closed group has, behind an item
+abbrev pub counts_after : Bool → Open → List ℕ → Item → List ℕ
+counts_after true open_word counts i = counts
+counts_after false open_word counts i = counts ++ open_count open_word ++ (if is_loose i then [] else 1 ∷ [])
+
+abbrev pub is_data : Item → Bool
+is_data Data = true
+is_data i = false
+
+-- the labels behind an item at an address
+abbrev pub labels_with : Labels → ℕ → Item → Labels
+labels_with labels address (Here s) = labels ++ (s, address) ∷ []
+labels_with labels address i = labels
+
+-- the address of the first `data`, behind an item at an address
+abbrev pub data_after : Option ℕ → ℕ → Item → Option ℕ
+data_after start address i = option_or start (if is_data i then Some address else None)
+
+-- ---- the same of groups
+
+abbrev pub open_at : ℕ → List Group → Open
+open_at address [] = None
+open_at address (Shared i is ∷ []) = Some (address, ops_of (i ∷ is))
+open_at address (Alone i ∷ []) = None
+open_at address (group ∷ next ∷ groups) = open_at (address + size group) (next ∷ groups)
+
+abbrev pub count_of : Group → ℕ
+count_of (Shared i is) = length (i ∷ is)
+count_of (Alone i) = 1
+
+-- how many items each group has, but for a last word that is open
+abbrev pub closed_counts : List Group → List ℕ
+closed_counts [] = []
+closed_counts (Shared i is ∷ []) = []
+closed_counts (Alone i ∷ []) = 1 ∷ []
+closed_counts (group ∷ next ∷ groups) = count_of group ∷ closed_counts (next ∷ groups)
+
+-- the address of the first `data` among groups from an address on
+abbrev pub data_at : ℕ → List Group → Option ℕ
+data_at address [] = None
+data_at address (Shared i is ∷ groups) = data_at (address + size (Shared i is)) groups
+data_at address (Alone i ∷ groups) = if is_data i then Some address else data_at (address + size (Alone i)) groups
+
+-- the names of labels
+abbrev pub names_of : Labels → List (List ℕ)
+names_of labels = map (λ label. label.0) labels
+
+-- The items stand in groups without a fault of the first pass, and this is kept of them.
+pub record Laying (names : List (List ℕ)) (items : List Item) (l : the.Layout) : Type 0 where
+  pub groups : List Group
+  pub stand_in : StandIn items groups
+  pub passed : Passed names [] items
+  pub labels_are : labels_of l.labels.entries ≡ labels_after [] 0 groups
+  pub names_are : names_of (labels_of l.labels.entries) ≡ names_in items
+  pub address_is : l.address ≡ address_after 0 groups
+  pub open_is : open_of l ≡ open_at 0 groups
+  pub counts_are : l.counts.items ≡ closed_counts groups
+  pub data_is : l.data_start ≡ data_at 0 groups
+  pub few : l.address ≤ 64
+  pub near : l.word ≤ 64
+  pub labels_near : all_near (labels_of l.labels.entries) ≡ true
+
+-- The same of all items, where each word is closed.
+pub record Placing (items : List Item) (l : the.Layout) : Type 0 where
+  pub groups : List Group
+  pub stand_in : StandIn items groups
+  pub passed : Passed (names_in items) [] items
+  pub labels_are : labels_of l.labels.entries ≡ labels_after [] 0 groups
+  pub address_is : l.address ≡ address_after 0 groups
+  pub counts_are : l.counts.items ≡ map count_of groups
+  pub data_is : l.data_start ≡ data_at 0 groups
+  pub few : l.address ≤ 64
+  pub labels_near : all_near (labels_of l.labels.entries) ≡ true
+
+-- The first fault of the first pass, unless memory was refused.
+abbrev pub IsFirstPassFault : List Item → ℕ → Option AsmKind → Type 0
+IsFirstPassFault items at None = Unit {0}
+IsFirstPassFault items at (Some kind) = FirstPassFault items at kind

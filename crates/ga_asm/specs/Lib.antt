@@ -1,0 +1,5 @@
+pub mod Error
+pub mod Image
+pub mod Layout
+pub mod Making
+pub mod Assembling

@@ -1,0 +1,124 @@
+//! The images of a program.
+ghost use Rattle.std.specs.Prelude.{◌≡◌, ◌<◌, ℕ, ◌++◌, ◌∷◌, [], IfErr, IfOk, List, OnOk, false, length, map};
+ghost use Rattle.ga_pack.specs.Model.Source.{Items, is_named, start};
+ghost use Rattle.ga_asm.specs.Assembling.{HasNoFault, IsAssembled, IsFaultless, IsFirstFault, IsNodeFault, IsPlaceOf};
+ghost use Rattle.ga_asm.specs.Error.{error_place, kind_of};
+ghost use Rattle.ga_asm.specs.Image.{ImageView};
+ghost use Rattle.ga_asm.specs.Layout.{plain};
+ghost use Rattle.ga_asm.specs.declared.error.AsmErrorKind.TheVariants.{Memory};
+
+use crate::error::{AsmError, AsmErrorKind};
+use crate::image::Image;
+use crate::layout::{Refusal, address_of, first_pass};
+use crate::making::second_pass;
+use ga_place::Node;
+use ga_source::{PlacedItem, Program, Section};
+use indexmap::IndexMap;
+use std::alloc::Global;
+use std::marker::Model;
+
+/// The images of a program: one for each node that its text names, in its order. A contract sees them as
+/// the list of the nodes' names with their images.
+#[derive(Debug, Drop)]
+pub struct Images {
+    images: IndexMap<Node, Image>,
+}
+
+impl Model for Images {
+    ghost Value = { List (ℕ × ImageView) };
+
+    ghost view = { λ images. images.images.entries };
+}
+
+impl Images {
+    /// The images by their nodes, in the text's order.
+    pub fn images(&self) -> &IndexMap<Node, Image>
+        ensures { result.now.entries ≡ self.now }
+    {
+        &self.images
+    }
+}
+
+// The image of a section, or the first fault of its items.
+fn image_of(alloc: Global, section: &Section) -> Result<Image, Refusal>
+    requires { Items start (plain section.now.items.items) }
+    ensures ok { IfOk result (λ image. IsFaultless (plain section.now.items.items) image) }
+    ensures err { IfErr result (λ refusal. IsNodeFault (plain section.now.items.items) refusal.at (kind_of refusal.kind)) }
+    ensures at { IfErr result (λ refusal. refusal.at < length section.now.items.items) }
+{
+    let items = section.items.as_slice();
+    let layout = first_pass(alloc, &section.labels, items)?;
+    let words = second_pass(alloc, items, &layout)?;
+    let code_len = usize::from(layout.data_start.unwrap_or(layout.address));
+    let entry = address_of(&layout.labels, "main").unwrap_or(0);
+    Ok(Image {
+        words,
+        code_len,
+        entry,
+        labels: layout.labels,
+    })
+}
+
+// A node that has no image gets one.
+fn add_image(
+    images: &mut IndexMap<Node, Image>,
+    node: Node,
+    image: Image,
+) -> Result<(), AsmErrorKind>
+    requires { is_named node (map (λ entry. entry.0) images.old.entries) ≡ false }
+    ensures ok { OnOk result (images.new.entries ≡ images.old.entries ++ (node, image) ∷ []) }
+    ensures err { IfErr result (λ kind. kind ≡ Memory) }
+{
+    images.insert(node, image)?;
+    Ok(())
+}
+
+// The fault, with its node and the place of its item.
+fn error_at(node: Node, items: &[PlacedItem], refusal: Refusal) -> AsmError
+    requires { refusal.at < length items.now }
+    ensures kind { result.kind ≡ refusal.kind }
+    ensures node { result.node ≡ node }
+    ensures place { IsPlaceOf items.now refusal.at (error_place result) }
+{
+    let placed = &items[refusal.at];
+    let place = match placed.name_place {
+        Some(place) => place,
+        None => placed.place,
+    };
+    AsmError {
+        kind: refusal.kind,
+        node,
+        line: place.line,
+        column: place.column,
+    }
+}
+
+/// The images of a program, or the first fault of the program with its node and its place. (The limits are
+/// this project's own: profile.)
+///
+/// Items outside brackets are packed in order, each in the next slot of the last word where it fits, and else
+/// in slot 0 of a word of its own. A node has 64 words at most, and a fault is that of the first node in the
+/// text's order that has one. It fails as `Memory` only where memory is refused. It takes time in proportion
+/// to the program, if hashing spreads the names of its labels.
+pub fn assemble(alloc: Global, program: &Program) -> Result<Images, AsmError>
+    ensures images { IfOk result (λ images. IsAssembled program.now images) }
+    // they are the only images of the program
+    ensures only { IfOk result (λ images. (other : List (ℕ × ImageView)) → IsAssembled program.now other → other ≡ images) }
+    // and the program has no fault
+    ensures none { IfOk result (λ _. HasNoFault program.now) }
+    // each fault but `Memory` is the first one, told with its node and at its place
+    ensures fault { IfErr result (λ error. IsFirstFault program.now error.node (error_place error) (kind_of error.kind)) }
+{
+    let mut images = IndexMap::new(alloc);
+    for (node, section) in program.sections() {
+        let image = match image_of(alloc, section) {
+            Ok(image) => image,
+            Err(refusal) => return Err(error_at(*node, section.items.as_slice(), refusal)),
+        };
+        if let Err(kind) = add_image(&mut images, *node, image) {
+            let refusal = Refusal { at: 0, kind };
+            return Err(error_at(*node, section.items.as_slice(), refusal));
+        }
+    }
+    Ok(Images { images })
+}

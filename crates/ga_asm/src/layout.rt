@@ -1,0 +1,391 @@
+//! The first pass over the items of a node: where each one comes to stand, or the first fault.
+ghost use Rattle.std.specs.Prelude.{◌≡◌, ◌+◌, ◌<◌, ◌≤◌, ◌++◌, ◌∷◌, [], IfErr, IfOk, None, OnOk, Some, false, length, map, true};
+ghost use Rattle.std.specs.List.{list_any};
+ghost use Rattle.std.specs.String.{string_bytes};
+ghost use Rattle.ga_pack.specs.Model.Layout as laid;
+ghost use Rattle.ga_pack.specs.Model.Layout.{names_in};
+ghost use Rattle.ga_pack.specs.Model.LayoutFault as faults;
+ghost use Rattle.ga_pack.specs.Model.Source.{Items, start};
+ghost use Rattle.ga_pack.specs.Model.Source as words;
+ghost use Rattle.ga_word.specs.Op.{ends_word};
+ghost use Rattle.ga_pack.specs.Followers as counted;
+ghost use Rattle.ga_source.specs.Item.{item_of, value_of};
+ghost use Rattle.ga_asm.specs.Error.{kind_in, kind_of};
+ghost use Rattle.ga_asm.specs.Image.{labels_of};
+ghost use Rattle.ga_asm.specs.Layout.{IsFirstPassFault, Laying, counts_after, data_after, joins_open, Placing, labels_with, names_of, open_after, open_count, open_of, plain};
+ghost use Rattle.ga_asm.specs.declared.error.AsmErrorKind.TheVariants.{Memory};
+
+use crate::error::AsmErrorKind;
+use arrayvec::ArrayVec;
+use ga_source::{Item, PlacedItem, Section, Value};
+use ga_word::Op;
+use indexmap::{IndexMap, IndexSet};
+use std::alloc::Global;
+
+// What is kept of the items that are laid.
+#[derive(Drop)]
+pub(crate) struct Layout {
+    // The labels with their addresses.
+    pub(crate) labels: IndexMap<String, u8>,
+    // The next address.
+    pub(crate) address: u8,
+    // Whether the next item may join the last word, and the address and the opcodes of that word.
+    pub(crate) is_open: bool,
+    pub(crate) word: u8,
+    pub(crate) ops: ArrayVec<Op, 4>,
+    // How many items each group has: the items of a word outside brackets are one, and any other item is
+    // one by itself. The word that is open comes when it is closed.
+    pub(crate) counts: Vec<usize>,
+    // The address of the first `data`.
+    pub(crate) data_start: Option<u8>,
+}
+
+// Why the items of a node were refused, and how many items stand before the one with the fault.
+#[derive(Clone, Copy)]
+pub(crate) struct Refusal {
+    pub(crate) at: usize,
+    pub(crate) kind: AsmErrorKind,
+}
+
+fn is_value(names: &IndexSet<String>, value: &Value) -> bool
+    ensures { result ≡ laid.is_value (map string_bytes names.now.keys) (value_of value.now) }
+{
+    match value {
+        Value::Number(_) => true,
+        Value::Label(name) => names.contains(name.as_str()),
+    }
+}
+
+// The name that the item uses is a label of the node.
+fn is_defined(names: &IndexSet<String>, item: &Item) -> bool
+    ensures { result ≡ laid.is_defined (map string_bytes names.now.keys) (item_of item.now) }
+{
+    match item {
+        Item::Transfer { dest, .. } | Item::WordTo { dest, .. } => is_value(names, dest),
+        Item::Plain(value) => is_value(names, value),
+        _ => true,
+    }
+}
+
+fn is_unext(op: Op) -> bool
+    ensures { result ≡ laid.is_unext op }
+{
+    matches!(op, Op::Micronext)
+}
+
+fn is_lone_unext(joined: bool, item: &Item) -> bool
+    ensures { result ≡ faults.is_lone_unext joined (item_of item.now) }
+{
+    match item {
+        Item::Instruction(op) => !joined && is_unext(*op),
+        _ => false,
+    }
+}
+
+// An item outside brackets is one opcode.
+pub(crate) fn is_loose(item: &Item) -> bool
+    ensures { result ≡ laid.is_loose (item_of item.now) }
+{
+    matches!(
+        item,
+        Item::Instruction(_) | Item::Transfer { .. } | Item::Literal(_)
+    )
+}
+
+// That opcode.
+pub(crate) fn op_of(item: &Item) -> Op
+    ensures { result ≡ laid.op_of (item_of item.now) }
+{
+    match item {
+        Item::Instruction(op) | Item::Transfer { op, .. } => *op,
+        _ => Op::FetchP,
+    }
+}
+
+// The followers of a word for the item.
+fn literals(item: &Item) -> u8
+    ensures count { result ≡ length (laid.literals (item_of item.now ∷ [])) }
+    ensures few { result ≤ 1 }
+{
+    if let Item::Literal(_) = item { 1 } else { 0 }
+}
+
+fn makes_word(item: &Item) -> bool
+    ensures { result ≡ words.makes_word (item_of item.now) }
+{
+    !matches!(item, Item::Label(_) | Item::Align | Item::Data)
+}
+
+// How many words the item adds.
+fn words_added(joined: bool, item: &Item) -> u8
+    ensures count { result ≡ faults.words_added joined (item_of item.now) }
+    ensures few { result ≤ 2 }
+{
+    let own = if joined || !makes_word(item) { 0 } else { 1 };
+    own + literals(item)
+}
+
+fn is_followed(op: Op) -> bool
+    ensures { result ≡ counted.is_followed op }
+{
+    matches!(op, Op::FetchP | Op::StoreP)
+}
+
+// P in the slot behind these opcodes of the word at an address.
+pub(crate) fn p_behind(address: u8, ops: &[Op]) -> u8
+    requires near { address ≤ 64 }
+    requires few { length ops.now ≤ 4 }
+    ensures { result ≡ laid.p_behind address ops.now }
+{
+    let mut followed: u8 = 0;
+    for op in ops {
+        if is_followed(*op) {
+            followed += 1;
+        }
+    }
+    address + 1 + followed
+}
+
+// The destination is in reach from the slot.
+fn reaches(slot: usize, p: u8, dest: u32) -> bool
+    ensures test { result ≡ laid.reaches slot p dest }
+    ensures room { result ≡ true → slot < 4 }
+{
+    slot == 0 || slot == 1 && dest < 0x100 || slot == 2 && dest / 8 == u32::from(p) / 8
+}
+
+fn may_reach(slot: usize, p: u8, dest: Option<u32>) -> bool
+    ensures test { result ≡ laid.may_reach slot p dest }
+    ensures room { result ≡ true → slot < 4 }
+{
+    match dest {
+        Some(dest) => reaches(slot, p, dest),
+        None => slot < 2,
+    }
+}
+
+fn op_fits(slot: usize, op: Op) -> bool
+    ensures test { result ≡ laid.op_fits slot op }
+    ensures room { result ≡ true → slot < 4 }
+{
+    slot < 3 || slot == 3 && op.fits_slot3()
+}
+
+pub(crate) fn address_of(labels: &IndexMap<String, u8>, name: &str) -> Option<u8>
+    ensures { result ≡ laid.address_of (labels_of labels.now.entries) name.now }
+{
+    labels.get(name).copied()
+}
+
+// A number, or the address of a label, if it is among these.
+pub(crate) fn value_among(labels: &IndexMap<String, u8>, value: &Value) -> Option<u32>
+    ensures { result ≡ laid.value_of (labels_of labels.now.entries) (value_of value.now) }
+{
+    match value {
+        Value::Number(number) => Some(*number),
+        Value::Label(name) => match address_of(labels, name.as_str()) {
+            Some(address) => Some(u32::from(address)),
+            None => None,
+        },
+    }
+}
+
+// A name in brackets is in reach, if it is a label among these.
+pub(crate) fn is_in_reach(labels: &IndexMap<String, u8>, address: u8, item: &Item) -> bool
+    requires { address ≤ 64 }
+    ensures { result ≡ laid.is_in_reach (labels_of labels.now.entries) address (item_of item.now) }
+{
+    match item {
+        Item::WordTo {
+            ops,
+            dest: Value::Label(name),
+            ..
+        } => match address_of(labels, name.as_str()) {
+            Some(dest) => reaches(
+                ops.len(),
+                p_behind(address, ops.as_slice()),
+                u32::from(dest),
+            ),
+            None => true,
+        },
+        _ => true,
+    }
+}
+
+impl Layout {
+    // The item fits the slot behind the opcodes of the open word.
+    #[tactic(auto, unfolding(ga_pack::specs::Model::Layout::fits))]
+    fn fits(&self, item: &Item) -> bool
+        requires { self.now.word ≤ 64 }
+        ensures room { result ≡ true → length self.now.ops.items < 4 }
+        ensures test { result ≡ laid.fits (labels_of self.now.labels.entries) self.now.word self.now.ops.items (item_of item.now) }
+    {
+        let slot = self.ops.len();
+        match item {
+            Item::Instruction(op) => op_fits(slot, *op) && (!is_unext(*op) || 0 < slot),
+            Item::Transfer { dest, .. } => {
+                let p = p_behind(self.word, self.ops.as_slice());
+                may_reach(slot, p, value_among(&self.labels, dest))
+            }
+            Item::Literal(_) => op_fits(slot, Op::FetchP),
+            _ => false,
+        }
+    }
+
+    // No item stands behind an opcode of the open word.
+    fn is_ended(&self) -> bool
+        ensures { result ≡ list_any ends_word self.now.ops.items }
+    {
+        self.ops.as_slice().iter().any(|op| op.ends_word())
+    }
+
+    // The item joins the open word.
+    fn joins(&self, item: &Item) -> bool
+        requires { self.now.word ≤ 64 }
+        ensures room { result ≡ true → length self.now.ops.items < 4 }
+        ensures test { result ≡ joins_open (labels_of self.now.labels.entries) (open_of self.now) (item_of item.now) }
+    {
+        self.is_open && !self.is_ended() && self.fits(item)
+    }
+
+    // The first fault of the item, in a node with these labels.
+    fn fault_of(&self, names: &IndexSet<String>, item: &Item) -> Option<AsmErrorKind>
+        requires near { self.now.word ≤ 64 }
+        requires few { self.now.address ≤ 64 }
+        ensures { kind_in result ≡ faults.fault_at (map string_bytes names.now.keys) (labels_of self.now.labels.entries) self.now.address (joins_open (labels_of self.now.labels.entries) (open_of self.now) (item_of item.now)) (item_of item.now) }
+    {
+        if !is_defined(names, item) {
+            return Some(AsmErrorKind::UndefinedLabel);
+        }
+        if !is_in_reach(&self.labels, self.address, item) {
+            return Some(AsmErrorKind::OutOfReach);
+        }
+        let joined = self.joins(item);
+        if is_lone_unext(joined, item) {
+            return Some(AsmErrorKind::UnextAlone);
+        }
+        if self.address + words_added(joined, item) > 64 {
+            return Some(AsmErrorKind::TooLong);
+        }
+        None
+    }
+}
+
+impl Layout {
+    // A word that is open is closed.
+    fn close(&mut self) -> Result<(), AsmErrorKind>
+        ensures ok { OnOk result (self.new ≡ record self.old { is_open = false; counts = self.new.counts }) }
+        ensures counts { OnOk result (self.new.counts.items ≡ self.old.counts.items ++ open_count (open_of self.old)) }
+        ensures err { IfErr result (λ kind. kind ≡ Memory) }
+    {
+        if self.is_open {
+            self.counts.push(self.ops.len())?;
+            self.is_open = false;
+        }
+        Ok(())
+    }
+
+    // Places the item: it joins the open word, begins a word, or is a group by itself.
+    fn place(&mut self, item: &Item, joined: bool) -> Result<(), AsmErrorKind>
+        requires joined { joined ≡ true → length self.old.ops.items < 4 }
+        requires open { joined ≡ true → self.old.is_open ≡ true }
+        ensures ok { OnOk result (self.new ≡ record self.old { is_open = self.new.is_open; word = self.new.word; ops = self.new.ops; counts = self.new.counts }) }
+        ensures near { OnOk result (self.old.word ≤ 64 → self.old.address ≤ 64 → self.new.word ≤ 64) }
+        ensures word { OnOk result (open_of self.new ≡ open_after joined (open_of self.old) self.old.address (item_of item.now)) }
+        ensures counts { OnOk result (self.new.counts.items ≡ counts_after joined (open_of self.old) self.old.counts.items (item_of item.now)) }
+        ensures err { IfErr result (λ kind. kind ≡ Memory) }
+    {
+        if joined {
+            self.ops.push(op_of(item));
+            return Ok(());
+        }
+        self.close()?;
+        if is_loose(item) {
+            self.is_open = true;
+            self.word = self.address;
+            self.ops = ArrayVec::new();
+            self.ops.push(op_of(item));
+        } else {
+            self.counts.push(1)?;
+        }
+        Ok(())
+    }
+
+    // A label gets the next address, and the first `data` begins there.
+    fn note(&mut self, item: &Item) -> Result<(), AsmErrorKind>
+        requires { words.is_new (item_of item.now) (names_of (labels_of self.old.labels.entries)) ≡ true }
+        ensures ok { OnOk result (self.new ≡ record self.old { labels = self.new.labels; data_start = self.new.data_start }) }
+        ensures labels { OnOk result (labels_of self.new.labels.entries ≡ labels_with (labels_of self.old.labels.entries) self.old.address (item_of item.now)) }
+        ensures data { OnOk result (self.new.data_start ≡ data_after self.old.data_start self.old.address (item_of item.now)) }
+        ensures err { IfErr result (λ kind. kind ≡ Memory) }
+    {
+        match item {
+            Item::Label(name) => {
+                self.labels.insert(name.clone()?, self.address)?;
+            }
+            Item::Data => {
+                if self.data_start.is_none() {
+                    self.data_start = Some(self.address);
+                }
+            }
+            _ => {}
+        }
+        Ok(())
+    }
+
+    // Lays one item more.
+    fn add(&mut self, item: &Item) -> Result<(), AsmErrorKind>
+        requires near { self.old.word ≤ 64 }
+        requires few { self.old.address ≤ 64 }
+        requires new { words.is_new (item_of item.now) (names_of (labels_of self.old.labels.entries)) ≡ true }
+        ensures labels { OnOk result (labels_of self.new.labels.entries ≡ labels_with (labels_of self.old.labels.entries) self.old.address (item_of item.now)) }
+        ensures address { OnOk result (self.new.address ≡ self.old.address + faults.words_added (joins_open (labels_of self.old.labels.entries) (open_of self.old) (item_of item.now)) (item_of item.now)) }
+        ensures near { OnOk result (self.new.word ≤ 64) }
+        ensures word { OnOk result (open_of self.new ≡ open_after (joins_open (labels_of self.old.labels.entries) (open_of self.old) (item_of item.now)) (open_of self.old) self.old.address (item_of item.now)) }
+        ensures counts { OnOk result (self.new.counts.items ≡ counts_after (joins_open (labels_of self.old.labels.entries) (open_of self.old) (item_of item.now)) (open_of self.old) self.old.counts.items (item_of item.now)) }
+        ensures data { OnOk result (self.new.data_start ≡ data_after self.old.data_start self.old.address (item_of item.now)) }
+        ensures err { IfErr result (λ kind. kind ≡ Memory) }
+    {
+        let joined = self.joins(item);
+        self.place(item, joined)?;
+        self.note(item)?;
+        self.address += words_added(joined, item);
+        Ok(())
+    }
+}
+
+/// Where the items of a node come to stand, or the first fault of the first pass. The names are those of
+/// all labels of the node.
+pub(crate) fn first_pass(
+    alloc: Global,
+    names: &IndexSet<String>,
+    items: &[PlacedItem],
+) -> Result<Layout, Refusal>
+    requires right { Items start (plain items.now) }
+    requires names { map string_bytes names.now.keys ≡ names_in (plain items.now) }
+    ensures ok { IfOk result (λ layout. Placing (plain items.now) layout) }
+    ensures err { IfErr result (λ refusal. IsFirstPassFault (plain items.now) refusal.at (kind_of refusal.kind)) }
+    ensures at { IfErr result (λ refusal. refusal.at < length items.now) }
+{
+    let mut layout = Layout {
+        labels: IndexMap::new(alloc),
+        address: 0,
+        is_open: false,
+        word: 0,
+        ops: ArrayVec::new(),
+        counts: Vec::new(alloc),
+        data_start: None,
+    };
+    for (at, placed) in items.iter().enumerate() {
+        if let Some(kind) = layout.fault_of(names, &placed.item) {
+            return Err(Refusal { at, kind });
+        }
+        if let Err(kind) = layout.add(&placed.item) {
+            return Err(Refusal { at, kind });
+        }
+    }
+    match layout.close() {
+        Ok(()) => Ok(layout),
+        Err(kind) => Err(Refusal { at: 0, kind }),
+    }
+}

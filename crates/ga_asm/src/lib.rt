@@ -1,0 +1,12 @@
+//! The assembler: the images of a program's nodes, or the first fault of the program.
+#![tactic(auto)]
+
+mod assembling;
+mod error;
+mod image;
+mod layout;
+mod making;
+
+pub use assembling::{Images, assemble};
+pub use error::{AsmError, AsmErrorKind};
+pub use image::Image;

@@ -1,0 +1,235 @@
+//! The second pass: the words of the groups of a node, with the labels of the whole node.
+ghost use Rattle.std.specs.Prelude.{◌≡◌, ◌+◌, ◌<◌, ◌^◌, ◌≤◌, ◌++◌, ◌∷◌, [], IfErr, IfOk, List, None, OnOk, Some, false, length, map, true, ℕ};
+ghost use Rattle.std.specs.List.{list_all};
+ghost use Rattle.std.specs.Option.{unwrap_or};
+ghost use Rattle.ga_word.specs.Word.{bits};
+ghost use Rattle.ga_pack.specs.Encoding.{pack_fault};
+ghost use Rattle.ga_pack.specs.Reading.{Reads};
+ghost use Rattle.ga_pack.specs.Model.Layout as laid;
+ghost use Rattle.ga_pack.specs.Model.Layout.{Alone, GroupWords, IsWord, Laid, last_dest, ops_of};
+ghost use Rattle.ga_pack.specs.Model.Source as source;
+ghost use Rattle.ga_source.specs.Item.{item_of, value_of};
+ghost use Rattle.ga_asm.specs.Error.{kind_of};
+ghost use Rattle.ga_asm.specs.Image.{labels_of};
+ghost use Rattle.ga_asm.specs.Layout.{Placing, plain};
+ghost use Rattle.ga_asm.specs.Making as made;
+ghost use Rattle.ga_asm.specs.Making.{IsGroup, IsMade, IsPackable, IsSecondPassFault, MoreWords, follower_list};
+ghost use Rattle.ga_asm.specs.declared.error.AsmErrorKind.TheVariants.{Memory};
+
+use crate::error::AsmErrorKind;
+use crate::layout::{Layout, Refusal, is_in_reach, is_loose, op_of, value_among};
+use arrayvec::ArrayVec;
+use ga_pack::{Packed, encode};
+use ga_source::{Item, PlacedItem, Value};
+use ga_word::{Op, Word18};
+use indexmap::IndexMap;
+use std::alloc::Global;
+
+fn number_of(labels: &IndexMap<String, u8>, value: &Value) -> u32
+    ensures { result ≡ laid.number_of (labels_of labels.now.entries) (value_of value.now) }
+{
+    value_among(labels, value).unwrap_or(0)
+}
+
+// The low bits of the value, as many as a destination has behind the slot.
+fn dest_in(labels: &IndexMap<String, u8>, slot: usize, value: &Value) -> u16
+    ensures { result ≡ laid.dest_in (labels_of labels.now.entries) slot (value_of value.now) }
+{
+    let number = number_of(labels, value);
+    if slot == 0 {
+        (number % (1 << 10)) as u16
+    } else if slot == 1 {
+        (number % (1 << 8)) as u16
+    } else {
+        (number % (1 << 3)) as u16
+    }
+}
+
+fn item_dest(labels: &IndexMap<String, u8>, slot: usize, item: &Item) -> Option<u16>
+    ensures { result ≡ made.item_dest (labels_of labels.now.entries) slot (item_of item.now) }
+{
+    match item {
+        Item::Transfer { dest, .. } => Some(dest_in(labels, slot, dest)),
+        _ => None,
+    }
+}
+
+fn slots_of(ops: &[Op]) -> ArrayVec<Op, 4>
+    requires { length ops.now ≤ 4 }
+    ensures { result.items ≡ ops.now }
+{
+    let mut slots = ArrayVec::new();
+    for op in ops {
+        slots.push(*op);
+    }
+    slots
+}
+
+// Fillers stand in the slots that are left.
+fn with_fillers(ops: ArrayVec<Op, 4>) -> ArrayVec<Op, 4>
+    ensures { result.items ≡ laid.filled 4 ops.items }
+{
+    let mut slots = ops;
+    for _ in slots.len()..4 {
+        slots.push(Op::Nop);
+    }
+    slots
+}
+
+fn encoded(packed: &Packed) -> Word18
+    requires { pack_fault packed.now.ops.items packed.now.dest packed.now.spare ≡ None }
+    ensures below { result < 2 ^ 18 }
+    ensures reads { Reads (bits 18 result) packed.now.ops.items packed.now.dest packed.now.spare }
+{
+    match encode(packed) {
+        Ok(word) => word,
+        Err(_) => unreachable!(),
+    }
+}
+
+// The word of these opcodes, this destination and these spare bits.
+fn word(ops: ArrayVec<Op, 4>, dest: Option<u16>, spare: u8) -> Word18
+    requires { IsPackable ops.items dest spare }
+    ensures { IsWord result ops.items dest spare }
+{
+    let ops = match dest {
+        Some(_) => ops,
+        None => with_fillers(ops),
+    };
+    encoded(&Packed { ops, dest, spare })
+}
+
+// A number as a word. No text has a number over 3FFFF, which the type of an item does not say, and such
+// a number would be refused as if memory were.
+fn plain_word(number: u32) -> Result<Word18, AsmErrorKind>
+    ensures value { IfOk result (λ word. word ≡ number) }
+    ensures err { IfErr result (λ kind. kind ≡ Memory) }
+{
+    match Word18::new(number) {
+        Some(word) => Ok(word),
+        None => Err(AsmErrorKind::Memory),
+    }
+}
+
+// The word that items outside brackets share.
+fn shared_word(labels: &IndexMap<String, u8>, items: &[PlacedItem]) -> Word18
+    requires few { length items.now ≤ 4 }
+    requires packable { IsPackable (ops_of (plain items.now)) (last_dest (labels_of labels.now.entries) 0 (plain items.now)) 0 }
+    ensures { IsWord result (ops_of (plain items.now)) (last_dest (labels_of labels.now.entries) 0 (plain items.now)) 0 }
+{
+    let mut ops = ArrayVec::new();
+    let mut dest = None;
+    for placed in items {
+        dest = item_dest(labels, ops.len(), &placed.item);
+        ops.push(op_of(&placed.item));
+    }
+    word(ops, dest, 0)
+}
+
+// The number that a word is followed by for the item.
+fn follower_of(item: &Item) -> Option<u32>
+    ensures { laid.literals (item_of item.now ∷ []) ≡ follower_list result }
+{
+    match item {
+        Item::Literal(number) => Some(*number),
+        _ => None,
+    }
+}
+
+// The followers of a word that items outside brackets share.
+fn push_followers(items: &[PlacedItem], words: &mut Vec<Word18>) -> Result<(), AsmErrorKind>
+    ensures ok { OnOk result (words.new.items ≡ words.old.items ++ laid.literals (plain items.now)) }
+    ensures err { IfErr result (λ kind. kind ≡ Memory) }
+{
+    for placed in items {
+        if let Some(number) = follower_of(&placed.item) {
+            words.push(plain_word(number)?)?;
+        }
+    }
+    Ok(())
+}
+
+// The words of an item that shares no word.
+#[tactic(auto, unfolding(ga_pack::specs::Model::Layout::GroupWords))]
+fn push_alone(
+    labels: &IndexMap<String, u8>,
+    item: &Item,
+    words: &mut Vec<Word18>,
+) -> Result<(), AsmErrorKind>
+    requires right { source.is_item (item_of item.now) ≡ true }
+    requires alone { laid.is_loose (item_of item.now) ≡ false }
+    ensures ok { OnOk result ((new : List ℕ) × GroupWords (labels_of labels.now.entries) (Alone (item_of item.now)) new × (words.new.items ≡ words.old.items ++ new)) }
+    ensures err { IfErr result (λ kind. kind ≡ Memory) }
+{
+    match item {
+        Item::Word(ops) => {
+            words.push(word(slots_of(ops.as_slice()), None, 0))?;
+        }
+        Item::WordTo {
+            ops,
+            op,
+            dest,
+            spare,
+        } => {
+            let mut slots = slots_of(ops.as_slice());
+            slots.push(*op);
+            let dest = dest_in(labels, ops.len(), dest);
+            words.push(word(slots, Some(dest), spare.unwrap_or(0)))?;
+        }
+        Item::Plain(value) => {
+            words.push(plain_word(number_of(labels, value))?)?;
+        }
+        _ => {}
+    }
+    Ok(())
+}
+
+// The words of a group.
+fn push_group(
+    labels: &IndexMap<String, u8>,
+    items: &[PlacedItem],
+    words: &mut Vec<Word18>,
+) -> Result<(), AsmErrorKind>
+    requires { IsGroup (labels_of labels.now.entries) (plain items.now) }
+    ensures ok { OnOk result (MoreWords (labels_of labels.now.entries) (plain items.now) words.old.items words.new.items) }
+    ensures err { IfErr result (λ kind. kind ≡ Memory) }
+{
+    let first = &items[0].item;
+    if is_loose(first) {
+        words.push(shared_word(labels, items))?;
+        push_followers(items, words)
+    } else {
+        push_alone(labels, first, words)
+    }
+}
+
+/// The words of items that are placed, or the first fault of the second pass: a name in brackets out of
+/// reach.
+pub(crate) fn second_pass(
+    alloc: Global,
+    items: &[PlacedItem],
+    layout: &Layout,
+) -> Result<Vec<Word18>, Refusal>
+    requires placed { Placing (plain items.now) layout.now }
+    requires right { list_all source.is_item (plain items.now) ≡ true }
+    ensures ok { IfOk result (λ made. IsMade (plain items.now) layout.now made.items) }
+    ensures err { IfErr result (λ refusal. IsSecondPassFault (plain items.now) refusal.at (kind_of refusal.kind)) }
+    ensures at { IfErr result (λ refusal. refusal.at < length items.now) }
+{
+    let mut words = Vec::new(alloc);
+    let mut rest = items;
+    for count in &layout.counts {
+        let (group, behind) = rest.split_at(*count);
+        let at = items.len() - rest.len();
+        let address = words.len() as u8;
+        if !is_in_reach(&layout.labels, address, &group[0].item) {
+            let kind = AsmErrorKind::OutOfReach;
+            return Err(Refusal { at, kind });
+        }
+        if let Err(kind) = push_group(&layout.labels, group, &mut words) {
+            return Err(Refusal { at, kind });
+        }
+        rest = behind;
+    }
+    Ok(words)
+}
