@@ -47,10 +47,10 @@ literals_append [] js = refl
 literals_append (Literal n ∷ is) js = ap (λ r. n ∷ r) (literals_append is js)
 literals_append (i ∷ is) js = literals_append is js
 
-pub followers_some : (old words more : List ℕ) (all front : List Item) (x : Item) (n m : ℕ) → all ≡ front ++ x ∷ [] → words ≡ old ++ literals front → literals (x ∷ []) ≡ n ∷ [] → m ≡ n → more ≡ words ++ m ∷ []
+pub followers_some : (old words more : List ℕ) (all front : List Item) (x : Item) (n : ℕ) → all ≡ front ++ x ∷ [] → words ≡ old ++ literals front → literals (x ∷ []) ≡ n ∷ [] → more ≡ words ++ n ∷ []
     → more ≡ old ++ literals all
-followers_some old words more all front x n m all_is words_are one same more_are =
-    more_are ∙ ap (λ t. t ++ m ∷ []) words_are ∙ append_assoc old (literals front) (m ∷ []) ∙ ap (λ t. old ++ (literals front ++ t ∷ [])) same
+followers_some old words more all front x n all_is words_are one more_are =
+    more_are ∙ ap (λ t. t ++ n ∷ []) words_are ∙ append_assoc old (literals front) (n ∷ [])
     ∙ ap (λ t. old ++ (literals front ++ t)) (sym one) ∙ ap (λ t. old ++ t) (sym (literals_append front (x ∷ [])) ∙ ap literals (sym all_is))
 
 pub followers_none : (old words more : List ℕ) (all front : List Item) (x : Item) → all ≡ front ++ x ∷ [] → words ≡ old ++ literals front → literals (x ∷ []) ≡ [] → more ≡ words

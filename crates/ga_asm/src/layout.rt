@@ -18,7 +18,7 @@ ghost use Rattle.ga_asm.specs.declared.error.AsmErrorKind.TheVariants.{Memory};
 use crate::error::AsmErrorKind;
 use arrayvec::ArrayVec;
 use ga_source::{Item, PlacedItem, Section, Value};
-use ga_word::Op;
+use ga_word::{Op, Word18};
 use indexmap::{IndexMap, IndexSet};
 use std::alloc::Global;
 
@@ -154,12 +154,12 @@ fn reaches(slot: usize, p: u8, dest: u32) -> bool
     slot == 0 || slot == 1 && dest < 0x100 || slot == 2 && dest / 8 == u32::from(p) / 8
 }
 
-fn may_reach(slot: usize, p: u8, dest: Option<u32>) -> bool
+fn may_reach(slot: usize, p: u8, dest: Option<Word18>) -> bool
     ensures test { result ≡ laid.may_reach slot p dest }
     ensures room { result ≡ true → slot < 4 }
 {
     match dest {
-        Some(dest) => reaches(slot, p, dest),
+        Some(dest) => reaches(slot, p, dest.get()),
         None => slot < 2,
     }
 }
@@ -178,15 +178,12 @@ pub(crate) fn address_of(labels: &IndexMap<String, u8>, name: &str) -> Option<u8
 }
 
 // A number, or the address of a label, if it is among these.
-pub(crate) fn value_among(labels: &IndexMap<String, u8>, value: &Value) -> Option<u32>
+pub(crate) fn value_among(labels: &IndexMap<String, u8>, value: &Value) -> Option<Word18>
     ensures { result ≡ laid.value_of (labels_of labels.now.entries) (value_of value.now) }
 {
     match value {
         Value::Number(number) => Some(*number),
-        Value::Label(name) => match address_of(labels, name.as_str()) {
-            Some(address) => Some(u32::from(address)),
-            None => None,
-        },
+        Value::Label(name) => Word18::new(u32::from(address_of(labels, name.as_str())?)),
     }
 }
 

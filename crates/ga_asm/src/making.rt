@@ -25,17 +25,17 @@ use ga_word::{Op, Word18};
 use indexmap::IndexMap;
 use std::alloc::Global;
 
-fn number_of(labels: &IndexMap<String, u8>, value: &Value) -> u32
+fn number_of(labels: &IndexMap<String, u8>, value: &Value) -> Word18
     ensures { result ≡ laid.number_of (labels_of labels.now.entries) (value_of value.now) }
 {
-    value_among(labels, value).unwrap_or(0)
+    value_among(labels, value).unwrap_or_default()
 }
 
 // The low bits of the value, as many as a destination has behind the slot.
 fn dest_in(labels: &IndexMap<String, u8>, slot: usize, value: &Value) -> u16
     ensures { result ≡ laid.dest_in (labels_of labels.now.entries) slot (value_of value.now) }
 {
-    let number = number_of(labels, value);
+    let number = number_of(labels, value).get();
     if slot == 0 {
         (number % (1 << 10)) as u16
     } else if slot == 1 {
@@ -99,18 +99,6 @@ fn word(ops: ArrayVec<Op, 4>, dest: Option<u16>, spare: u8) -> Word18
     encoded(&Packed { ops, dest, spare })
 }
 
-// A number as a word. No text has a number over 3FFFF, which the type of an item does not say, and such
-// a number would be refused as if memory were.
-fn plain_word(number: u32) -> Result<Word18, AsmErrorKind>
-    ensures value { IfOk result (λ word. word ≡ number) }
-    ensures err { IfErr result (λ kind. kind ≡ Memory) }
-{
-    match Word18::new(number) {
-        Some(word) => Ok(word),
-        None => Err(AsmErrorKind::Memory),
-    }
-}
-
 // The word that items outside brackets share.
 fn shared_word(labels: &IndexMap<String, u8>, items: &[PlacedItem]) -> Word18
     requires few { length items.now ≤ 4 }
@@ -127,7 +115,7 @@ fn shared_word(labels: &IndexMap<String, u8>, items: &[PlacedItem]) -> Word18
 }
 
 // The number that a word is followed by for the item.
-fn follower_of(item: &Item) -> Option<u32>
+fn follower_of(item: &Item) -> Option<Word18>
     ensures { laid.literals (item_of item.now ∷ []) ≡ follower_list result }
 {
     match item {
@@ -143,7 +131,7 @@ fn push_followers(items: &[PlacedItem], words: &mut Vec<Word18>) -> Result<(), A
 {
     for placed in items {
         if let Some(number) = follower_of(&placed.item) {
-            words.push(plain_word(number)?)?;
+            words.push(number)?;
         }
     }
     Ok(())
@@ -177,7 +165,7 @@ fn push_alone(
             words.push(word(slots, Some(dest), spare.unwrap_or(0)))?;
         }
         Item::Plain(value) => {
-            words.push(plain_word(number_of(labels, value))?)?;
+            words.push(number_of(labels, value))?;
         }
         _ => {}
     }

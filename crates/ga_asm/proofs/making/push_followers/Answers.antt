@@ -6,7 +6,7 @@ use Rattle.ga_asm.specs.Making.{follower_list}
 use Rattle.ga_asm.proofs.LayingSteps.{front_next}
 use Rattle.ga_asm.proofs.MakingSteps.{followers_none, followers_some}
 use Rattle.ga_asm.proofs.making.push_followers.Goals as goal
-use Rattle.ga_asm.proofs.making.push_followers.Goals.{in-Some+in_ok-plain_word+in_ok-push, in_default}
+use Rattle.ga_asm.proofs.making.push_followers.Goals.{in-Some+in_ok-push, in_default}
 
 pub loop-placed-preserved : goal.loop-placed-preserved
 loop-placed-preserved c =
@@ -16,9 +16,9 @@ loop-placed-preserved c =
     let front = plain (take at items) in
     let next = front_next items at c.placed-item.result c.loop-placed-test.true c.placed-item.is in
     elim c.match-follower_of.branch [
-      | in-Some+in_ok-plain_word+in_ok-push w ↦
-          followers_some c.args.words.now.items c.loop-placed.words.items c.match-follower_of.words.items (plain (take (at + 1) items)) front x w.in-Some.number w.in_ok-plain_word.field-0
-          next c.loop-placed.invariant w.in-Some.ensures w.in_ok-plain_word.ensures.value (ap (λ t. t.items) w.words-is ∙ w.in_ok-push.ensures.items)
+      | in-Some+in_ok-push w ↦
+          followers_some c.args.words.now.items c.loop-placed.words.items c.match-follower_of.words.items (plain (take (at + 1) items)) front x w.in-Some.number
+          next c.loop-placed.invariant w.in-Some.ensures (ap (λ t. t.items) w.words-is ∙ w.in_ok-push.ensures.items)
       | in_default w ↦
           followers_none c.args.words.now.items c.loop-placed.words.items c.match-follower_of.words.items (plain (take (at + 1) items)) front x
           next c.loop-placed.invariant w.in_default.ensures (ap (λ t. t.items) w.words-is)
