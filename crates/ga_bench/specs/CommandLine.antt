@@ -4,7 +4,8 @@ use Rattle.clap.specs.Words.{App, Row, Text, app_of, new_app, shape_of, subcomma
 use Rattle.clap.specs.declared.builder.command.Command.{Command}
 use Rattle.clap.specs.declared.builder.command.Command.TheViews.{out-Command}
 use Rattle.ga_bench.specs.declared.request.Job.{Job}
-use Rattle.ga_bench.specs.declared.request.Job.TheVariants.{One}
+use Rattle.ga_bench.specs.declared.request.Job.TheVariants.{One, Asm}
+use Rattle.ga_bench.specs.Asm.{AsksForAsm, asm_command}
 use Rattle.ga_bench.specs.One.{AsksForOne, IsOneInRange, one_command}
 
 -- an argument of the command is one of its subcommands' too
@@ -24,15 +25,17 @@ bare_command = record named_command { top = record named_command.top { has_versi
 
 -- the whole command
 abbrev pub bench_command : App
-bench_command = with_subcommand bare_command one_command.top
+bench_command = with_subcommand (with_subcommand bare_command one_command.top) asm_command.top
 
 -- the numbers of a job lie in their ranges
 abbrev pub InRange : Job → Type 0
 InRange (One tries) = IsOneInRange tries
+InRange Asm = Unit {0}
 
 -- the job that a subcommand and its arguments name
 abbrev pub AsksFor : Text × List Row → Job → Type 0
 AsksFor entered (One tries) = AsksForOne entered tries
+AsksFor entered Asm = AsksForAsm entered
 
 -- the job that the words of a command line name, of which the first is the program's name
 abbrev pub IsJobOf : List Text → Job → Type 0

@@ -2,14 +2,29 @@
 use Rattle.std.specs.Prelude.{ℕ, ◌≡◌, Result, Ok, Err}
 use Rattle.ga_word.specs.declared.text.WordsError.{WordsError}
 use Rattle.ga_word.specs.declared.text.WordsError.TheVariants as words
+use Rattle.ga_source.specs.declared.error.SourceError.{SourceError}
+use Rattle.ga_source.specs.declared.error.SourceErrorKind.{SourceErrorKind}
+use Rattle.ga_source.specs.declared.error.SourceErrorKind.TheVariants as source
+use Rattle.ga_asm.specs.declared.error.AsmError.{AsmError}
+use Rattle.ga_asm.specs.declared.error.AsmErrorKind.{AsmErrorKind}
+use Rattle.ga_asm.specs.declared.error.AsmErrorKind.TheVariants as assembly
 use Rattle.ga_bench.specs.declared.fault.ServeError.{ServeError}
-use Rattle.ga_bench.specs.declared.fault.ServeError.TheVariants.{Words, Read, Write, Memory}
+use Rattle.ga_bench.specs.declared.fault.ServeError.TheVariants.{Words, Source, Asm, Read, Write, Memory}
 use Rattle.ga_bench.specs.declared.fault.WordsFault.TheVariants.{BadWord}
 
 -- the fault of a text that is not all words
 abbrev pub fault_of_words : WordsError → ServeError
 fault_of_words (words.BadWord index) = Words (BadWord index)
 fault_of_words words.Memory = Memory
+
+-- the fault of a source text, or of its program
+abbrev pub fault_of_source : SourceErrorKind → SourceError → ServeError
+fault_of_source source.Memory error = Memory
+fault_of_source kind error = Source error
+
+abbrev pub fault_of_asm : AsmErrorKind → AsmError → ServeError
+fault_of_asm assembly.Memory error = Memory
+fault_of_asm kind error = Asm error
 
 -- 3 for want of memory, 1 for every other fault
 abbrev pub status_of_fault : ServeError → ℕ

@@ -2,6 +2,8 @@ pub mod Fault
 pub mod Text
 pub mod Number
 pub mod One
+pub mod Source
+pub mod Asm
 pub mod CommandLine
 pub mod Answer
 pub mod Reading

@@ -4,6 +4,7 @@ ghost use Rattle.clap.specs.declared.error.kind.ErrorKind.TheVariants.{OutOfMemo
 ghost use Rattle.ga_bench.specs.declared.command_line.LineError.TheVariants.{Memory};
 ghost use Rattle.ga_bench.specs.CommandLine.{InRange, IsCommandOf, IsJobOf, IsRight, bare_command, bench_command, has_globals};
 
+use crate::asm;
 use crate::one;
 use crate::request::Job;
 use clap::Command;
@@ -54,6 +55,7 @@ pub fn job(alloc: Global, words: &[&str]) -> Result<Job, LineError>
         Some(("one", found)) => Ok(Job::One {
             tries: one::tries_of(alloc, found)?,
         }),
+        Some(("asm", _)) => Ok(Job::Asm),
         _ => Err(refusal(
             alloc,
             ErrorKind::MissingSubcommand,
@@ -79,7 +81,8 @@ fn command<'a>(alloc: Global) -> Result<Command<'a>, AllocError>
     ensures { IfOk result (IsCommandOf bench_command) }
 {
     let command = bare_command(alloc)?;
-    link(command, one::command(alloc)?)
+    let command = link(command, one::command(alloc)?)?;
+    link(command, asm::command(alloc)?)
 }
 
 /// The command without its subcommands.

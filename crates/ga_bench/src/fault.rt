@@ -1,7 +1,9 @@
 ghost use Rattle.std.specs.Prelude.{◌≡◌};
-ghost use Rattle.ga_bench.specs.Fault.{fault_of_words, status_of};
+ghost use Rattle.ga_bench.specs.Fault.{fault_of_asm, fault_of_source, fault_of_words, status_of};
 ghost use Rattle.ga_bench.specs.declared.fault.ServeError.TheVariants.{Memory};
 
+use ga_asm::{AsmError, AsmErrorKind};
+use ga_source::{SourceError, SourceErrorKind};
 use ga_word::WordsError;
 use std::alloc::{AllocError, AllocFailed};
 use thiserror::Error;
@@ -38,6 +40,10 @@ pub enum ServeError {
     Input(InputFault),
     #[error("words {0}")]
     Words(WordsFault),
+    #[error("source {0}")]
+    Source(SourceError),
+    #[error("asm {0}")]
+    Asm(AsmError),
     /// A read failed, or the input came in too many pieces.
     #[error("read")]
     Read,
@@ -55,6 +61,28 @@ impl From<WordsError> for ServeError {
         match error {
             WordsError::BadWord(index) => ServeError::Words(WordsFault::BadWord(index)),
             WordsError::Memory => ServeError::Memory,
+        }
+    }
+}
+
+impl From<SourceError> for ServeError {
+    ghost from_gives = { λ error fault. fault ≡ fault_of_source error.kind error };
+
+    fn from(error: SourceError) -> ServeError {
+        match error.kind {
+            SourceErrorKind::Memory => ServeError::Memory,
+            _ => ServeError::Source(error),
+        }
+    }
+}
+
+impl From<AsmError> for ServeError {
+    ghost from_gives = { λ error fault. fault ≡ fault_of_asm error.kind error };
+
+    fn from(error: AsmError) -> ServeError {
+        match error.kind {
+            AsmErrorKind::Memory => ServeError::Memory,
+            _ => ServeError::Asm(error),
         }
     }
 }

@@ -2,6 +2,7 @@
 #![tactic(auto)]
 
 mod answer;
+mod asm;
 mod command_line;
 mod engine;
 mod fault;
@@ -9,6 +10,7 @@ mod number;
 mod one;
 mod reading;
 mod request;
+mod source;
 mod text;
 mod writing;
 

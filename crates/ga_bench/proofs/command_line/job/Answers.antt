@@ -1,10 +1,12 @@
-use Rattle.std.proofs.Common.{◌≡◌, ◌∙◌, ap, List, ℕ, map, codes}
+use Rattle.std.proofs.Common.{◌≡◌, ◌∙◌, ap, sym, List, ℕ, map, codes}
+use Rattle.std.specs.Str.{bytes_eq}
+use Rattle.std.proofs.lemmas.Bool.{true≢false}
 use Rattle.clap.specs.Words.{App, Row, Text, kind_of, takes, rows_of, found_of}
 use Rattle.clap.specs.declared.error.kind.ErrorKind.TheVariants.{OutOfMemory}
 use Rattle.ga_bench.specs.declared.command_line.LineError.{LineError}
 use Rattle.ga_bench.specs.declared.command_line.LineError.TheVariants.{Memory}
 use Rattle.ga_bench.specs.declared.request.Job.{Job}
-use Rattle.ga_bench.specs.declared.request.Job.TheVariants.{One}
+use Rattle.ga_bench.specs.declared.request.Job.TheVariants.{One, Asm}
 use Rattle.ga_bench.specs.CommandLine.{AsksFor, InRange}
 use Rattle.ga_bench.specs.Number.{IsNumberAt}
 use Rattle.ga_bench.specs.One.{IsOneInRange}
@@ -21,6 +23,7 @@ returns-in_err-matches-clause-right c =
 one_refused : (name : Text) (rows : List Row) (error : LineError) → name ≡ codes "one" → ((tries : ℕ) → IsOneInRange tries → IsNumberAt (codes "TRIES") rows tries → error ≡ Memory)
     → (job : Job) → AsksFor (name, rows) job × InRange job → error ≡ Memory
 one_refused name rows error is refused (One tries) asks = refused tries asks.1 asks.0.1
+one_refused name rows error is refused Asm asks = absurd (true≢false (ap (λ (t : Text). bytes_eq t (codes "one")) (sym is ∙ asks.0)))
 
 pub returns-in_err-tries_of-in-Some-one-default-clause-right : goal.returns-in_err-tries_of-in-Some-one-default-clause-right
 returns-in_err-tries_of-in-Some-one-default-clause-right c =

@@ -1,0 +1,34 @@
+-- The subcommand `asm`: its command line, and what it writes.
+use Rattle.std.specs.Prelude.{ℕ, ◌≡◌, List, [], ◌∷◌, ◌++◌, codes, length, Result, Ok, Err}
+use Rattle.std.specs.Fmt.{decimal}
+use Rattle.clap.specs.Words.{App, Row, Text, new_app}
+use Rattle.ga_word.specs.Hex.{hex_digits}
+use Rattle.ga_word.specs.Text.{text_of_words}
+use Rattle.ga_place.specs.Node.{node_text}
+use Rattle.ga_asm.specs.Image.{ImageView}
+use Rattle.ga_bench.specs.declared.fault.ServeError.{ServeError}
+use Rattle.ga_bench.specs.Source.{IsImagesIn}
+
+-- the subcommand as clap's definitions read it: it has no argument
+abbrev pub asm_command : App
+asm_command = new_app (codes "asm")
+
+-- the name of a subcommand asks for it
+abbrev pub AsksForAsm : Text × List Row → Type 0
+AsksForAsm entered = entered.0 ≡ codes "asm"
+
+-- a line with the node, its entry, and how many words are code and are there; and the words
+unfoldable pub image_text : ℕ → ImageView → List ℕ
+image_text node image =
+    codes "node " ++ node_text node ++ codes " entry " ++ hex_digits 3 image.entry ++ codes " code " ++ decimal image.code_len
+    ++ codes " words " ++ decimal (length image.words) ++ 10 ∷ text_of_words image.words
+
+-- the images in order
+abbrev pub images_text : List (ℕ × ImageView) → List ℕ
+images_text [] = []
+images_text (image ∷ images) = image_text image.0 image.1 ++ images_text images
+
+-- what `asm` may write for an input, or its first fault
+abbrev pub IsAsmOutput : List ℕ → Result (List ℕ) ServeError → Type 0
+IsAsmOutput input (Ok text) = (images : List (ℕ × ImageView)) × IsImagesIn input (Ok images) × (text ≡ images_text images)
+IsAsmOutput input (Err fault) = IsImagesIn input (Err fault)

@@ -1,0 +1,83 @@
+ghost use Rattle.std.specs.Prelude.{◌≡◌, ◌^◌, ◌<◌, IfOk, Some, string_bytes};
+ghost use Rattle.ga_word.specs.Hex.{hex_digits};
+ghost use Rattle.ga_bench.specs.Asm.{IsAsmOutput, asm_command, image_text, images_text};
+ghost use Rattle.ga_bench.specs.CommandLine.{IsCommandOf};
+ghost use Rattle.ga_bench.specs.Fault.{Answers};
+
+use crate::fault::ServeError;
+use crate::source::images_of;
+use clap::Command;
+use ga_asm::{Image, Images};
+use ga_place::Node;
+use ga_word::words_text;
+use std::alloc::{AllocError, Global};
+use std::fmt;
+use std::fmt::Write;
+
+const HELP: &str = "\
+Reads source text: for each node `node`, its name in three digits, and its items. Writes for each
+node a line with its entry, how many of its words are code and how many there are, and its words,
+eight on a line.
+
+Example: echo 'node 709 main: $5 $7 + @b' | ga-bench asm";
+
+/// The subcommand `asm`.
+pub fn command<'a>(alloc: Global) -> Result<Command<'a>, AllocError>
+    ensures { IfOk result (IsCommandOf asm_command) }
+{
+    let command = Command::new(alloc, "asm")
+        .about("Assembles source text, and prints the words of each node")
+        .after_help(HELP);
+    Ok(command)
+}
+
+/// The images of the nodes of the input, which is source text, as text.
+pub fn asm(alloc: Global, input: &[u8]) -> Result<String, ServeError>
+    ensures { Answers string_bytes (IsAsmOutput input.now) result }
+{
+    let images = images_of(alloc, input)?;
+    let text = text_of_images(alloc, &images)?;
+    Ok(text)
+}
+
+/// The images in order: for each a line, and its words.
+fn text_of_images(alloc: Global, images: &Images) -> Result<String, AllocError>
+    ensures { IfOk result (λ text. string_bytes text ≡ images_text images.now) }
+{
+    let mut text = String::new(alloc);
+    for (node, image) in images.images() {
+        text.push_str(&text_of_image(alloc, *node, image)?)?;
+    }
+    Ok(text)
+}
+
+/// A line with the node, its entry and the numbers of its words, and the words, eight on a line.
+#[tactic(auto, unfolding(crate::specs::Asm::image_text))]
+fn text_of_image(alloc: Global, node: Node, image: &Image) -> Result<String, AllocError>
+    ensures { IfOk result (λ text. string_bytes text ≡ image_text node image.now) }
+{
+    let mut text = String::new(alloc);
+    let entry = Address {
+        number: u16::from(image.entry()),
+    };
+    let words = image.words();
+    write!(text, "node {node} entry {entry} code {}", image.code_len())?;
+    writeln!(text, " words {}", words.len())?;
+    text.push_str(&words_text(alloc, words)?)?;
+    Ok(text)
+}
+
+/// An address of at most twelve bits, which prints as three hex digits.
+#[derive(Clone, Copy)]
+struct Address {
+    number: u16,
+    ghost bound: { number < 2 ^ 12 },
+}
+
+impl fmt::Display for Address {
+    ghost output = { λ address. Some (hex_digits 3 address.number) };
+
+    fn fmt<W: fmt::Write>(&self, f: &mut fmt::Formatter<W>) -> fmt::Result {
+        write!(f, "{:03X}", self.number)
+    }
+}
