@@ -1,4 +1,4 @@
-mod Tests
+mod ByCases
 mod LabelLists
 mod Summary
 mod RightItems
