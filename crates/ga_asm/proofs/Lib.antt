@@ -6,3 +6,4 @@ mod LayingSteps
 mod MakingSteps
 mod Groups
 mod Sections
+mod WorkedImages
