@@ -1,4 +1,4 @@
-mod Tests
+mod ByCases
 mod LabelLists
 mod Summary
 mod RightItems
@@ -6,3 +6,4 @@ mod LayingSteps
 mod MakingSteps
 mod Groups
 mod Sections
+mod WorkedImages

@@ -7,7 +7,7 @@ use Rattle.ga_pack.specs.Model.Layout.{Group, Shared, Alone, address_after, item
 use Rattle.ga_pack.specs.Model.Source.{Before, Item, Instruction, Transfer, Literal, Here, Align, Word, WordTo, Plain, Data, Items, Part, after, is_item, is_new, labels_with, makes_word, start}
 use Rattle.ga_source.specs.declared.item.PlacedItem as placed
 use Rattle.ga_asm.specs.Layout.{plain}
-use Rattle.ga_asm.proofs.Tests.{on_test}
+use Rattle.ga_asm.proofs.ByCases.{on_test}
 
 -- each is right by itself
 pub items_right : (b : Before) (items : List Item) → Items b items → list_all is_item items ≡ true

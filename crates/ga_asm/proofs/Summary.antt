@@ -10,7 +10,7 @@ use Rattle.ga_pack.specs.Model.Source.{Item, Instruction, Transfer, Literal, Her
 use Rattle.ga_pack.proofs.OneLayout.{joins_loose}
 use Rattle.ga_pack.proofs.Placed.{add, fresh}
 use Rattle.ga_asm.specs.Layout.{Open, closed_counts, count_of, counts_after, data_after, data_at, is_data, joins_open, labels_with, open_after, open_at, open_count}
-use Rattle.ga_asm.proofs.Tests.{on_test}
+use Rattle.ga_asm.proofs.ByCases.{on_test}
 
 -- ---- what joins
 

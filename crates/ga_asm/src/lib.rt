@@ -10,3 +10,6 @@ mod making;
 pub use assembling::{Images, assemble};
 pub use error::{AsmError, AsmErrorKind};
 pub use image::Image;
+
+#[cfg(test)]
+mod tests;
