@@ -4,9 +4,8 @@ ghost use Rattle.clap.specs.declared.error.kind.ErrorKind.TheVariants.{OutOfMemo
 ghost use Rattle.ga_bench.specs.declared.command_line.LineError.TheVariants.{Memory};
 ghost use Rattle.ga_bench.specs.CommandLine.{InRange, IsCommandOf, IsJobOf, IsRight, bare_command, bench_command, has_globals};
 
-use crate::asm;
-use crate::one;
 use crate::request::Job;
+use crate::{asm, one};
 use clap::Command;
 use clap::error::ErrorKind;
 use std::alloc::{AllocError, Global};

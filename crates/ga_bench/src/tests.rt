@@ -117,27 +117,32 @@ const LINE: &str =
 #[test]
 fn answers_lines(rt: HostRuntime) -> Result<(), Fail> {
     let table = [
-        (WORDS, 5, LINE),
+        (Job::One { tries: 5 }, WORDS, LINE),
         (
+            Job::One { tries: 0 },
             "\t2c9b2\r\n",
-            0,
             "node 000 P 000 A 00000 B 15D R 00000 S 00000 T 00000 io 00000 at fetch steps 0 need own\n",
         ),
         (
+            Job::One { tries: 9 },
             "101D5",
-            9,
             "node 000 P 1D5 A 00000 B 15D R 00000 S 00000 T 00000 io 00000 at fetch steps 2 need take\n",
         ),
+        (
+            Job::Asm,
+            "node 709 . node 000 [ @p a! @p . ] , 5 main: data , 3\n",
+            "node 709 entry 000 code 1 words 1\n2C9B2\nnode 000 entry 002 code 2 words 3\n04A12 00005 00003\n",
+        ),
     ];
-    for (input, tries, line) in table {
+    for (job, input, text) in table {
         for most in [1, 7, 8192] {
             let mut reader = source_of(input.as_bytes(), most);
             let mut writer = sink_of(rt.alloc(), most);
-            let outcome = serve(&rt, &mut reader, &mut writer, &Job::One { tries });
+            let outcome = serve(&rt, &mut reader, &mut writer, &job);
             assert_eq!(rt; status(&outcome), 0);
             assert_eq!(rt;
                 writer.taken.as_slice(),
-                line.as_bytes(),
+                text.as_bytes(),
                 "{most} at a call"
             );
         }
@@ -184,14 +189,41 @@ fn refuses_inputs(rt: HostRuntime) -> Result<(), Fail> {
 }
 
 #[test]
+fn refuses_source_texts(rt: HostRuntime) -> Result<(), Fail> {
+    let table = [
+        (b"node 000 jump x".as_slice(), "asm 000 1:15 UndefinedLabel"),
+        (b"node 000 dup\nnode 708 unext", "asm 708 2:10 UnextAlone"),
+        (b"node 000 jump x node 708 #", "source 1:26 BadToken"),
+        (b"node 000 jump", "source 1:14 BadToken"),
+        (b"", "source 1:1 NoNode"),
+        (b"node 000 \xFF", "input BadText"),
+    ];
+    for (input, text) in table {
+        let mut writer = sink_of(rt.alloc(), 8192);
+        let outcome = serve(&rt, &mut source_of(input, 8192), &mut writer, &Job::Asm);
+        assert_eq!(rt; status(&outcome), 1);
+        let Err(fault) = outcome else {
+            return Err("an answer".into());
+        };
+        assert!(rt; fault.to_string(rt.alloc())?.as_str() == text);
+        assert_eq!(rt; writer.calls, 0);
+    }
+    Ok(())
+}
+
+#[test]
 fn tells_faults(rt: HostRuntime) -> Result<(), Fail> {
-    for (fault, text, number) in [
-        (ServeError::Read, "read", 1),
-        (ServeError::Write, "write", 1),
-        (ServeError::Memory, "memory", 3),
-    ] {
-        assert!(rt; fault.to_string(rt.alloc())?.as_str() == text, "{text}");
-        assert_eq!(rt; status(&Err(fault)), number);
+    let table = [
+        (Err(ServeError::Read), "read", 1),
+        (Err(ServeError::Write), "write", 1),
+        (Err(ServeError::Memory), "memory", 3),
+    ];
+    for (outcome, text, number) in &table {
+        assert_eq!(rt; status(outcome), *number);
+        let Err(fault) = outcome else {
+            return Err("an answer".into());
+        };
+        assert!(rt; fault.to_string(rt.alloc())?.as_str() == *text, "{text}");
     }
     Ok(())
 }
@@ -348,9 +380,14 @@ fn reads_command_lines(rt: HostRuntime) -> Result<(), Fail> {
             Err(_) => return Err("a refused line".into()),
         }
     }
+    match job(alloc, &["ga-bench", "asm"]) {
+        Ok(job) => assert_eq!(rt; job, Job::Asm),
+        Err(_) => return Err("a refused line".into()),
+    }
     let table = [
         (["ga-bench"].as_slice(), LineKind::MissingSubcommand),
         (&["ga-bench", "two"], LineKind::InvalidSubcommand),
+        (&["ga-bench", "asm", "5"], LineKind::UnknownArgument),
         (&["ga-bench", "one"], LineKind::MissingRequiredArgument),
         (&["ga-bench", "one", "1000001"], LineKind::ValueValidation),
         (&["ga-bench", "one", "-1"], LineKind::UnknownArgument),
