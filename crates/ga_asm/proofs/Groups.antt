@@ -1,18 +1,18 @@
 -- The groups of a node, and what stands in them.
-use Rattle.std.proofs.Common.{◌≡◌, ◌∙◌, ◌<◌, ◌≤◌, ℕ, zero, suc, ◌+◌, ◌-◌, Bool, true, false, List, [], ◌∷◌, ◌++◌, length, map, drop, take, get_or, Option, Some, None, refl, sym, ap, subst, append_assoc, append-nil, length-append, arith}
+use Rattle.std.proofs.Common.{◌≡◌, ◌∙◌, ◌<◌, ◌≤◌, ℕ, suc, ◌+◌, ◌-◌, true, false, List, [], ◌∷◌, ◌++◌, length, map, drop, take, get_or, Option, Some, None, refl, sym, ap, subst, append_assoc, append-nil, length-append, arith}
 use Rattle.std.proofs.Math.Seq.{drop-append_seam, drop-cons, take-append_seam}
 use Rattle.std.proofs.Math.ListN.{drop_of_length-le}
 use Rattle.std.proofs.lemmas.Bool.{and_from, and_parts, both_ways}
 use Rattle.std.proofs.lemmas.Grind.{common_steps}
 use Rattle.std.proofs.lemmas.List.{drop-map, take-map}
 use Rattle.std.proofs.lemmas.List.Folds.{list_all-append}
-use Rattle.std.specs.Prelude.{◌&&◌, if◌then◌else◌}
+use Rattle.std.specs.Prelude.{if◌then◌else◌}
 use Rattle.std.specs.List.{list_all}
 use Rattle.std.specs.Option.{unwrap_or}
 use Rattle.ga_word.specs.declared.op.Op.{Op}
-use Rattle.ga_pack.specs.Model.Layout.{Labels, Group, Shared, Alone, Arranged, GroupWords, IsWord, Laid, StandIn, Words, address_after, all_in_reach, code_end, group_in_reach, is_defined, is_in_reach, is_loose, items_of, joins, labels_after, labels_behind, last_dest, literals, more_join, names_in, op_of, ops_of, size, stand}
+use Rattle.ga_pack.specs.Model.Layout.{Labels, Group, Shared, Alone, Arranged, GroupWords, StandIn, Words, address_after, all_in_reach, code_end, group_in_reach, is_defined, is_in_reach, is_loose, items_of, joins, labels_after, labels_behind, last_dest, names_in, op_of, ops_of, size, stand}
 use Rattle.ga_pack.specs.Model.LayoutFault.{OutOfReach, Passed, SecondPassFault, fault_behind}
-use Rattle.ga_pack.specs.Model.Source.{Item, Instruction, Transfer, Literal, Here, Align, Word, WordTo, Plain, Data, is_item, makes_word}
+use Rattle.ga_pack.specs.Model.Source.{Item, Instruction, Transfer, Literal, Here, Align, Word, WordTo, Plain, Data, is_item}
 use Rattle.ga_pack.proofs.Encoded.{shapeless_many}
 use Rattle.ga_pack.proofs.OneLayout.{joins_loose}
 use Rattle.ga_pack.proofs.Packable.{packable}
@@ -20,7 +20,7 @@ use Rattle.ga_source.specs.declared.item.PlacedItem as placed
 use Rattle.ga_source.specs.Item.{item_of}
 use Rattle.ga_asm.specs.Image.{labels_of}
 use Rattle.ga_asm.specs.Layout.{Placing, count_of, data_at, plain}
-use Rattle.ga_asm.specs.Making.{IsGroup, IsGroupBy, IsMade, IsPackable, Making, MoreWords, group_of}
+use Rattle.ga_asm.specs.Making.{IsGroup, IsGroupBy, IsMade, IsPackable, Making, MoreWords}
 use Rattle.ga_asm.specs.declared.layout.Layout as the
 use Rattle.ga_asm.proofs.MakingSteps.{plain_length}
 use Rattle.ga_asm.proofs.Summary.{code_is, code_within, ops_length}

@@ -1,5 +1,5 @@
 -- The first pass over the items of a node, an item at a time.
-use Rattle.std.proofs.Common.{◌≡◌, ◌∙◌, ◌<◌, ◌≤◌, ℕ, zero, suc, ◌+◌, Bool, true, false, List, [], ◌∷◌, ◌++◌, length, map, drop, get_or, Option, Some, None, refl, sym, ap, subst, append_assoc, append-nil, arith}
+use Rattle.std.proofs.Common.{◌≡◌, ◌∙◌, ◌<◌, ◌≤◌, ℕ, zero, suc, ◌+◌, Bool, true, false, List, [], ◌∷◌, ◌++◌, length, drop, get_or, Option, Some, None, refl, sym, ap, subst, append_assoc, append-nil, arith}
 use Rattle.std.proofs.Common.{take as first}
 use Rattle.std.proofs.lemmas.Bool.{and_from, le-leb}
 use Rattle.std.proofs.lemmas.Grind.{common_steps}
@@ -7,12 +7,12 @@ use Rattle.std.proofs.lemmas.List.Folds.{list_all-append}
 use Rattle.std.specs.Prelude.{◌&&◌, nat_le}
 use Rattle.ga_pack.specs.Model.Layout.{Labels, Arranged, address_after, labels_after, names_in}
 use Rattle.ga_pack.specs.Model.LayoutFault.{AsmKind, Judged, Passed, fault_at, fault_behind, joins_last, words_added}
-use Rattle.ga_pack.specs.Model.Source.{Item, Instruction, Transfer, Literal, Here, Align, Word, WordTo, Plain, Data, Items, is_new, start}
+use Rattle.ga_pack.specs.Model.Source.{Item, Here, Items, is_new, start}
 use Rattle.ga_pack.proofs.Placed.{add, add_stands}
 use Rattle.ga_source.specs.declared.item.PlacedItem as placed
 use Rattle.ga_source.specs.Item.{item_of}
 use Rattle.ga_asm.specs.Image.{all_near, labels_of}
-use Rattle.ga_asm.specs.Layout.{IsFirstPassFault, Laying, Open, Placing, closed_counts, counts_after, data_after, data_at, joins_open, labels_with, names_of, open_after, open_at, open_count, open_if, open_of, plain}
+use Rattle.ga_asm.specs.Layout.{IsFirstPassFault, Laying, Placing, closed_counts, counts_after, data_after, data_at, joins_open, labels_with, names_of, open_after, open_at, open_count, open_if, open_of, plain}
 use Rattle.ga_asm.specs.declared.layout.Layout as the
 use Rattle.ga_asm.proofs.RightItems.{items_new}
 use Rattle.ga_asm.proofs.Summary.{address_add, counts_add, counts_closed, data_add, joins_is, labels_add, open_add}

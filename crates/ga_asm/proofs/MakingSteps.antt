@@ -1,9 +1,8 @@
 -- The words of the groups, one group at a time.
-use Rattle.std.proofs.Common.{◌≡◌, ◌∙◌, ◌<◌, ◌≤◌, ℕ, zero, suc, ◌+◌, Bool, true, false, List, [], ◌∷◌, ◌++◌, length, map, drop, get_or, Option, Some, None, Result, Ok, Err, OnOk, refl, sym, ap, subst, append_assoc, append-nil, arith}
-use Rattle.std.proofs.lemmas.Grind.{common_steps}
+use Rattle.std.proofs.Common.{◌≡◌, ◌∙◌, ◌<◌, ◌≤◌, ℕ, zero, suc, ◌+◌, true, false, List, [], ◌∷◌, ◌++◌, length, get_or, Option, Result, Ok, Err, OnOk, refl, sym, ap, subst, append_assoc, append-nil, arith}
 use Rattle.ga_word.specs.declared.op.Op.{Op}
 use Rattle.ga_word.specs.declared.op.Op.TheVariants.{Nop}
-use Rattle.ga_pack.specs.Model.Layout.{Labels, Group, Shared, Alone, GroupWords, IsWord, filled, is_loose, last_dest, literals, ops_of}
+use Rattle.ga_pack.specs.Model.Layout.{Labels, Shared, Alone, GroupWords, IsWord, filled, is_loose, last_dest, literals, ops_of}
 use Rattle.std.specs.Prelude.{◌&&◌, nat_lt, if◌then◌else◌}
 use Rattle.ga_pack.specs.Model.Source.{Item, Literal, Transfer, Value, WordTo, dest_bound, is_below, is_item, is_spare, stand_from}
 use Rattle.ga_word.specs.Op.{takes_dest}
@@ -11,7 +10,7 @@ use Rattle.std.proofs.lemmas.Bool.{and_parts, ltb-true}
 use Rattle.ga_source.specs.declared.item.PlacedItem as placed
 use Rattle.ga_source.specs.Item.{item_of}
 use Rattle.ga_asm.specs.Layout.{plain}
-use Rattle.ga_asm.specs.Making.{IsGroup, IsGroupBy, IsPackable, MoreWords, group_of, item_dest}
+use Rattle.ga_asm.specs.Making.{IsGroup, IsGroupBy, IsPackable, MoreWords, item_dest}
 
 -- ---- a word
 

@@ -1,10 +1,10 @@
 -- What right items of a section are.
-use Rattle.std.proofs.Common.{◌≡◌, ◌∙◌, ◌<◌, ◌≤◌, ℕ, suc, zero, ◌+◌, Bool, true, false, List, [], ◌∷◌, ◌++◌, length, refl, sym, ap, subst, append_assoc, append-nil, arith}
+use Rattle.std.proofs.Common.{◌≡◌, ◌<◌, ◌≤◌, ℕ, ◌+◌, Bool, true, false, List, [], ◌∷◌, ◌++◌, length, refl, sym, ap, subst, append_assoc, append-nil, arith}
 use Rattle.std.proofs.lemmas.Bool.{and_from}
 use Rattle.std.specs.Prelude.{◌||◌, if◌then◌else◌}
 use Rattle.std.specs.List.{list_all, list_any}
 use Rattle.ga_pack.specs.Model.Layout.{Group, Shared, Alone, address_after, items_of, names_in, size}
-use Rattle.ga_pack.specs.Model.Source.{Before, Item, Instruction, Transfer, Literal, Here, Align, Word, WordTo, Plain, Data, Items, Part, after, is_item, is_new, labels_with, makes_word, start}
+use Rattle.ga_pack.specs.Model.Source.{Before, Item, Instruction, Transfer, Literal, Here, Align, Word, WordTo, Plain, Data, Items, after, is_item, is_new, labels_with, makes_word, start}
 use Rattle.ga_source.specs.declared.item.PlacedItem as placed
 use Rattle.ga_asm.specs.Layout.{plain}
 use Rattle.ga_asm.proofs.ByCases.{on_test}

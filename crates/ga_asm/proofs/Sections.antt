@@ -1,15 +1,13 @@
 -- The sections of a program.
-use Rattle.std.proofs.Common.{◌≡◌, ◌∙◌, ◌<◌, ◌≤◌, ℕ, zero, suc, ◌+◌, Bool, true, false, List, [], ◌∷◌, ◌++◌, length, map, drop, take, get_or, Option, Some, None, refl, sym, ap, subst, append_assoc, append-nil, arith}
-use Rattle.std.proofs.lemmas.Bool.{both_ways, cases_Bool}
-use Rattle.std.specs.Prelude.{codes, nat_eq, ◌||◌, if◌then◌else◌}
-use Rattle.std.specs.List.{list_all, list_any}
+use Rattle.std.proofs.Common.{◌≡◌, ◌∙◌, ◌<◌, ℕ, zero, suc, Bool, true, false, List, [], ◌∷◌, ◌++◌, length, map, get_or, Option, Some, None, refl, sym, ap, subst, append_assoc, append-nil, arith}
+use Rattle.std.specs.Prelude.{nat_eq, ◌||◌, if◌then◌else◌}
+use Rattle.std.specs.List.{list_any}
 use Rattle.std.specs.Option.{option_map, unwrap_or}
-use Rattle.std.specs.String.{string_bytes}
 use Rattle.indexmap.specs.IndexMap.{insert_entry}
-use Rattle.ga_pack.specs.Model.Layout.{Laid, Labels, address_after, address_of, items_of, names_in}
-use Rattle.ga_pack.specs.Model.LayoutFault.{AllRight, AsmFault, AsmKind, IsRight, Passed, ProgramFault, fault_place, plain_items}
+use Rattle.ga_pack.specs.Model.Layout.{names_in}
+use Rattle.ga_pack.specs.Model.LayoutFault.{AllRight, AsmFault, AsmKind, IsRight, Passed, fault_place, plain_items}
 use Rattle.ga_pack.specs.Model.Program.{PlacedItem, PlacedSection}
-use Rattle.ga_pack.specs.Model.Source.{Item, Items, Section, Sections, is_named, makes_word, start}
+use Rattle.ga_pack.specs.Model.Source.{Item, Items, Sections, is_named, makes_word, start}
 use Rattle.ga_pack.specs.Model.Text.{Place}
 use Rattle.ga_pack.proofs.OneLayout.{one_laid}
 use Rattle.ga_pack.proofs.OneFault.{right_program}
@@ -19,10 +17,10 @@ use Rattle.ga_source.specs.Item.{item_of, placed_of}
 use Rattle.ga_source.specs.Token.{place_of}
 use Rattle.ga_source.specs.declared.token.Place as here
 use Rattle.ga_source.specs.Section.{section_of}
-use Rattle.ga_source.specs.Program.{items_in, section_in, sections_in}
+use Rattle.ga_source.specs.Program.{items_in, sections_in}
 use Rattle.ga_source.specs.Program.{IsRight as IsRightProgram}
 use Rattle.ga_asm.specs.Assembling.{HasNoFault, IsAssembled, IsFaultless, IsFirstFault, IsNodeFault, IsPlaceOf}
-use Rattle.ga_asm.specs.Image.{Fits, ImageView, IsImage, all_near, entry_of, labels_of}
+use Rattle.ga_asm.specs.Image.{Fits, ImageView, IsImage, entry_of, labels_of}
 use Rattle.ga_asm.specs.Layout.{Placing, plain}
 use Rattle.ga_asm.specs.Making.{IsMade}
 use Rattle.ga_asm.specs.declared.layout.Layout as the

@@ -1,12 +1,11 @@
 -- What has to be kept of the groups: the labels, the next address, the open word, how many items each group has, and
 -- where the data begins.
-use Rattle.std.proofs.Common.{◌≡◌, ◌∙◌, ◌≤◌, ℕ, ◌+◌, Bool, true, false, List, [], ◌∷◌, ◌++◌, length, map, Option, Some, None, refl, sym, ap, arith}
+use Rattle.std.proofs.Common.{◌≡◌, ◌∙◌, ◌≤◌, ℕ, ◌+◌, Bool, true, false, List, [], ◌∷◌, ◌++◌, length, map, Some, None, refl, sym, ap, arith}
 use Rattle.std.specs.Prelude.{if◌then◌else◌}
-use Rattle.std.specs.Option.{option_or, unwrap_or}
-use Rattle.ga_word.specs.declared.op.Op.{Op}
+use Rattle.std.specs.Option.{unwrap_or}
 use Rattle.ga_pack.specs.Model.Layout.{Labels, Group, Shared, Alone, address_after, code_end, is_loose, joins, labels_after, labels_behind, literals, op_of, ops_of, size}
 use Rattle.ga_pack.specs.Model.LayoutFault.{joins_last, words_added}
-use Rattle.ga_pack.specs.Model.Source.{Item, Instruction, Transfer, Literal, Here, Align, Word, WordTo, Plain, Data, makes_word}
+use Rattle.ga_pack.specs.Model.Source.{Item, Instruction, Transfer, Literal, Here, Align, Word, WordTo, Plain, Data}
 use Rattle.ga_pack.proofs.OneLayout.{joins_loose}
 use Rattle.ga_pack.proofs.Placed.{add, fresh}
 use Rattle.ga_asm.specs.Layout.{Open, closed_counts, count_of, counts_after, data_after, data_at, is_data, joins_open, labels_with, open_after, open_at, open_count}

@@ -2,8 +2,8 @@
 use Rattle.std.specs.Prelude.{◌≡◌, ◌≤◌, ℕ, ◌+◌, Bool, true, false, List, [], ◌∷◌, ◌++◌, length, map, Option, Some, None, if◌then◌else◌}
 use Rattle.std.specs.Option.{option_or}
 use Rattle.ga_word.specs.declared.op.Op.{Op}
-use Rattle.ga_pack.specs.Model.Layout.{Labels, Group, Shared, Alone, StandIn, address_after, is_loose, joins, labels_after, labels_behind, names_in, op_of, ops_of, size}
-use Rattle.ga_pack.specs.Model.LayoutFault.{AsmKind, FirstPassFault, Passed, words_added}
+use Rattle.ga_pack.specs.Model.Layout.{Labels, Group, Shared, Alone, StandIn, address_after, is_loose, joins, labels_after, names_in, op_of, ops_of, size}
+use Rattle.ga_pack.specs.Model.LayoutFault.{AsmKind, FirstPassFault, Passed}
 use Rattle.ga_pack.specs.Model.Source.{Item, Here, Data}
 use Rattle.ga_source.specs.declared.item.PlacedItem as placed
 use Rattle.ga_source.specs.Item.{item_of}

@@ -30,9 +30,9 @@ pub(crate) struct Layout {
     // The next address.
     pub(crate) address: u8,
     // Whether the next item may join the last word, and the address and the opcodes of that word.
-    pub(crate) is_open: bool,
-    pub(crate) word: u8,
-    pub(crate) ops: ArrayVec<Op, 4>,
+    is_open: bool,
+    word: u8,
+    ops: ArrayVec<Op, 4>,
     // How many items each group has: the items of a word outside brackets are one, and any other item is
     // one by itself. The word that is open comes when it is closed.
     pub(crate) counts: Vec<usize>,

@@ -1,9 +1,3 @@
-use Rattle.std.proofs.Common.{◌≡◌, ◌∙◌, sym, ap, refl, Some, None}
-use Rattle.std.specs.Option.{option_map, unwrap_or}
-use Rattle.ga_pack.specs.Model.LayoutFault.{fault_place}
-use Rattle.ga_source.specs.Item.{placed_of}
-use Rattle.ga_source.specs.Token.{place_of}
-use Rattle.ga_asm.specs.Assembling.{IsPlaceOf}
 use Rattle.ga_asm.proofs.Sections.{place_at, told_name, told_place}
 use Rattle.ga_asm.proofs.assembling.error_at.Goals as goal
 use Rattle.ga_asm.proofs.assembling.error_at.Goals.{in-Some, in-None}

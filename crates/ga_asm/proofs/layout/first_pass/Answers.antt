@@ -1,11 +1,10 @@
-use Rattle.std.proofs.Common.{◌≡◌, ◌∙◌, ap, sym, subst, refl, map, take, None}
+use Rattle.std.proofs.Common.{◌∙◌, ap, sym, subst, refl, take}
 use Rattle.ga_pack.specs.Model.Layout.{names_in}
 use Rattle.ga_pack.specs.Model.LayoutFault.{fault_at}
 use Rattle.ga_source.specs.Item.{item_of}
-use Rattle.ga_asm.specs.Error.{kind_of, kind_in}
+use Rattle.ga_asm.specs.Error.{kind_of}
 use Rattle.ga_asm.specs.Image.{labels_of}
 use Rattle.ga_asm.specs.Layout.{Laying, joins_open, open_of, plain}
-use Rattle.ga_asm.proofs.LabelLists.{names_are}
 use Rattle.ga_asm.proofs.LayingSteps.{front_all, front_next, laying_all, laying_fault, laying_next, laying_none, next_new}
 use Rattle.ga_asm.proofs.RightItems.{items_some}
 use Rattle.ga_asm.proofs.layout.first_pass.Goals as goal

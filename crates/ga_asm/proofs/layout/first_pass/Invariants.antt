@@ -1,4 +1,4 @@
-use Rattle.std.proofs.Common.{map, take}
+use Rattle.std.proofs.Common.{take}
 use Rattle.ga_pack.specs.Model.Layout.{names_in}
 use Rattle.ga_asm.specs.Layout.{Laying, plain}
 use Rattle.ga_asm.proofs.layout.first_pass.Given as goal

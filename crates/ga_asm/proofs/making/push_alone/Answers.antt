@@ -1,8 +1,7 @@
-use Rattle.std.proofs.Common.{◌≡◌, ◌∙◌, ◌++◌, ◌∷◌, [], ◌<◌, true, None, Some, length, sym, ap, subst, refl, arith, lit<}
-use Rattle.std.specs.Option.{unwrap_or}
+use Rattle.std.proofs.Common.{◌≡◌, ◌∙◌, ◌++◌, ◌∷◌, [], ◌<◌, true, None, Some, length, ap, subst, arith, lit<}
 use Rattle.ga_pack.specs.Encoding.{pack_fault}
 use Rattle.ga_pack.specs.Model.Layout.{dest_in, filled}
-use Rattle.ga_pack.specs.Model.Source.{Word, is_item}
+use Rattle.ga_pack.specs.Model.Source.{is_item}
 use Rattle.ga_pack.proofs.Laying.{packable_word, packable_word_to}
 use Rattle.ga_source.specs.Item.{item_of, value_of}
 use Rattle.ga_asm.specs.Image.{labels_of}

@@ -1,8 +1,6 @@
-use Rattle.std.proofs.Common.{◌≡◌, ◌∙◌, ◌+◌, ◌++◌, ◌∷◌, [], Some, None, sym, ap, subst, take, append_assoc, append-nil, arith}
-use Rattle.ga_pack.specs.Model.Layout.{literals}
+use Rattle.std.proofs.Common.{◌∙◌, ◌+◌, ap, take}
 use Rattle.ga_source.specs.Item.{item_of}
 use Rattle.ga_asm.specs.Layout.{plain}
-use Rattle.ga_asm.specs.Making.{follower_list}
 use Rattle.ga_asm.proofs.LayingSteps.{front_next}
 use Rattle.ga_asm.proofs.MakingSteps.{followers_none, followers_some}
 use Rattle.ga_asm.proofs.making.push_followers.Goals as goal

@@ -1,6 +1,5 @@
-use Rattle.std.proofs.Common.{◌≡◌, ◌∙◌, sym, OnOk}
+use Rattle.std.proofs.Common.{◌∙◌, sym}
 use Rattle.ga_asm.specs.Image.{labels_of}
-use Rattle.ga_asm.specs.Layout.{plain}
 use Rattle.ga_asm.proofs.MakingSteps.{alone_more, group_alone, group_shared, group_some, on_ok, shared_more}
 use Rattle.ga_asm.proofs.making.push_group.Goals as goal
 

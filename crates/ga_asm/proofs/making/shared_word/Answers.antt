@@ -1,9 +1,8 @@
-use Rattle.std.proofs.Common.{◌≡◌, ◌∙◌, ◌+◌, ◌++◌, ◌∷◌, [], length, sym, ap, subst, take, arith}
-use Rattle.ga_pack.specs.Model.Layout.{last_dest, op_of, ops_of}
+use Rattle.std.proofs.Common.{◌≡◌, ◌∙◌, ◌+◌, ◌++◌, ◌∷◌, [], length, sym, ap, take, arith}
+use Rattle.ga_pack.specs.Model.Layout.{last_dest, ops_of}
 use Rattle.ga_source.specs.Item.{item_of}
 use Rattle.ga_asm.specs.Image.{labels_of}
 use Rattle.ga_asm.specs.Layout.{plain}
-use Rattle.ga_asm.specs.Making.{item_dest}
 use Rattle.ga_asm.proofs.LayingSteps.{front_next}
 use Rattle.ga_asm.proofs.MakingSteps.{dest_snoc}
 use Rattle.ga_asm.proofs.Summary.{ops_length, ops_snoc}

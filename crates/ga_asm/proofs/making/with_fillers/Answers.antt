@@ -1,4 +1,4 @@
-use Rattle.std.proofs.Common.{◌≡◌, ◌∙◌, ◌<◌, length, sym, ap, arith, refl}
+use Rattle.std.proofs.Common.{◌≡◌, ◌∙◌, ◌<◌, length, sym, ap, arith}
 use Rattle.ga_pack.specs.Model.Layout.{filled}
 use Rattle.ga_asm.proofs.MakingSteps.{filled_all, filled_more}
 use Rattle.ga_asm.proofs.making.with_fillers.Goals as goal
