@@ -71,7 +71,7 @@ fn words_of_items(rt: HostRuntime) -> Result<(), Fail> {
 }
 
 #[test]
-fn reach_from_slot2(rt: HostRuntime) -> Result<(), Fail> {
+fn label_in_another_page(rt: HostRuntime) -> Result<(), Fail> {
     let alloc = rt.alloc();
     let front = "node 000 [ . ] [ . ] back: [ . ] [ . ] [ . ] [ . ] [ . ] [ . ]";
     let free = format!(in alloc; "{front} dup drop jump back")?;
@@ -93,6 +93,12 @@ fn faults(rt: HostRuntime) -> Result<(), Fail> {
     let cases = [
         ("node 000 jump x", AsmErrorKind::UndefinedLabel, 15),
         ("node 000 unext", AsmErrorKind::UnextAlone, 10),
+        (
+            "node 000 dup dup dup dup unext",
+            AsmErrorKind::UnextAlone,
+            26,
+        ),
+        ("node 000 dup x: unext", AsmErrorKind::UnextAlone, 17),
     ];
     for (text, kind, column) in cases {
         assert_eq!(rt; fault(alloc, text)?, at(kind, column)?, "{text}");
@@ -105,7 +111,7 @@ fn faults(rt: HostRuntime) -> Result<(), Fail> {
 }
 
 #[test]
-fn at_most_64_words(rt: HostRuntime) -> Result<(), Fail> {
+fn full_and_overfull_node(rt: HostRuntime) -> Result<(), Fail> {
     let alloc = rt.alloc();
     let mut text = String::from_str(alloc, "node 000")?;
     for _ in 0..64u32 {
@@ -160,5 +166,54 @@ fn labels_data_and_entry(rt: HostRuntime) -> Result<(), Fail> {
     for (name, address) in [("main", 1), ("table", 2), ("end", 4)] {
         assert_eq!(rt; image.labels().get(name).copied(), Some(address), "{name}");
     }
+    Ok(())
+}
+
+#[test]
+fn labels_at_each_slot(rt: HostRuntime) -> Result<(), Fail> {
+    let alloc = rt.alloc();
+    let cases = [
+        ("node 000 x: dup jump x", [0x25700].as_slice(), 0),
+        ("node 000 dup x: jump x", &[0x249B2, 0x10001], 1),
+        ("node 000 dup dup x: jump x", &[0x24DB2, 0x10001], 1),
+        ("node 000 dup dup dup x: jump x", &[0x24D92, 0x10001], 1),
+        ("node 000 dup dup dup dup x: jump x", &[0x24D93, 0x10001], 1),
+        ("node 000 jump x x:", &[0x10001], 1),
+    ];
+    for (text, words, address) in cases {
+        let images = assembled(alloc, text)?;
+        let image = image(&images, 0)?;
+        assert_eq!(rt; numbers(alloc, image)?.as_slice(), words, "{text}");
+        assert_eq!(rt; image.labels().get("x").copied(), Some(address), "{text}");
+    }
+    Ok(())
+}
+
+/// A section for each node, each of 64 words.
+fn full_sections(alloc: Global) -> Result<String, Fail> {
+    let mut words = String::from_str(alloc, "data")?;
+    for _ in 0..64u32 {
+        words.push_str(" , $3FFFF")?;
+    }
+    let mut text = String::new(alloc);
+    for row in 0..8u16 {
+        for column in 0..18u16 {
+            let node = node(row * 100 + column)?;
+            let line = format!(in alloc; "node {node} {words}\n")?;
+            text.push_str(line.as_str())?;
+        }
+    }
+    Ok(text)
+}
+
+#[test]
+fn all_nodes_full(rt: HostRuntime) -> Result<(), Fail> {
+    let alloc = rt.alloc();
+    let text = full_sections(alloc)?;
+    let images = assembled(alloc, text.as_str())?;
+    assert_eq!(rt; images.images().len(), 144);
+    let last = image(&images, 717)?;
+    assert_eq!(rt; last.words().len(), 64);
+    assert_eq!(rt; last.code_len(), 0);
     Ok(())
 }

@@ -1,5 +1,5 @@
 -- The subcommand that a parse met is the one that right words name.
-use Rattle.std.proofs.Common.{◌≡◌, ◌∙◌, ℕ, true, false, List, Global, Option, Some, None, Result, Ok, Err, ap, refl, sym, subst}
+use Rattle.std.proofs.Common.{◌≡◌, ◌∙◌, true, List, Global, Option, Some, None, Result, Ok, Err, ap, refl, sym, subst}
 use Rattle.std.specs.Prelude.{Box, IsSomeAnd, IfErr, option_map}
 use Rattle.std.specs.Result.{IsErrAnd}
 use Rattle.clap.specs.Words.{HasMatchesOf, App, Row, Text, app_of, is_simple, subcommand_rows, subcommand_name_of, subcommand_of, subcommand_rows_of}

@@ -1,6 +1,6 @@
 -- The command line: the command as clap's definitions read it, and the job that its words name.
 use Rattle.std.specs.Prelude.{◌≡◌, Bool, List, true, false, codes, IsSomeAnd}
-use Rattle.clap.specs.Words.{App, Row, Text, app_of, new_app, shape_of, subcommand_of, takes, with_subcommand}
+use Rattle.clap.specs.Words.{App, Row, Text, app_of, new_app, subcommand_of, takes, with_subcommand}
 use Rattle.clap.specs.declared.builder.command.Command.{Command}
 use Rattle.clap.specs.declared.builder.command.Command.TheViews.{out-Command}
 use Rattle.ga_bench.specs.declared.request.Job.{Job}

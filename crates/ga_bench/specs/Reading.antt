@@ -1,5 +1,5 @@
 -- What is read of an input.
-use Rattle.std.specs.Prelude.{ℕ, ◌<◌, ◌≤◌, List, length, Option, Result, Ok, Err, IfSome}
+use Rattle.std.specs.Prelude.{ℕ, ◌<◌, ◌≤◌, List, length, Option, Result, Err, IfSome}
 use Rattle.std.specs.Io.KnownBytes.{Consumes, IsAtEnd}
 use Rattle.ga_bench.specs.declared.fault.ServeError.{ServeError}
 use Rattle.ga_bench.specs.declared.fault.ServeError.TheVariants.{Input, Read, Memory}
