@@ -25,10 +25,14 @@ open_if false word ops = None
 abbrev pub open_of : the.Layout → Open
 open_of l = open_if l.is_open l.word l.ops.items
 
--- the item joins that word
+-- with these labels the item joins that word
 abbrev pub joins_open : Labels → Open → Item → Bool
 joins_open labels None i = false
 joins_open labels (Some word) i = joins labels word.0 word.1 i
+
+-- the item joins the word that is open
+abbrev pub joins_word : the.Layout → Item → Bool
+joins_word l i = joins_open (labels_of l.labels.entries) (open_of l) i
 
 -- the open word behind an item, which joins it, or begins a word at an address, or makes no word that is open
 abbrev pub open_after : Bool → Open → ℕ → Item → Open

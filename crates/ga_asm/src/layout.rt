@@ -12,7 +12,7 @@ ghost use Rattle.ga_pack.specs.Followers as counted;
 ghost use Rattle.ga_source.specs.Item.{item_of, value_of};
 ghost use Rattle.ga_asm.specs.Error.{kind_in, kind_of};
 ghost use Rattle.ga_asm.specs.Image.{labels_of};
-ghost use Rattle.ga_asm.specs.Layout.{IsFirstPassFault, Laying, counts_after, data_after, joins_open, Placing, labels_with, names_of, open_after, open_count, open_of, plain};
+ghost use Rattle.ga_asm.specs.Layout.{IsFirstPassFault, counts_after, data_after, joins_word, Placing, labels_with, names_of, open_after, open_count, open_of, plain};
 ghost use Rattle.ga_asm.specs.declared.error.AsmErrorKind.TheVariants.{Memory};
 
 use crate::error::AsmErrorKind;
@@ -240,7 +240,7 @@ impl Layout {
     fn joins(&self, item: &Item) -> bool
         requires { self.now.word ≤ 64 }
         ensures room { result ≡ true → length self.now.ops.items < 4 }
-        ensures test { result ≡ joins_open (labels_of self.now.labels.entries) (open_of self.now) (item_of item.now) }
+        ensures test { result ≡ joins_word self.now (item_of item.now) }
     {
         self.is_open && !self.is_ended() && self.fits(item)
     }
@@ -249,7 +249,7 @@ impl Layout {
     fn fault_of(&self, names: &IndexSet<String>, item: &Item) -> Option<AsmErrorKind>
         requires near { self.now.word ≤ 64 }
         requires few { self.now.address ≤ 64 }
-        ensures { kind_in result ≡ faults.fault_at (map string_bytes names.now.keys) (labels_of self.now.labels.entries) self.now.address (joins_open (labels_of self.now.labels.entries) (open_of self.now) (item_of item.now)) (item_of item.now) }
+        ensures { kind_in result ≡ faults.fault_at (map string_bytes names.now.keys) (labels_of self.now.labels.entries) self.now.address (joins_word self.now (item_of item.now)) (item_of item.now) }
     {
         if !is_defined(names, item) {
             return Some(AsmErrorKind::UndefinedLabel);
@@ -336,10 +336,10 @@ impl Layout {
         requires few { self.old.address ≤ 64 }
         requires new { words.is_new (item_of item.now) (names_of (labels_of self.old.labels.entries)) ≡ true }
         ensures labels { OnOk result (labels_of self.new.labels.entries ≡ labels_with (labels_of self.old.labels.entries) self.old.address (item_of item.now)) }
-        ensures address { OnOk result (self.new.address ≡ self.old.address + faults.words_added (joins_open (labels_of self.old.labels.entries) (open_of self.old) (item_of item.now)) (item_of item.now)) }
+        ensures address { OnOk result (self.new.address ≡ self.old.address + faults.words_added (joins_word self.old (item_of item.now)) (item_of item.now)) }
         ensures near { OnOk result (self.new.word ≤ 64) }
-        ensures word { OnOk result (open_of self.new ≡ open_after (joins_open (labels_of self.old.labels.entries) (open_of self.old) (item_of item.now)) (open_of self.old) self.old.address (item_of item.now)) }
-        ensures counts { OnOk result (self.new.counts.items ≡ counts_after (joins_open (labels_of self.old.labels.entries) (open_of self.old) (item_of item.now)) (open_of self.old) self.old.counts.items (item_of item.now)) }
+        ensures word { OnOk result (open_of self.new ≡ open_after (joins_word self.old (item_of item.now)) (open_of self.old) self.old.address (item_of item.now)) }
+        ensures counts { OnOk result (self.new.counts.items ≡ counts_after (joins_word self.old (item_of item.now)) (open_of self.old) self.old.counts.items (item_of item.now)) }
         ensures data { OnOk result (self.new.data_start ≡ data_after self.old.data_start self.old.address (item_of item.now)) }
         ensures err { IfErr result (λ kind. kind ≡ Memory) }
     {
