@@ -17,6 +17,9 @@ RUNS = [
     (["one", "5"], b"3FFFF " * 64),
     (["one", "5"], b"04A12 5"),
     (["one", "5"], b""),
+    (["asm"], b"node 709 . node 000 x: [ @p a! @p ] , 5 , x jump x data y: , x"),
+    (["asm"], b"node 000 jump x"),
+    (["asm"], b"node 000 ]"),
     (["one"], b""),
     (["one", "--help"], b""),
 ]
