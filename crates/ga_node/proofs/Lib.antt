@@ -1,1 +1,2 @@
 mod WorkedNodes
+mod StackRing

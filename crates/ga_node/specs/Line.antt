@@ -9,7 +9,7 @@ use Rattle.ga_node.specs.Need.{need_of}
 use Rattle.ga_node.specs.declared.need.Need.{Need}
 use Rattle.ga_node.specs.declared.need.Need.TheVariants.{Own, Take, Post, Check, Input, Stopped}
 use Rattle.ga_node.specs.declared.need.Stop.{Stop}
-use Rattle.ga_node.specs.declared.need.Stop.TheVariants.{MultiWrite, IoRead, Unmapped, Rom, Extended, Counted, Unbuilt}
+use Rattle.ga_node.specs.declared.need.Stop.TheVariants.{MultiWrite, IoRead, Unmapped, Rom, Extended, Counted}
 use Rattle.ga_node.specs.declared.place.Place.{Place}
 use Rattle.ga_node.specs.declared.place.Place.TheVariants.{Fetch, Slot0, Slot1, Slot2, Slot3}
 
@@ -27,7 +27,6 @@ stop_text Unmapped = codes "Unmapped"
 stop_text Rom = codes "Rom"
 stop_text Extended = codes "Extended"
 stop_text Counted = codes "Counted"
-stop_text Unbuilt = codes "Unbuilt"
 
 abbrev pub need_text : Need → List ℕ
 need_text Own = codes "own"

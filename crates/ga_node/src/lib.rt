@@ -1,13 +1,16 @@
 //! One node of the GA144: its state, what it needs for its next step, and its steps.
 #![tactic(auto)]
 
+mod decoded;
 mod fetch;
 mod line;
+mod moves;
 mod need;
 mod place;
 mod slot;
 mod stack;
 mod state;
+mod step;
 
 pub use need::{Need, Stop};
 pub use place::Place;

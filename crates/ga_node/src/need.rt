@@ -1,7 +1,8 @@
 ghost use Rattle.std.specs.Prelude.{◌≡◌, None, Some};
 ghost use Rattle.ga_node.specs.Line.{need_text, stop_text};
-ghost use Rattle.ga_node.specs.Need.{fetch_need, need_of, read_need, slot_need};
+ghost use Rattle.ga_node.specs.Need.{fetch_need, need_of, op_need, read_need, slot_need, write_need};
 ghost use Rattle.ga_node.specs.State.{op_of};
+ghost use Rattle.ga_place.specs.Address.{where_is};
 
 use crate::place::Place;
 use crate::state::NodeState;
@@ -24,8 +25,6 @@ pub enum Stop {
     Extended,
     /// The steps have reached the largest number that is counted, 2^64 - 1 (profile).
     Counted,
-    /// An opcode that doesn't run yet: today `jump`, `@p`, `drop`, `a!` and `.` run.
-    Unbuilt,
 }
 
 impl fmt::Display for Stop {
@@ -39,7 +38,6 @@ impl fmt::Display for Stop {
             Stop::Rom => "Rom",
             Stop::Extended => "Extended",
             Stop::Counted => "Counted",
-            Stop::Unbuilt => "Unbuilt",
         })
     }
 }
@@ -82,8 +80,8 @@ const WARM: u8 = 0x29;
 impl NodeState {
     /// What the node needs for its next step, by its state alone (F18A reference DB001).
     ///
-    /// The stops, which are this project's profile, come in the order `Counted`, then `Extended` at a
-    /// fetch and `Unbuilt` in a slot, then the others.
+    /// The stops, which are this project's profile, come in the order `Counted`, then `Extended`, then
+    /// the others.
     #[tactic(auto, unfolding(crate::specs::Need::need_of))]
     pub fn need(&self) -> Need
         ensures { result ≡ need_of self.now }
@@ -107,18 +105,25 @@ impl NodeState {
         }
     }
 
+    /// What the opcode in the slot needs: where it reads or writes.
     fn op_need(&self) -> Need
-        ensures { result ≡ slot_need None (op_of self.now) self.now }
+        ensures { result ≡ op_need (op_of self.now) self.now }
     {
         match self.op() {
             Op::FetchP => read_need(locate(self.p)),
-            Op::Jump | Op::Drop | Op::AStore | Op::Nop => Need::Own,
-            _ => Need::Stopped(Stop::Unbuilt),
+            Op::FetchB => read_need(locate(self.b)),
+            Op::FetchPlus | Op::Fetch => read_need(locate(address_in(self.a))),
+            Op::StoreP => write_need(locate(self.p), self.t),
+            Op::StoreB => write_need(locate(self.b), self.t),
+            Op::StorePlus | Op::Store => write_need(locate(address_in(self.a)), self.t),
+            _ => Need::Own,
         }
     }
 }
 
-fn fetch_need(p: u16) -> Need
+/// What a fetch needs, by P.
+#[inline(always)]
+pub(crate) fn fetch_need(p: u16) -> Need
     ensures { result ≡ fetch_need p }
 {
     if p < 0x200 {
@@ -128,7 +133,33 @@ fn fetch_need(p: u16) -> Need
     }
 }
 
-fn read_need(at: Where) -> Need
+/// A word as an address: what it reaches depends on its low nine bits.
+#[inline(always)]
+pub(crate) fn address_in(word: Word18) -> u16
+    ensures { where_is result ≡ where_is word }
+{
+    (word.get() % 0x200) as u16
+}
+
+/// What a write of a word needs, by what its address reaches.
+#[inline(always)]
+pub(crate) fn write_need(at: Where, word: Word18) -> Need
+    ensures { result ≡ write_need at word }
+{
+    match at {
+        Where::Ram(_) | Where::Io => Need::Own,
+        Where::Rom(_) => Need::Stopped(Stop::Rom),
+        Where::Ports(sides) => match sides.only() {
+            Some(side) => Need::Post(side, word),
+            None => Need::Stopped(Stop::MultiWrite),
+        },
+        Where::Unmapped => Need::Stopped(Stop::Unmapped),
+    }
+}
+
+/// What a read needs, by what its address reaches.
+#[inline(always)]
+pub(crate) fn read_need(at: Where) -> Need
     ensures { result ≡ read_need at }
 {
     match at {

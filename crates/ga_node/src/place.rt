@@ -6,11 +6,11 @@ use std::fmt;
 /// Where a node stands between two steps: before a fetch, or before a slot of the word in execution.
 #[derive(Clone, Copy, Debug, PartialEq, Eq)]
 pub enum Place {
-    Fetch,
     Slot0,
     Slot1,
     Slot2,
     Slot3,
+    Fetch,
 }
 
 impl fmt::Display for Place {

@@ -1,25 +1,62 @@
-ghost use Rattle.std.specs.Prelude.{◌≡◌, ℕ, ◌∷◌, take, slice_index, List};
+ghost use Rattle.std.specs.Prelude.{◌≡◌, ℕ, ◌<◌, ◌∷◌, take, drop, slice_index, replicate, List, ◌++◌};
 ghost use Rattle.ga_node.specs.State.{rotated};
 
 use ga_word::Word18;
+use std::marker::Model;
 
-/// The eight words of a stack below its registers, the first item first.
-pub type Stack = [Word18; 8];
-
-/// Puts a word in front. The last one is lost.
-pub fn push(stack: &mut Stack, word: Word18)
-    ensures { stack.new ≡ word ∷ take 7 stack.old }
-{
-    stack.rotate_right(1);
-    stack[0] = word;
+/// The eight words of a stack below its registers, as a ring. A contract sees their list, the first
+/// item first.
+#[derive(Clone, Debug, Drop)]
+pub struct Stack {
+    words: [Word18; 8],
+    first: u8,
 }
 
-/// The first word, which moves to the end.
-pub fn pop(stack: &mut Stack) -> Word18
-    ensures first { result ≡ slice_index stack.old 0 }
-    ensures rest { stack.new ≡ rotated stack.old }
-{
-    let first = stack[0];
-    stack.rotate_left(1);
-    first
+impl Model for Stack {
+    ghost Value = { List ℕ };
+
+    ghost view = { λ stack. drop stack.first stack.words ++ take stack.first stack.words };
+
+    ghost invariant = { λ stack. stack.first < 8 };
+}
+
+impl Stack {
+    /// Eight zeros.
+    pub fn new() -> Self
+        ensures { result ≡ replicate 8 0 }
+    {
+        Stack {
+            words: [Word18::default(); 8],
+            first: 0,
+        }
+    }
+
+    /// Puts a word in front. The last one is lost.
+    #[inline(always)]
+    pub fn push(&mut self, word: Word18)
+        ensures { self.new ≡ word ∷ take 7 self.old }
+    {
+        self.first = if self.first == 0 { 7 } else { self.first - 1 };
+        self.words[usize::from(self.first)] = word;
+    }
+
+    /// The first word, which moves to the end.
+    #[inline(always)]
+    pub fn pop(&mut self) -> Word18
+        ensures first { result ≡ slice_index self.old 0 }
+        ensures rest { self.new ≡ rotated self.old }
+    {
+        let word = self.words[usize::from(self.first)];
+        self.first = if self.first == 7 { 0 } else { self.first + 1 };
+        word
+    }
+
+    /// The eight words, the first item first.
+    pub fn words(&self) -> [Word18; 8]
+        ensures { result ≡ self.now }
+    {
+        let mut words = self.words;
+        words.rotate_left(usize::from(self.first));
+        words
+    }
 }

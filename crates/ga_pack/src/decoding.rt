@@ -17,34 +17,40 @@ fn op_with_code(code: u32) -> Op
     Op::from_code(code as u8).unwrap()
 }
 
-fn op_in_slot0(number: u32) -> Op
-    requires { number < 2 ^ 18 }
-    ensures bits { stored 0 result ≡ bits 5 (number / 2 ^ 13) }
-    ensures op { result ≡ decoded.op_in_slot0 number }
+/// The opcode in slot 0 of a word, bits 17..13.
+pub fn op_in_slot0(word: Word18) -> Op
+    ensures bits { stored 0 result ≡ bits 5 (word / 2 ^ 13) }
+    ensures op { result ≡ decoded.op_in_slot0 word }
 {
-    op_with_code(number >> 13 ^ SLOT0_KEY)
+    op_with_code(word.get() >> 13 ^ SLOT0_KEY)
 }
 
-fn op_in_slot1(number: u32) -> Op
-    ensures bits { stored 1 result ≡ bits 5 (number / 2 ^ 8) }
-    ensures op { result ≡ decoded.op_in_slot1 number }
+/// The opcode in slot 1 of a word, bits 12..8. It is one of the word's opcodes where the one in slot 0
+/// takes no destination.
+pub fn op_in_slot1(word: Word18) -> Op
+    ensures bits { stored 1 result ≡ bits 5 (word / 2 ^ 8) }
+    ensures op { result ≡ decoded.op_in_slot1 word }
 {
-    op_with_code(number >> 8 & 0x1F ^ SLOT1_KEY)
+    op_with_code(word.get() >> 8 & 0x1F ^ SLOT1_KEY)
 }
 
-fn op_in_slot2(number: u32) -> Op
-    ensures bits { stored 2 result ≡ bits 5 (number / 2 ^ 3) }
-    ensures op { result ≡ decoded.op_in_slot2 number }
+/// The opcode in slot 2 of a word, bits 7..3. It is one of the word's opcodes where those in slots 0 and
+/// 1 take no destination.
+pub fn op_in_slot2(word: Word18) -> Op
+    ensures bits { stored 2 result ≡ bits 5 (word / 2 ^ 3) }
+    ensures op { result ≡ decoded.op_in_slot2 word }
 {
-    op_with_code(number >> 3 & 0x1F ^ SLOT2_KEY)
+    op_with_code(word.get() >> 3 & 0x1F ^ SLOT2_KEY)
 }
 
-fn op_in_slot3(number: u32) -> Op
+/// The opcode in slot 3 of a word, whose upper three bits are bits 2..0 and whose lower two are 0. It is
+/// one of the word's opcodes where those in slots 0 to 2 take no destination.
+pub fn op_in_slot3(word: Word18) -> Op
     ensures fits { fits_slot3 result ≡ true }
-    ensures bits { stored_upper result ≡ bits 3 number }
-    ensures op { result ≡ decoded.op_in_slot3 number }
+    ensures bits { stored_upper result ≡ bits 3 word }
+    ensures op { result ≡ decoded.op_in_slot3 word }
 {
-    op_with_code((number & 7 ^ SLOT3_KEY) << 2)
+    op_with_code((word.get() & 7 ^ SLOT3_KEY) << 2)
 }
 
 /// The opcodes that a word packs, and the destination of the last one, as the F18A reference, DB001,
@@ -68,7 +74,7 @@ pub fn decode(word: Word18) -> Packed
 {
     let number = word.get();
     let mut ops = ArrayVec::new();
-    let first = op_in_slot0(number);
+    let first = op_in_slot0(word);
     ops.push(first);
     if first.takes_dest() {
         let dest = Some((number & 0x3FF) as u16);
@@ -77,19 +83,19 @@ pub fn decode(word: Word18) -> Packed
     }
     // In all other words no bit is spare.
     let spare = 0;
-    let second = op_in_slot1(number);
+    let second = op_in_slot1(word);
     ops.push(second);
     if second.takes_dest() {
         let dest = Some((number & 0xFF) as u16);
         return Packed { ops, dest, spare };
     }
-    let third = op_in_slot2(number);
+    let third = op_in_slot2(word);
     ops.push(third);
     if third.takes_dest() {
         let dest = Some((number & 7) as u16);
         return Packed { ops, dest, spare };
     }
-    ops.push(op_in_slot3(number));
+    ops.push(op_in_slot3(word));
     let dest = None;
     Packed { ops, dest, spare }
 }

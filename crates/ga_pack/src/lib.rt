@@ -7,7 +7,7 @@ mod following;
 mod keys;
 mod packed;
 
-pub use decoding::decode;
+pub use decoding::{decode, op_in_slot0, op_in_slot1, op_in_slot2, op_in_slot3};
 pub use encoding::{PackError, encode};
 pub use following::followers;
 pub use packed::Packed;

@@ -1,3 +1,4 @@
 pub mod Node
 pub mod Side
 pub mod Address
+pub mod Cell

@@ -1,5 +1,6 @@
 -- The four sides of a node, and where each leads.
-use Rattle.std.specs.Prelude.{◌≡◌, ◌==◌, ℕ, ◌+◌, ◌-◌, ◌%◌, Bool, false, ◌||◌, nat_lt, List, [], ◌∷◌, codes, Option, Some, None, is_some, if◌then◌else◌}
+use Rattle.std.specs.Prelude.{◌≡◌, ◌==◌, ℕ, ◌+◌, ◌-◌, ◌/◌, ◌%◌, Bool, false, ◌||◌, nat_lt, List, [], ◌∷◌, codes, Option, Some, None, is_some, if◌then◌else◌}
+use Rattle.std.specs.List.{find}
 use Rattle.ga_place.specs.Node.{row_of, column_of}
 use Rattle.ga_place.specs.declared.side.Side.{Side}
 use Rattle.ga_place.specs.declared.side.Sides.{Sides}
@@ -31,6 +32,19 @@ next_node name South = if nat_lt 0 (row_of name) then Some (name - 100) else Non
 abbrev pub neighbour_of : ℕ → Side → Option ℕ
 neighbour_of name side = next_node name (direction_of name side)
 
+-- the four sides, in the order in which they are named and numbered
+abbrev pub SIDES : List Side
+SIDES = Right ∷ Down ∷ Left ∷ Up ∷ []
+
+-- a node is there, and it is the one with this name
+abbrev pub is_the_node : ℕ → Option ℕ → Bool
+is_the_node name (Some there) = there == name
+is_the_node name None = false
+
+-- the side of a node at which another node is its neighbour, if it is one
+abbrev pub side_to : ℕ → ℕ → Option Side
+side_to name other = find (λ side. is_the_node other (neighbour_of name side)) SIDES
+
 -- a node has a side where it has a neighbour
 abbrev pub has_side : ℕ → Side → Bool
 has_side name side = is_some (neighbour_of name side)
@@ -57,6 +71,14 @@ bits_of sides = sides.0
 -- the set of sides with these bits
 abbrev pub sides_with : ℕ → Sides
 sides_with bits = record { 0 = bits }
+
+-- a side is in a set of sides
+abbrev pub is_among : Side → Sides → Bool
+is_among side sides = bits_of sides / side_bit side % 2 == 1
+
+-- the one side in a set, where it has just one
+abbrev pub one_side : Sides → Option Side
+one_side sides = if bits_of sides == 0x80 then Some Right else (if bits_of sides == 0x40 then Some Down else (if bits_of sides == 0x20 then Some Left else (if bits_of sides == 0x10 then Some Up else None)))
 
 -- the bit of a side that the node has, and else nothing
 abbrev pub bit_there : ℕ → Side → ℕ

@@ -55,3 +55,34 @@ impl Flags for Sides {
         Sides(bits)
     }
 }
+
+impl Sides {
+    ghost use Rattle.std.specs.Prelude.{◌≡◌};
+    ghost use Rattle.ga_place.specs.Side.{is_among, one_side};
+
+    /// Whether a side is in the set.
+    pub fn has(self, side: Side) -> bool
+        ensures { result ≡ is_among side self }
+    {
+        let bit = match side {
+            Side::Right => 0x80,
+            Side::Down => 0x40,
+            Side::Left => 0x20,
+            Side::Up => 0x10,
+        };
+        self.bits() / bit % 2 == 1
+    }
+
+    /// The one side in the set, or `None` where it has none or several.
+    pub fn only(self) -> Option<Side>
+        ensures { result ≡ one_side self }
+    {
+        match self.bits() {
+            0x80 => Some(Side::Right),
+            0x40 => Some(Side::Down),
+            0x20 => Some(Side::Left),
+            0x10 => Some(Side::Up),
+            _ => None,
+        }
+    }
+}
