@@ -11,7 +11,7 @@ use crate::fault::ServeError;
 use crate::number::number_of;
 use crate::text::words_of;
 use clap::{Arg, ArgMatches, Command, value_parser};
-use ga_node::{Need, NodeState};
+use ga_node::NodeState;
 use ga_place::Node;
 use std::alloc::{AllocError, Global};
 
@@ -68,10 +68,7 @@ fn after_tries(mut state: NodeState, tries: u32) -> NodeState
     ensures { result ≡ after_tries tries state }
 {
     for _ in 0..tries {
-        match state.need() {
-            Need::Own => state.step_own(),
-            _ => {}
-        }
+        let _moved = state.try_own();
     }
     state
 }

@@ -1,2 +1,3 @@
-mod WorkedNodes
+pub mod Rows
 mod StackRing
+mod WorkedNodes
