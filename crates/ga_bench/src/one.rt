@@ -64,6 +64,10 @@ pub fn one(alloc: Global, tries: u32, input: &[u8]) -> Result<String, ServeError
 }
 
 /// The node after so many tries. Each is a step where the node needs nothing from outside.
+///
+/// It stays a function of its own in the built program, since its loop is faster with all registers to
+/// itself.
+#[inline(never)]
 fn after_tries(mut state: NodeState, tries: u32) -> NodeState
     ensures { result ≡ after_tries tries state }
 {

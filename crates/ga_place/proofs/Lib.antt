@@ -1,4 +1,6 @@
 pub mod AddressLemmas
+pub mod CellNumbers
+pub mod Cells
 pub mod NodeText
 pub mod SideLemmas
 pub mod WorkedPlaces

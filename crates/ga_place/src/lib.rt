@@ -2,12 +2,14 @@
 #![tactic(auto)]
 
 mod address;
+mod cell_id;
 mod node;
 mod side;
 
 pub use address::{Where, advance, idle_address, locate, port_address};
+pub use cell_id::{CellId, cell};
 pub use node::Node;
-pub use side::{Side, Sides};
+pub use side::{Side, Sides, neighbour, side_to};
 
 #[cfg(test)]
 mod tests;

@@ -1,5 +1,7 @@
-ghost use Rattle.std.specs.Prelude.{⊤};
+ghost use Rattle.std.specs.Prelude.{◌≡◌, ◌↔◌, ⊤, IfSome, Some};
+ghost use Rattle.ga_place.specs.Side.{East, North, South, West, neighbour_of, next_node, side_to};
 
+use crate::node::Node;
 use bitflags::{Flag, Flags, bitflag_items};
 
 /// A side of a node, as the chip names it (F18A reference DB001).
@@ -16,6 +18,83 @@ pub enum Side {
     Left,
     /// The south in even rows, and the north in odd ones.
     Up,
+}
+
+/// The neighbour of a node at a side, or `None` where the grid ends there (chip reference DB002).
+pub fn neighbour(node: Node, side: Side) -> Option<Node>
+    ensures value { result ≡ neighbour_of node side }
+    // the neighbour's neighbour at the same side is the node
+    ensures back { IfSome result (λ other. neighbour_of other side ≡ Some node) }
+{
+    let is_even = match side {
+        Side::Right | Side::Left => node.column() % 2 == 0,
+        Side::Down | Side::Up => node.row() % 2 == 0,
+    };
+    match (side, is_even) {
+        (Side::Right, true) | (Side::Left, false) => east(node),
+        (Side::Right, false) | (Side::Left, true) => west(node),
+        (Side::Down, true) | (Side::Up, false) => north(node),
+        (Side::Down, false) | (Side::Up, true) => south(node),
+    }
+}
+
+fn east(node: Node) -> Option<Node>
+    ensures { result ≡ next_node node East }
+{
+    if node.column() < 17 {
+        Node::new(node.name() + 1)
+    } else {
+        None
+    }
+}
+
+fn west(node: Node) -> Option<Node>
+    ensures { result ≡ next_node node West }
+{
+    if node.column() > 0 {
+        Node::new(node.name() - 1)
+    } else {
+        None
+    }
+}
+
+fn north(node: Node) -> Option<Node>
+    ensures { result ≡ next_node node North }
+{
+    if node.row() < 7 {
+        Node::new(node.name() + 100)
+    } else {
+        None
+    }
+}
+
+fn south(node: Node) -> Option<Node>
+    ensures { result ≡ next_node node South }
+{
+    if node.row() > 0 {
+        Node::new(node.name() - 100)
+    } else {
+        None
+    }
+}
+
+/// The side of a node at which another node is its neighbour, or `None` where the two are no neighbours.
+/// Seen from the other node the side has the same name.
+pub fn side_to(node: Node, other: Node) -> Option<Side>
+    ensures value { result ≡ side_to node other }
+    ensures exact { (side : Side) → (result ≡ Some side) ↔ (neighbour_of node side ≡ Some other) }
+{
+    if neighbour(node, Side::Right) == Some(other) {
+        Some(Side::Right)
+    } else if neighbour(node, Side::Down) == Some(other) {
+        Some(Side::Down)
+    } else if neighbour(node, Side::Left) == Some(other) {
+        Some(Side::Left)
+    } else if neighbour(node, Side::Up) == Some(other) {
+        Some(Side::Up)
+    } else {
+        None
+    }
 }
 
 /// A set of sides, by the bits that stand for them in a port address: right 80, down 40, left 20 and

@@ -1,4 +1,6 @@
-use crate::{Node, Side, Sides, Where, advance, idle_address, locate, port_address};
+use crate::{
+    Node, Side, Sides, Where, advance, cell, idle_address, locate, neighbour, port_address, side_to,
+};
 use bitflags::Flags;
 use std::test::Fail;
 
@@ -60,6 +62,68 @@ fn addresses(rt: HostRuntime) -> Result<(), Fail> {
         (0x141, Where::Unmapped),
     ] {
         assert_eq!(rt; locate(address), place, "at {address:x}");
+    }
+    Ok(())
+}
+
+const SIDES: [Side; 4] = [Side::Right, Side::Down, Side::Left, Side::Up];
+
+#[test]
+fn neighbours(rt: HostRuntime) -> Result<(), Fail> {
+    // the names at right, down, left and up
+    for (name, around) in [
+        (0, [Some(1), Some(100), None, None]),
+        (1, [Some(0), Some(101), Some(2), None]),
+        (17, [Some(16), Some(117), None, None]),
+        (100, [Some(101), Some(0), None, Some(200)]),
+        (506, [Some(507), Some(406), Some(505), Some(606)]),
+        (708, [Some(709), Some(608), Some(707), None]),
+        (709, [Some(708), Some(609), Some(710), None]),
+        (717, [Some(716), Some(617), None, None]),
+    ] {
+        let node = Node::new(name).ok_or("no such node")?;
+        for (side, there) in SIDES.into_iter().zip(around) {
+            let other = there.and_then(Node::new);
+            assert_eq!(rt; neighbour(node, side), other, "at {name} {side:?}");
+            if let Some(other) = other {
+                assert_eq!(rt; side_to(node, other), Some(side), "at {name} {side:?}");
+                assert_eq!(rt; side_to(other, node), Some(side), "at {name} {side:?}");
+            }
+        }
+    }
+    let node = Node::new(708).ok_or("no such node")?;
+    assert_eq!(rt; side_to(node, node), None);
+    assert_eq!(rt; side_to(node, Node::new(710).ok_or("no node 710")?), None);
+    Ok(())
+}
+
+#[test]
+fn cells(rt: HostRuntime) -> Result<(), Fail> {
+    let mut count = 0;
+    for node in (0..800).filter_map(Node::new) {
+        for side in SIDES {
+            if let Some(written) = cell(node, side) {
+                assert_eq!(rt; written.index(), count, "at {node} {side:?}");
+                assert!(rt; neighbour(node, side).is_some(), "at {node} {side:?}");
+                count += 1;
+            }
+        }
+    }
+    // two for each of the 262 shared ports
+    assert_eq!(rt; count, 524);
+    Ok(())
+}
+
+#[test]
+fn sets_of_sides(rt: HostRuntime) -> Result<(), Fail> {
+    for (sides, members, only) in [
+        (Sides::empty(), [false; 4], None),
+        (Sides::LEFT, [false, false, true, false], Some(Side::Left)),
+        (Sides::RIGHT | Sides::UP, [true, false, false, true], None),
+        (Sides::all(), [true; 4], None),
+    ] {
+        assert_eq!(rt; SIDES.map(|side| sides.has(side)), members, "of {sides:?}");
+        assert_eq!(rt; sides.only(), only, "of {sides:?}");
     }
     Ok(())
 }
