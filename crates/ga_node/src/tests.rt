@@ -1,7 +1,12 @@
-use crate::{Need, NodeState, Stop};
-use ga_place::{Node, Sides};
-use ga_word::Word18;
+use crate::decoded::Decoded;
+use crate::{Need, NodeState, Place, Stop};
+use ga_place::{Node, Side, Sides};
+use ga_word::{Op, Word18};
 use std::test::Fail;
+
+fn word(number: u32) -> Result<Word18, Fail> {
+    Ok(Word18::new(number).ok_or("more than 18 bits")?)
+}
 
 fn node_000() -> Result<Node, Fail> {
     Ok(Node::new(0).ok_or("no node 000")?)
@@ -11,13 +16,11 @@ fn node_000() -> Result<Node, Fail> {
 fn run(numbers: &[u32], tries: u32) -> Result<NodeState, Fail> {
     let mut words = [Word18::default(); 64];
     for (word, number) in words.iter_mut().zip(numbers) {
-        *word = Word18::new(*number).ok_or("more than 18 bits")?;
+        *word = self::word(*number)?;
     }
     let mut state = NodeState::loaded(node_000()?, &words, 0);
     for _ in 0..tries {
-        if state.need() == Need::Own {
-            state.step_own();
-        }
+        let _moved = state.try_own();
     }
     Ok(state)
 }
@@ -80,23 +83,329 @@ fn stack_order(rt: HostRuntime) -> Result<(), Fail> {
     Ok(())
 }
 
+/// A row of registers: P, R, T, S and A.
+type Registers = [u32; 5];
+
+/// Node 000 with items 11, 12 .. on its data stack, 21, 22 .. on its return stack, and 10A00 and 10A3F at
+/// both ends of its memory.
+fn filled() -> Result<NodeState, Fail> {
+    let mut words = [Word18::default(); 64];
+    words[0] = word(0x10A00)?;
+    words[63] = word(0x10A3F)?;
+    let mut state = NodeState::loaded(node_000()?, &words, 0);
+    for item in [8, 7, 6, 5, 4, 3, 2, 1] {
+        state.data_stack.push(word(0x10 + item)?);
+        state.return_stack.push(word(0x20 + item)?);
+    }
+    Ok(state)
+}
+
+/// An opcode in its slot, behind and in front of `.`. Each slot is stored with its part of 15555.
+fn packed(op: Op, place: Place, dest: u32) -> Result<Word18, Fail> {
+    let code = u32::from(op.code());
+    let rest = |filler| if op.takes_dest() { dest } else { filler };
+    word(match place {
+        Place::Slot0 => (code ^ 0x0A) % 32 * 0x2000 | rest(0x9B2),
+        Place::Slot1 => 0x2C000 | (code ^ 0x15) % 32 * 0x100 | rest(0xB2),
+        Place::Slot2 => 0x2C900 | (code ^ 0x0A) % 32 * 8 | rest(2),
+        _ => 0x2C9B0 | (code / 4 ^ 5),
+    })
+}
+
+/// The filled node about to run an opcode in a slot, with these registers, and in B the low nine bits of A.
+fn before(op: Op, place: Place, dest: u32, registers: Registers) -> Result<NodeState, Fail> {
+    let mut state = filled()?;
+    let [p, r, t, s, a] = registers;
+    state.place = place;
+    state.posted = None;
+    state.word = Decoded::new(packed(op, place, dest)?);
+    state.p = (p % 0x400) as u16;
+    state.b = (a % 0x200) as u16;
+    state.r = word(r)?;
+    state.t = word(t)?;
+    state.s = word(s)?;
+    state.a = word(a)?;
+    Ok(state)
+}
+
+fn registers(state: &NodeState) -> Registers {
+    [
+        u32::from(state.p()),
+        state.r().get(),
+        state.t().get(),
+        state.s().get(),
+        state.a().get(),
+    ]
+}
+
+/// A step of an opcode in each row: its name, its slot and its destination; then P, R, T, S and A before the
+/// step, and after it; and the place after it. All numbers are hexadecimal.
+const OPCODES: &str = "\
+;     slot0 0    5   3FFFF 1     2     3   3FF 21    1     2     3      fetch
+;     slot3 0    5   12    1     2     3   12  21    1     2     3      fetch
+ex    slot0 0    2AA 3FC05 1     2     3   5   2AA   1     2     3      fetch
+ex    slot2 0    0   155   1     2     3   155 0     1     2     3      fetch
+jump  slot0 3FF  155 9     1     2     3   3FF 9     1     2     3      fetch
+jump  slot1 FF   2AA 9     1     2     3   2FF 9     1     2     3      fetch
+jump  slot1 0    3AA 9     1     2     3   300 9     1     2     3      fetch
+jump  slot2 7    2A8 9     1     2     3   2AF 9     1     2     3      fetch
+jump  slot2 0    2AF 9     1     2     3   2A8 9     1     2     3      fetch
+call  slot0 2A   201 9     1     2     3   2A  201   1     2     3      fetch
+call  slot1 10   3AA 9     1     2     3   310 3AA   1     2     3      fetch
+call  slot2 1    13  9     1     2     3   11  13    1     2     3      fetch
+unext slot0 0    5   0     1     2     3   5   21    1     2     3      slot1
+unext slot0 0    5   1     1     2     3   5   0     1     2     3      slot0
+unext slot3 0    5   0     1     2     3   5   21    1     2     3      fetch
+unext slot3 0    5   1     1     2     3   5   0     1     2     3      slot0
+unext slot2 0    5   3FFFF 1     2     3   5   3FFFE 1     2     3      slot0
+next  slot0 3FF  5   0     1     2     3   5   21    1     2     3      fetch
+next  slot0 3FF  5   1     1     2     3   3FF 0     1     2     3      fetch
+next  slot1 AB   3FF 2     1     2     3   3AB 1     1     2     3      fetch
+next  slot2 5    18  3FFFF 1     2     3   1D  3FFFE 1     2     3      fetch
+if    slot0 2A   5   9     0     2     3   2A  9     0     2     3      fetch
+if    slot0 2A   5   9     1     2     3   5   9     1     2     3      fetch
+if    slot1 AB   305 9     0     2     3   3AB 9     0     2     3      fetch
+if    slot2 7    305 9     20000 2     3   305 9     20000 2     3      fetch
+if    slot2 7    305 9     0     2     3   307 9     0     2     3      fetch
+-if   slot0 2A   5   9     1FFFF 2     3   2A  9     1FFFF 2     3      fetch
+-if   slot0 2A   5   9     20000 2     3   5   9     20000 2     3      fetch
+-if   slot1 AB   305 9     0     2     3   3AB 9     0     2     3      fetch
+-if   slot2 2    305 9     0     2     3   302 9     0     2     3      fetch
++*    slot0 0    5   9     0     3     5   5   9     1     3     20002  slot1
++*    slot3 0    5   9     20001 7     2   5   9     30000 7     20001  fetch
++*    slot0 0    5   9     3FFFF 2     1   5   9     0     2     20000  slot1
+2*    slot1 0    5   9     20001 2     3   5   9     2     2     3      slot2
+2/    slot1 0    5   9     20000 2     3   5   9     30000 2     3      slot2
+2/    slot1 0    5   9     1FFFF 2     3   5   9     FFFF  2     3      slot2
+-     slot1 0    5   9     0     2     3   5   9     3FFFF 2     3      slot2
++     slot3 0    5   9     1     3FFFF 3   5   9     0     11    3      fetch
+and   slot0 0    5   9     FFFF  2AAAA 3   5   9     AAAA  11    3      slot1
+or    slot0 0    5   9     FFFF  2AAAA 3   5   9     25555 11    3      slot1
+drop  slot2 0    5   9     1     2     3   5   9     2     11    3      slot3
+dup   slot3 0    5   9     1     2     3   5   9     1     1     3      fetch
+pop   slot0 0    5   9     1     2     3   5   21    9     1     3      slot1
+over  slot0 0    5   9     1     2     3   5   9     2     1     3      slot1
+a     slot0 0    5   9     1     2     3   5   9     3     1     3      slot1
+.     slot3 0    5   9     1     2     3   5   9     1     2     3      fetch
+push  slot0 0    5   9     1     2     3   5   1     2     11    3      slot1
+b!    slot0 0    5   9     3FFFF 2     3   5   9     2     11    3      slot1
+a!    slot0 0    5   9     3FFFF 2     3   5   9     2     11    3FFFF  slot1
+";
+
+fn field(row: &str, at: usize) -> Result<&str, Fail> {
+    Ok(row.split_whitespace().nth(at).ok_or("too few fields")?)
+}
+
+fn hex(text: &str) -> Result<u32, Fail> {
+    Ok(u32::from_str_radix(text, 16).ok().ok_or("no number")?)
+}
+
+fn number(row: &str, at: usize) -> Result<u32, Fail> {
+    hex(field(row, at)?)
+}
+
+fn five(row: &str, at: usize) -> Result<Registers, Fail> {
+    let mut numbers = [0; 5];
+    for (number, text) in numbers.iter_mut().zip(row.split_whitespace().skip(at)) {
+        *number = hex(text)?;
+    }
+    Ok(numbers)
+}
+
+fn place(text: &str) -> Result<Place, Fail> {
+    match text {
+        "slot0" => Ok(Place::Slot0),
+        "slot1" => Ok(Place::Slot1),
+        "slot2" => Ok(Place::Slot2),
+        "slot3" => Ok(Place::Slot3),
+        _ => Ok(Place::Fetch),
+    }
+}
+
+#[test]
+fn opcodes(rt: HostRuntime) -> Result<(), Fail> {
+    for row in OPCODES.lines() {
+        let op = Op::from_name(field(row, 0)?).ok_or("no opcode")?;
+        let mut state = before(op, place(field(row, 1)?)?, number(row, 2)?, five(row, 3)?)?;
+        assert_eq!(rt; state.need(), Need::Own, "{row}");
+        state.step_own();
+        assert_eq!(rt; registers(&state), five(row, 8)?, "{row}");
+        assert_eq!(rt; state.place, place(field(row, 13)?)?, "{row}");
+        assert_eq!(rt; state.steps(), 1, "{row}");
+    }
+    let mut state = before(Op::BStore, Place::Slot0, 0, [5, 9, 0x3FE5D, 2, 3])?;
+    assert!(rt; state.try_own());
+    assert_eq!(rt; state.b(), 0x05D);
+    Ok(())
+}
+
+/// A read in each row: the opcode, P and A before it, the word that it finds, P and A after it.
+const READS: &str = "\
+@p 03F 0      10A3F  040 0
+@p 040 0      10A00  041 0
+@p 07F 0      10A3F  000 0
+@p 200 0      10A00  201 0
+@p 0A9 0      10195  0AA 0
+@+ 0   0003F  10A3F  0   00040
+@+ 0   0007F  10A3F  0   00000
+@+ 0   3FE7F  10A3F  0   3FE00
+@+ 0   000E9  10195  0   000EA
+@b 03F 00040  10A00  03F 00040
+@  03F 3FE7F  10A3F  03F 3FE7F
+";
+
+/// A write of 155 in each row: the opcode, P and A before it, and after it; then what 000, 03F and io hold.
+const WRITES: &str = "\
+!p 03F 0      040 0      10A00 155   0
+!p 07F 0      000 0      10A00 155   0
+!p 240 0      241 0      155   10A3F 0
+!p 15D 0      15D 0      10A00 10A3F 155
+!+ 0   0007F  0   00000  10A00 155   0
+!+ 0   3FE40  0   3FE41  155   10A3F 0
+!+ 0   3FF5D  0   3FF5D  10A00 10A3F 155
+!b 03F 00040  03F 00040  155   10A3F 0
+!  03F 0007F  03F 0007F  10A00 155   0
+";
+
+#[test]
+fn memory(rt: HostRuntime) -> Result<(), Fail> {
+    for row in READS.lines() {
+        let op = Op::from_name(field(row, 0)?).ok_or("no opcode")?;
+        let start = [number(row, 1)?, 9, 1, 2, number(row, 2)?];
+        let mut state = before(op, Place::Slot0, 0, start)?;
+        assert!(rt; state.try_own(), "{row}");
+        let end = [number(row, 4)?, 9, number(row, 3)?, 1, number(row, 5)?];
+        assert_eq!(rt; registers(&state), end, "{row}");
+        assert_eq!(rt; state.place, Place::Slot1, "{row}");
+    }
+    for row in WRITES.lines() {
+        let op = Op::from_name(field(row, 0)?).ok_or("no opcode")?;
+        let start = [number(row, 1)?, 9, 0x155, 2, number(row, 2)?];
+        let mut state = before(op, Place::Slot0, 0, start)?;
+        assert!(rt; state.try_own(), "{row}");
+        let end = [number(row, 3)?, 9, 2, 0x11, number(row, 4)?];
+        assert_eq!(rt; registers(&state), end, "{row}");
+        let holds = [state.ram()[0], state.ram()[63], state.io()].map(|word| word.get());
+        let held = [number(row, 5)?, number(row, 6)?, number(row, 7)?];
+        assert_eq!(rt; holds, held, "{row}");
+        assert_eq!(rt; state.place, Place::Slot1, "{row}");
+    }
+    Ok(())
+}
+
+#[test]
+fn multiply_step(rt: HostRuntime) -> Result<(), Fail> {
+    // `@p a! @p .` 5 3, `@p . . .` 0, `@p push . .` 17, `+* unext . .`
+    let numbers = [0x04A12, 5, 3, 0x049B2, 0, 0x048B2, 17, 0x351B2];
+    let once = run(&numbers, 17)?;
+    assert_eq!(rt;
+        (once.t().get(), once.s().get(), once.a().get()),
+        (1, 3, 0x20002)
+    );
+    let all = run(&numbers, 52)?;
+    assert_eq!(rt;
+        (all.t().get(), all.s().get(), all.a().get()),
+        (0, 3, 0x0000F)
+    );
+    assert_eq!(rt; (all.place, all.r().get()), (Place::Slot2, 0));
+    Ok(())
+}
+
 #[test]
 fn stops(rt: HostRuntime) -> Result<(), Fail> {
+    // words, how many steps they make, and the stop
     let table = [
-        (0x100AA, 2, Stop::Rom),
-        (0x10141, 2, Stop::Unmapped),
-        (0x1015D, 2, Stop::IoRead),
-        (0x10200, 2, Stop::Extended),
-        (0x15555, 1, Stop::Unbuilt),
+        // a fetch, after `jump`
+        ([0x100AA, 0, 0, 0].as_slice(), 2, Stop::Rom),
+        (&[0x10141], 2, Stop::Unmapped),
+        (&[0x1015D], 2, Stop::IoRead),
+        (&[0x10200], 2, Stop::Extended),
+        // `@b` at io
+        (&[0x009B2], 1, Stop::IoRead),
+        // `@p @p b! .`, a word, an address, and `!b`: at all four ports, at ROM, where nothing is
+        (&[0x05DA2, 1, 0x1A5, 0x089B2], 6, Stop::MultiWrite),
+        (&[0x05DA2, 1, 0x0A9, 0x089B2], 6, Stop::Rom),
+        (&[0x05DA2, 1, 0x155, 0x089B2], 6, Stop::Unmapped),
+        // `@p @p a! .` and `@`
+        (&[0x05DAA, 1, 0x080, 0x029B2], 6, Stop::Rom),
     ];
-    for (number, steps, stop) in table {
-        let state = run(&[number], 9)?;
+    for (numbers, steps, stop) in table {
+        let mut state = run(numbers, 9)?;
         assert_eq!(rt; state.need(), Need::Stopped(stop));
-        assert_eq!(rt; state.stop(), Some(stop));
-        assert_eq!(rt; state.steps(), steps, "to {stop}");
+        assert_eq!(rt;
+            (state.stop(), state.steps()),
+            (Some(stop), steps),
+            "to {stop}"
+        );
+        assert!(rt; !state.try_own(), "at {stop}");
+        assert_eq!(rt; state.steps(), steps, "at {stop}");
     }
-    assert_eq!(rt; run(&[0x101D5], 9)?.need(), Need::Take(Sides::RIGHT));
     assert_eq!(rt; run(&[0x2C9B2], 5)?.stop(), None);
+    Ok(())
+}
+
+#[test]
+fn ports(rt: HostRuntime) -> Result<(), Fail> {
+    // `jump right`: the node fetches at the port, and then `@p` takes a literal there
+    let mut state = run(&[0x101D5], 9)?;
+    assert_eq!(rt;
+        (state.need(), state.steps()),
+        (Need::Take(Sides::RIGHT), 2)
+    );
+    state.step_took(Side::Right, word(0x049B2)?);
+    assert_eq!(rt;
+        (state.word().get(), state.p(), state.place),
+        (0x049B2, 0x1D5, Place::Slot0)
+    );
+    assert_eq!(rt; state.need(), Need::Take(Sides::RIGHT));
+    state.step_took(Side::Right, word(0x155)?);
+    assert_eq!(rt;
+        (state.t().get(), state.p(), state.place),
+        (0x155, 0x1D5, Place::Slot1)
+    );
+    assert_eq!(rt; state.steps(), 4);
+    // `@+`, `@b` and `@` at several ports
+    for op in [Op::FetchPlus, Op::FetchB, Op::Fetch] {
+        let mut state = before(op, Place::Slot0, 0, [5, 9, 1, 2, 0x001A5])?;
+        let Need::Take(sides) = state.need() else {
+            return Err("no take".into());
+        };
+        assert!(rt; sides.has(Side::Up) && sides.has(Side::Left), "{op:?}");
+        assert!(rt; !state.try_own());
+        state.step_took(Side::Up, word(0x155)?);
+        assert_eq!(rt; registers(&state), [5, 9, 0x155, 1, 0x001A5], "{op:?}");
+        assert_eq!(rt; state.place, Place::Slot1);
+    }
+    Ok(())
+}
+
+#[test]
+fn posts(rt: HostRuntime) -> Result<(), Fail> {
+    for (op, p, a) in [
+        (Op::StoreP, 0x1D5, 0),
+        (Op::StorePlus, 5, 0x3FFD5),
+        (Op::StoreB, 5, 0x001D5),
+        (Op::Store, 5, 0x001D5),
+    ] {
+        let mut state = before(op, Place::Slot0, 0, [p, 9, 0x155, 2, a])?;
+        assert_eq!(rt; state.need(), Need::Post(Side::Right, word(0x155)?));
+        assert_eq!(rt; (state.try_own(), state.waiting()), (false, None));
+        // it pops the word, and an address of a port stays
+        state.step_posted();
+        assert_eq!(rt; registers(&state), [p, 9, 2, 0x11, a], "{op:?}");
+        assert_eq!(rt;
+            (state.need(), state.place),
+            (Need::Check(Side::Right), Place::Slot0)
+        );
+        assert_eq!(rt;
+            (state.try_own(), state.waiting()),
+            (false, Some(Side::Right))
+        );
+        state.step_checked();
+        assert_eq!(rt; registers(&state), [p, 9, 2, 0x11, a], "{op:?}");
+        assert_eq!(rt; (state.need(), state.place), (Need::Own, Place::Slot1));
+        assert_eq!(rt; (state.waiting(), state.steps()), (None, 2));
+    }
     Ok(())
 }
 

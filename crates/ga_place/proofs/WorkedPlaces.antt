@@ -1,7 +1,7 @@
 -- Worked values of the definitions.
 use Rattle.std.proofs.Common.{◌≡◌, refl}
 use Rattle.ga_place.specs.Address.{port_address_of, idle_address_of, advance_of, where_is}
-use Rattle.ga_place.specs.Cell.{cell_of, read_cell}
+use Rattle.ga_place.specs.Cell.{all_cells, cell_of, read_cell}
 use Rattle.ga_place.specs.Side.{neighbour_of, side_to, sides_with}
 use Rattle.std.specs.Prelude.{Some, None}
 use Rattle.ga_place.specs.declared.side.Side.TheVariants.{Right, Down, Left, Up}
@@ -90,32 +90,32 @@ side_of_710 = refl
 
 -- the cells of 000, which has right and down, and the first of 001
 first_cell : cell_of 0 Right ≡ Some 0
-unfolding cell_of
+unfolding cell_of all_cells
 first_cell = refl
 
 no_cell_left_of_000 : cell_of 0 Left ≡ None
-unfolding cell_of
+unfolding cell_of all_cells
 no_cell_left_of_000 = refl
 
 third_cell : cell_of 1 Right ≡ Some 2
-unfolding cell_of
+unfolding cell_of all_cells
 third_cell = refl
 
 -- row 0 has 52 cells, and the last one of all is 717's at down
 first_of_row_1 : cell_of 100 Right ≡ Some 52
-unfolding cell_of
+unfolding cell_of all_cells
 first_of_row_1 = refl
 
 last_cell : cell_of 717 Down ≡ Some 523
-unfolding cell_of
+unfolding cell_of all_cells
 last_cell = refl
 
 -- 001 reads what 000 writes at the port that they share
 read_by_001 : read_cell 1 Right ≡ Some 0
-unfolding cell_of
+unfolding cell_of all_cells
 read_by_001 = refl
 
 -- no node 018
 no_cell_of_018 : cell_of 18 Right ≡ None
-unfolding cell_of
+unfolding cell_of all_cells
 no_cell_of_018 = refl
