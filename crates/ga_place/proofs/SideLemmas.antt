@@ -3,8 +3,9 @@ use Rattle.std.proofs.Common.{◌≡◌, ℕ, true, arith}
 use Rattle.std.proofs.lemmas.Grind.{common_steps}
 use Rattle.std.specs.Prelude.{◌==◌, ◌||◌, not, Some}
 use Rattle.ga_place.specs.Node.{row_of, column_of, IsNodeName}
-use Rattle.ga_place.specs.Side.{has_side, neighbour_of, sides_bits, sides_by_edge}
+use Rattle.ga_place.specs.Side.{has_side, is_among, neighbour_of, one_side, sides_bits, sides_by_edge}
 use Rattle.ga_place.specs.declared.side.Side.{Side}
+use Rattle.ga_place.specs.declared.side.Sides.{Sides}
 use Rattle.ga_place.specs.declared.side.Side.TheVariants.{Right, Down, Left, Up}
 
 -- each node has a right side
@@ -40,3 +41,7 @@ shared_port name other Right named e = grind (arith, common_steps)
 shared_port name other Down named e = grind (arith, common_steps)
 shared_port name other Left named e = grind (arith, common_steps)
 shared_port name other Up named e = grind (arith, common_steps)
+
+-- the one side in a set is in the set
+pub one_side-among : (sides : Sides) (side : Side) → one_side sides ≡ Some side → is_among side sides ≡ true
+one_side-among sides side e = grind (arith, common_steps)
