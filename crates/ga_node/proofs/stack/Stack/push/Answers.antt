@@ -1,4 +1,4 @@
-use Rattle.std.proofs.Common.{rules, ◌≡◌, ℕ, ◌<◌, ◌∷◌, take, drop, ap, ◌∙◌, ◌+◌, ◌-◌, length, arith}
+use Rattle.std.proofs.Common.{rules, ◌≡◌, length, arith}
 use Rattle.ga_node.proofs.StackRing.{pushed, pushed_round}
 use Rattle.ga_node.proofs.stack.Stack.push.Goals as goal
 use Rattle.ga_node.proofs.stack.Stack.push.Goals.{then-self-eq0, else-self-eq0}
