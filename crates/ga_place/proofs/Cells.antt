@@ -1,5 +1,5 @@
 -- Each cell has one writer and one reader.
-use Rattle.std.proofs.Common.{◌≡◌, ℕ, ◌<◌, length, true, false, get_or, Option, Some, None, refl, sym, ap, ◌∙◌, subst, arith, Bool, is_some, ap₂}
+use Rattle.std.proofs.Common.{◌≡◌, ℕ, ◌<◌, List, length, true, false, get_or, Option, Some, None, refl, sym, ap, ◌∙◌, subst, arith, Bool, is_some, ap₂}
 use Rattle.std.specs.Prelude.{if◌then◌else◌, ◌==◌}
 use Rattle.std.specs.List.{list_all}
 use Rattle.std.proofs.lemmas.List.Folds.{list_all_at}
@@ -13,6 +13,14 @@ use Rattle.ga_place.specs.declared.side.Side.{Side}
 use Rattle.ga_place.specs.declared.side.Side.TheVariants.{Right, Down, Left, Up}
 use Rattle.ga_place.proofs.SideLemmas.{shared_port}
 use Rattle.ga_place.specs.Cell.{all_cells, cell_of, index_of, is_cell, name_at, read_cell}
+
+-- an item of a list whose items all pass a test passes it
+pub passes : {X : Type 0} (p : X → Bool) (xs : List X) (index : ℕ) (default : X) → index < length xs → list_all p xs ≡ true → p (get_or xs index default) ≡ true
+passes p xs index default below all = by (p (get_or xs index default)) refl
+  where
+    by : (b : Bool) → p (get_or xs index default) ≡ b → p (get_or xs index default) ≡ true
+    by true e = e
+    by false e = absurd (false≢true (sym (list_all_at p xs index default below e) ∙ all))
 
 how_many : length all_cells ≡ 524
 unfolding all_cells
@@ -98,11 +106,8 @@ unfolding cell_of
 neighbour_there name cell side e =
     let at = cell_there name cell side e in
     let below = (position-Some (is_cell name side) all_cells cell (0, Right) e).0 in
-    has_neighbour name side (neighbour_of name side) refl (ap₂ has_side (sym at.0) (sym at.1) ∙ passes (has_side (get_or all_cells cell (0, Right)).0 (get_or all_cells cell (0, Right)).1) refl below)
-  where
-    passes : (b : Bool) → has_side (get_or all_cells cell (0, Right)).0 (get_or all_cells cell (0, Right)).1 ≡ b → cell < length all_cells → has_side (get_or all_cells cell (0, Right)).0 (get_or all_cells cell (0, Right)).1 ≡ true
-    passes true e below = e
-    passes false e below = absurd (false≢true (sym (list_all_at (λ cell. has_side cell.0 cell.1) all_cells cell (0, Right) below e) ∙ all_have_sides))
+    let has = passes (λ cell. has_side cell.0 cell.1) all_cells cell (0, Right) below all_have_sides in
+    has_neighbour name side (neighbour_of name side) refl (ap₂ has_side (sym at.0) (sym at.1) ∙ has)
 
 -- the place of a node has its name
 pub name_back : (name : ℕ) → index_of name < 144 → name_at (index_of name) ≡ name
