@@ -4,6 +4,7 @@ ghost use Rattle.ga_node.specs.Line.{place_text};
 use std::fmt;
 
 /// Where a node stands between two steps: before a fetch, or before a slot of the word in execution.
+// In this order each slot and then the fetch follows the one before, so that going on is an addition.
 #[derive(Clone, Copy, Debug, PartialEq, Eq)]
 pub enum Place {
     Slot0,
