@@ -1,6 +1,6 @@
 -- A text is cut into lines, and a line into runs, and so its tokens are found.
-use Rattle.std.proofs.Common.{rules, ◌≡◌, ◌∙◌, ◌++◌, ◌+◌, ◌-◌, ◌<◌, ◌≤◌, ◌⊎◌, ℕ, Bool, true, false, not, Option, Some, None, List, [], ◌∷◌, inl, inr, map, length, take, drop, get_or, take_all, take-append-drop, length-drop, refl, sym, ap, ap₂, subst, append_assoc, arith, length-append}
-use Rattle.std.specs.Prelude.{◌==◌, ◌||◌, All, codes, count_by, filter, slice_range, if◌then◌else◌}
+use Rattle.std.proofs.Common.{rules, ◌≡◌, ◌∙◌, ◌++◌, ◌+◌, ◌-◌, ◌<◌, ◌≤◌, ◌⊎◌, ℕ, Bool, true, false, not, Some, None, List, [], ◌∷◌, inl, inr, map, length, take, drop, get_or, take_all, take-append-drop, length-drop, refl, sym, ap, ap₂, subst, append_assoc, arith, length-append}
+use Rattle.std.specs.Prelude.{◌==◌, All, codes, count_by, filter, if◌then◌else◌}
 use Rattle.std.specs.List.{position, position_or_len, slice_split, onto_first}
 use Rattle.std.specs.Str.{bytes_eq}
 use Rattle.std.proofs.Math.Seq.{take-append_seam}
@@ -137,7 +137,6 @@ next_stands bytes at column run others s (inr (y, rest, whole, blank, left)) = i
   parts = left;
   columns = omega (arith, s.columns, count_append s.front (run ++ y ∷ []), count_append run (y ∷ []), ap {B = ℕ} (λ b. if b then 1 else 0) (blank_begins y blank));
 })
-
 
 pub next_part : (bytes : List ℕ) (at column : ℕ) (run : List ℕ) (others : List (List ℕ)) → (run ∷ others ≡ []) ⊎ Stands bytes at column (run ∷ others) → Next bytes at column run others
 next_part bytes at column run others (inl none) = absurd (cc)

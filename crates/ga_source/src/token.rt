@@ -49,7 +49,12 @@ pub fn tokens(alloc: Global, text: &str) -> Result<Vec<Token>, AllocError>
 }
 
 /// Adds the tokens of a line, which has a number and begins at an offset of the text.
-fn add_line(tokens: &mut Vec<Token>, line: usize, start: usize, bytes: &[u8]) -> Result<(), AllocError>
+fn add_line(
+    tokens: &mut Vec<Token>,
+    line: usize,
+    start: usize,
+    bytes: &[u8],
+) -> Result<(), AllocError>
     requires { start + length bytes.now < 2 ^ 63 }
     ensures { IfOk result (λ done. tokens.new.items ≡ tokens.old.items ++ map token_of (line_lexemes line start bytes.now)) }
 {
@@ -136,14 +141,18 @@ fn run_end(line: &[u8]) -> Option<usize>
 fn characters(bytes: &[u8]) -> usize
     ensures { result ≡ count_by begins_character bytes.now }
 {
-    bytes.iter().filter(|byte| begins_character(**byte)).count()
+    let mut characters = 0;
+    for byte in bytes {
+        characters += usize::from(begins_character(*byte));
+    }
+    characters
 }
 
 /// Whether a byte ends a run: space, tab, LF and CR.
 fn is_blank(byte: u8) -> bool
     ensures { result ≡ is_blank byte }
 {
-    matches!(byte, b' ' | b'\t' | b'\n' | b'\r')
+    byte <= b' ' && matches!(byte, b' ' | b'\t' | b'\n' | b'\r')
 }
 
 /// Whether a byte begins a character in UTF-8.

@@ -1,4 +1,4 @@
-use Rattle.std.proofs.Common.{lit<, ◌≡◌, ◌∙◌, ◌+◌, ◌∷◌, ◌++◌, [], List, ℕ, ap, sym, subst, arith, map, length}
+use Rattle.std.proofs.Common.{lit<, ◌≡◌, ◌∙◌, ◌+◌, ◌∷◌, [], List, ℕ, ap, sym, subst, arith, map}
 use Rattle.std.specs.Borrow.{Bor}
 use Rattle.std.specs.Prelude.{count_by}
 use Rattle.std.proofs.lemmas.List.{length-map, map-append}

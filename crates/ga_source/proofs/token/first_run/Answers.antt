@@ -1,4 +1,4 @@
-use Rattle.std.proofs.Common.{◌≡◌, sym, ◌∙◌}
+use Rattle.std.proofs.Common.{sym, ◌∙◌}
 use Rattle.ga_source.proofs.Lines.{split_at_end, split_without_end}
 use Rattle.ga_source.proofs.token.first_run.Goals as goal
 

@@ -1,9 +1,9 @@
-use Rattle.std.proofs.Common.{rules, lit<, ◌≡◌, ◌∙◌, ◌+◌, ◌∷◌, ap, sym, subst, arith, ℕ, List, map, length, drop}
+use Rattle.std.proofs.Common.{lit<, ◌≡◌, ◌∙◌, ◌+◌, ap, sym, subst, arith, List, map, length, drop}
 use Rattle.std.specs.Prelude.{All, ◌≤◌, slice_range}
 use Rattle.std.proofs.lemmas.List.{drop_all, length_push}
 use Rattle.std.proofs.lemmas.Iterator.Consumers.{YieldsList-end, YieldsList-turn}
 use Rattle.std.proofs.lemmas.Iterator.Splits.{YieldsList-from_str_split}
-use Rattle.ga_pack.specs.Model.Text.{lexemes, lines_of, texts_of}
+use Rattle.ga_pack.specs.Model.Text.{lexemes, lines_of}
 use Rattle.ga_source.specs.Token.{token_of}
 use Rattle.ga_source.specs.declared.token.Token.{Token}
 use Rattle.ga_source.proofs.Lines.{Read, all_read, at_line, behind_line, nothing_read}
