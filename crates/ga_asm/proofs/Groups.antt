@@ -3,15 +3,14 @@ use Rattle.std.proofs.Common.{◌≡◌, ◌∙◌, ◌<◌, ◌≤◌, ℕ, suc
 use Rattle.std.proofs.Math.Seq.{drop-append_seam, drop-cons, take-append_seam}
 use Rattle.std.proofs.Math.ListN.{drop_of_length-le}
 use Rattle.std.proofs.lemmas.Bool.{and_from, and_parts, both_ways}
-use Rattle.std.proofs.lemmas.Grind.{common_steps}
 use Rattle.std.proofs.lemmas.List.{drop-map, take-map}
 use Rattle.std.proofs.lemmas.List.Folds.{list_all-append}
 use Rattle.std.specs.Prelude.{if◌then◌else◌}
 use Rattle.std.specs.List.{list_all}
 use Rattle.std.specs.Option.{unwrap_or}
 use Rattle.ga_word.specs.declared.op.Op.{Op}
-use Rattle.ga_pack.specs.Model.Layout.{Labels, Group, Shared, Alone, Arranged, GroupWords, StandIn, Words, address_after, all_in_reach, code_end, group_in_reach, is_defined, is_in_reach, is_loose, items_of, joins, labels_after, labels_behind, last_dest, names_in, op_of, ops_of, size, stand}
-use Rattle.ga_pack.specs.Model.LayoutFault.{OutOfReach, Passed, SecondPassFault, fault_behind}
+use Rattle.ga_pack.specs.Model.Layout.{Labels, Group, Shared, Alone, Arranged, GroupWords, StandIn, Words, address_after, all_in_reach, code_end, group_in_reach, is_in_reach, is_loose, items_of, joins, labels_after, labels_behind, last_dest, names_in, op_of, ops_of, size, stand}
+use Rattle.ga_pack.specs.Model.LayoutFault.{OutOfReach, Passed, SecondPassFault}
 use Rattle.ga_pack.specs.Model.Source.{Item, Instruction, Transfer, Literal, Here, Align, Word, WordTo, Plain, Data, is_item}
 use Rattle.ga_pack.proofs.Encoded.{shapeless_many}
 use Rattle.ga_pack.proofs.OneLayout.{joins_loose}
@@ -24,6 +23,7 @@ use Rattle.ga_asm.specs.Making.{IsGroup, IsGroupBy, IsMade, IsPackable, Making, 
 use Rattle.ga_asm.specs.declared.layout.Layout as the
 use Rattle.ga_asm.proofs.MakingSteps.{plain_length}
 use Rattle.ga_asm.proofs.Summary.{code_is, code_within, ops_length}
+use Rattle.ga_pack.proofs.Laying.{all_defined}
 
 -- ---- the items of a group
 
@@ -344,17 +344,6 @@ making_none items l words p none = record {
 no_groups : (groups : List Group) → map count_of groups ≡ [] → groups ≡ []
 no_groups [] e = refl
 no_groups (g ∷ groups) e = absurd (cc)
-
-no_fault_defined : (names : List (List ℕ)) (groups : List Group) (i : Item) → fault_behind names groups i ≡ None → is_defined names i ≡ true
-unfolding fault_behind
-no_fault_defined names groups i h = grind (arith, common_steps)
-
-all_defined : (names : List (List ℕ)) (before items : List Item) → Passed names before items → list_all (is_defined names) items ≡ true
-unfolding Passed
-all_defined names before [] passed = refl
-all_defined names before (i ∷ items) passed =
-    and_from (is_defined names i) (list_all (is_defined names) items)
-    (no_fault_defined names passed.0.groups i passed.0.fault_is) (all_defined names (before ++ i ∷ []) items passed.1)
 
 pub making_all : (items : List Item) (l : the.Layout) (counts : List ℕ) (done : ℕ) (rest : List Item) (words : List ℕ) → Making items l done rest words → counts ≡ l.counts.items → length counts ≤ done → IsMade items l words
 making_all items l counts done rest words m same h =

@@ -127,7 +127,7 @@ no_fault_defined : (names : List (List ℕ)) (groups : List Group) (i : Item) �
 unfolding fault_behind
 no_fault_defined names groups i h = grind (arith, common_steps)
 
-all_defined : (names : List (List ℕ)) (before items : List Item) → Passed names before items → list_all (is_defined names) items ≡ true
+pub all_defined : (names : List (List ℕ)) (before items : List Item) → Passed names before items → list_all (is_defined names) items ≡ true
 unfolding Passed
 all_defined names before [] passed = refl
 all_defined names before (i ∷ items) passed =

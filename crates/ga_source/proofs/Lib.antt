@@ -8,7 +8,7 @@ mod Erasure
 mod ParserSteps
 mod Placing
 mod Reading
-mod Scanning
-mod Scans
+mod Lines
+mod Slices
 mod Numerals
 mod Names

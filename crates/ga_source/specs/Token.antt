@@ -1,11 +1,13 @@
--- Tokens and places, as the model has them, and the scan that finds them.
-use Rattle.std.specs.Prelude.{◌==◌, ◌||◌, ℕ, ◌+◌, false, List, codes, length, slice_index, slice_range, Option, Some, None, if◌then◌else◌}
-use Rattle.std.specs.Str.{bytes_eq}
+-- Tokens and places, as the model has them, and the runs of a line.
+use Rattle.std.specs.Prelude.{◌+◌, ℕ, List, [], Option, length}
+use Rattle.std.specs.Borrow.{Bor}
+use Rattle.std.specs.List.{slice_split}
+use Rattle.std.specs.Option.{option_map_or}
 use Rattle.ga_word.specs.Text.{is_blank}
-use Rattle.ga_pack.specs.Model.Text.{Lexeme, Place, begins_character}
+use Rattle.ga_pack.specs.Model.Text.{Lexeme, Place}
 use Rattle.ga_source.specs.declared.token.Token as written
 use Rattle.ga_source.specs.declared.token.Place as here
-use Rattle.ga_source.specs.declared.token.Scan.{Scan}
+use Rattle.ga_source.specs.declared.token.Runs.{Runs}
 
 -- a token of a text ends behind its bytes
 abbrev pub token_of : Lexeme → written.Token
@@ -14,27 +16,10 @@ token_of lexeme = record { start = lexeme.start; end = lexeme.start + length lex
 abbrev pub place_of : here.Place → Place
 place_of place = record { line = place.line; column = place.column }
 
--- the token that a run is, if it is one
-abbrev pub run_token : Scan → List ℕ → ℕ → Option written.Token
-run_token scan text end =
-    if scan.is_comment || (scan.start == end) || bytes_eq (slice_range text scan.start end) (codes "\\") then None
-    else Some (record { start = scan.start; end = end; line = scan.line; column = scan.start_column + 1 })
+-- the runs of what is left of a line, if anything is
+abbrev pub runs_of : Option (Bor (List ℕ)) → List (List ℕ)
+runs_of rest = option_map_or (λ line. slice_split is_blank line.now) rest []
 
-abbrev pub column_behind : ℕ → ℕ → ℕ
-column_behind column byte = column + (if begins_character byte then 1 else 0)
-
--- the scan behind one more byte
-abbrev pub behind : Scan → List ℕ → ℕ → ℕ → Scan
-behind scan text index byte =
-    if byte == 10 then record { line = scan.line + 1; column = 0; start = index + 1; start_column = 0; is_comment = false }
-    else if is_blank byte then record {
-      line = scan.line;
-      column = column_behind scan.column byte;
-      start = index + 1;
-      start_column = column_behind scan.column byte;
-      is_comment = scan.is_comment || bytes_eq (slice_range text scan.start index) (codes "\\");
-    }
-    else record scan { column = column_behind scan.column byte }
-
-abbrev pub behind_byte : Scan → List ℕ → ℕ → Scan
-behind_byte scan text index = behind scan text index (slice_index text index)
+-- the runs that an iterator has left
+abbrev pub runs_left : Runs → List (List ℕ)
+runs_left runs = runs_of runs.rest

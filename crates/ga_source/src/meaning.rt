@@ -117,28 +117,17 @@ fn number_named(text: &[u8]) -> Option<Word18>
 fn fixed(text: &[u8]) -> Option<Meaning<'_>>
     ensures { option_map meaning_of result ≡ model.as_fixed text.now }
 {
-    if b"node".as_slice() == text {
-        return Some(Meaning::Node);
-    }
-    if b"align".as_slice() == text {
-        return Some(Meaning::Align);
-    }
-    if b"data".as_slice() == text {
-        return Some(Meaning::Data);
-    }
-    if b"[".as_slice() == text {
-        return Some(Meaning::OpenMark);
-    }
-    if b"]".as_slice() == text {
-        return Some(Meaning::CloseMark);
-    }
-    if b",".as_slice() == text {
-        return Some(Meaning::Comma);
-    }
-    if b"/".as_slice() == text {
-        return Some(Meaning::Slash);
-    }
-    None
+    let meaning = match text {
+        b"node" => Meaning::Node,
+        b"align" => Meaning::Align,
+        b"data" => Meaning::Data,
+        b"[" => Meaning::OpenMark,
+        b"]" => Meaning::CloseMark,
+        b"," => Meaning::Comma,
+        b"/" => Meaning::Slash,
+        _ => return None,
+    };
+    Some(meaning)
 }
 
 /// A number that a word holds, or not.

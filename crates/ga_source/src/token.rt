@@ -1,8 +1,9 @@
-ghost use Rattle.std.specs.Prelude.{◌≡◌, ◌+◌, ◌<◌, ◌≤◌, ◌==◌, All, IfOk, codes, length, map, slice_index, slice_range};
-ghost use Rattle.std.specs.Str.{bytes_eq};
+ghost use Rattle.std.specs.Prelude.{◌≡◌, ◌+◌, ◌^◌, ◌<◌, ◌≤◌, ◌++◌, ◌∷◌, All, IfOk, count_by, length, map, slice_range};
+ghost use Rattle.std.specs.Iterator.{YieldsFirstRef, item_count};
+ghost use Rattle.std.specs.List.{position, slice_split};
 ghost use Rattle.ga_word.specs.Text.{is_blank};
-ghost use Rattle.ga_pack.specs.Model.Text.{begins_character, end_of, lexemes, texts_of};
-ghost use Rattle.ga_source.specs.Token.{behind_byte, place_of, run_token, token_of};
+ghost use Rattle.ga_pack.specs.Model.Text.{begins_character, end_of, lexemes, line_lexemes, texts_of};
+ghost use Rattle.ga_source.specs.Token.{place_of, runs_left, runs_of, token_of};
 
 use std::alloc::{AllocError, Global};
 
@@ -35,122 +36,123 @@ pub fn tokens(alloc: Global, text: &str) -> Result<Vec<Token>, AllocError>
     ensures inside { IfOk result (λ tokens. All (λ t. (t.start ≤ t.end) × (t.end ≤ length text.now)) tokens.items) }
     ensures slices { IfOk result (λ tokens. map (λ t. slice_range text.now t.start t.end) tokens.items ≡ texts_of text.now) }
 {
-    let text = text.as_bytes();
     let mut tokens = Vec::new(alloc);
-    let mut scan = Scan::START;
-    for (index, byte) in text.iter().enumerate() {
-        if is_blank(*byte) {
-            if let Some(token) = scan.token(text, index) {
-                tokens.push(token)?;
-            }
-        }
-        scan = scan.behind(text, index);
-    }
-    if let Some(token) = scan.token(text, text.len()) {
-        tokens.push(token)?;
+    let mut line = 1;
+    let mut start = 0;
+    for part in text.split('\n') {
+        let bytes = part.as_bytes();
+        add_line(&mut tokens, line, start, bytes)?;
+        line += 1;
+        start += bytes.len() + 1;
     }
     Ok(tokens)
+}
+
+/// Adds the tokens of a line, which has a number and begins at an offset of the text.
+fn add_line(
+    tokens: &mut Vec<Token>,
+    line: usize,
+    start: usize,
+    bytes: &[u8],
+) -> Result<(), AllocError>
+    requires { start + length bytes.now < 2 ^ 63 }
+    ensures { IfOk result (λ done. tokens.new.items ≡ tokens.old.items ++ map token_of (line_lexemes line start bytes.now)) }
+{
+    let mut start = start;
+    let mut column = 1;
+    for run in Runs::new(bytes) {
+        if run == b"\\".as_slice() {
+            break;
+        }
+        let end = start + run.len();
+        if start < end {
+            tokens.push(Token {
+                start,
+                end,
+                line,
+                column,
+            })?;
+        }
+        start = end + 1;
+        column += characters(run) + 1;
+    }
+    Ok(())
 }
 
 /// The place behind the last character of a text.
 pub(crate) fn end_place(text: &str) -> Place
     ensures { place_of result ≡ end_of text.now }
 {
-    let text = text.as_bytes();
-    let mut scan = Scan::START;
-    for index in 0..text.len() {
-        scan = scan.behind(text, index);
+    let mut line = 0;
+    let mut column = 1;
+    for part in text.split('\n') {
+        line += 1;
+        column = characters(part.as_bytes()) + 1;
     }
-    Place {
-        line: scan.line,
-        column: scan.column + 1,
-    }
+    Place { line, column }
 }
 
-/// Where a scan of a text stands: behind a run of bytes without a blank, which may be empty.
-#[derive(Clone, Copy)]
-struct Scan {
-    /// The line, from 1.
-    line: usize,
-    /// The characters of the line so far.
-    column: usize,
-    /// The offset of the run in the text.
-    start: usize,
-    /// The characters of the line before the run.
-    start_column: usize,
-    is_comment: bool,
+/// The runs of a line, which stand one blank apart, from the front. A run may be empty.
+#[derive(Drop)]
+struct Runs<'a> {
+    rest: Option<&'a [u8]>,
 }
 
-impl Scan {
-    /// At the front of a text.
-    const START: Scan = Scan {
-        line: 1,
-        column: 0,
-        start: 0,
-        start_column: 0,
-        is_comment: false,
-    };
-
-    /// The token that ends here, if the run is one.
-    fn token(self, text: &[u8], end: usize) -> Option<Token>
-        requires start { self.start ≤ end }
-        requires end { end ≤ length text.now }
-        requires column { self.start_column ≤ self.start }
-        ensures { result ≡ run_token self text.now end }
+impl<'a> Runs<'a> {
+    fn new(line: &'a [u8]) -> Self
+        ensures { runs_left result ≡ slice_split is_blank line.now }
     {
-        if self.is_comment || self.start == end || is_mark(&text[self.start..end]) {
-            return None;
-        }
-        Some(Token {
-            start: self.start,
-            end,
-            line: self.line,
-            column: self.start_column + 1,
-        })
-    }
-
-    /// The scan behind one more byte, which stands at an index.
-    fn behind(self, text: &[u8], index: usize) -> Scan
-        requires index { index < length text.now }
-        requires start { self.start ≤ index }
-        requires column { self.column ≤ index }
-        requires line { self.line ≤ index + 1 }
-        ensures { result ≡ behind_byte self text.now index }
-    {
-        let byte = text[index];
-        if byte == b'\n' {
-            return Scan {
-                line: self.line + 1,
-                start: index + 1,
-                ..Scan::START
-            };
-        }
-        let column = self.column + usize::from(begins_character(byte));
-        if !is_blank(byte) {
-            return Scan { column, ..self };
-        }
-        Scan {
-            column,
-            start: index + 1,
-            start_column: column,
-            is_comment: self.is_comment || is_mark(&text[self.start..index]),
-            ..self
-        }
+        Runs { rest: Some(line) }
     }
 }
 
-/// The run that begins a comment.
-fn is_mark(run: &[u8]) -> bool
-    ensures { result ≡ bytes_eq run.now (codes "\\") }
+impl<'a> Iterator for Runs<'a> {
+    type Item = &'a [u8];
+
+    ghost next_gives = { YieldsFirstRef runs_left };
+
+    ghost remaining = { item_count runs_left };
+
+    fn next(&mut self) -> Option<&'a [u8]> {
+        let (run, rest) = first_run(self.rest?);
+        self.rest = rest;
+        Some(run)
+    }
+}
+
+/// The first run of a line, and what stands behind the blank at its end.
+fn first_run(line: &[u8]) -> (&[u8], Option<&[u8]>)
+    ensures { slice_split is_blank line.now ≡ result.0.now ∷ runs_of result.1 }
 {
-    run == b"\\".as_slice()
+    match run_end(line) {
+        Some(end) => (&line[..end], Some(&line[end + 1..])),
+        None => (line, None),
+    }
+}
+
+/// Where the first blank stands.
+fn run_end(line: &[u8]) -> Option<usize>
+    ensures { result ≡ position is_blank line.now }
+{
+    line.iter().position(|byte| is_blank(*byte))
+}
+
+/// How many characters some bytes begin.
+fn characters(bytes: &[u8]) -> usize
+    ensures { result ≡ count_by begins_character bytes.now }
+{
+    let mut characters = 0;
+    for byte in bytes {
+        characters += usize::from(begins_character(*byte));
+    }
+    characters
 }
 
 /// Whether a byte ends a run: space, tab, LF and CR.
 fn is_blank(byte: u8) -> bool
     ensures { result ≡ is_blank byte }
 {
-    matches!(byte, b' ' | b'\t' | b'\n' | b'\r')
+    byte <= b' ' && matches!(byte, b' ' | b'\t' | b'\n' | b'\r')
 }
 
 /// Whether a byte begins a character in UTF-8.

@@ -1,5 +1,5 @@
 -- Hex digits and the number that they write.
-use Rattle.std.proofs.Common.{◌≡◌, ℕ, zero, suc, ◌+◌, ◌*◌, ◌/◌, ◌%◌, ◌^◌, ◌<◌, true, false, List, [], ◌∷◌, ◌++◌, length, ltb, take, get_or, ◌≤◌, lit<, Option, Some, None, refl, arith, sym, subst, ap, ◌∙◌, add-one}
+use Rattle.std.proofs.Common.{All, ◌≡◌, ℕ, zero, suc, ◌+◌, ◌*◌, ◌/◌, ◌%◌, ◌^◌, ◌<◌, true, false, List, [], ◌∷◌, ◌++◌, length, ltb, take, get_or, ◌≤◌, lit<, Option, Some, None, refl, arith, sym, subst, ap, ◌∙◌, add-one}
 use Rattle.std.proofs.Math.Nat.{pow-suc, pow-le-pow_right}
 use Rattle.std.proofs.lemmas.Nat.{shr-shr}
 use Rattle.std.proofs.lemmas.List.{length-append, take_all, take_more}
@@ -9,6 +9,7 @@ use Rattle.std.specs.List.{list_all}
 use Rattle.std.specs.Option.{SomeIff}
 use Rattle.std.specs.Char.{digit_value, is_digit}
 use Rattle.std.specs.Fmt.{digit_glyph}
+use Rattle.std.proofs.lemmas.List.Elements.{All-nil, All-push}
 use Rattle.ga_word.specs.Hex.{hex_digits, hex_number, is_word_text, word_of}
 
 -- a digit stands for itself
@@ -119,3 +120,11 @@ word_of-written text place number word five all so_far h =
     let value : number ≡ hex_number text = so_far.value ∙ ap hex_number whole in
     let digits : list_all (λ c. is_digit c 16) text ≡ true = ap (list_all (λ c. is_digit c 16)) (sym whole) ∙ so_far.digits in
     word_of-digits text word five digits (subst (λ n. SomeIff word (n < 2 ^ 18) n) value h)
+
+-- each digit is one byte of ASCII
+pub ascii-hex_digits : (width n : ℕ) → All (λ c. c < 128) (hex_digits width n)
+unfolding hex_digits
+ascii-hex_digits zero n = All-nil (λ c. c < 128)
+ascii-hex_digits (suc width) n =
+    let last : digit_glyph true (n % 16) < 128 = let low : n % 16 < 16 = omega arith in grind (arith, nat_tests) in
+    All-push (λ c. c < 128) (hex_digits width (n / 16)) (digit_glyph true (n % 16)) (ascii-hex_digits width (n / 16)) last

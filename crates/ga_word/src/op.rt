@@ -75,42 +75,6 @@ pub enum Op {
     AStore,
 }
 
-/// The opcodes in the order of their codes.
-const OPCODES: [Op; 32] = [
-    Op::Return,
-    Op::Execute,
-    Op::Jump,
-    Op::Call,
-    Op::Micronext,
-    Op::Next,
-    Op::If,
-    Op::MinusIf,
-    Op::FetchP,
-    Op::FetchPlus,
-    Op::FetchB,
-    Op::Fetch,
-    Op::StoreP,
-    Op::StorePlus,
-    Op::StoreB,
-    Op::Store,
-    Op::MultiplyStep,
-    Op::TwoStar,
-    Op::TwoSlash,
-    Op::Not,
-    Op::Plus,
-    Op::And,
-    Op::Or,
-    Op::Drop,
-    Op::Dup,
-    Op::Pop,
-    Op::Over,
-    Op::A,
-    Op::Nop,
-    Op::Push,
-    Op::BStore,
-    Op::AStore,
-];
-
 impl Op {
     /// The opcode with this code, or `None` from 20 (hexadecimal) up.
     pub fn from_code(code: u8) -> Option<Self>
@@ -214,10 +178,42 @@ impl Op {
     pub fn from_bytes(name: &[u8]) -> Option<Self>
         ensures { result ≡ find (λ op. bytes_eq (name_of op) name.now) opcodes }
     {
-        OPCODES
-            .iter()
-            .copied()
-            .find(|op| op.name().as_bytes() == name)
+        let op = match name {
+            b";" => Op::Return,
+            b"ex" => Op::Execute,
+            b"jump" => Op::Jump,
+            b"call" => Op::Call,
+            b"unext" => Op::Micronext,
+            b"next" => Op::Next,
+            b"if" => Op::If,
+            b"-if" => Op::MinusIf,
+            b"@p" => Op::FetchP,
+            b"@+" => Op::FetchPlus,
+            b"@b" => Op::FetchB,
+            b"@" => Op::Fetch,
+            b"!p" => Op::StoreP,
+            b"!+" => Op::StorePlus,
+            b"!b" => Op::StoreB,
+            b"!" => Op::Store,
+            b"+*" => Op::MultiplyStep,
+            b"2*" => Op::TwoStar,
+            b"2/" => Op::TwoSlash,
+            b"-" => Op::Not,
+            b"+" => Op::Plus,
+            b"and" => Op::And,
+            b"or" => Op::Or,
+            b"drop" => Op::Drop,
+            b"dup" => Op::Dup,
+            b"pop" => Op::Pop,
+            b"over" => Op::Over,
+            b"a" => Op::A,
+            b"." => Op::Nop,
+            b"push" => Op::Push,
+            b"b!" => Op::BStore,
+            b"a!" => Op::AStore,
+            _ => return None,
+        };
+        Some(op)
     }
 
     /// Whether slot 3 has room for the opcode: its lower two bits are 0.

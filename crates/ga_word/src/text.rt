@@ -1,12 +1,12 @@
-ghost use Rattle.std.specs.Prelude.{◌≡◌, ℕ, ◌<◌, Ok, Err, Some, IfOk, string_bytes};
+ghost use Rattle.std.specs.Prelude.{◌≡◌, ℕ, ◌<◌, Ok, Err, Some, ◌++◌, IfOk, string_bytes};
+ghost use Rattle.ga_word.specs.Hex.{hex_digits};
 ghost use Rattle.ga_word.specs.Text.{text_of_words, words_of_text};
 ghost use Rattle.ga_word.specs.declared.text.WordsError.TheVariants.{BadWord, Memory};
 
-use crate::hex::read_hex5;
+use crate::hex::{hex5, read_hex5};
 use crate::tokens::Tokens;
 use crate::word::Word18;
 use std::alloc::{AllocError, AllocFailed, Global};
-use std::fmt::Write;
 use thiserror::Error;
 
 /// Why a text was refused by [`read_words`].
@@ -35,11 +35,20 @@ pub fn words_text(alloc: Global, words: &[Word18]) -> Result<String, AllocError>
 {
     let mut text = String::new(alloc);
     for (place, word) in words.iter().enumerate() {
-        write!(text, "{word}")?;
+        push_word(&mut text, *word)?;
         let ends_line = place % 8 == 7 || place + 1 == words.len();
         text.push(if ends_line { '\n' } else { ' ' })?;
     }
     Ok(text)
+}
+
+fn push_word(text: &mut String, word: Word18) -> Result<(), AllocError>
+    ensures { IfOk result (λ done. string_bytes text.new ≡ string_bytes text.old ++ hex_digits 5 word) }
+{
+    for digit in hex5(word) {
+        text.push(char::from(digit))?;
+    }
+    Ok(())
 }
 
 /// The words of a text: tokens of five hex digits of either case, between spaces, tabs, CR and LF.

@@ -1,5 +1,6 @@
-use Rattle.ga_source.proofs.Scans.{Ends}
+use Rattle.std.proofs.Common.{map}
+use Rattle.ga_source.proofs.Lines.{Ended}
 use Rattle.ga_source.proofs.token.end_place.Given as goal
 
-abbrev pub invariant-loop-index : goal.invariant-loop-index
-invariant-loop-index l = Ends l.text l.index l.scan
+abbrev pub invariant-loop-part : goal.invariant-loop-part
+invariant-loop-part l = Ended (map (λ part. part.now) l.yielded) l.line l.column

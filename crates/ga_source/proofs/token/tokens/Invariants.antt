@@ -1,5 +1,7 @@
-use Rattle.ga_source.proofs.Scans.{Found}
+use Rattle.std.proofs.Common.{length, drop}
+use Rattle.ga_pack.specs.Model.Text.{lines_of}
+use Rattle.ga_source.proofs.Lines.{Read}
 use Rattle.ga_source.proofs.token.tokens.Given as goal
 
-abbrev pub invariant-loop-index : goal.invariant-loop-index
-invariant-loop-index l = Found l.text l.index l.scan l.tokens.items
+abbrev pub invariant-loop-part : goal.invariant-loop-part
+invariant-loop-part l = Read l.text l.line l.start (drop (length l.yielded) (lines_of l.text)) l.tokens.items
