@@ -245,8 +245,14 @@ impl Layout {
         self.is_open && !self.is_ended() && self.fits(item)
     }
 
-    // The first fault of the item, in a node with these labels.
-    fn fault_of(&self, names: &IndexSet<String>, item: &Item) -> Option<AsmErrorKind>
+    // The first fault of the item, which joins the open word or not, in a node with these labels.
+    fn fault_of(
+        &self,
+        names: &IndexSet<String>,
+        item: &Item,
+        joined: bool,
+    ) -> Option<AsmErrorKind>
+        requires joined { joined ≡ joins_word self.now (item_of item.now) }
         requires near { self.now.word ≤ 64 }
         requires few { self.now.address ≤ 64 }
         ensures { kind_in result ≡ faults.fault_at (map string_bytes names.now.keys) (labels_of self.now.labels.entries) self.now.address (joins_word self.now (item_of item.now)) (item_of item.now) }
@@ -257,7 +263,6 @@ impl Layout {
         if !is_in_reach(&self.labels, self.address, item) {
             return Some(AsmErrorKind::OutOfReach);
         }
-        let joined = self.joins(item);
         if is_lone_unext(joined, item) {
             return Some(AsmErrorKind::UnextAlone);
         }
@@ -330,8 +335,10 @@ impl Layout {
         Ok(())
     }
 
-    // Lays one item more.
-    fn add(&mut self, item: &Item) -> Result<(), AsmErrorKind>
+    // Lays one item more, which joins the open word or not.
+    fn add(&mut self, item: &Item, joined: bool) -> Result<(), AsmErrorKind>
+        requires joined { joined ≡ joins_word self.old (item_of item.now) }
+        requires room { joined ≡ true → length self.old.ops.items < 4 }
         requires near { self.old.word ≤ 64 }
         requires few { self.old.address ≤ 64 }
         requires new { words.is_new (item_of item.now) (names_of (labels_of self.old.labels.entries)) ≡ true }
@@ -343,7 +350,6 @@ impl Layout {
         ensures data { OnOk result (self.new.data_start ≡ data_after self.old.data_start self.old.address (item_of item.now)) }
         ensures err { IfErr result (λ kind. kind ≡ Memory) }
     {
-        let joined = self.joins(item);
         self.place(item, joined)?;
         self.note(item)?;
         self.address += words_added(joined, item);
@@ -374,10 +380,11 @@ pub(crate) fn first_pass(
         data_start: None,
     };
     for (at, placed) in items.iter().enumerate() {
-        if let Some(kind) = layout.fault_of(names, &placed.item) {
+        let joined = layout.joins(&placed.item);
+        if let Some(kind) = layout.fault_of(names, &placed.item, joined) {
             return Err(Refusal { at, kind });
         }
-        if let Err(kind) = layout.add(&placed.item) {
+        if let Err(kind) = layout.add(&placed.item, joined) {
             return Err(Refusal { at, kind });
         }
     }

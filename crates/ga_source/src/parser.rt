@@ -127,6 +127,7 @@ impl<'a> Parser<'a> {
     }
 
     // The item is whole; the next one stands in this part.
+    #[inline(always)]
     fn add(
         &mut self,
         item: Item,
@@ -185,7 +186,7 @@ impl<'a> Parser<'a> {
                     return Err(SourceErrorKind::DuplicateNode);
                 }
                 self.node = node;
-                self.items = Vec::new(self.alloc);
+                self.items = Vec::with_capacity(self.alloc, 64)?;
                 self.labels = IndexSet::new(self.alloc);
                 self.part = Part::Code(0);
                 self.has_word = false;

@@ -33,7 +33,7 @@ impl<T: Drop> From<AllocFailed<T>> for WordsError {
 pub fn words_text(alloc: Global, words: &[Word18]) -> Result<String, AllocError>
     ensures { IfOk result (λ text. string_bytes text ≡ text_of_words words.now) }
 {
-    let mut text = String::new(alloc);
+    let mut text = String::with_capacity(alloc, 6 * words.len())?;
     for (place, word) in words.iter().enumerate() {
         push_word(&mut text, *word)?;
         let ends_line = place % 8 == 7 || place + 1 == words.len();
