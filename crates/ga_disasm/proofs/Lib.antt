@@ -1,2 +1,7 @@
 mod Stepping
 mod Writing
+mod TextLines
+mod Meanings
+mod SourceItems
+mod Laying
+mod RoundTrip

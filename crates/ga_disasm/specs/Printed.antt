@@ -36,9 +36,9 @@ item_line (Follower word) = line (codes ",") (number_text word ∷ [])
 item_line (Data word) = line (codes ",") (number_text word ∷ [])
 
 -- the line `data`, before the first item that is data
-abbrev pub data_line : Bool → ItemView → List ℕ
-data_line false (Data word) = line (codes "data") []
-data_line in_data item = []
+abbrev pub data_line : ItemView → Bool → List ℕ
+data_line (Data word) false = line (codes "data") []
+data_line item in_data = []
 
 abbrev pub is_data_behind : Bool → ItemView → Bool
 is_data_behind in_data (Data word) = true
@@ -47,7 +47,7 @@ is_data_behind in_data item = in_data
 -- a line for each item, behind the line `data` or in front of it
 abbrev pub lines_of : Bool → List ItemView → List ℕ
 lines_of in_data [] = []
-lines_of in_data (item ∷ items) = data_line in_data item ++ item_line item ++ lines_of (is_data_behind in_data item) items
+lines_of in_data (item ∷ items) = data_line item in_data ++ item_line item ++ lines_of (is_data_behind in_data item) items
 
 -- the text of items
 unfoldable pub text_of : List ItemView → List ℕ

@@ -46,12 +46,6 @@ empty-tokens = refl
 
 -- ---- meanings
 
--- the name of an opcode means the opcode
-pub meaning_of-name_of : (o : Op) → meaning_of (name_of o) ≡ op o
-unfolding meaning_of
-meaning_of-name_of Jump = refl
-meaning_of-name_of o = refl
-
 upper_case : meaning_of (codes "DUP") ≡ name (codes "DUP")
 unfolding meaning_of
 upper_case = refl
