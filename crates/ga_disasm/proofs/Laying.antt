@@ -22,7 +22,7 @@ use Rattle.ga_disasm.proofs.SourceItems.{IsBelow, bracketed, front, last, source
 
 -- ---- a word in brackets
 
-takes_ends : (o : Op) → takes_dest o ≡ true → ends_word o ≡ true
+pub takes_ends : (o : Op) → takes_dest o ≡ true → ends_word o ≡ true
 takes_ends Return h = refl
 takes_ends Execute h = refl
 takes_ends o h = h

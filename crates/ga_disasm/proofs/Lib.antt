@@ -5,3 +5,4 @@ mod Meanings
 mod SourceItems
 mod Laying
 mod RoundTrip
+mod NamedItems

@@ -255,7 +255,7 @@ module _ (code_len : ℕ) (words : List ℕ) (some : 0 < length words) (most : l
   }
 
 -- a text is that of items, which are those of words
-pub is_source_text : (text : List ℕ) (items : List ItemView) → text ≡ text_of items → (words : List ℕ) (code_len : ℕ) → FitNode words code_len → items ≡ items_from 0 code_len words
-    → IsSourceOf (node_line ++ text) words code_len
-is_source_text text items e words code_len fit is =
+pub is_source_text : (printed : List ℕ) (items : List ItemView) → printed ≡ text_of items → (words : List ℕ) (code_len : ℕ) → FitNode words code_len → items ≡ items_from 0 code_len words
+    → IsSourceOf (node_line ++ printed) words code_len
+is_source_text printed items e words code_len fit is =
     subst (λ (t : List ℕ). IsSourceOf (node_line ++ t) words code_len) (sym (e ∙ ap text_of is)) (is_source code_len words fit.some fit.most fit.code_within fit.below)

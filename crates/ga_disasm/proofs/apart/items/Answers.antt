@@ -1,6 +1,7 @@
 use Rattle.std.proofs.Common.{◌∙◌, ◌-◌, ◌+◌, ap, drop, arith}
 use Rattle.std.proofs.lemmas.List.{drop_all}
 use Rattle.ga_pack.specs.Decoded.{reading_of}
+use Rattle.ga_disasm.proofs.NamedItems.{items_named}
 use Rattle.ga_disasm.proofs.Stepping.{all_apart, rest_is, data_next, follower_next, code_next, same_reading, one_more}
 use Rattle.ga_disasm.proofs.apart.items.Goals as goal
 use Rattle.ga_disasm.proofs.apart.items.Goals.{then-index-code_len+in_ok-push, else-index-code_len+then-owed-gt0+in_ok-push-2, else-index-code_len+else-owed-gt0+in_ok-push-3}
@@ -26,5 +27,8 @@ loop-index-preserved c =
           one_more _ _ _ _ _ _ c.loop-index.invariant next (ap (λ v. v.items) w.items-is ∙ w.in_ok-push-3.ensures.items)
     ]
 
-pub returns : goal.returns
-returns c = record { items = all_apart c.loop-index.owed (c.args.code_len - c.loop-index.index) (drop c.loop-index.index c.args.words.now) _ _ (drop_all c.loop-index.index c.args.words.now (omega arith)) c.loop-index.invariant }
+pub returns-clause-items : goal.returns-clause-items
+returns-clause-items c = all_apart c.loop-index.owed (c.args.code_len - c.loop-index.index) (drop c.loop-index.index c.args.words.now) _ _ (drop_all c.loop-index.index c.args.words.now (omega arith)) c.loop-index.invariant
+
+pub returns-clause-instructions : goal.returns-clause-instructions
+returns-clause-instructions c = λ source labels right laid. returns-clause-items c ∙ items_named source c.args.words.now labels c.args.code_len right laid
