@@ -110,10 +110,14 @@ source_right (suc owed) (suc left) some (word ∷ words) below h =
     (grammar.Code owed, refl, refl, refl, subst (λ (b : Bool). Items (at_code owed b) (source_items false (items_from owed left words))) (sym (or-true some)) (source_right owed left true words (All-tail IsBelow word words below) (has_word words)))
 source_right zero (suc left) some (word ∷ words) below h =
     let reading = reading_of word in
-    let b = bracket (reading_of-reads word (All-head IsBelow word words below)) in
-    (grammar.Code (followers reading.ops), b.right, bracket_new reading.ops reading.dest reading.spare [], b.follow,
+    let b = bracket (reading_of-reads word (All-head IsBelow word words below)) in (
+      grammar.Code (followers reading.ops),
+      b.right,
+      bracket_new reading.ops reading.dest reading.spare [],
+      b.follow,
       subst (λ (b : Before). Items b (source_items false (items_from (followers reading.ops) left words))) (sym (bracket_after (followers reading.ops) some reading.ops reading.dest reading.spare))
-          (source_right (followers reading.ops) left true words (All-tail IsBelow word words below) (has_word words)))
+          (source_right (followers reading.ops) left true words (All-tail IsBelow word words below) (has_word words)),
+    )
 
 -- the source items of some words are those of a section
 pub items_right : (code_len : ℕ) (words : List ℕ) → 0 < length words → All IsBelow words → Items grammar.start (source_items false (items_from 0 code_len words))

@@ -6,3 +6,4 @@ mod SourceItems
 mod Laying
 mod RoundTrip
 mod NamedItems
+mod WorkedItems

@@ -91,9 +91,9 @@ shared_followers labels address ops (i ∷ is) right stands =
     let all = literals_cons i is in
     on_test (ends_word o) (λ b. (if b then 0 else (if is_followed o then 1 else 0) + followers (ops_of is)) ≡ length (literals (i ∷ is)))
     (λ ends.
-      let none : follows i ≡ 0 = rw (ends_not_followed o ends) refl in
-      let last : length (literals is) ≡ 0 = ap (λ (t : List Item). length (literals t)) (none_behind labels address (ops ++ o ∷ []) is (ends_snoc ops o ends) parts.1) in
-      omega arith)
+    let none : follows i ≡ 0 = rw (ends_not_followed o ends) refl in
+    let last : length (literals is) ≡ 0 = ap (λ (t : List Item). length (literals t)) (none_behind labels address (ops ++ o ∷ []) is (ends_snoc ops o ends) parts.1) in
+    omega arith)
     (λ goes. let rest = shared_followers labels address (ops ++ o ∷ []) is rights.1 parts.1 in omega arith)
 
 -- ---- the order of source items
@@ -259,8 +259,8 @@ code_named labels before address owed left b (Shared i is ∷ groups) words part
     ap (items_from owed left) words_are ∙ ap (λ (n : ℕ). items_from n left (word ∷ (numbers ++ others))) none
     ∙ word_first word left (length numbers + rest) (ops_of (i ∷ is)) (last_dest labels 0 (i ∷ is)) 0 (length numbers) (numbers ++ others) is_word (omega arith) (sym follow)
     ∙ ap (λ (t : List ItemView). named.code (ops_of (i ∷ is)) (last_dest labels 0 (i ∷ is)) 0 ∷ t)
-        (follow_all (length numbers) (length numbers + rest) rest numbers others refl refl
-        ∙ ap (λ (t : List ItemView). map Follower numbers ++ t) (code_named labels before (address + size (Shared i is)) 0 rest all.behind groups others all.part_is all.more arranged.2 more (omega arith)))
+    (follow_all (length numbers) (length numbers + rest) rest numbers others refl refl
+    ∙ ap (λ (t : List ItemView). map Follower numbers ++ t) (code_named labels before (address + size (Shared i is)) 0 rest all.behind groups others all.part_is all.more arranged.2 more (omega arith)))
 code_named labels before address owed left b (Alone (Word ops) ∷ groups) words part (p, right, new, next, behind) arranged (first, others, (word, is_word, cut), more, e) end =
     let here = word_part owed ops p (subst (λ (t : Part). part_after t (Word ops) ≡ Some p) part next) in
     let reach = end_behind (address + 1) groups in

@@ -156,9 +156,13 @@ source_words owed left [] below = refl
 source_words owed zero (word ∷ words) below = ([], word ∷ words, refl, (word ∷ [], words, refl, data_words owed words, refl), refl)
 source_words zero (suc left) (word ∷ words) below =
     let reading = reading_of word in
-    let small = All-head IsBelow word words below in
-    (word ∷ [], words, bracket_word [] word reading.ops reading.dest reading.spare small (is_for [] (reading_of-reads word small)),
-      source_words (followers reading.ops) left words (All-tail IsBelow word words below), refl)
+    let small = All-head IsBelow word words below in (
+      word ∷ [],
+      words,
+      bracket_word [] word reading.ops reading.dest reading.spare small (is_for [] (reading_of-reads word small)),
+      source_words (followers reading.ops) left words (All-tail IsBelow word words below),
+      refl,
+    )
 source_words (suc owed) (suc left) (word ∷ words) below = (word ∷ [], words, refl, source_words owed left words (All-tail IsBelow word words below), refl)
 
 bracketed_end : (address : ℕ) (ops : List Op) (dest : Option ℕ) (spare : ℕ) (groups : List Group) → code_end address (Alone (bracketed ops dest spare) ∷ groups) ≡ code_end (address + 1) groups

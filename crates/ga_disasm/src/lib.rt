@@ -8,3 +8,6 @@ mod printing;
 pub use apart::items;
 pub use item::Item;
 pub use printing::print;
+
+#[cfg(test)]
+mod tests;
