@@ -31,7 +31,9 @@ pub fn command<'a>(alloc: Global) -> Result<Command<'a>, AllocError>
     let code = Arg::new(alloc, "N")
         .long("code")
         .value_parser(value_parser!(u32).range(0..=i64::from(CODE_LIMIT)))
-        .help("How many words are code, from 0 to 64; the others are data. By default all are code");
+        .help(
+            "How many words are code, from 0 to 64; the others are data. By default all are code",
+        );
     Command::new(alloc, "dis")
         .about("Prints words as source text")
         .after_help(HELP)
