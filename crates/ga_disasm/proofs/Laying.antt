@@ -1,10 +1,9 @@
 -- What is printed of words is right by the grammar, and is laid as these words.
-use Rattle.std.proofs.Common.{◌≡◌, ◌∙◌, ◌<◌, ◌≤◌, ◌+◌, ◌%◌, ◌^◌, ℕ, zero, suc, Bool, true, false, List, [], ◌∷◌, ◌++◌, length, Option, Some, None, refl, sym, ap, subst, arith}
+use Rattle.std.proofs.Common.{◌≡◌, ◌<◌, ◌%◌, ◌^◌, ℕ, zero, suc, Bool, true, false, List, [], ◌∷◌, ◌++◌, length, Option, Some, None, refl, sym, ap, subst, arith}
 use Rattle.std.proofs.Math.Bool.{or-true}
-use Rattle.std.proofs.lemmas.Bool.{and_from, lt-ltb}
+use Rattle.std.proofs.lemmas.Bool.{lt-ltb}
 use Rattle.std.proofs.lemmas.List.Elements.{All-head, All-tail}
-use Rattle.std.specs.Prelude.{◌&&◌, ◌||◌, All}
-use Rattle.std.specs.List.{list_all}
+use Rattle.std.specs.Prelude.{◌||◌, All}
 use Rattle.std.specs.Option.{unwrap_or}
 use Rattle.ga_word.specs.declared.op.Op.{Op}
 use Rattle.ga_word.specs.declared.op.Op.TheVariants.{Return, Execute}
@@ -13,12 +12,12 @@ use Rattle.ga_word.specs.Word.{bits}
 use Rattle.ga_pack.specs.Decoded.{reading_of}
 use Rattle.ga_pack.specs.Followers.{followers}
 use Rattle.ga_pack.specs.Reading.{Reads, dest_after_slot0, dest_after_slot1, dest_after_slot2, no_dest}
-use Rattle.ga_pack.specs.Model.Layout.{Labels, Group, Alone, Arranged, GroupWords, Laid, Words, all_in_reach, address_after, code_end, dest_in, filled, is_defined, items_of, labels_after, names_in}
+use Rattle.ga_pack.specs.Model.Layout.{Labels, Alone, GroupWords, dest_in, filled}
 use Rattle.ga_pack.specs.Model.Source as grammar
 use Rattle.ga_pack.specs.Model.Source.{Item, Number, Word, WordTo, Plain, Before, Items, is_item, is_new, part_after}
 use Rattle.ga_pack.proofs.Encoded.{reading_of-reads, takes_none}
-use Rattle.ga_disasm.specs.Items.{ItemView, Code, Follower, Data, items_from}
-use Rattle.ga_disasm.proofs.SourceItems.{IsBelow, bracketed, front, last, source_items, written}
+use Rattle.ga_disasm.specs.Items.{items_from}
+use Rattle.ga_disasm.proofs.SourceItems.{IsBelow, bracketed, source_items}
 
 -- ---- a word in brackets
 

@@ -1,21 +1,20 @@
 -- The items of the words that source items are laid as are those that the layout names.
-use Rattle.std.proofs.Common.{◌≡◌, ◌∙◌, ◌⊎◌, inl, inr, ◌<◌, ◌≤◌, ◌+◌, ◌-◌, ◌^◌, ℕ, zero, suc, Bool, true, false, List, [], ◌∷◌, ◌++◌, length, map, Option, Some, None, refl, sym, ap, subst, append_assoc, arith}
+use Rattle.std.proofs.Common.{◌≡◌, ◌∙◌, ◌⊎◌, inl, inr, ◌≤◌, ◌+◌, ◌-◌, ◌^◌, ℕ, zero, suc, Bool, true, false, List, [], ◌∷◌, ◌++◌, length, map, Option, Some, None, refl, sym, ap, subst, arith}
 use Rattle.std.proofs.Math.Bool.{or-true}
 use Rattle.std.proofs.lemmas.Bool.{and_from, and_parts, not-true}
 use Rattle.std.specs.Prelude.{◌&&◌, ◌||◌, nat_lt, not, if◌then◌else◌}
 use Rattle.std.specs.List.{list_all, list_any}
 use Rattle.std.specs.Option.{unwrap_or}
 use Rattle.ga_word.specs.declared.op.Op.{Op}
-use Rattle.ga_word.specs.declared.op.Op.TheVariants.{FetchP, StoreP, Nop, Jump, Call, Next, If, MinusIf}
+use Rattle.ga_word.specs.declared.op.Op.TheVariants.{FetchP, StoreP}
 use Rattle.ga_word.specs.Op.{ends_word, takes_dest}
-use Rattle.ga_pack.specs.Decoded.{Reading, reading_of}
 use Rattle.ga_pack.specs.Followers.{followers, is_followed}
 use Rattle.ga_pack.specs.Model.Layout.{Labels, Group, Alone, Shared, Arranged, GroupWords, IsWord, Laid, Words, code_end, dest_in, filled, fits, is_loose, items_of, joins, labels_behind, last_dest, literals, number_of, op_of, ops_of, size, stand, with_fillers}
 use Rattle.ga_pack.specs.Model.Source as source
 use Rattle.ga_pack.specs.Model.Source.{Item, Value, Instruction, Transfer, Literal, Here, Align, Word, WordTo, Plain, Before, Items, Part, is_below, is_item, is_new, is_spare, dest_bound, part_after, stand_from, start}
 use Rattle.ga_pack.proofs.Encoded.{reading_is}
 use Rattle.ga_pack.proofs.OneLayout.{joins_loose}
-use Rattle.ga_disasm.specs.Items.{ItemView, Code, Follower, Data, items_from}
+use Rattle.ga_disasm.specs.Items.{ItemView, Follower, Data, items_from}
 use Rattle.ga_disasm.specs.Instructions as named
 use Rattle.ga_disasm.specs.Instructions.{group_items, named_items}
 use Rattle.ga_disasm.proofs.Laying.{takes_ends}

@@ -1,14 +1,14 @@
 -- The items that are printed stand alone, so they are laid as the words that were printed, without a fault.
-use Rattle.std.proofs.Common.{◌≡◌, ◌∙◌, ◌<◌, ◌≤◌, ◌+◌, ◌^◌, ℕ, zero, suc, Bool, true, false, List, [], ◌∷◌, ◌++◌, length, Option, Some, None, refl, sym, ap, subst, arith}
+use Rattle.std.proofs.Common.{◌≡◌, ◌∙◌, ◌<◌, ◌≤◌, ◌+◌, ℕ, zero, suc, Bool, true, false, List, [], ◌∷◌, ◌++◌, length, Option, Some, None, refl, sym, ap, subst, arith}
 use Rattle.std.proofs.lemmas.Bool.{and_from, le-ltb}
 use Rattle.std.proofs.lemmas.List.Elements.{All-head, All-tail}
-use Rattle.std.specs.Prelude.{◌&&◌, All, drop, map, nat_lt}
+use Rattle.std.specs.Prelude.{All, drop, map, nat_lt}
 use Rattle.std.specs.List.{list_all}
 use Rattle.ga_word.specs.declared.op.Op.{Op}
 use Rattle.ga_pack.specs.Decoded.{reading_of}
 use Rattle.ga_pack.specs.Followers.{followers}
 use Rattle.ga_pack.specs.Model.Layout.{Labels, Group, Alone, Arranged, GroupWords, Laid, Words, StandIn, all_in_reach, address_after, code_end, is_defined, is_in_reach, is_loose, items_of, labels_after, labels_behind, names_in, size}
-use Rattle.ga_pack.specs.Model.LayoutFault.{AllRight, IsRight, Judged, Passed, fault_behind, is_lone_unext, joins_last, plain_items, words_added}
+use Rattle.ga_pack.specs.Model.LayoutFault.{AllRight, IsRight, Passed, fault_behind, is_lone_unext, joins_last, plain_items, words_added}
 use Rattle.ga_pack.specs.Model.Program.{IsProgram, PlacedItem, PlacedSection, placed_items, placed_sections, tokens_of}
 use Rattle.ga_pack.specs.Model.Source as grammar
 use Rattle.ga_pack.specs.Model.Source.{Item, Number, Plain, Section, Sections, Source, item_tokens}
@@ -18,7 +18,7 @@ use Rattle.ga_pack.proofs.OneFault.{right_program}
 use Rattle.ga_pack.proofs.OneLayout.{one_laid}
 use Rattle.ga_pack.proofs.RightTexts.{right_text}
 use Rattle.ga_disasm.specs.Items.{ItemView, Code, Follower, Data, items_from}
-use Rattle.ga_disasm.specs.Printed.{lines_of, node_line, text_of}
+use Rattle.ga_disasm.specs.Printed.{node_line, text_of}
 use Rattle.ga_disasm.specs.Source.{FitNode, IsSourceOf}
 use Rattle.ga_disasm.proofs.SourceItems.{IsBelow, bracketed, items_of_words, source_items, text_means}
 use Rattle.ga_disasm.proofs.Laying.{bracket_word, is_for, items_right}

@@ -1,6 +1,6 @@
 -- The source items of the lines that are printed.
-use Rattle.std.proofs.Common.{◌≡◌, ◌∙◌, ◌<◌, ◌≤◌, ◌^◌, ℕ, zero, suc, Bool, true, false, List, [], ◌∷◌, ◌++◌, length, map, Option, Some, None, refl, sym, ap, append_assoc, subst, arith}
-use Rattle.std.specs.Prelude.{◌&&◌, codes, All}
+use Rattle.std.proofs.Common.{◌≡◌, ◌∙◌, ◌<◌, ◌≤◌, ◌^◌, ℕ, zero, suc, Bool, true, false, List, [], ◌∷◌, ◌++◌, length, map, Option, Some, None, refl, sym, ap, append_assoc, arith}
+use Rattle.std.specs.Prelude.{codes, All}
 use Rattle.std.specs.Fmt.{decimal}
 use Rattle.std.specs.List.{list_all}
 use Rattle.std.proofs.lemmas.Bool.{and_from}
@@ -12,7 +12,7 @@ use Rattle.ga_word.specs.Op.{name_of}
 use Rattle.ga_word.specs.Word.{bits}
 use Rattle.ga_pack.specs.Decoded.{Reading, reading_of}
 use Rattle.ga_pack.specs.Followers.{followers}
-use Rattle.ga_pack.specs.Reading.{Reads, dest_after_slot0, dest_after_slot1, dest_after_slot2, no_dest}
+use Rattle.ga_pack.specs.Reading.{Reads}
 use Rattle.ga_pack.specs.Model.Token.{Token, open_mark, close_mark, comma, slash, number, op, data_part, node, node_name, end, is_node}
 use Rattle.ga_pack.specs.Model.Text.{texts_of}
 use Rattle.ga_pack.specs.Model.Meaning.{meaning_of, meaning_at, meanings}

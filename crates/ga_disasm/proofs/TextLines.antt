@@ -1,6 +1,6 @@
 -- The tokens of a text that is written line by line, with one space between the tokens of a line.
 use Rattle.std.proofs.Common.{◌≡◌, ◌∙◌, ◌+◌, ℕ, Bool, true, false, not, List, [], ◌∷◌, ◌++◌, filter, length, map, refl, sym, ap, append_assoc, append-nil, take, arith}
-use Rattle.std.specs.Prelude.{◌==◌, ◌&&◌, ◌||◌, All, codes}
+use Rattle.std.specs.Prelude.{◌==◌, ◌&&◌, All, codes}
 use Rattle.std.specs.List.{list_all, slice_split}
 use Rattle.std.specs.Str.{bytes_eq}
 use Rattle.std.proofs.lemmas.Bool.{and_from, and_parts, not-true}

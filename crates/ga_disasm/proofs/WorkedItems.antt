@@ -1,5 +1,5 @@
 -- Items and texts that were worked out by hand.
-use Rattle.std.proofs.Common.{◌≡◌, List, [], ◌∷◌, None, Some, refl}
+use Rattle.std.proofs.Common.{◌≡◌, [], ◌∷◌, None, Some, refl}
 use Rattle.std.specs.Prelude.{codes}
 use Rattle.std.specs.Fmt.{digits}
 use Rattle.ga_word.specs.Hex.{hex_digits}

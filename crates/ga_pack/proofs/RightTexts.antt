@@ -1,7 +1,7 @@
 -- A text that has a program has no fault.
 use Rattle.std.proofs.Common.{◌≡◌, ◌∙◌, ◌⊎◌, inl, inr, ℕ, Bool, List, [], ◌∷◌, ◌++◌, refl, sym, ap, subst, append_assoc}
 use Rattle.ga_pack.specs.Model.Text.{Place, texts_of}
-use Rattle.ga_pack.specs.Model.Token.{SourceKind, Token, end, is_node}
+use Rattle.ga_pack.specs.Model.Token.{SourceKind, Token, is_node}
 use Rattle.ga_pack.specs.Model.Meaning.{meaning_at, meanings}
 use Rattle.ga_pack.specs.Model.Source.{Section, Source}
 use Rattle.ga_pack.specs.Model.SourceFault.{Begins, GoesOn, SourceFault, ends_in_node}

@@ -1,6 +1,6 @@
-use Rattle.std.proofs.Common.{◌≡◌, ◌∙◌, ◌≤◌, ◌++◌, ℕ, List, Option, Some, None, Result, Ok, length, map, refl, sym, ap, string_bytes, unwrap_or, arith}
+use Rattle.std.proofs.Common.{◌≡◌, ◌∙◌, ◌≤◌, ◌++◌, ℕ, List, Option, Result, Ok, length, map, refl, ap, unwrap_or, arith}
 use Rattle.std.proofs.lemmas.Bool.{le-ltb}
-use Rattle.ga_disasm.specs.Items.{ItemView, items_of, view_of}
+use Rattle.ga_disasm.specs.Items.{items_of, view_of}
 use Rattle.ga_disasm.specs.Printed.{node_line, text_of}
 use Rattle.ga_disasm.specs.declared.item.Item.{Item}
 use Rattle.ga_bench.specs.Dis.{dis_text, text_after}

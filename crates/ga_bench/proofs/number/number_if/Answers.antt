@@ -1,7 +1,7 @@
 use Rattle.std.proofs.Common.{◌≡◌, ◌∙◌, ◌<◌, ◌^◌, ◌≤◌, ℕ, List, None, Some, Option, Result, Ok, Err, ap, refl, sym, subst, arith}
 use Rattle.std.specs.Prelude.{IsSomeAnd, IfSome}
 use Rattle.std.specs.Str.Parse.{ParsesUnsigned, ExplainsUnsignedError, HasUnsignedDigitsIfOk}
-use Rattle.clap.specs.Words.{TriesOne, found_of, one_text}
+use Rattle.clap.specs.Words.{TriesOne, found_of}
 use Rattle.clap.proofs.WalkLemmas.{one_text-rows}
 use Rattle.ga_bench.specs.Number.{WritesNumber}
 use Rattle.ga_bench.proofs.number.number_if.Goals as goal

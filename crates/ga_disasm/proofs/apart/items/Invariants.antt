@@ -1,4 +1,4 @@
-use Rattle.std.proofs.Common.{◌≡◌, ◌-◌, ◌≤◌, ◌++◌, drop, length, map}
+use Rattle.std.proofs.Common.{◌≡◌, ◌-◌, ◌++◌, drop, map}
 use Rattle.ga_disasm.specs.Items.{items_from, items_of, view_of}
 use Rattle.ga_disasm.proofs.apart.items.Given as goal
 
