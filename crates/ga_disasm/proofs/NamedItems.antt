@@ -14,6 +14,7 @@ use Rattle.ga_pack.specs.Model.Source as source
 use Rattle.ga_pack.specs.Model.Source.{Item, Value, Instruction, Transfer, Literal, Here, Align, Word, WordTo, Plain, Before, Items, Part, is_below, is_item, is_new, is_spare, dest_bound, part_after, stand_from, start}
 use Rattle.ga_pack.proofs.Encoded.{reading_is}
 use Rattle.ga_pack.proofs.OneLayout.{joins_loose}
+use Rattle.ga_pack.proofs.Placed.{on_test}
 use Rattle.ga_disasm.specs.Items.{ItemView, Follower, Data, items_from}
 use Rattle.ga_disasm.specs.Instructions as named
 use Rattle.ga_disasm.specs.Instructions.{group_items, named_items}
@@ -74,10 +75,6 @@ none_behind labels address ops (i ∷ is) ends stands =
     let join = (and_parts (joins labels address ops i) (stand labels address (ops ++ op_of i ∷ []) is) stands).0 in
     let open_word = not-true (list_any ends_word ops) (and_parts (not (list_any ends_word ops)) (fits labels address ops i) join).0 in
     absurd (cc)
-
-on_test : (b : Bool) (P : Bool → Type 0) → (b ≡ true → P true) → (b ≡ false → P false) → P b
-on_test true P if_true if_false = if_true refl
-on_test false P if_true if_false = if_false refl
 
 -- the followers of a shared word are the numbers among its items
 shared_followers : (labels : Labels) (address : ℕ) (ops : List Op) (is : List Item) → list_all is_item is ≡ true → stand labels address ops is ≡ true → followers (ops_of is) ≡ length (literals is)

@@ -34,15 +34,6 @@ one_more items more item left left' all so_far next pushed =
     ap (λ (t : List Item). map view_of t ++ left') pushed ∙ ap (λ (t : List ItemView). t ++ left') (map-append view_of items (item ∷ [])) ∙ append_assoc (map view_of items) (view_of item ∷ []) left'
     ∙ ap (λ (t : List ItemView). map view_of items ++ t) (sym next) ∙ so_far
 
--- a reading is its parts
-pub same_reading : (reading : Reading) (ops : List Op) (dest : Option ℕ) (spare : ℕ) → ops ≡ reading.ops → dest ≡ reading.dest → spare ≡ reading.spare
-    → reading ≡ record { ops = ops; dest = dest; spare = spare }
-same_reading reading ops dest spare same_ops same_dest same_spare =
-    let by_ops : List Op → Reading = λ o. record { ops = o; dest = reading.dest; spare = reading.spare } in
-    let by_dest : Option ℕ → Reading = λ d. record { ops = ops; dest = d; spare = reading.spare } in
-    let by_spare : ℕ → Reading = λ n. record { ops = ops; dest = dest; spare = n } in
-    ap by_ops (sym same_ops) ∙ ap by_dest (sym same_dest) ∙ ap by_spare (sym same_spare)
-
 -- nothing is left
 pub all_apart : (owed left : ℕ) (words : List ℕ) (items all : List ItemView) → words ≡ [] → items ++ items_from owed left words ≡ all → items ≡ all
 unfolding items_from

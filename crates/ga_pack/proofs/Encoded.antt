@@ -91,7 +91,8 @@ reading_of-reads n fits =
           ])
     ]
 
-same_reading : (reading : Reading) (ops : List Op) (dest : Option ℕ) (spare : ℕ) → reading.ops ≡ ops → reading.dest ≡ dest → reading.spare ≡ spare
+-- a reading is its parts
+pub same_reading : (reading : Reading) (ops : List Op) (dest : Option ℕ) (spare : ℕ) → reading.ops ≡ ops → reading.dest ≡ dest → reading.spare ≡ spare
     → reading ≡ record { ops = ops; dest = dest; spare = spare }
 same_reading reading ops dest spare same_ops same_dest same_spare =
     let by_ops : List Op → Reading = λ o. record { ops = o; dest = reading.dest; spare = reading.spare } in

@@ -1,8 +1,9 @@
-use Rattle.std.proofs.Common.{◌∙◌, ◌-◌, ◌+◌, ap, drop, arith}
+use Rattle.std.proofs.Common.{◌∙◌, ◌-◌, ◌+◌, ap, drop, sym, arith}
 use Rattle.std.proofs.lemmas.List.{drop_all}
 use Rattle.ga_pack.specs.Decoded.{reading_of}
+use Rattle.ga_pack.proofs.Encoded.{same_reading}
 use Rattle.ga_disasm.proofs.NamedItems.{items_named}
-use Rattle.ga_disasm.proofs.Stepping.{all_apart, rest_is, data_next, follower_next, code_next, same_reading, one_more}
+use Rattle.ga_disasm.proofs.Stepping.{all_apart, rest_is, data_next, follower_next, code_next, one_more}
 use Rattle.ga_disasm.proofs.apart.items.Goals as goal
 use Rattle.ga_disasm.proofs.apart.items.Goals.{then-index-code_len+in_ok-push, else-index-code_len+then-owed-gt0+in_ok-push-2, else-index-code_len+else-owed-gt0+in_ok-push-3}
 
@@ -22,7 +23,7 @@ loop-index-preserved c =
           one_more _ _ _ _ _ _ c.loop-index.invariant next (ap (λ v. v.items) w.items-is ∙ w.in_ok-push-2.ensures.items)
       | else-index-code_len+else-owed-gt0+in_ok-push-3 w ↦
           let packed = w.decode-packed.result in
-          let is = same_reading (reading_of word) packed.ops.items packed.dest packed.spare w.decode-packed.ensures.ops w.decode-packed.ensures.dest w.decode-packed.ensures.spare in
+          let is = same_reading (reading_of word) packed.ops.items packed.dest packed.spare (sym w.decode-packed.ensures.ops) (sym w.decode-packed.ensures.dest) (sym w.decode-packed.ensures.spare) in
           let next = code_next c.loop-index.owed c.if-index-code_len.owed (c.args.code_len - index) left' word (drop index words) (drop (index + 1) words) _ rest (omega arith) (omega arith) is (w.owed-is ∙ w.followers-owed.ensures.count) in
           one_more _ _ _ _ _ _ c.loop-index.invariant next (ap (λ v. v.items) w.items-is ∙ w.in_ok-push-3.ensures.items)
     ]
