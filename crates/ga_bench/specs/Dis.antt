@@ -1,9 +1,11 @@
 -- The subcommand `dis`: its command line, and what it writes.
-use Rattle.std.specs.Prelude.{ℕ, ◌≡◌, ◌≤◌, List, ◌++◌, pos, codes, length, nat_lt, Option, Some, Result, Ok, Err, IfSome, unwrap_or, if◌then◌else◌}
+use Rattle.std.specs.Prelude.{ℕ, ◌≡◌, ◌≤◌, List, [], ◌∷◌, ◌++◌, pos, codes, length, nat_lt, Option, Some, Result, Ok, Err, IfSome, unwrap_or, if◌then◌else◌}
 use Rattle.clap.specs.Words.{App, Row, Text, new_app, new_rule, with_rule}
 use Rattle.clap.specs.declared.builder.value_parser.ValueParser.TheVariants as parser
+use Rattle.ga_asm.specs.Image.{ImageView}
 use Rattle.ga_disasm.specs.Items.{items_of}
 use Rattle.ga_disasm.specs.Printed.{node_line, text_of}
+use Rattle.ga_bench.specs.Asm.{IsAsmOutput, images_text}
 use Rattle.ga_bench.specs.declared.fault.ServeError.{ServeError}
 use Rattle.ga_bench.specs.declared.fault.ServeError.TheVariants.{Words}
 use Rattle.ga_bench.specs.declared.fault.WordsFault.TheVariants.{BadCode}
@@ -37,3 +39,12 @@ text_after code (Err fault) = Err fault
 -- what `dis` writes for an input, or its first fault
 abbrev pub dis_output : Option ℕ → List ℕ → Result (List ℕ) ServeError
 dis_output code input = text_after code (words_in input)
+
+-- the image of words, of which so many are code, without labels
+abbrev pub plain_image : List ℕ → ℕ → ImageView
+plain_image words code_len = record { words = words; code_len = code_len; entry = 0; labels = [] }
+
+-- What `asm` writes for a text is the image of these words, in node 000, and it may write nothing else.
+pub record AssemblesTo (text words : List ℕ) (code_len : ℕ) : Type 0 where
+  pub written : IsAsmOutput text (Ok (images_text ((0, plain_image words code_len) ∷ [])))
+  pub only : (answer : Result (List ℕ) ServeError) → IsAsmOutput text answer → answer ≡ Ok (images_text ((0, plain_image words code_len) ∷ []))

@@ -1,9 +1,10 @@
-ghost use Rattle.std.specs.Prelude.{◌≡◌, ℕ, IfErr, IfOk, Option, codes, string_bytes};
+ghost use Rattle.std.specs.Prelude.{◌≡◌, ℕ, IfErr, IfOk, List, Ok, Option, codes, length, string_bytes, unwrap_or};
 ghost use Rattle.clap.specs.Words.{found_of, rows_of};
 ghost use Rattle.ga_bench.specs.CommandLine.{IsCommandOf};
-ghost use Rattle.ga_bench.specs.Dis.{IsDisInRange, dis_command, dis_output};
+ghost use Rattle.ga_bench.specs.Dis.{AssemblesTo, IsDisInRange, dis_command, dis_output};
 ghost use Rattle.ga_bench.specs.Fault.{Gives};
 ghost use Rattle.ga_bench.specs.Number.{IsNumberIfAt};
+ghost use Rattle.ga_bench.specs.Text.{words_in};
 
 use crate::command_line::LineError;
 use crate::fault::{ServeError, WordsFault};
@@ -52,7 +53,10 @@ pub fn code_of(alloc: Global, found: &ArgMatches<'_>) -> Result<Option<u32>, Lin
 
 /// The words of the input as source text of node 000. So many of them are code, or all.
 pub fn dis(alloc: Global, code: Option<u32>, input: &[u8]) -> Result<String, ServeError>
-    ensures { Gives string_bytes result (dis_output code input.now) }
+    ensures output { Gives string_bytes result (dis_output code input.now) }
+    // of this text `asm` makes the words of the input again, with this length of code, and nothing else
+    ensures again { (words : List ℕ) → words_in input.now ≡ Ok words
+        → IfOk result (λ text. AssemblesTo (string_bytes text) words (unwrap_or code (length words))) }
 {
     let words = words_of(alloc, input)?;
     let code_len = match code {

@@ -16,6 +16,7 @@ use Rattle.ga_pack.specs.Model.Text.{Place, places_of}
 use Rattle.ga_pack.proofs.Encoded.{reading_of-reads}
 use Rattle.ga_pack.proofs.OneFault.{right_program}
 use Rattle.ga_pack.proofs.OneLayout.{one_laid}
+use Rattle.ga_pack.proofs.OneSource.{one_program}
 use Rattle.ga_pack.proofs.RightTexts.{right_text}
 use Rattle.ga_disasm.specs.Items.{ItemView, Code, Follower, Data, items_from}
 use Rattle.ga_disasm.specs.Printed.{node_line, text_of}
@@ -251,6 +252,7 @@ module _ (code_len : ℕ) (words : List ℕ) (some : 0 < length words) (most : l
   is_source = record {
     section = section;
     program_is = is_program;
+    only_program = λ program other. one_program text program (section ∷ []) other is_program;
     node_is = named;
     no_source_fault = λ kind place. right_text text (section ∷ []) kind place is_program;
     no_program_fault = λ node place kind fault. right_program all_right fault;

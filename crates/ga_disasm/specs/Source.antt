@@ -14,10 +14,11 @@ pub record FitNode (words : List ℕ) (code_len : ℕ) : Type 0 where
   pub below : All (λ word. word < 2 ^ 18) words
 
 -- A text is a source text of these words, of which so many are code: it is a text of the grammar without fault, its
--- program is one node, 000, and has no fault, and the layout allows for it these words and no others.
+-- only program is one node, 000, and has no fault, and the layout allows for it these words and no others.
 pub record IsSourceOf (text words : List ℕ) (code_len : ℕ) : Type 0 where
   pub section : PlacedSection
   pub program_is : IsProgram text (section ∷ [])
+  pub only_program : (program : List PlacedSection) → IsProgram text program → program ≡ section ∷ []
   pub node_is : section.name ≡ 0
   pub no_source_fault : (kind : SourceKind) (place : Place) → IsFault text kind place → ⊥
   pub no_program_fault : (node : ℕ) (place : Place) (kind : AsmKind) → ProgramFault (section ∷ []) node place kind → ⊥

@@ -8,6 +8,7 @@ pub mod Meanings
 pub mod OneFault
 pub mod OneLayout
 pub mod OneReading
+pub mod OneSource
 mod OpcodeTable
 pub mod Packable
 pub mod Placed
