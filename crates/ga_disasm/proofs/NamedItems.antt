@@ -211,7 +211,7 @@ dest_ends ops o v spare right =
 -- ---- behind the code part
 
 data_named : (labels before : Labels) (address owed : ℕ) (b : Before) (groups : List Group) (words : List ℕ) → b.part ≡ source.Behind → Items b (items_of groups) → Arranged before address groups
-    → Words labels groups words → items_from owed 0 words ≡ named.items_from labels true groups
+    → Words labels groups words → items_from owed 0 words ≡ named.items_in labels true groups
 unfolding Items Arranged Words GroupWords items_from
 data_named labels before address owed b [] words part items arranged none = ap (items_from owed 0) none
 data_named labels before address owed b (Shared i is ∷ groups) words part (p, right, new, next, items) arranged made =
@@ -238,7 +238,7 @@ data_named labels before address owed b (Alone i ∷ groups) words part items ar
 -- ---- in the code part
 
 code_named : (labels before : Labels) (address owed left : ℕ) (b : Before) (groups : List Group) (words : List ℕ) → b.part ≡ source.Code owed → Items b (items_of groups) → Arranged before address groups
-    → Words labels groups words → code_end address groups ≡ address + left → items_from owed left words ≡ named.items_from labels false groups
+    → Words labels groups words → code_end address groups ≡ address + left → items_from owed left words ≡ named.items_in labels false groups
 unfolding Items Arranged Words GroupWords items_from
 code_named labels before address owed left b [] words part items arranged none end = ap (items_from owed left) none
 code_named labels before address owed left b (Shared i is ∷ groups) words part items arranged (first, others, (word, is_word, cut), more, e) end =

@@ -24,15 +24,16 @@ group_items labels in_data (Alone (source.WordTo ops o v spare)) = code (ops ++ 
 group_items labels in_data (Alone (source.Plain v)) = plain in_data (number_of labels v) ∷ []
 group_items labels in_data (Alone i) = []
 
-abbrev pub is_data_behind : Bool → Group → Bool
-is_data_behind in_data (Alone source.Data) = true
-is_data_behind in_data group = in_data
+-- behind a group, `data` stands before or not
+abbrev pub is_behind_data : Bool → Group → Bool
+is_behind_data in_data (Alone source.Data) = true
+is_behind_data in_data group = in_data
 
--- the items of the words of groups
-abbrev pub items_from : Labels → Bool → List Group → List ItemView
-items_from labels in_data [] = []
-items_from labels in_data (group ∷ groups) = group_items labels in_data group ++ items_from labels (is_data_behind in_data group) groups
+-- the items of the words of groups, behind `data` or in front of it
+abbrev pub items_in : Labels → Bool → List Group → List ItemView
+items_in labels in_data [] = []
+items_in labels in_data (group ∷ groups) = group_items labels in_data group ++ items_in labels (is_behind_data in_data group) groups
 
 -- the items that the groups of a node name, with its labels
 unfoldable pub named_items : Labels → List Group → List ItemView
-named_items labels groups = items_from labels false groups
+named_items labels groups = items_in labels false groups

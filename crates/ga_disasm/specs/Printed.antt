@@ -28,8 +28,7 @@ abbrev pub field_texts : Option ℕ → ℕ → List (List ℕ)
 field_texts None spare = []
 field_texts (Some dest) spare = number_text dest ∷ spare_texts spare
 
--- what stands behind the first text of an item's line, and the line: the opcodes of a word with the field of the
--- last one in brackets, or a comma and a number
+-- the line of an item: in brackets the opcodes of a word with the field of the last one, or a comma and a number
 abbrev pub item_line : ItemView → List ℕ
 item_line (Code reading) = line (codes "[") (map name_of reading.ops ++ field_texts reading.dest reading.spare ++ codes "]" ∷ [])
 item_line (Follower word) = line (codes ",") (number_text word ∷ [])
@@ -40,11 +39,12 @@ abbrev pub data_line : ItemView → Bool → List ℕ
 data_line (Data word) false = line (codes "data") []
 data_line item in_data = []
 
+-- behind an item, the line `data` is written or not
 abbrev pub is_data_behind : Bool → ItemView → Bool
 is_data_behind in_data (Data word) = true
 is_data_behind in_data item = in_data
 
--- a line for each item, behind the line `data` or in front of it
+-- a line for each item, where the line `data` is written already or not
 abbrev pub lines_of : Bool → List ItemView → List ℕ
 lines_of in_data [] = []
 lines_of in_data (item ∷ items) = data_line item in_data ++ item_line item ++ lines_of (is_data_behind in_data item) items
