@@ -20,6 +20,10 @@ RUNS = [
     (["asm"], b"node 709 . node 000 x: [ @p a! @p ] , 5 , x jump x data y: , x"),
     (["asm"], b"node 000 jump x"),
     (["asm"], b"node 000 ]"),
+    (["dis", "--code", "2"], b"05872 2C9B2 00001"),
+    (["dis"], b"3FFFF " * 64),
+    (["dis", "--code", "4"], b"05872 2C9B2 00001"),
+    (["dis", "--code", "65"], b""),
     (["one"], b""),
     (["one", "--help"], b""),
 ]

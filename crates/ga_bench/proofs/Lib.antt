@@ -1,3 +1,4 @@
 mod Entered
+mod Again
 mod WorkedLines
 mod WorkedOutputs

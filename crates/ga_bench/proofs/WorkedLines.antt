@@ -1,14 +1,22 @@
 -- Command lines that were worked out by hand.
-use Rattle.std.proofs.Common.{◌≡◌, false, [], ◌∷◌, refl, lit<, lit≤}
+use Rattle.std.proofs.Common.{◌≡◌, false, [], ◌∷◌, Some, None, refl, lit<, lit≤}
 use Rattle.std.specs.Prelude.{codes}
 use Rattle.clap.proofs.OnLiterals.{clap_on_literals}
 use Rattle.clap.specs.Words.{takes}
-use Rattle.ga_bench.specs.declared.request.Job.TheVariants.{One}
+use Rattle.ga_bench.specs.declared.request.Job.TheVariants.{One, Dis}
 use Rattle.ga_bench.specs.CommandLine.{IsRight, bench_command}
 
 right_line : IsRight (codes "ga-bench" ∷ codes "one" ∷ codes "5" ∷ []) (One 5)
 unfolding clap_on_literals
 right_line = (refl, (refl, ((lit< tt, (lit< tt, tt)), refl)), lit≤ tt)
+
+code_line : IsRight (codes "ga-bench" ∷ codes "dis" ∷ codes "--code" ∷ codes "2" ∷ []) (Dis (Some 2))
+unfolding clap_on_literals
+code_line = (refl, (refl, ((lit< tt, (lit< tt, tt)), refl)), lit≤ tt)
+
+all_code_line : IsRight (codes "ga-bench" ∷ codes "dis" ∷ []) (Dis None)
+unfolding clap_on_literals
+all_code_line = (refl, (refl, refl), tt)
 
 -- one more than the most tries, and none
 over_the_range : takes bench_command (codes "ga-bench" ∷ codes "one" ∷ codes "1000001" ∷ []) ≡ false
@@ -18,6 +26,11 @@ over_the_range = refl
 without_tries : takes bench_command (codes "ga-bench" ∷ codes "one" ∷ []) ≡ false
 unfolding clap_on_literals
 without_tries = refl
+
+-- one more than the most words
+over_the_code : takes bench_command (codes "ga-bench" ∷ codes "dis" ∷ codes "--code" ∷ codes "65" ∷ []) ≡ false
+unfolding clap_on_literals
+over_the_code = refl
 
 without_subcommand : takes bench_command (codes "ga-bench" ∷ []) ≡ false
 unfolding clap_on_literals

@@ -4,6 +4,7 @@ pub mod Number
 pub mod One
 pub mod Source
 pub mod Asm
+pub mod Dis
 pub mod CommandLine
 pub mod Answer
 pub mod Reading

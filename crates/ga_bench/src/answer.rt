@@ -3,6 +3,7 @@ ghost use Rattle.ga_bench.specs.Answer.{IsJobOutput};
 ghost use Rattle.ga_bench.specs.Fault.{Answers};
 
 use crate::asm::asm;
+use crate::dis::dis;
 use crate::fault::ServeError;
 use crate::one::one;
 use crate::request::Job;
@@ -14,5 +15,6 @@ pub fn output<Rt: AllocGlobal>(rt: &Rt, job: &Job, input: &[u8]) -> Result<Strin
     match job {
         Job::One { tries } => one(rt.alloc(), *tries, input),
         Job::Asm => asm(rt.alloc(), input),
+        Job::Dis { code } => dis(rt.alloc(), *code, input),
     }
 }

@@ -5,7 +5,7 @@ ghost use Rattle.ga_bench.specs.declared.command_line.LineError.TheVariants.{Mem
 ghost use Rattle.ga_bench.specs.CommandLine.{InRange, IsCommandOf, IsJobOf, IsRight, bare_command, bench_command, has_globals};
 
 use crate::request::Job;
-use crate::{asm, one};
+use crate::{asm, dis, one};
 use clap::Command;
 use clap::error::ErrorKind;
 use std::alloc::{AllocError, Global};
@@ -55,6 +55,9 @@ pub fn job(alloc: Global, words: &[&str]) -> Result<Job, LineError>
             tries: one::tries_of(alloc, found)?,
         }),
         Some(("asm", _)) => Ok(Job::Asm),
+        Some(("dis", found)) => Ok(Job::Dis {
+            code: dis::code_of(alloc, found)?,
+        }),
         _ => Err(refusal(
             alloc,
             ErrorKind::MissingSubcommand,
@@ -81,7 +84,8 @@ fn command<'a>(alloc: Global) -> Result<Command<'a>, AllocError>
 {
     let command = bare_command(alloc)?;
     let command = link(command, one::command(alloc)?)?;
-    link(command, asm::command(alloc)?)
+    let command = link(command, asm::command(alloc)?)?;
+    link(command, dis::command(alloc)?)
 }
 
 /// The command without its subcommands.

@@ -31,6 +31,9 @@ pub enum WordsFault {
     /// There are more words than a node's memory holds.
     #[error("TooLong")]
     TooLong,
+    /// More words are said to be code than there are.
+    #[error("BadCode")]
+    BadCode,
 }
 
 /// Why a job was not served. Its `Display` is the text that the program prints.

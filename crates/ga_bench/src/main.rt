@@ -4,6 +4,7 @@
 mod answer;
 mod asm;
 mod command_line;
+mod dis;
 mod engine;
 mod fault;
 mod number;

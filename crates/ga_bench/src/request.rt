@@ -5,4 +5,6 @@ pub enum Job {
     One { tries: u32 },
     /// The words of the nodes of a source text.
     Asm,
+    /// The source text of the words of the input, of which so many are code, or all.
+    Dis { code: Option<u32> },
 }

@@ -1,6 +1,8 @@
 ghost use Rattle.std.specs.Prelude.{◌≡◌, ◌++◌, List, ℕ, Ok, OnOk};
 ghost use Rattle.ga_bench.specs.Answer.{IsOutput};
 
+mod round_trips;
+
 use crate::command_line::{LineError, job};
 use crate::engine::serve;
 use crate::fault::{ServeError, WordsFault, status};
@@ -133,6 +135,16 @@ fn answers_lines(rt: HostRuntime) -> Result<(), Fail> {
             "node 709 . node 000 [ @p a! @p . ] , 5 main: data , 3\n",
             "node 709 entry 000 code 1 words 1\n2C9B2\nnode 000 entry 002 code 2 words 3\n04A12 00005 00003\n",
         ),
+        (
+            Job::Dis { code: Some(2) },
+            "05872 2C9B2 00001",
+            "node 000\n[ @p !+ unext . ]\n, $2C9B2\ndata\n, $00001\n",
+        ),
+        (
+            Job::Dis { code: None },
+            "10BD5",
+            "node 000\n[ jump $003D5 / 2 ]\n",
+        ),
     ];
     for (job, input, text) in table {
         for most in [1, 7, 8192] {
@@ -183,6 +195,27 @@ fn refuses_inputs(rt: HostRuntime) -> Result<(), Fail> {
             return Err("an answer".into());
         };
         assert!(rt; fault.to_string(alloc)?.as_str() == text);
+        assert_eq!(rt; writer.calls, 0);
+    }
+    Ok(())
+}
+
+#[test]
+fn refuses_too_much_code(rt: HostRuntime) -> Result<(), Fail> {
+    let table = [
+        (b"05872 2C9B2 00001".as_slice(), "words BadCode"),
+        (b"05872 2C9B2 00001 5", "words 3 BadWord"),
+        (b"", "words Empty"),
+    ];
+    for (input, text) in table {
+        let mut writer = sink_of(rt.alloc(), 8192);
+        let job = Job::Dis { code: Some(4) };
+        let outcome = serve(&rt, &mut source_of(input, 8192), &mut writer, &job);
+        assert_eq!(rt; status(&outcome), 1);
+        let Err(fault) = outcome else {
+            return Err("an answer".into());
+        };
+        assert!(rt; fault.to_string(rt.alloc())?.as_str() == text);
         assert_eq!(rt; writer.calls, 0);
     }
     Ok(())
@@ -384,6 +417,16 @@ fn reads_command_lines(rt: HostRuntime) -> Result<(), Fail> {
         Ok(job) => assert_eq!(rt; job, Job::Asm),
         Err(_) => return Err("a refused line".into()),
     }
+    for (words, code) in [
+        (["ga-bench", "dis"].as_slice(), None),
+        (&["ga-bench", "dis", "--code", "0"], Some(0)),
+        (&["ga-bench", "dis", "--code=64"], Some(64)),
+    ] {
+        match job(alloc, words) {
+            Ok(job) => assert_eq!(rt; job, Job::Dis { code }),
+            Err(_) => return Err("a refused line".into()),
+        }
+    }
     let table = [
         (["ga-bench"].as_slice(), LineKind::MissingSubcommand),
         (&["ga-bench", "two"], LineKind::InvalidSubcommand),
@@ -393,6 +436,12 @@ fn reads_command_lines(rt: HostRuntime) -> Result<(), Fail> {
         (&["ga-bench", "one", "-1"], LineKind::UnknownArgument),
         (&["ga-bench", "one", "five"], LineKind::ValueValidation),
         (&["ga-bench", "one", "5", "6"], LineKind::UnknownArgument),
+        (&["ga-bench", "dis", "5"], LineKind::UnknownArgument),
+        (
+            &["ga-bench", "dis", "--code", "65"],
+            LineKind::ValueValidation,
+        ),
+        (&["ga-bench", "dis", "--code"], LineKind::InvalidValue),
         (&["ga-bench", "--help"], LineKind::DisplayHelp),
         (&["ga-bench", "one", "--help"], LineKind::DisplayHelp),
         (&["ga-bench", "--version"], LineKind::DisplayVersion),

@@ -20,7 +20,7 @@ use Rattle.ga_pack.proofs.Spellings.{reads_after_slot0, reads_after_slot1, reads
 use Rattle.ga_pack.proofs.StoredOpcodes.{HasKey, key0, key1, key2, stored-field, stored_upper-masked}
 
 -- an opcode that slot 3 takes has no destination
-takes_none : (op : Op) → fits_slot3 op ≡ true → takes_dest op ≡ false
+pub takes_none : (op : Op) → fits_slot3 op ≡ true → takes_dest op ≡ false
 takes_none Jump fits = cc
 takes_none Call fits = cc
 takes_none Next fits = cc
@@ -69,7 +69,7 @@ in_slot3 n =
     (eq-eqb (code_of (op_in_slot3 n) % 4) 0 fits, stored_upper-masked (op_in_slot3 n) n masked)
 
 -- the reading of a number is that of its bits
-reading_of-reads : (n : ℕ) → n < 2 ^ 18 → Reads (bits 18 n) (reading_of n).ops (reading_of n).dest (reading_of n).spare
+pub reading_of-reads : (n : ℕ) → n < 2 ^ 18 → Reads (bits 18 n) (reading_of n).ops (reading_of n).dest (reading_of n).spare
 unfolding reading_of
 reading_of-reads n fits =
     let slot0 = in_slot0 n fits in
@@ -91,7 +91,8 @@ reading_of-reads n fits =
           ])
     ]
 
-same_reading : (reading : Reading) (ops : List Op) (dest : Option ℕ) (spare : ℕ) → reading.ops ≡ ops → reading.dest ≡ dest → reading.spare ≡ spare
+-- a reading is its parts
+pub same_reading : (reading : Reading) (ops : List Op) (dest : Option ℕ) (spare : ℕ) → reading.ops ≡ ops → reading.dest ≡ dest → reading.spare ≡ spare
     → reading ≡ record { ops = ops; dest = dest; spare = spare }
 same_reading reading ops dest spare same_ops same_dest same_spare =
     let by_ops : List Op → Reading = λ o. record { ops = o; dest = reading.dest; spare = reading.spare } in

@@ -4,13 +4,16 @@ pub mod Encoded
 mod Fillers
 pub mod Laying
 mod MadeWords
+pub mod Meanings
 pub mod OneFault
 pub mod OneLayout
 pub mod OneReading
+pub mod OneSource
 mod OpcodeTable
 pub mod Packable
 pub mod Placed
 pub mod ReadingFacts
+pub mod RightTexts
 mod Spellings
 mod StoredOpcodes
 mod WorkedEncodings

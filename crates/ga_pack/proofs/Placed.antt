@@ -10,7 +10,7 @@ use Rattle.ga_pack.specs.Model.LayoutFault.{AsmFault, AsmKind, Judged, OutOfReac
 use Rattle.ga_pack.specs.Model.Source.{Item, Number, Label, Instruction, Transfer, Literal}
 
 -- by cases of a test
-on_test : (b : Bool) (P : Bool → Type 0) → (b ≡ true → P true) → (b ≡ false → P false) → P b
+pub on_test : (b : Bool) (P : Bool → Type 0) → (b ≡ true → P true) → (b ≡ false → P false) → P b
 on_test true P if_true if_false = if_true refl
 on_test false P if_true if_false = if_false refl
 

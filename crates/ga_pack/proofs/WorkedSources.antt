@@ -1,9 +1,7 @@
 -- Source texts that were worked out by hand.
 use Rattle.std.proofs.Common.{◌≡◌, ℕ, true, false, List, [], ◌∷◌, ◌++◌, Some, None, drop, refl, reverse}
 use Rattle.std.specs.Prelude.{codes}
-use Rattle.ga_word.specs.declared.op.Op.{Op}
 use Rattle.ga_word.specs.declared.op.Op.TheVariants.{Dup, FetchP, Jump}
-use Rattle.ga_word.specs.Op.{name_of}
 use Rattle.ga_pack.specs.Model.Text.{Place, end_of, lexemes, places_of, texts_of}
 use Rattle.ga_pack.specs.Model.Token.{SourceKind, BadToken, NumberRange, BadNode, DuplicateNode, DuplicateLabel, ReservedLabel, OpenBracket, BadWord, NoNode, Empty, Token, op, number, name, label, node, node_name, data_part, open_mark, close_mark, comma, bad, end}
 use Rattle.ga_pack.specs.Model.Meaning.{is_reserved, meaning_at, meaning_of, meanings}
@@ -45,12 +43,6 @@ unfolding tokens_of texts_of lexemes meanings
 empty-tokens = refl
 
 -- ---- meanings
-
--- the name of an opcode means the opcode
-pub meaning_of-name_of : (o : Op) → meaning_of (name_of o) ≡ op o
-unfolding meaning_of
-meaning_of-name_of Jump = refl
-meaning_of-name_of o = refl
 
 upper_case : meaning_of (codes "DUP") ≡ name (codes "DUP")
 unfolding meaning_of

@@ -1,4 +1,4 @@
-use Rattle.std.proofs.Common.{◌≡◌, ◌∙◌, ap, sym, List, ℕ, map, codes}
+use Rattle.std.proofs.Common.{◌≡◌, ◌∙◌, ap, refl, sym, List, ℕ, Option, map, codes, true, false}
 use Rattle.std.specs.Str.{bytes_eq}
 use Rattle.std.proofs.lemmas.Bool.{true≢false}
 use Rattle.clap.specs.Words.{App, Row, Text, kind_of, takes, rows_of, found_of}
@@ -6,9 +6,10 @@ use Rattle.clap.specs.declared.error.kind.ErrorKind.TheVariants.{OutOfMemory}
 use Rattle.ga_bench.specs.declared.command_line.LineError.{LineError}
 use Rattle.ga_bench.specs.declared.command_line.LineError.TheVariants.{Memory}
 use Rattle.ga_bench.specs.declared.request.Job.{Job}
-use Rattle.ga_bench.specs.declared.request.Job.TheVariants.{One, Asm}
+use Rattle.ga_bench.specs.declared.request.Job.TheVariants.{One, Asm, Dis}
 use Rattle.ga_bench.specs.CommandLine.{AsksFor, InRange}
-use Rattle.ga_bench.specs.Number.{IsNumberAt}
+use Rattle.ga_bench.specs.Dis.{IsDisInRange}
+use Rattle.ga_bench.specs.Number.{IsNumberAt, IsNumberIfAt}
 use Rattle.ga_bench.specs.One.{IsOneInRange}
 use Rattle.ga_bench.proofs.Entered.{asked, each_error}
 use Rattle.ga_bench.proofs.command_line.job.Goals as goal
@@ -19,11 +20,16 @@ returns-in_err-matches-clause-right c =
     each_error c.from_residual-in_err-matches.result words (λ fault. kind_of c.in_err-matches.field-0.0 ≡ OutOfMemory → fault ≡ Memory) c.from_residual-in_err-matches.ensures.1 (λ error gives job right.
     gives (c.in_err-matches.ensures.passes (ap (λ (app : App). takes app words) c.in_ok-command.ensures.0 ∙ right.0)))
 
+-- two names of subcommands are not one
+two_names : (name one other : Text) → name ≡ one → name ≡ other → bytes_eq one other ≡ false → bytes_eq other other ≡ true → ⊥
+two_names name one other is is' apart same = true≢false (sym same ∙ ap (λ (t : Text). bytes_eq t other) (sym is' ∙ is) ∙ apart)
+
 -- A refusal of the numbers of `one` is right, since right words that name `one` have them; and they name no other job.
 one_refused : (name : Text) (rows : List Row) (error : LineError) → name ≡ codes "one" → ((tries : ℕ) → IsOneInRange tries → IsNumberAt (codes "TRIES") rows tries → error ≡ Memory)
     → (job : Job) → AsksFor (name, rows) job × InRange job → error ≡ Memory
 one_refused name rows error is refused (One tries) asks = refused tries asks.1 asks.0.1
-one_refused name rows error is refused Asm asks = absurd (true≢false (ap (λ (t : Text). bytes_eq t (codes "one")) (sym is ∙ asks.0)))
+one_refused name rows error is refused Asm asks = absurd (two_names name (codes "one") (codes "asm") is asks.0 refl refl)
+one_refused name rows error is refused (Dis code) asks = absurd (two_names name (codes "one") (codes "dis") is asks.0.0 refl refl)
 
 pub returns-in_err-tries_of-in-Some-one-default-clause-right : goal.returns-in_err-tries_of-in-Some-one-default-clause-right
 returns-in_err-tries_of-in-Some-one-default-clause-right c =
@@ -32,3 +38,18 @@ returns-in_err-tries_of-in-Some-one-default-clause-right c =
     let refused = c.in_err-tries_of-in-Some-one-default in
     let asks = asked c.in_ok-command.field-0 words c.in_ok-matches.matches met.field-0-0.now (rows_of (found_of met.found.now)) c.in_ok-command.ensures c.in_ok-matches.ensures.matches met.ensures.name met.ensures.rows in
     each_error c.from_residual-in_err-tries_of-in-Some-one-default.result words (λ fault. fault ≡ refused.field-0.0) c.from_residual-in_err-tries_of-in-Some-one-default.ensures.1 (λ error same job right. same ∙ one_refused met.field-0-0.now (rows_of (found_of met.found.now)) refused.field-0.0 met.is-one refused.ensures.right job (asks job right))
+
+-- the same of `dis`
+dis_refused : (name : Text) (rows : List Row) (error : LineError) → name ≡ codes "dis" → ((code : Option ℕ) → IsDisInRange code → IsNumberIfAt (codes "N") rows code → error ≡ Memory)
+    → (job : Job) → AsksFor (name, rows) job × InRange job → error ≡ Memory
+dis_refused name rows error is refused (One tries) asks = absurd (two_names name (codes "dis") (codes "one") is asks.0.0 refl refl)
+dis_refused name rows error is refused Asm asks = absurd (two_names name (codes "dis") (codes "asm") is asks.0 refl refl)
+dis_refused name rows error is refused (Dis code) asks = refused code asks.1 asks.0.1
+
+pub returns-in_err-code_of-in-Some-dis-default-clause-right : goal.returns-in_err-code_of-in-Some-dis-default-clause-right
+returns-in_err-code_of-in-Some-dis-default-clause-right c =
+    let words = map (λ word. word.now) c.args.words.now in
+    let met = c.in-Some-dis-default in
+    let refused = c.in_err-code_of-in-Some-dis-default in
+    let asks = asked c.in_ok-command.field-0 words c.in_ok-matches.matches met.field-0-0.now (rows_of (found_of met.found.now)) c.in_ok-command.ensures c.in_ok-matches.ensures.matches met.ensures.name met.ensures.rows in
+    each_error c.from_residual-in_err-code_of-in-Some-dis-default.result words (λ fault. fault ≡ refused.field-0.0) c.from_residual-in_err-code_of-in-Some-dis-default.ensures.1 (λ error same job right. same ∙ dis_refused met.field-0-0.now (rows_of (found_of met.found.now)) refused.field-0.0 met.is-dis refused.ensures.right job (asks job right))

@@ -1,0 +1,9 @@
+mod Stepping
+mod Writing
+mod TextLines
+mod Meanings
+mod SourceItems
+mod Laying
+mod RoundTrip
+mod NamedItems
+mod WorkedItems

@@ -1,0 +1,4 @@
+pub mod Items
+pub mod Printed
+pub mod Source
+pub mod Instructions

@@ -1,0 +1,58 @@
+-- The source text of the items of a node: what stands behind the line of its name.
+use Rattle.std.specs.Prelude.{ℕ, zero, suc, Bool, true, false, List, [], ◌∷◌, ◌++◌, codes, map, Option, Some, None}
+use Rattle.std.specs.Fmt.{decimal}
+use Rattle.ga_word.specs.Hex.{hex_digits}
+use Rattle.ga_word.specs.Op.{name_of}
+use Rattle.ga_disasm.specs.Items.{ItemView, Code, Follower, Data}
+
+-- texts, each behind a space
+abbrev pub behind_spaces : List (List ℕ) → List ℕ
+behind_spaces [] = []
+behind_spaces (text ∷ texts) = 32 ∷ (text ++ behind_spaces texts)
+
+-- a line: texts with one space between, ended by LF
+abbrev pub line : List ℕ → List (List ℕ) → List ℕ
+line text texts = text ++ behind_spaces texts ++ 10 ∷ []
+
+-- a number: `$` and five hex digits
+abbrev pub number_text : ℕ → List ℕ
+number_text n = codes "$" ++ hex_digits 5 n
+
+-- the spare bits, where they aren't 0
+abbrev pub spare_texts : ℕ → List (List ℕ)
+spare_texts zero = []
+spare_texts (suc n) = codes "/" ∷ decimal (suc n) ∷ []
+
+-- the field of a destination, and the spare bits behind it
+abbrev pub field_texts : Option ℕ → ℕ → List (List ℕ)
+field_texts None spare = []
+field_texts (Some dest) spare = number_text dest ∷ spare_texts spare
+
+-- the line of an item: in brackets the opcodes of a word with the field of the last one, or a comma and a number
+abbrev pub item_line : ItemView → List ℕ
+item_line (Code reading) = line (codes "[") (map name_of reading.ops ++ field_texts reading.dest reading.spare ++ codes "]" ∷ [])
+item_line (Follower word) = line (codes ",") (number_text word ∷ [])
+item_line (Data word) = line (codes ",") (number_text word ∷ [])
+
+-- the line `data`, before the first item that is data
+abbrev pub data_line : ItemView → Bool → List ℕ
+data_line (Data word) false = line (codes "data") []
+data_line item in_data = []
+
+-- behind an item, the line `data` is written or not
+abbrev pub is_data_behind : Bool → ItemView → Bool
+is_data_behind in_data (Data word) = true
+is_data_behind in_data item = in_data
+
+-- a line for each item, where the line `data` is written already or not
+abbrev pub lines_of : Bool → List ItemView → List ℕ
+lines_of in_data [] = []
+lines_of in_data (item ∷ items) = data_line item in_data ++ item_line item ++ lines_of (is_data_behind in_data item) items
+
+-- the text of items
+unfoldable pub text_of : List ItemView → List ℕ
+text_of items = lines_of false items
+
+-- the line that names node 000
+abbrev pub node_line : List ℕ
+node_line = line (codes "node") (codes "000" ∷ [])

@@ -1,0 +1,80 @@
+use crate::{Item, items, print};
+use arrayvec::ArrayVec;
+use ga_pack::Packed;
+use ga_word::{Op, Word18};
+use std::alloc::Global;
+use std::test::Fail;
+
+fn word(number: u32) -> Result<Word18, Fail> {
+    Ok(Word18::new(number).ok_or("no word")?)
+}
+
+fn words(alloc: Global, numbers: &[u32]) -> Result<Vec<Word18>, Fail> {
+    let mut words = Vec::new(alloc);
+    for number in numbers {
+        words.push(word(*number)?)?;
+    }
+    Ok(words)
+}
+
+fn code(ops: &[Op], dest: Option<u16>, spare: u8) -> Item {
+    let mut all = ArrayVec::new();
+    for op in ops {
+        let _full = all.try_push(*op);
+    }
+    Item::Code(Packed {
+        ops: all,
+        dest,
+        spare,
+    })
+}
+
+#[test]
+fn items_and_print(rt: HostRuntime) -> Result<(), Fail> {
+    let alloc = rt.alloc();
+    let words = words(alloc, &[0x0_5872, 0x2_C9B2, 0x0_0001])?;
+    assert_eq!(rt; words.len(), 3);
+    let items = items(alloc, &words, 2)?;
+    let worked = [
+        code(
+            &[Op::FetchP, Op::StorePlus, Op::Micronext, Op::Nop],
+            None,
+            0,
+        ),
+        Item::Follower(word(0x2_C9B2)?),
+        Item::Data(word(0x0_0001)?),
+    ];
+    assert_eq!(rt; items.as_slice(), worked.as_slice());
+    let text = print(alloc, &items)?;
+    let lines = "[ @p !+ unext . ]\n, $2C9B2\ndata\n, $00001\n";
+    assert!(rt; text.as_str() == lines);
+    Ok(())
+}
+
+/// The lines of words, of which so many are code.
+fn lines(alloc: Global, numbers: &[u32], code_len: usize) -> Result<String, Fail> {
+    let words = words(alloc, numbers)?;
+    if code_len > words.len() {
+        return Err("too few words")?;
+    }
+    let items = items(alloc, &words, code_len)?;
+    Ok(print(alloc, &items)?)
+}
+
+#[test]
+fn lines_of_words(rt: HostRuntime) -> Result<(), Fail> {
+    let alloc = rt.alloc();
+    assert!(rt; lines(alloc, &[], 0)?.is_empty());
+    let jump = lines(alloc, &[0x1_0BD5], 1)?;
+    assert!(rt; jump.as_str() == "[ jump $003D5 / 2 ]\n");
+    let in_slot1 = lines(alloc, &[0x2_572A], 1)?;
+    assert!(rt; in_slot1.as_str() == "[ dup jump $0002A ]\n");
+    let in_slot2 = lines(alloc, &[0x2_4242], 1)?;
+    assert!(rt; in_slot2.as_str() == "[ dup drop jump $00002 ]\n");
+    let data = lines(alloc, &[0x1_0BD5], 0)?;
+    assert!(rt; data.as_str() == "data\n, $10BD5\n");
+    // the code ends before the follower
+    let cut = lines(alloc, &[0x0_49B2, 0x0_0005], 1)?;
+    assert!(rt; cut.as_str() == "[ @p . . . ]\ndata\n, $00005\n");
+    Ok(())
+}
