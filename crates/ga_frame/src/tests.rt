@@ -1,0 +1,136 @@
+use crate::{Frame, FrameError, read_frames, write_frame};
+use ga_word::Word18;
+use std::alloc::Global;
+use std::test::Fail;
+
+fn word(number: u32) -> Result<Word18, Fail> {
+    Ok(Word18::new(number).ok_or("more than 18 bits")?)
+}
+
+fn words(alloc: Global, numbers: &[u32]) -> Result<Vec<Word18>, Fail> {
+    let mut words = Vec::new(alloc);
+    for number in numbers {
+        words.push(word(*number)?)?;
+    }
+    Ok(words)
+}
+
+fn read(alloc: Global, numbers: &[u32]) -> Result<Result<Vec<Frame>, FrameError>, Fail> {
+    Ok(read_frames(alloc, &words(alloc, numbers)?))
+}
+
+/// The load and the start of 710 over two hops from 708.
+const TWO_HOPS: [u32; 34] = [
+    0x000AE, 0x001D5, 0x0000F, 0x101D5, 0x04A12, 0x00175, 0x00007, 0x2E9B2, 0x05A72, 0x10175,
+    0x04A12, 0x00000, 0x00000, 0x2E9B2, 0x05872, 0x2C9B2, 0x2C9B2, 0x2C9B2, 0x000AE, 0x00000,
+    0x00000, 0x000AE, 0x001D5, 0x00007, 0x04A12, 0x00175, 0x00000, 0x2E9B2, 0x05A72, 0x10000,
+    0x101B5, 0x001B5, 0x00000, 0x00000,
+];
+
+#[test]
+fn frame_faults(rt: HostRuntime) -> Result<(), Fail> {
+    let alloc = rt.alloc();
+    let table = [
+        ([0x000AE, 0x00000].as_slice(), FrameError::CutHeader(0)),
+        (&[], FrameError::CutHeader(0)),
+        (&[0x000AE, 0x00000, 0x00000], FrameError::CutHeader(3)),
+        (
+            &[0x001B5, 0x00000, 0x00002, 0x2C9B2],
+            FrameError::CutBody(0),
+        ),
+        (
+            &[0x001B5, 0x00000, 0x00000, 0x2C9B2],
+            FrameError::AfterEnd(3),
+        ),
+        (&[0x001B5, 0x00141, 0x00000], FrameError::BadAddress(0)),
+        // a completion of eleven bits, a word of ROM, several ports, and a transfer address of ten bits
+        (&[0x00400, 0x00000, 0x00000], FrameError::BadAddress(0)),
+        (&[0x001B5, 0x00080, 0x00000], FrameError::BadAddress(0)),
+        (&[0x001B5, 0x001A5, 0x00000], FrameError::BadAddress(0)),
+        (&[0x001B5, 0x00200, 0x00000], FrameError::BadAddress(0)),
+        // of the second frame, which begins at the word 4
+        (
+            &[
+                0x000AE, 0x0015D, 0x00001, 0x2C9B2, 0x00400, 0x00000, 0x00000,
+            ],
+            FrameError::BadAddress(4),
+        ),
+        // a bad address comes before a cut body
+        (&[0x001B5, 0x00141, 0x00009], FrameError::BadAddress(0)),
+    ];
+    for (numbers, fault) in table {
+        assert_eq!(rt; read(alloc, numbers)?.err(), Some(fault));
+    }
+    Ok(())
+}
+
+#[test]
+fn frames_of_words(rt: HostRuntime) -> Result<(), Fail> {
+    let alloc = rt.alloc();
+    let Ok(empty) = read(alloc, &[0x001B5, 0x00000, 0x00000])? else {
+        return Err("one frame without words")?;
+    };
+    assert_eq!(rt; empty.len(), 1);
+    let Ok(frames) = read(alloc, &TWO_HOPS)? else {
+        return Err("four frames")?;
+    };
+    let mut heads = Vec::new(alloc);
+    for frame in &frames {
+        heads.push((
+            frame.completion.get(),
+            frame.transfer.get(),
+            frame.words.len(),
+        ))?;
+    }
+    let wanted = [
+        (0x0AE, 0x1D5, 15),
+        (0x0AE, 0x000, 0),
+        (0x0AE, 0x1D5, 7),
+        (0x1B5, 0x000, 0),
+    ];
+    assert_eq!(rt; heads.as_slice(), wanted.as_slice());
+    Ok(())
+}
+
+#[test]
+fn cut_streams(rt: HostRuntime) -> Result<(), Fail> {
+    let alloc = rt.alloc();
+    let stream = words(alloc, &TWO_HOPS)?;
+    let all = stream.as_slice();
+    for length in 0..all.len() {
+        let fault = read_frames(alloc, &all[..length]).err();
+        assert!(rt;
+            matches!(
+                fault,
+                Some(FrameError::CutHeader(_) | FrameError::CutBody(_))
+            ),
+            "{length}"
+        );
+    }
+    Ok(())
+}
+
+#[test]
+fn written_frame(rt: HostRuntime) -> Result<(), Fail> {
+    let alloc = rt.alloc();
+    let nops = word(0x2C9B2)?;
+    let frame = write_frame(alloc, word(0x0AE)?, word(0)?, &[nops])?;
+    let wanted = words(alloc, &[0x000AE, 0x00000, 0x00001, 0x2C9B2])?;
+    assert_eq!(rt; frame.as_slice(), wanted.as_slice());
+    Ok(())
+}
+
+#[test]
+fn longest_frame(rt: HostRuntime) -> Result<(), Fail> {
+    let alloc = rt.alloc();
+    let mut words = Vec::with_capacity(alloc, 0x4_0000)?;
+    for _ in 0..0x3_FFFF {
+        words.push(Word18::default())?;
+    }
+    let frame = write_frame(alloc, word(0x1B5)?, word(0)?, &words)?;
+    assert_eq!(rt; frame.len(), 0x4_0002);
+    words.push(Word18::default())?;
+    let refused = write_frame(alloc, word(0x1B5)?, word(0)?, &words);
+    assert_eq!(rt; refused.err(), Some(FrameError::TooLong));
+    Ok(())
+}
