@@ -246,12 +246,7 @@ impl Layout {
     }
 
     // The first fault of the item, which joins the open word or not, in a node with these labels.
-    fn fault_of(
-        &self,
-        names: &IndexSet<String>,
-        item: &Item,
-        joined: bool,
-    ) -> Option<AsmErrorKind>
+    fn fault_of(&self, names: &IndexSet<String>, item: &Item, joined: bool) -> Option<AsmErrorKind>
         requires joined { joined ≡ joins_word self.now (item_of item.now) }
         requires near { self.now.word ≤ 64 }
         requires few { self.now.address ≤ 64 }
