@@ -1,0 +1,67 @@
+-- A node that has made no step may be given another state: the chip stays legal, as nothing was written.
+use Rattle.std.proofs.Common.{◌≡◌, ℕ, ◌+◌, ◌≤◌, ◌<◌, ◌⊎◌, inl, inr, length, length-set, Some, refl, sym, ap, ◌∙◌, subst, arith}
+use Rattle.std.specs.Option.{option_to_list}
+use Rattle.std.proofs.lemmas.Option.{same_Some, slice_get_within}
+use Rattle.std.proofs.lemmas.Bool.{cases_eq}
+use Rattle.ga_place.specs.declared.side.Side.{Side}
+use Rattle.ga_place.proofs.SideLemmas.{neighbour_of-IsNodeName}
+use Rattle.ga_place.specs.Cell.{index_of, cell_of}
+use Rattle.ga_chip.specs.Part.{Part, count_at}
+use Rattle.ga_chip.specs.Chip.{Chip, part_of, pending, with_part}
+use Rattle.ga_chip.specs.Legal.{IsLegal, StandsAtCheck}
+use Rattle.ga_chip.proofs.Lists.{get-set_here, get-set_else}
+use Rattle.ga_place.proofs.Cells.{one_place, neighbour_there}
+use Rattle.ga_chip.proofs.Kept.{has_name}
+use Rattle.ga_chip.proofs.Numbers.{part_there}
+
+-- a part of the changed chip: the new one, or an old one of another node
+placed_from : (chip : Chip) (name : ℕ) (part next : Part) → IsLegal chip → part_of chip name ≡ Some part → (other : ℕ) (p : Part) → part_of (with_part chip name next) other ≡ Some p → ((name ≡ other) × (p ≡ next)) ⊎ ((name ≡ other → ⊥) × (part_of chip other ≡ Some p))
+placed_from chip name part next legal there other p e = by (cases_eq name other)
+  where
+    by : (name ≡ other) ⊎ (name ≡ other → ⊥) → ((name ≡ other) × (p ≡ next)) ⊎ ((name ≡ other → ⊥) × (part_of chip other ≡ Some p))
+    by (inl same) = inl (same, same_Some p next (sym e ∙ ap (λ n. part_of (with_part chip name next) n) (sym same) ∙ get-set_here chip.parts (index_of name) next part there))
+    by (inr apart) = inr (apart, sym (get-set_else chip.parts (index_of name) (index_of other) next (λ f. apart (one_place name other (subst (λ n. index_of name < n) legal.parts (slice_get_within chip.parts (index_of name) part there)) f))) ∙ e)
+
+-- nothing of a node without steps is pending
+none_pending : (chip : Chip) (name cell word : ℕ) (side : Side) (part : Part) → IsLegal chip → part_of chip name ≡ Some part → part.state.steps ≡ 0 → cell_of name side ≡ Some cell → pending chip cell ≡ Some word → ⊥
+none_pending chip name cell word side part legal there unstepped here is =
+    let next = neighbour_there name cell side here in
+    let other = part_there chip next.0 legal (neighbour_of-IsNodeName name next.0 side (has_name chip name part legal there) next.1) in
+    too_many (count_at side part.written) (count_at side other.0.read) part.state.steps
+    (legal.balanced name next.0 cell side part other.0 here next.1 there other.1 ∙ ap (λ o. count_at side other.0.read + length (option_to_list o)) is)
+    (legal.within_steps name side part there) unstepped
+  where
+    too_many : (w r n : ℕ) → w ≡ r + 1 → w ≤ n → n ≡ 0 → ⊥
+    too_many w r n e h z = omega arith
+
+pub legal_placed : (chip : Chip) (name : ℕ) (part next : Part) → IsLegal chip → part_of chip name ≡ Some part → part.state.steps ≡ 0 → next.state.node ≡ name → next.written ≡ part.written → next.read ≡ part.read → IsLegal (with_part chip name next)
+legal_placed chip name part next legal there unstepped named written read = record {
+  parts = length-set chip.parts (index_of name) next ∙ legal.parts;
+  cells = legal.cells;
+  named = λ n p e. named_by n p (placed_from chip name part next legal there n p e);
+  balanced = λ n other cell side w r here beside e f.
+      let a = as_before n w (placed_from chip name part next legal there n w e) in
+      let b = as_before other r (placed_from chip name part next legal there other r f) in
+      ap (count_at side) (sym a.2) ∙ legal.balanced n other cell side a.0 b.0 here beside a.1 b.1 ∙ ap (λ c. count_at side c + length (option_to_list (pending chip cell))) b.3;
+  checked = λ n cell word side w here e is. checked_by n cell word side w here is (placed_from chip name part next legal there n w e);
+  within_steps = λ n side w e. steps_by n side w (placed_from chip name part next legal there n w e);
+}
+  where
+    named_by : (n : ℕ) (p : Part) → ((name ≡ n) × (p ≡ next)) ⊎ ((name ≡ n → ⊥) × (part_of chip n ≡ Some p)) → p.state.node ≡ n
+    named_by n p (inl (same, is)) = ap (λ x. x.state.node) is ∙ named ∙ same
+    named_by n p (inr (apart, old)) = legal.named n p old
+
+    as_before : (n : ℕ) (p : Part) → ((name ≡ n) × (p ≡ next)) ⊎ ((name ≡ n → ⊥) × (part_of chip n ≡ Some p)) → (q : Part) × (part_of chip n ≡ Some q) × (q.written ≡ p.written) × (q.read ≡ p.read)
+    as_before n p (inl (same, is)) = (part, ap (part_of chip) (sym same) ∙ there, sym written ∙ ap (λ x. x.written) (sym is), sym read ∙ ap (λ x. x.read) (sym is))
+    as_before n p (inr (apart, old)) = (p, old, refl, refl)
+
+    checked_by : (n cell word : ℕ) (side : Side) (w : Part) → cell_of n side ≡ Some cell → pending chip cell ≡ Some word → ((name ≡ n) × (w ≡ next)) ⊎ ((name ≡ n → ⊥) × (part_of chip n ≡ Some w)) → StandsAtCheck w.state side
+    checked_by n cell word side w here is (inl (same, e)) = absurd (none_pending chip name cell word side part legal there unstepped (ap (λ m. cell_of m side) same ∙ here) is)
+    checked_by n cell word side w here is (inr (apart, old)) = legal.checked n cell word side w here old is
+
+    none_yet : (k m n : ℕ) → k ≤ m → m ≡ 0 → k ≤ n
+    none_yet k m n h z = omega arith
+
+    steps_by : (n : ℕ) (side : Side) (w : Part) → ((name ≡ n) × (w ≡ next)) ⊎ ((name ≡ n → ⊥) × (part_of chip n ≡ Some w)) → count_at side w.written ≤ w.state.steps
+    steps_by n side w (inl (same, e)) = none_yet (count_at side w.written) part.state.steps w.state.steps (subst (λ c. count_at side c ≤ part.state.steps) (sym written ∙ ap (λ x. x.written) (sym e)) (legal.within_steps name side part there)) unstepped
+    steps_by n side w (inr (apart, old)) = legal.within_steps n side w old
