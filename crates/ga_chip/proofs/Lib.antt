@@ -9,9 +9,11 @@ pub mod Confluence
 pub mod Commuting
 pub mod Streams
 pub mod Numbers
+pub mod Grow
 pub mod Reset
 pub mod Placed
 pub mod Within
 pub mod Plain
+pub mod Turns
 pub mod Tries
 mod WorkedChip

@@ -1,18 +1,21 @@
 -- A node that has made no step may be given another state: the chip stays legal, as nothing was written.
-use Rattle.std.proofs.Common.{◌≡◌, ℕ, ◌+◌, ◌≤◌, ◌<◌, ◌⊎◌, inl, inr, length, length-set, Some, refl, sym, ap, ◌∙◌, subst, arith}
+use Rattle.std.proofs.Common.{◌≡◌, ℕ, ◌+◌, ◌≤◌, ◌<◌, ◌⊎◌, inl, inr, List, length, length-set, Bool, true, false, set, get_or, Some, refl, sym, ap, ap₂, ◌∙◌, subst, arith}
 use Rattle.std.specs.Option.{option_to_list}
 use Rattle.std.proofs.lemmas.Option.{same_Some, slice_get_within}
-use Rattle.std.proofs.lemmas.Bool.{cases_eq}
+use Rattle.std.specs.Prelude.{◌==◌, not, if◌then◌else◌}
+use Rattle.std.specs.Option.{option_map_or}
+use Rattle.std.proofs.lemmas.Bool.{cases_eq, eqb-true}
 use Rattle.ga_place.specs.declared.side.Side.{Side}
 use Rattle.ga_place.proofs.SideLemmas.{neighbour_of-IsNodeName}
 use Rattle.ga_place.specs.Cell.{index_of, cell_of}
 use Rattle.ga_chip.specs.Part.{Part, count_at}
-use Rattle.ga_chip.specs.Chip.{Chip, part_of, pending, with_part}
+use Rattle.ga_chip.specs.Chip.{Chip, given, has_begun, part_of, pending, placed, with_changed, with_part}
 use Rattle.ga_chip.specs.Legal.{IsLegal, StandsAtCheck}
-use Rattle.ga_chip.proofs.Lists.{get-set_here, get-set_else}
+use Rattle.ga_chip.proofs.Lists.{get-set_here, get-set_else, set-get}
 use Rattle.ga_place.proofs.Cells.{one_place, neighbour_there}
 use Rattle.ga_chip.proofs.Kept.{has_name}
 use Rattle.ga_chip.proofs.Numbers.{part_there}
+use Rattle.ga_chip.proofs.Tries.{part_at}
 
 -- a part of the changed chip: the new one, or an old one of another node
 placed_from : (chip : Chip) (name : ℕ) (part next : Part) → IsLegal chip → part_of chip name ≡ Some part → (other : ℕ) (p : Part) → part_of (with_part chip name next) other ≡ Some p → ((name ≡ other) × (p ≡ next)) ⊎ ((name ≡ other → ⊥) × (part_of chip other ≡ Some p))
@@ -65,3 +68,31 @@ legal_placed chip name part next legal there unstepped named written read = reco
     steps_by : (n : ℕ) (side : Side) (w : Part) → ((name ≡ n) × (w ≡ next)) ⊎ ((name ≡ n → ⊥) × (part_of chip n ≡ Some w)) → count_at side w.written ≤ w.state.steps
     steps_by n side w (inl (same, e)) = none_yet (count_at side w.written) part.state.steps w.state.steps (subst (λ c. count_at side c ≤ part.state.steps) (sym written ∙ ap (λ x. x.written) (sym e)) (legal.within_steps name side part there)) unstepped
     steps_by n side w (inr (apart, old)) = legal.within_steps n side w old
+
+-- a chip with its node given words and an entry
+pub placed_there : (chip : Chip) (name entry : ℕ) (words : List ℕ) (part : Part) → part_of chip name ≡ Some part → placed chip name words entry ≡ with_part chip name (given words entry part)
+unfolding placed
+placed_there chip name entry words part there = ap (λ o. with_changed (given words entry) o chip name) there
+
+-- whether a node has begun
+pub begun_there : (chip : Chip) (name : ℕ) (part : Part) → part_of chip name ≡ Some part → has_begun chip name ≡ not (part.state.steps == 0)
+begun_there chip name part there = ap (λ o. option_map_or (λ p. not (p.state.steps == 0)) o false) there
+
+-- what the code leaves where it refuses, and where it gives words and an entry
+pub refused_at : (chip other : Chip) (name index : ℕ) (part : Part) → IsLegal chip → index ≡ index_of name → index < 144 → part ≡ get_or chip.parts index part → (part.state.steps ≡ 0 → ⊥) → (has_begun chip name ≡ true) × (record chip { parts = set chip.parts index part } ≡ (if has_begun chip name then chip else other))
+refused_at chip other name index part legal is below read begun =
+    let there = part_at chip name index part legal.parts is below read in
+    let yes : has_begun chip name ≡ true = begun_there chip name part there ∙ stepped (part.state.steps == 0) refl in
+    (yes, ap (λ ps. record chip { parts = ps }) (ap (λ i. set chip.parts i part) is ∙ set-get chip.parts (index_of name) part there) ∙ sym (ap (λ b. if b then chip else other) yes))
+  where
+    stepped : (b : Bool) → (part.state.steps == 0) ≡ b → not (part.state.steps == 0) ≡ true
+    stepped true e = absurd (begun (eqb-true _ _ e))
+    stepped false e = ap not e
+
+pub given_at : (chip : Chip) (name index entry : ℕ) (words : List ℕ) (part next : Part) → IsLegal chip → index ≡ index_of name → index < 144 → part ≡ get_or chip.parts index part → part.state.steps ≡ 0 → next ≡ given words entry part → (has_begun chip name ≡ false) × (record chip { parts = set chip.parts index next } ≡ (if has_begun chip name then chip else placed chip name words entry)) × IsLegal (record chip { parts = set chip.parts index next })
+given_at chip name index entry words part next legal is below read new gives =
+    let there = part_at chip name index part legal.parts is below read in
+    let no : has_begun chip name ≡ false = begun_there chip name part there ∙ ap (λ n. not (n == 0)) new in
+    let put : record chip { parts = set chip.parts index next } ≡ with_part chip name (given words entry part) = ap₂ (λ i p. record chip { parts = set chip.parts i p }) is gives in
+    let legal_then = legal_placed chip name part (given words entry part) legal there new (legal.named name part there) refl refl in
+    (no, put ∙ sym (placed_there chip name entry words part there) ∙ sym (ap (λ b. if b then chip else placed chip name words entry) no), subst IsLegal (sym put) legal_then)

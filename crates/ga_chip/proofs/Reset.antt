@@ -1,5 +1,5 @@
 -- The chip after reset is legal.
-use Rattle.std.proofs.Common.{◌≡◌, ℕ, zero, suc, ◌+◌, ◌<◌, ◌≤◌, length, replicate, get_or, slice_get, option_map, Option, Some, None, refl, sym, ap, ◌∙◌, subst, arith, zero-le, zero-add, add-zero}
+use Rattle.std.proofs.Common.{◌≡◌, ℕ, zero, suc, ◌+◌, ◌<◌, ◌≤◌, length, replicate, get_or, slice_get, option_map, Option, Some, None, refl, sym, ap, ap₂, ◌∙◌, List, map, subst, arith, zero-le, zero-add, add-zero}
 use Rattle.std.specs.List.{range_with_len}
 use Rattle.std.specs.Option.{option_to_list}
 use Rattle.std.proofs.lemmas.List.{length-replicate}
@@ -68,3 +68,12 @@ reset_legal = record {
   checked = λ name cell word side writer here there is. absurd (none-some word (sym (empty cell) ∙ is));
   within_steps = λ name side writer there. subst (λ p. count_at side p.written ≤ p.state.steps) (sym (is_reset name writer there)) (subst (λ n. n ≤ 0) (sym (nothing side)) zero-le);
 }
+
+-- the chip that the code makes
+pub reset_at : (parts : List Part) (cells : List (Option ℕ)) → parts ≡ map (λ index. reset_part (name_at index)) (range_with_len 0 144) → cells ≡ replicate 524 None → record { parts = parts; cells = cells } ≡ reset_chip
+unfolding reset_chip
+reset_at parts cells e f = ap₂ (λ ps cs. record { parts = ps; cells = cs }) e f
+
+-- when the code has made all nodes
+pub all_nodes : (parts : List Part) (index : ℕ) → parts ≡ map (λ index. reset_part (name_at index)) (range_with_len 0 index) → 144 ≤ index → index ≤ 144 → parts ≡ map (λ index. reset_part (name_at index)) (range_with_len 0 144)
+all_nodes parts index e reached within = let last : index ≡ 144 = omega arith in e ∙ ap (λ n. map (λ index. reset_part (name_at index)) (range_with_len 0 n)) last

@@ -1,12 +1,13 @@
 -- A try at a part that is there, and that only Moved changes anything.
 use Rattle.std.specs.Prelude.{is_some, not, if◌then◌else◌}
 use Rattle.std.proofs.lemmas.Bool.{false≢true}
-use Rattle.std.proofs.Common.{◌≡◌, ℕ, Bool, true, false, ◌<◌, length, slice_get, subst, List, take, ◌++◌, set, get_or, Option, Some, None, refl, sym, ap, ap₂, ◌∙◌}
+use Rattle.std.proofs.Common.{◌≡◌, ℕ, Bool, true, false, ◌<◌, length, slice_get, subst, List, take, ◌++◌, set, get_or, Option, Some, None, refl, sym, ap, ap₂, ◌∙◌, arith}
 use Rattle.std.proofs.Math.Seq.{take-append_seam}
-use Rattle.std.proofs.lemmas.List.{set-get_or}
+use Rattle.std.proofs.lemmas.List.{set-get_or, get_or_read}
 use Rattle.std.proofs.lemmas.Option.{same_Some, slice_get_read}
 use Rattle.ga_place.specs.declared.side.Side.{Side}
-use Rattle.ga_place.specs.Cell.{index_of}
+use Rattle.std.proofs.lemmas.Grind.{common_steps}
+use Rattle.ga_place.specs.Cell.{index_of, name_at}
 use Rattle.ga_chip.specs.declared.outcome.Outcome.{Outcome}
 use Rattle.ga_chip.specs.declared.outcome.Outcome.TheVariants.{Moved, Waits}
 use Rattle.ga_chip.specs.Part.{Part, Asks, Nothing, Own, Feed, Post, Take, Check, asks, after, after_asked}
@@ -60,7 +61,7 @@ pub legal_tried : (chip : Chip) (name : ℕ) (side : Side) → IsLegal chip → 
 unfolding happened
 legal_tried chip name side legal = legal_kept chip (Try name side) legal
 
-part_at : (chip : Chip) (name index : ℕ) (part : Part) → length chip.parts ≡ 144 → index ≡ index_of name → index < 144 → part ≡ get_or chip.parts index part → part_of chip name ≡ Some part
+pub part_at : (chip : Chip) (name index : ℕ) (part : Part) → length chip.parts ≡ 144 → index ≡ index_of name → index < 144 → part ≡ get_or chip.parts index part → part_of chip name ≡ Some part
 part_at chip name index part full is below read = ap (slice_get chip.parts) (sym is) ∙ slice_get_read chip.parts 144 index part (sym full) below read
 
 -- a row that was lent whole and is put back
@@ -75,3 +76,11 @@ attempt_at chip name index side part next outcome n lent left rest legal is belo
     ap₂ (λ r cs. (r.0, record { parts = set chip.parts index r.1; cells = cs })) done (put_back n left rest whole ∙ put)
     ∙ ap₂ (λ i cs. ((after part side (found_by (asks part side) cs)).0, record { parts = set chip.parts i (after part side (found_by (asks part side) cs)).1; cells = cells_after (asks part side) cs })) is same
     ∙ sym (tried_there chip name side part there)
+
+-- the node at a place has that place
+pub place_back : (index : ℕ) → index < 144 → index_of (name_at index) ≡ index
+place_back index below = grind (arith, common_steps)
+
+-- what is pending, as the code reads it
+pub found_at : (cells : List (Option ℕ)) (cell index : ℕ) (found : Option ℕ) → length cells ≡ 524 → index ≡ cell → cell < 524 → found ≡ get_or cells index found → found ≡ get_or cells cell None
+found_at cells cell index found full is below read = get_or_read cells cell found (subst (λ n. cell < n) (sym full) below) (read ∙ ap (λ i. get_or cells i found) is) None

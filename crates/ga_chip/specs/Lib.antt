@@ -3,5 +3,6 @@ pub mod Within
 pub mod Chip
 pub mod Ledger
 pub mod Run
+pub mod Grow
 pub mod Legal
 pub mod Laws

@@ -6,6 +6,7 @@ use Rattle.ga_place.specs.declared.side.Side.TheVariants.{Right}
 use Rattle.ga_node.specs.State.{State}
 use Rattle.ga_node.specs.Need.{need_of}
 use Rattle.ga_place.specs.Cell.{name_at}
+use Rattle.ga_chip.specs.declared.outcome.Try as asked
 use Rattle.ga_chip.specs.declared.outcome.Outcome.{Outcome}
 use Rattle.ga_chip.specs.declared.outcome.Outcome.TheVariants.{Moved, Waits, Held, Stopped}
 use Rattle.ga_chip.specs.Part.{Part, Asks, Nothing, Post, Take, asks, after, picked_by}
@@ -23,8 +24,12 @@ pub data Event : Type 0 where
   -- the node's stream goes on with these words
   Piece : ℕ → List ℕ → Event
 
+-- a list of tries
+abbrev pub tries_of : List asked.Try → List Event
+tries_of tries = map (λ one. Try one.node one.side) tries
+
 -- one try of each node in order of name, all with one side
-abbrev pub turn_of : Side → List Event
+unfoldable pub turn_of : Side → List Event
 turn_of side = map (λ index. Try (name_at index) side) (range_with_len 0 144)
 
 abbrev pub is_hold : Asks → Bool
@@ -100,6 +105,11 @@ move_in chip (SetBreak name at) = []
 move_in chip (ClearBreak name at) = []
 move_in chip (PassBreak name) = []
 move_in chip (Piece name words) = []
+
+-- a try that was Moved is one move, and each other none
+abbrev pub moved_by : Outcome → ℕ
+moved_by Moved = 1
+moved_by _ = 0
 
 -- the moves of a run in order
 abbrev pub moves : Chip → List Event → List Move

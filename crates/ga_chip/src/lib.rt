@@ -12,3 +12,6 @@ pub use chip::Chip;
 pub use error::ChipError;
 pub use ledger::Ledger;
 pub use outcome::{Outcome, Try};
+
+#[cfg(test)]
+mod tests;

@@ -1,3 +1,6 @@
+ghost use Rattle.std.specs.Prelude.{◌≡◌};
+ghost use Rattle.ga_chip.specs.Run.{moved_by};
+
 use ga_place::{Node, Side};
 
 /// One try of one node. The side counts where the node takes a word from one of several sides: it looks at
@@ -19,4 +22,16 @@ pub enum Outcome {
     Held,
     /// The node makes no step any more.
     Stopped,
+}
+
+impl Outcome {
+    /// How many steps the try made: one where it was `Moved`, and else none.
+    pub(crate) fn moves(self) -> u8
+        ensures { result ≡ moved_by self }
+    {
+        match self {
+            Outcome::Moved => 1,
+            _ => 0,
+        }
+    }
 }
