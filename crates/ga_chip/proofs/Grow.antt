@@ -1,12 +1,12 @@
 -- Over a run each ledger grows by the words written and those taken.
-use Rattle.std.proofs.Common.{◌≡◌, ℕ, ◌+◌, ◌<◌, nat_lt, true, List, length, get_or, Some, refl, sym, ap, ◌∙◌, subst}
+use Rattle.std.proofs.Common.{◌≡◌, ℕ, ◌+◌, ◌<◌, nat_lt, true, List, length, get_or, Some, refl, subst}
 use Rattle.std.specs.Prelude.{◌==◌}
 use Rattle.std.specs.List.{list_all}
 use Rattle.std.proofs.lemmas.Bool.{and_parts, eqb-true, ltb-true}
 use Rattle.std.proofs.lemmas.List.Quantifiers.{position-Some}
 use Rattle.ga_place.specs.Node.{IsNodeName}
 use Rattle.ga_place.specs.Cell.{all_cells, cell_of, index_of, is_cell}
-use Rattle.ga_place.specs.Side.{neighbour_of, side_bit}
+use Rattle.ga_place.specs.Side.{side_bit}
 use Rattle.ga_place.specs.declared.side.Side.{Side}
 use Rattle.ga_place.specs.declared.side.Side.TheVariants.{Right}
 use Rattle.ga_place.proofs.Cells.{is_node, neighbour_there, passes, reader_there}

@@ -1,5 +1,5 @@
 -- What a try asks for, and what it leaves of the node's part.
-use Rattle.std.proofs.Common.{◌≡◌, ℕ, ◌≤◌, arith, ◌+◌, ◌==◌, Bool, true, false, List, [], ◌∷◌, ◌++◌, ◌⊎◌, inl, inr, length, Option, Some, None, refl, sym, ap, ◌∙◌, subst, add-zero}
+use Rattle.std.proofs.Common.{◌≡◌, ℕ, ◌≤◌, arith, ◌+◌, ◌==◌, Bool, true, false, List, [], ◌∷◌, ◌++◌, length, Option, Some, None, refl, sym, ap, ◌∙◌, subst, add-zero}
 use Rattle.std.specs.Prelude.{if◌then◌else◌}
 use Rattle.std.proofs.lemmas.Bool.{eqb-true, eqb-false}
 use Rattle.std.proofs.lemmas.Option.{same_Some}

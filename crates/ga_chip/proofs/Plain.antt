@@ -1,5 +1,5 @@
 -- A try of a part without breakpoints and stream, by the node's need.
-use Rattle.std.proofs.Common.{◌≡◌, ◌⊎◌, inl, inr, ℕ, zero, suc, ◌%◌, ◌^◌, Bool, true, false, List, replicate, get_or, set, length, Option, Some, None, refl, sym, ap, ap₂, ◌∙◌}
+use Rattle.std.proofs.Common.{◌≡◌, ◌⊎◌, inl, inr, ℕ, zero, suc, ◌%◌, ◌^◌, Bool, true, false, List, replicate, get_or, Option, Some, None, refl, sym, ap, ◌∙◌}
 use Rattle.std.proofs.lemmas.Bool.{false≢true}
 use Rattle.std.specs.Prelude.{◌&&◌, not}
 use Rattle.ga_place.specs.declared.side.Side.{Side}
@@ -12,7 +12,7 @@ use Rattle.ga_chip.specs.declared.outcome.Outcome.TheVariants.{Moved, Waits}
 use Rattle.ga_chip.proofs.Within.{own_is, own_step}
 use Rattle.ga_node.specs.declared.need.Need.{Need}
 use Rattle.ga_chip.specs.declared.outcome.Outcome.{Outcome}
-use Rattle.ga_chip.specs.Part.{Part, Asks, Nothing, Own, Feed, Post, Check, Take, asks, asks_by, asks_if, after, after_asked, check_of, is_fetch, is_held, stepped}
+use Rattle.ga_chip.specs.Part.{Part, Asks, Nothing, Own, asks, asks_by, asks_if, after, after_asked, check_of, is_fetch, is_held, stepped}
 use Rattle.ga_chip.specs.Chip.{found_by, cells_after}
 
 -- the part of a node that has no breakpoint, no pass and no stream

@@ -1,19 +1,19 @@
 -- The words of a node's stream: those it had and those that came are those that it was fed and those that are left.
-use Rattle.std.proofs.Common.{◌≡◌, ℕ, List, [], ◌∷◌, ◌++◌, ◌⊎◌, inl, inr, flat_map, Option, Some, refl, sym, ap, ap₂, ◌∙◌, subst, append-nil, append_assoc}
+use Rattle.std.proofs.Common.{◌≡◌, ℕ, List, [], ◌∷◌, ◌++◌, ◌⊎◌, inl, inr, flat_map, Some, refl, sym, ap, ap₂, ◌∙◌, subst, append-nil, append_assoc}
 use Rattle.std.proofs.lemmas.Bool.{cases_eq}
 use Rattle.std.proofs.lemmas.Option.{same_Some}
 use Rattle.std.proofs.lemmas.List.Concat.{flat_map-append}
 use Rattle.ga_node.specs.Need.{need_of}
 use Rattle.ga_chip.specs.declared.outcome.Outcome.{Outcome}
 use Rattle.ga_chip.specs.declared.outcome.Outcome.TheVariants.{Moved, Waits, Held, Stopped}
-use Rattle.ga_chip.specs.Part.{Part, Feed, picked_by, asks_by}
+use Rattle.ga_chip.specs.Part.{Part, Feed, picked_by}
 use Rattle.ga_chip.specs.Chip.{Chip, part_of}
 use Rattle.ga_chip.specs.Run.{words_left, piece_of, pieces, if_moved, Event, Move, happened, ran, move_in, moves, moves_of}
 use Rattle.ga_chip.specs.Legal.{IsLegal}
 use Rattle.ga_chip.proofs.Parts.{fed_of, Feeds, stream_by, feeds_by}
 use Rattle.ga_chip.proofs.Events.{Does, DoesNothing, does, part_here, part_else, moves_here, moves_else}
 use Rattle.ga_chip.proofs.Kept.{legal_kept}
-use Rattle.ga_chip.proofs.Runs.{moves_of-append, part_before, part_first}
+use Rattle.ga_chip.proofs.Runs.{moves_of-append, part_first}
 use Rattle.ga_chip.proofs.Moments.{Makes}
 
 abbrev pub fed_moves : List Move → List ℕ

@@ -1,10 +1,8 @@
 -- A try at a part that is there, and that only Moved changes anything.
-use Rattle.std.specs.Prelude.{is_some, not, if◌then◌else◌}
-use Rattle.std.proofs.lemmas.Bool.{false≢true}
-use Rattle.std.proofs.Common.{◌≡◌, ℕ, Bool, true, false, ◌<◌, length, slice_get, subst, List, take, ◌++◌, set, get_or, Option, Some, None, refl, sym, ap, ap₂, ◌∙◌, arith}
+use Rattle.std.proofs.Common.{◌≡◌, ℕ, ◌<◌, length, slice_get, subst, List, take, ◌++◌, set, get_or, Option, Some, None, refl, sym, ap, ap₂, ◌∙◌, arith}
 use Rattle.std.proofs.Math.Seq.{take-append_seam}
 use Rattle.std.proofs.lemmas.List.{set-get_or, get_or_read}
-use Rattle.std.proofs.lemmas.Option.{same_Some, slice_get_read}
+use Rattle.std.proofs.lemmas.Option.{slice_get_read}
 use Rattle.ga_place.specs.declared.side.Side.{Side}
 use Rattle.std.proofs.lemmas.Grind.{common_steps}
 use Rattle.ga_place.specs.Cell.{index_of, name_at}

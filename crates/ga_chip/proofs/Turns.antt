@@ -1,5 +1,5 @@
 -- Lists of tries, as a loop goes along them.
-use Rattle.std.proofs.Common.{◌≡◌, ◌≢◌, ℕ, zero, suc, get_or, drop, ◌+◌, ◌-◌, ◌<◌, ◌≤◌, lit≤, List, [], ◌∷◌, ◌++◌, ◌⊎◌, inl, inr, map, length, Option, Some, None, refl, sym, ap, ap₂, ◌∙◌, subst, arith, length-append}
+use Rattle.std.proofs.Common.{◌≡◌, ℕ, zero, suc, get_or, drop, ◌+◌, ◌-◌, ◌<◌, ◌≤◌, lit≤, List, [], ◌∷◌, ◌++◌, map, length, Option, Some, None, refl, sym, ap, ap₂, ◌∙◌, arith, length-append}
 use Rattle.std.specs.List.{range_with_len}
 use Rattle.ga_place.specs.Cell.{name_at}
 use Rattle.ga_place.specs.declared.side.Side.{Side}
@@ -8,7 +8,7 @@ use Rattle.ga_chip.specs.declared.outcome.Try as asked
 use Rattle.ga_chip.specs.declared.outcome.Outcome.{Outcome}
 use Rattle.ga_chip.specs.declared.outcome.Outcome.TheVariants.{Moved, Waits, Held, Stopped}
 use Rattle.ga_chip.specs.Part.{Part, asks, after}
-use Rattle.ga_chip.specs.Chip.{Chip, part_of, found_by, tried, tried_at}
+use Rattle.ga_chip.specs.Chip.{Chip, part_of, found_by, tried}
 use Rattle.ga_chip.specs.Run.{moved_by, Event, Try, Move, happened, if_moved, move_at, move_in, moves, ran, tries_of, turn_of}
 use Rattle.ga_chip.proofs.Tries.{tried_there, tried_none}
 

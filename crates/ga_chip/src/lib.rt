@@ -4,6 +4,7 @@
 mod chip;
 mod counts;
 mod error;
+pub mod laws;
 mod ledger;
 mod outcome;
 mod part;
