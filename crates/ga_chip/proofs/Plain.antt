@@ -1,0 +1,66 @@
+-- A try of a part without breakpoints and stream, by the node's need.
+use Rattle.std.proofs.Common.{◌≡◌, ◌⊎◌, inl, inr, ℕ, zero, suc, ◌%◌, ◌^◌, Bool, true, false, List, replicate, get_or, Option, Some, None, refl, sym, ap, ◌∙◌}
+use Rattle.std.proofs.lemmas.Bool.{false≢true}
+use Rattle.std.specs.Prelude.{◌&&◌, not}
+use Rattle.ga_place.specs.declared.side.Side.{Side}
+use Rattle.ga_node.specs.State.{State}
+use Rattle.ga_node.specs.Need.{is_own, need_of}
+use Rattle.ga_node.specs.Slot.{step_if_own}
+use Rattle.ga_node.specs.declared.need.Need.TheVariants as need
+use Rattle.ga_chip.specs.declared.counts.Counts.{Counts}
+use Rattle.ga_chip.specs.declared.outcome.Outcome.TheVariants.{Moved, Waits}
+use Rattle.ga_chip.proofs.Within.{own_is, own_step}
+use Rattle.ga_node.specs.declared.need.Need.{Need}
+use Rattle.ga_chip.specs.declared.outcome.Outcome.{Outcome}
+use Rattle.ga_chip.specs.Part.{Part, Asks, Nothing, Own, asks, asks_by, asks_if, after, after_asked, check_of, is_fetch, is_held, stepped}
+use Rattle.ga_chip.specs.Chip.{found_by, cells_after}
+
+-- the part of a node that has no breakpoint, no pass and no stream
+abbrev pub plain_part : State → Counts → Counts → Part
+plain_part state written read = record { state = state; breaks = replicate 512 false; pass = false; stream = None; written = written; read = read }
+
+none_set : (n at : ℕ) → get_or (replicate n false) at false ≡ false
+none_set zero at = refl
+none_set (suc n) zero = refl
+none_set (suc n) (suc at) = none_set n at
+
+never : (fetch : Bool) (b : Bool) → b ≡ false → fetch && (not false && b) ≡ false
+never true b e = e
+never false b e = refl
+
+never_held : (state : State) (written read : Counts) → is_held (plain_part state written read) ≡ false
+never_held state written read = never (is_fetch state.place) _ (none_set 512 (state.p % 2 ^ 9))
+
+-- such a node asks by its need
+pub plain_asks : (state : State) (written read : Counts) (part : Part) (side : Side) (n : Need) → plain_part state written read ≡ part → n ≡ need_of state → asks part side ≡ asks_by n part.state.node None side
+unfolding asks
+plain_asks state written read part side n is e =
+    sym (ap (λ p. asks p side) is) ∙ ap (λ held. asks_if held (plain_part state written read) side) (never_held state written read)
+    ∙ ap (λ m. asks_by m state.node None side) (sym e) ∙ ap (λ p. asks_by n p.state.node None side) is
+
+-- a try by what it asks for
+pub after_by : (part : Part) (side : Side) (cells : List (Option ℕ)) (q : Asks) (r : Outcome × Part) → asks part side ≡ q → r ≡ after_asked q (found_by q cells) part → r ≡ after part side (found_by (asks part side) cells)
+unfolding after
+after_by part side cells q r e is = is ∙ ap (λ a. after_asked a (found_by a cells) part) (sym e)
+
+pub cells_by : (part : Part) (side : Side) (cells left : List (Option ℕ)) (q : Asks) → asks part side ≡ q → left ≡ cells_after q cells → left ≡ cells_after (asks part side) cells
+cells_by part side cells left q e is = is ∙ ap (λ a. cells_after a cells) (sym e)
+
+-- a check leaves the cells
+pub check_keeps : (side : Side) (at : Option ℕ) (cells : List (Option ℕ)) → cells ≡ cells_after (check_of side at) cells
+check_keeps side None cells = refl
+check_keeps side (Some cell) cells = refl
+
+-- a try that is the node's own work
+pub own_tried : (state next : State) (written read : Counts) (part : Part) (side : Side) (cells : List (Option ℕ)) → plain_part state written read ≡ part → is_own (need_of state) ≡ true → next ≡ step_if_own (need_of state) state → ◌≡◌ {A = Outcome × Part} (Moved, plain_part next written read) (after part side (found_by (asks part side) cells))
+own_tried state next written read part side cells is own e =
+    after_by part side cells Own (Moved, plain_part next written read) (plain_asks state written read part side need.Own is (sym (own_is (need_of state) own)))
+    (ap (λ s. (Moved, plain_part s written read)) (own_step state next own e) ∙ ap (λ p. (Moved, stepped None p)) is)
+
+pub own_cells : (state : State) (written read : Counts) (part : Part) (side : Side) (cells : List (Option ℕ)) → plain_part state written read ≡ part → is_own (need_of state) ≡ true → cells ≡ cells_after (asks part side) cells
+own_cells state written read part side cells is own = cells_by part side cells cells Own (plain_asks state written read part side need.Own is (sym (own_is (need_of state) own))) refl
+
+-- and one whose need is neither its own nor met from outside
+pub input_waits : (state : State) (written read : Counts) (part : Part) (side : Side) (n : Need) → plain_part state written read ≡ part → n ≡ need_of state → is_own (need_of part.state) ≡ false → (n ≡ need.Own) ⊎ (n ≡ need.Input) → asks part side ≡ Nothing Waits
+input_waits state written read part side n is e far (inl own) = absurd (false≢true (sym far ∙ ap (λ p. is_own (need_of p.state)) (sym is) ∙ ap is_own (sym e ∙ own)))
+input_waits state written read part side n is e far (inr input) = plain_asks state written read part side n is e ∙ ap (λ m. asks_by m part.state.node None side) input

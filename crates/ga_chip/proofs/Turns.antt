@@ -1,0 +1,85 @@
+-- Lists of tries, as a loop goes along them.
+use Rattle.std.proofs.Common.{◌≡◌, ℕ, zero, suc, get_or, drop, ◌+◌, ◌-◌, ◌<◌, ◌≤◌, lit≤, List, [], ◌∷◌, ◌++◌, map, length, Option, Some, None, refl, sym, ap, ap₂, ◌∙◌, arith, length-append}
+use Rattle.std.specs.List.{range_with_len}
+use Rattle.ga_place.specs.Cell.{name_at}
+use Rattle.ga_place.specs.declared.side.Side.{Side}
+use Rattle.std.proofs.Math.Seq.{drop-cons}
+use Rattle.ga_chip.specs.declared.outcome.Try as asked
+use Rattle.ga_chip.specs.declared.outcome.Outcome.{Outcome}
+use Rattle.ga_chip.specs.declared.outcome.Outcome.TheVariants.{Moved, Waits, Held, Stopped}
+use Rattle.ga_chip.specs.Part.{Part, asks, after}
+use Rattle.ga_chip.specs.Chip.{Chip, part_of, found_by, tried}
+use Rattle.ga_chip.specs.Run.{moved_by, Event, Try, Move, happened, if_moved, move_at, move_in, moves, ran, tries_of, turn_of}
+use Rattle.ga_chip.proofs.Tries.{tried_there, tried_none}
+
+-- one try of each node from a place on
+unfoldable pub turn_left : Side → ℕ → List Event
+turn_left side index = map (λ at. Try (name_at at) side) (range_with_len index (144 - index))
+
+pub turn_whole : (side : Side) → turn_left side 0 ≡ turn_of side
+unfolding turn_left turn_of
+turn_whole side = refl
+
+pub turn_done : (side : Side) → turn_left side 144 ≡ []
+unfolding turn_left
+turn_done side = refl
+
+pub happened_try : (chip : Chip) (name : ℕ) (side : Side) → happened chip (Try name side) ≡ (tried chip name side).1
+unfolding happened
+happened_try chip name side = refl
+
+-- the moves of a try by its outcome
+count_if : (outcome : Outcome) (move : Move) → length (if_moved outcome move) ≡ moved_by outcome
+count_if Moved move = refl
+count_if Waits move = refl
+count_if Held move = refl
+count_if Stopped move = refl
+
+pub count_moves : (chip : Chip) (name : ℕ) (side : Side) → length (move_in chip (Try name side)) ≡ moved_by (tried chip name side).0
+unfolding move_in
+count_moves chip name side = by (part_of chip name) refl
+  where
+    by : (o : Option Part) → part_of chip name ≡ o → length (move_at (part_of chip name) chip name side) ≡ moved_by (tried chip name side).0
+    by None e = ap (λ o. length (move_at o chip name side)) e ∙ ap (λ r. moved_by r.0) (sym (tried_none chip name side e))
+    by (Some part) e = ap (λ o. length (move_at o chip name side)) e ∙ count_if (after part side (found_by (asks part side) chip.cells)).0 _ ∙ ap (λ r. moved_by r.0) (sym (tried_there chip name side part e))
+
+-- the next try of a turn
+pub turn_next : (side : Side) (index : ℕ) → index < 144 → turn_left side index ≡ Try (name_at index) side ∷ turn_left side (index + 1)
+unfolding turn_left
+turn_next side index below = let left : 144 - index ≡ suc (144 - (index + 1)) = omega arith in ap (λ n. map (λ at. Try (name_at at) side) (range_with_len index n)) left
+
+-- a run after its first event
+pub ran_next : (chip next : Chip) (name : ℕ) (side : Side) (outcome : Outcome) (events rest : List Event) → events ≡ Try name side ∷ rest → ◌≡◌ {A = Outcome × Chip} (outcome, next) (tried chip name side) → ran chip events ≡ ran next rest
+ran_next chip next name side outcome events rest e is = ap (ran chip) e ∙ ap (λ c. ran c rest) (happened_try chip name side ∙ ap (λ r. r.1) (sym is))
+
+pub moves_next : (chip next : Chip) (name : ℕ) (side : Side) (outcome : Outcome) (events rest : List Event) → events ≡ Try name side ∷ rest → ◌≡◌ {A = Outcome × Chip} (outcome, next) (tried chip name side) → length (moves chip events) ≡ moved_by outcome + length (moves next rest)
+moves_next chip next name side outcome events rest e is =
+    ap (λ l. length (moves chip l)) e ∙ length-append (move_in chip (Try name side)) (moves (happened chip (Try name side)) rest)
+    ∙ ap₂ (λ n c. n + length (moves c rest)) (count_moves chip name side ∙ ap (λ r. moved_by r.0) (sym is)) (happened_try chip name side ∙ ap (λ r. r.1) (sym is))
+
+-- the next of the tries in a list
+pub tries_next : (tries : List asked.Try) (index : ℕ) (item : asked.Try) → index < length tries → item ≡ get_or tries index item → tries_of (drop index tries) ≡ Try item.node item.side ∷ tries_of (drop (index + 1) tries)
+tries_next tries index item below read =
+    let next : suc index ≡ index + 1 = omega arith in
+    ap tries_of (drop-cons tries index item below ∙ ap₂ (λ x k. x ∷ drop k tries) (sym read) next)
+
+one_more : (f : ℕ → Part) (from n next : ℕ) → next ≡ from + n → map f (range_with_len from n) ++ f next ∷ [] ≡ map f (range_with_len from (suc n))
+one_more f from zero next e = let same : next ≡ from = omega arith in ap (λ k. f k ∷ []) same
+one_more f from (suc n) next e = let later : next ≡ from + 1 + n = omega arith in ap (λ l. f from ∷ l) (one_more f (from + 1) n next later)
+
+-- one more of the nodes
+pub nodes_next : (f : ℕ → Part) (n : ℕ) → map f (range_with_len 0 n) ++ f n ∷ [] ≡ map f (range_with_len 0 (n + 1))
+nodes_next f n =
+    let same : n ≡ 0 + n = omega arith in
+    let next : suc n ≡ n + 1 = omega arith in
+    one_more f 0 n n same ∙ ap (λ k. map f (range_with_len 0 k)) next
+
+-- a turn is at its end
+pub turn_end : (side : Side) (index : ℕ) → 144 ≤ index → index ≤ 144 → turn_left side index ≡ []
+turn_end side index reached within = let last : index ≡ 144 = omega arith in ap (turn_left side) last ∙ turn_done side
+
+pub moved_once : (outcome : Outcome) → moved_by outcome ≤ 1
+moved_once Moved = lit≤ tt
+moved_once Waits = lit≤ tt
+moved_once Held = lit≤ tt
+moved_once Stopped = lit≤ tt

@@ -1,0 +1,105 @@
+-- A step keeps the bounds of the counts.
+use Rattle.std.proofs.Common.{◌≡◌, ◌≢◌, None, ℕ, ◌+◌, ◌-◌, ◌^◌, ◌<◌, ◌≤◌, ◌==◌, Bool, true, false, refl, sym, ap, ◌∙◌, subst, arith}
+use Rattle.std.specs.Prelude.{if◌then◌else◌}
+use Rattle.std.proofs.lemmas.Bool.{eqb-false, false≢true}
+use Rattle.ga_place.specs.declared.side.Side.{Side}
+use Rattle.ga_place.specs.declared.side.Side.TheVariants.{Right, Down, Left, Up}
+use Rattle.ga_node.specs.State.{State}
+use Rattle.ga_node.specs.Need.{is_check, is_own, is_post, need_of, takes_at, wants}
+use Rattle.ga_node.specs.Slot.{if_own, step, step_if_own}
+use Rattle.ga_node.specs.declared.need.Need.{Need}
+use Rattle.ga_node.specs.declared.need.Need.TheVariants.{Own, Take, Post, Check, Input, Stopped}
+use Rattle.ga_node.specs.declared.need.Stop.TheVariants.{Counted}
+use Rattle.ga_node.proofs.Rows.{is_running, step_steps}
+use Rattle.ga_chip.specs.declared.counts.Counts.{Counts}
+use Rattle.ga_chip.specs.Part.{count_at, counted}
+use Rattle.ga_chip.specs.Within.{IsWithin, StepsBound}
+
+-- a node that runs has made fewer steps than can be counted
+pub running_below : (state : State) → is_running (need_of state) ≡ true → state.steps < 2 ^ 64 → state.steps + 1 < 2 ^ 64
+unfolding need_of
+running_below state runs fits = by (state.steps == 2 ^ 64 - 1) refl
+  where
+    by : (full : Bool) → (state.steps == 2 ^ 64 - 1) ≡ full → state.steps + 1 < 2 ^ 64
+    by true e = absurd (false≢true (sym (ap (λ b. is_running (if b then Stopped Counted else wants state)) e) ∙ runs))
+    by false e = let apart : state.steps ≢ 2 ^ 64 - 1 = eqb-false _ _ e in omega arith
+
+-- one step more leaves the counts within
+pub step_within : (counts : Counts) (before now : ℕ) → now ≡ before + 1 → IsWithin counts before → IsWithin counts now
+step_within counts before now e within side = let below : count_at side counts ≤ before = within side in omega arith
+
+-- and one count more does too
+pub count_within : (side : Side) (counts : Counts) (before now : ℕ) → now ≡ before + 1 → IsWithin counts before → IsWithin (counted side counts) now
+count_within Right counts before now e within Right = let below : counts.right ≤ before = within Right in omega arith
+count_within Right counts before now e within Down = step_within counts before now e within Down
+count_within Right counts before now e within Left = step_within counts before now e within Left
+count_within Right counts before now e within Up = step_within counts before now e within Up
+count_within Down counts before now e within Right = step_within counts before now e within Right
+count_within Down counts before now e within Down = let below : counts.down ≤ before = within Down in omega arith
+count_within Down counts before now e within Left = step_within counts before now e within Left
+count_within Down counts before now e within Up = step_within counts before now e within Up
+count_within Left counts before now e within Right = step_within counts before now e within Right
+count_within Left counts before now e within Down = step_within counts before now e within Down
+count_within Left counts before now e within Left = let below : counts.left ≤ before = within Left in omega arith
+count_within Left counts before now e within Up = step_within counts before now e within Up
+count_within Up counts before now e within Right = step_within counts before now e within Right
+count_within Up counts before now e within Down = step_within counts before now e within Down
+count_within Up counts before now e within Left = step_within counts before now e within Left
+count_within Up counts before now e within Up = let below : counts.up ≤ before = within Up in omega arith
+
+-- so a count of it can grow
+pub room : (side : Side) (counts : Counts) (state : State) → is_running (need_of state) ≡ true → state.steps < 2 ^ 64 → IsWithin counts state.steps → count_at side counts < 2 ^ 64 - 1
+room side counts state runs fits within =
+    let next : state.steps + 1 < 2 ^ 64 = running_below state runs fits in
+    let below : count_at side counts ≤ state.steps = within side in
+    omega arith
+
+-- a node that needs something from outside runs
+pub post_runs : (n : Need) → is_post n ≡ true → is_running n ≡ true
+post_runs (Post side word) e = refl
+post_runs Own e = absurd (false≢true e)
+post_runs (Take sides) e = absurd (false≢true e)
+post_runs (Check side) e = absurd (false≢true e)
+post_runs Input e = absurd (false≢true e)
+post_runs (Stopped stop) e = absurd (false≢true e)
+
+pub check_runs : (n : Need) → is_check n ≡ true → is_running n ≡ true
+check_runs (Check side) e = refl
+check_runs Own e = absurd (false≢true e)
+check_runs (Take sides) e = absurd (false≢true e)
+check_runs (Post side word) e = absurd (false≢true e)
+check_runs Input e = absurd (false≢true e)
+check_runs (Stopped stop) e = absurd (false≢true e)
+
+pub take_runs : (side : Side) (n : Need) → takes_at side n ≡ true → is_running n ≡ true
+take_runs side (Take sides) e = refl
+take_runs side Own e = absurd (false≢true e)
+take_runs side (Post to word) e = absurd (false≢true e)
+take_runs side (Check to) e = absurd (false≢true e)
+take_runs side Input e = absurd (false≢true e)
+take_runs side (Stopped stop) e = absurd (false≢true e)
+
+pub own_is : (n : Need) → is_own n ≡ true → n ≡ Own
+own_is Own e = refl
+own_is (Take sides) e = absurd (false≢true e)
+own_is (Post side word) e = absurd (false≢true e)
+own_is (Check side) e = absurd (false≢true e)
+own_is Input e = absurd (false≢true e)
+own_is (Stopped stop) e = absurd (false≢true e)
+
+-- the bounds after a step, after one that posts, and after one that takes
+pub step_bound : (state : State) (now : ℕ) (written read : Counts) → is_running (need_of state) ≡ true → now ≡ state.steps + 1 → StepsBound state.steps written read → StepsBound now written read
+step_bound state now written read runs e bound = record { fits = subst (λ n. n < 2 ^ 64) (sym e) (running_below state runs bound.fits); writes = step_within written state.steps now e bound.writes; reads = step_within read state.steps now e bound.reads }
+
+pub post_bound : (side : Side) (state : State) (now : ℕ) (written read : Counts) → is_running (need_of state) ≡ true → now ≡ state.steps + 1 → StepsBound state.steps written read → StepsBound now (counted side written) read
+post_bound side state now written read runs e bound = let stepped = step_bound state now written read runs e bound in record { fits = stepped.fits; writes = count_within side written state.steps now e bound.writes; reads = stepped.reads }
+
+pub take_bound : (side : Side) (state : State) (now : ℕ) (written read : Counts) → is_running (need_of state) ≡ true → now ≡ state.steps + 1 → StepsBound state.steps written read → StepsBound now written (counted side read)
+take_bound side state now written read runs e bound = let stepped = step_bound state now written read runs e bound in record { fits = stepped.fits; writes = stepped.writes; reads = count_within side read state.steps now e bound.reads }
+
+-- what a try of the node's own leaves, where its need is its own
+pub own_step : (state next : State) → is_own (need_of state) ≡ true → next ≡ step_if_own (need_of state) state → next ≡ step state None
+own_step state next own e = e ∙ ap (λ n. if_own n (step state None) state) (own_is (need_of state) own)
+
+pub own_bound : (state next : State) (written read : Counts) → is_own (need_of state) ≡ true → next ≡ step_if_own (need_of state) state → StepsBound state.steps written read → StepsBound next.steps written read
+own_bound state next written read own e bound = step_bound state next.steps written read (ap is_running (own_is (need_of state) own)) (ap (λ s. s.steps) (own_step state next own e) ∙ step_steps state None) bound

@@ -1,0 +1,94 @@
+-- The chip: the nodes' parts in order of name, and the word pending in each cell. A try of one node.
+use Rattle.std.specs.Prelude.{ℕ, ◌==◌, Bool, false, not, List, map, replicate, Option, Some, None, option_map, set, slice_get, slice_index_or}
+use Rattle.std.specs.Option.{option_map_or}
+use Rattle.std.specs.List.{range_with_len}
+use Rattle.ga_place.specs.Cell.{index_of, name_at}
+use Rattle.ga_place.specs.declared.side.Side.{Side}
+use Rattle.ga_node.specs.State.{State, loaded_state, reset_state}
+use Rattle.ga_chip.specs.declared.counts.Counts.{Counts}
+use Rattle.ga_chip.specs.declared.outcome.Outcome.{Outcome}
+use Rattle.ga_chip.specs.declared.outcome.Outcome.TheVariants.{Waits}
+use Rattle.ga_chip.specs.Part.{Part, Asks, Nothing, Own, Feed, Post, Check, Take, asks, after}
+
+-- 144 parts and 524 cells; a cell holds its pending word, or none
+pub record Chip : Type 0 where
+  pub parts : List Part
+  pub cells : List (Option ℕ)
+
+-- a node's part; a name of no node has none
+abbrev pub part_of : Chip → ℕ → Option Part
+part_of chip name = slice_get chip.parts (index_of name)
+
+-- a node's state
+abbrev pub state_of : Chip → ℕ → Option State
+state_of chip name = option_map (λ part. part.state) (part_of chip name)
+
+-- the word pending in a cell
+abbrev pub pending_in : List (Option ℕ) → ℕ → Option ℕ
+pending_in cells cell = slice_index_or cells cell None
+
+abbrev pub pending : Chip → ℕ → Option ℕ
+pending chip cell = pending_in chip.cells cell
+
+-- what a try finds pending in the cell that it asks for
+abbrev pub found_by : Asks → List (Option ℕ) → Option ℕ
+found_by (Take side cell) cells = pending_in cells cell
+found_by (Check side cell) cells = pending_in cells cell
+found_by (Nothing outcome) cells = None
+found_by Own cells = None
+found_by (Feed fed) cells = None
+found_by (Post side cell word) cells = None
+
+-- the cells after a try: a post's word is pending, and a take leaves its cell empty
+abbrev pub cells_after : Asks → List (Option ℕ) → List (Option ℕ)
+cells_after (Post side cell word) cells = set cells cell (Some word)
+cells_after (Take side cell) cells = set cells cell None
+cells_after (Nothing outcome) cells = cells
+cells_after Own cells = cells
+cells_after (Feed fed) cells = cells
+cells_after (Check side cell) cells = cells
+
+-- the chip where a node's part is another
+abbrev pub with_part : Chip → ℕ → Part → Chip
+with_part chip name part = record chip { parts = set chip.parts (index_of name) part }
+
+-- the chip where a node's part is changed; a name of no node changes nothing
+abbrev pub with_changed : (Part → Part) → Option Part → Chip → ℕ → Chip
+with_changed change None chip name = chip
+with_changed change (Some part) chip name = with_part chip name (change part)
+
+-- what came of a try of a node, and the chip, by what the try asked for and what the node's part is afterwards
+abbrev pub tried_by : Chip → ℕ → Asks → Outcome × Part → Outcome × Chip
+tried_by chip name asked result = (result.0, record { parts = set chip.parts (index_of name) result.1; cells = cells_after asked chip.cells })
+
+abbrev pub tried_at : Option Part → Chip → ℕ → Side → Outcome × Chip
+tried_at None chip name side = (Waits, chip)
+tried_at (Some part) chip name side = tried_by chip name (asks part side) (after part side (found_by (asks part side) chip.cells))
+
+-- A try of a node that names a side: what comes of it, and the chip afterwards.
+unfoldable pub tried : Chip → ℕ → Side → Outcome × Chip
+tried chip name side = tried_at (part_of chip name) chip name side
+
+-- nothing at any side
+abbrev pub no_counts : Counts
+no_counts = record { right = 0; down = 0; left = 0; up = 0 }
+
+-- a node's part after reset: no breakpoint, no pass, no stream, and nothing written or read
+abbrev pub reset_part : ℕ → Part
+reset_part name = record { state = reset_state name; breaks = replicate 512 false; pass = false; stream = None; written = no_counts; read = no_counts }
+
+-- The chip after reset: each node's part, and nothing pending.
+unfoldable pub reset_chip : Chip
+reset_chip = record { parts = map (λ index. reset_part (name_at index)) (range_with_len 0 144); cells = replicate 524 None }
+
+-- the node has made a step
+abbrev pub has_begun : Chip → ℕ → Bool
+has_begun chip name = option_map_or (λ part. not (part.state.steps == 0)) (part_of chip name) false
+
+-- a part whose node is as after reset, with these words at the front of its memory and P at the entry
+abbrev pub given : List ℕ → ℕ → Part → Part
+given words entry part = record part { state = loaded_state part.state.node words entry }
+
+-- The chip where a node was given words and an entry.
+unfoldable pub placed : Chip → ℕ → List ℕ → ℕ → Chip
+placed chip name words entry = with_changed (given words entry) (part_of chip name) chip name

@@ -1,0 +1,42 @@
+-- What every schedule leaves alike.
+use Rattle.std.specs.Prelude.{◌≡◌, ◌≢◌, ℕ, List, ◌++◌, ◌⊎◌, Some}
+use Rattle.ga_place.specs.declared.side.Side.{Side}
+use Rattle.ga_node.specs.State.{State}
+use Rattle.ga_chip.specs.declared.outcome.Outcome.TheVariants.{Moved}
+use Rattle.ga_chip.specs.Part.{Part}
+use Rattle.ga_chip.specs.Chip.{Chip, part_of, tried}
+use Rattle.ga_chip.specs.Run.{Event, ran, written_words, taken_words, sides_of, pieces, node_after}
+use Rattle.ga_chip.specs.Legal.{IsLegal, DifferInBreaks}
+
+-- the one list begins the other
+abbrev pub IsPrefix : {A : Type 0} → List A → List A → Type 0
+IsPrefix {A = A} xs ys = (rest : List A) × (ys ≡ xs ++ rest)
+
+-- one of two lists is a prefix of the other
+abbrev pub AgreesWith : {A : Type 0} → List A → List A → Type 0
+AgreesWith xs ys = IsPrefix xs ys ⊎ IsPrefix ys xs
+
+-- Two runs go alike as far as both go.
+pub record Agree (one two : Chip) (events others : List Event) : Type 0 where
+  -- a node has the same state after equally many moves
+  pub nodes : (name k : ℕ) (here there : State) → node_after one events name k ≡ Some here → node_after two others name k ≡ Some there → here ≡ there
+  -- so also at the ends, where its steps are equal
+  pub ends : (name : ℕ) (here there : Part) → part_of (ran one events) name ≡ Some here → part_of (ran two others) name ≡ Some there → here.state.steps ≡ there.state.steps → here.state ≡ there.state
+  -- each cell has the same words written and taken
+  pub written : (cell : ℕ) → AgreesWith (written_words one events cell) (written_words two others cell)
+  pub taken : (cell : ℕ) → AgreesWith (taken_words one events cell) (taken_words two others cell)
+
+-- Any two runs go alike, from legal chips that differ in breakpoints and passes at most, where the takes of
+-- several sides name the same sides and the streams get the same words, as far as both runs go. Breakpoints may
+-- be used between the tries.
+abbrev pub Confluence : Type 0
+Confluence = (one two : Chip) (events others : List Event) → IsLegal one → IsLegal two → DifferInBreaks one two → ((name : ℕ) → AgreesWith (sides_of one events name) (sides_of two others name)) → ((name : ℕ) → AgreesWith (pieces name events) (pieces name others)) → Agree one two events others
+
+-- Two nodes' tries that would each be Moved are both Moved in either order, which leads to the same chip.
+pub record Commute (chip : Chip) (a b : ℕ) (s t : Side) : Type 0 where
+  pub second : (tried (tried chip a s).1 b t).0 ≡ Moved
+  pub first : (tried (tried chip b t).1 a s).0 ≡ Moved
+  pub same : (tried (tried chip a s).1 b t).1 ≡ (tried (tried chip b t).1 a s).1
+
+abbrev pub Commuting : Type 0
+Commuting = (chip : Chip) (a b : ℕ) (s t : Side) → IsLegal chip → a ≢ b → (tried chip a s).0 ≡ Moved → (tried chip b t).0 ≡ Moved → Commute chip a b s t

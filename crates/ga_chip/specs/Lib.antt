@@ -1,0 +1,8 @@
+pub mod Part
+pub mod Within
+pub mod Chip
+pub mod Ledger
+pub mod Run
+pub mod Grow
+pub mod Legal
+pub mod Laws

@@ -1,0 +1,154 @@
+ghost use Rattle.std.specs.Prelude.{◌≡◌, ◌+◌, ◌<◌, ◌≤◌, ◌^◌, IfOk, if◌then◌else◌, length};
+ghost use Rattle.ga_place.specs.Cell.{index_of, name_at};
+ghost use Rattle.ga_chip.specs.declared.error.ChipError.TheVariants.{Begun};
+ghost use Rattle.ga_chip.specs.Chip.{has_begun, placed, reset_chip, state_of, tried};
+ghost use Rattle.ga_chip.specs.Ledger.{ledger_of};
+ghost use Rattle.ga_chip.specs.Grow.{LedgersGrow};
+ghost use Rattle.ga_chip.specs.Run.{moves, ran, tries_of, turn_of};
+
+use crate::error::ChipError;
+use crate::ledger::Ledger;
+use crate::outcome::{Outcome, Try};
+use crate::part::NodePart;
+use ga_node::NodeState;
+use ga_place::{Node, Side, cell, neighbour};
+use ga_word::Word18;
+use std::alloc::{AllocError, Global};
+use std::marker::Model;
+
+/// The chip: 144 nodes, and the 524 one-way cells over which they pass words.
+#[derive(Drop)]
+pub struct Chip {
+    parts: Vec<NodePart>,
+    cells: Vec<Option<Word18>>,
+}
+
+impl Model for Chip {
+    ghost use Rattle.std.specs.Prelude.{vec_items};
+    ghost use Rattle.ga_chip.specs.Chip as chip;
+    ghost use Rattle.ga_chip.specs.Legal.{IsLegal};
+
+    ghost Value = { chip.Chip };
+
+    ghost view = { λ c. record { parts = vec_items c.parts; cells = vec_items c.cells } };
+
+    ghost invariant = { λ c. IsLegal (record { parts = vec_items c.parts; cells = vec_items c.cells }) };
+}
+
+impl Chip {
+    /// The chip after reset: each node as `NodeState::reset` says, and nothing pending. An error where memory
+    /// runs out. No other call takes memory.
+    pub fn reset(alloc: Global) -> Result<Self, AllocError>
+        ensures { IfOk result (λ chip. chip ≡ reset_chip) }
+    {
+        let mut parts = Vec::new(alloc);
+        for index in 0..144 {
+            parts.push(NodePart::reset(node_at(index)))?;
+        }
+        let cells = Vec::from_array(alloc, [None; 524])?;
+        Ok(Chip { parts, cells })
+    }
+
+    /// Gives a node words, at most 64, and an entry, an address of ten bits: it is then as
+    /// `NodeState::loaded` says, so that a second call starts it anew. A node that has made a step is
+    /// refused, `Begun`, and the chip is left as it was.
+    pub fn place(&mut self, node: Node, words: &[Word18], entry: u16) -> Result<(), ChipError>
+        requires words { length words.now ≤ 64 }
+        requires entry { entry < 2 ^ 10 }
+        ensures begun { result ≡ (if has_begun self.old node then Err Begun else Ok tt) }
+        ensures chip { self.new ≡ (if has_begun self.old node then self.old else placed self.old node words.now entry) }
+    {
+        let part = &mut self.parts[index_of(node)];
+        if part.state().steps() != 0 {
+            return Err(ChipError::Begun);
+        }
+        part.give(words, entry);
+        Ok(())
+    }
+
+    /// One try of one node. Only `Moved` changes anything, and it adds one to the node's steps.
+    #[inline(always)]
+    pub fn attempt(&mut self, what: Try) -> Outcome
+        ensures { (result, self.new) ≡ tried self.old what.node what.side }
+    {
+        self.attempt_at(index_of(what.node), what.side)
+    }
+
+    /// Tries in order.
+    pub fn run(&mut self, tries: &[Try])
+        ensures chip { self.new ≡ ran self.old (tries_of tries.now) }
+        ensures ledgers { LedgersGrow self.old self.new (tries_of tries.now) }
+    {
+        let _ = &self.parts;
+        for what in tries {
+            let _outcome = self.attempt(*what);
+        }
+    }
+
+    /// One try of each node in order of name, all with one side. Answers how many were `Moved`.
+    pub fn turn(&mut self, side: Side) -> u8
+        ensures chip { self.new ≡ ran self.old (turn_of side) }
+        ensures moved { result ≡ length (moves self.old (turn_of side)) }
+        ensures ledgers { LedgersGrow self.old self.new (turn_of side) }
+    {
+        let _ = &self.parts;
+        let mut moved = 0;
+        for index in 0..144 {
+            moved += self.attempt_at(index, side).moves();
+        }
+        moved
+    }
+
+    /// A node's state.
+    pub fn state(&self, node: Node) -> &NodeState
+        ensures { Some result.now ≡ state_of self.now node }
+    {
+        self.parts[index_of(node)].state()
+    }
+
+    /// The numbers of the cell that a node writes at a side: how many words were written and read, and how
+    /// many are pending. All are 0 where the node has no neighbour there.
+    pub fn ledger(&self, node: Node, side: Side) -> Ledger
+        ensures numbers { result ≡ ledger_of self.now node side }
+        ensures balanced { result.written ≡ result.read + result.pending }
+    {
+        let (Some(other), Some(at)) = (neighbour(node, side), cell(node, side)) else {
+            return Ledger {
+                written: 0,
+                read: 0,
+                pending: 0,
+            };
+        };
+        Ledger {
+            written: self.parts[index_of(node)].written(side),
+            read: self.parts[index_of(other)].read(side),
+            pending: u8::from(self.cells[at.index()].is_some()),
+        }
+    }
+
+    /// One try of the node at a place in order of name.
+    #[inline(always)]
+    fn attempt_at(&mut self, index: usize, side: Side) -> Outcome
+        requires { index < 144 }
+        ensures { (result, self.new) ≡ tried self.old (name_at index) side }
+    {
+        self.parts[index].attempt(&mut self.cells, side)
+    }
+}
+
+/// The place of a node in order of name.
+fn index_of(node: Node) -> usize
+    ensures value { result ≡ index_of node }
+    ensures bound { result < 144 }
+    ensures back { name_at result ≡ node }
+{
+    usize::from(node.row()) * 18 + usize::from(node.column())
+}
+
+/// The node at a place in order of name.
+fn node_at(index: u16) -> Node
+    requires { index < 144 }
+    ensures { result ≡ name_at index }
+{
+    Node::new(index / 18 * 100 + index % 18).unwrap()
+}

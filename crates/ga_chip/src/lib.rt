@@ -1,0 +1,18 @@
+//! The whole chip in one thread: 144 nodes that pass words to one another over the cells between them.
+#![tactic(auto)]
+
+mod chip;
+mod counts;
+mod error;
+pub mod laws;
+mod ledger;
+mod outcome;
+mod part;
+
+pub use chip::Chip;
+pub use error::ChipError;
+pub use ledger::Ledger;
+pub use outcome::{Outcome, Try};
+
+#[cfg(test)]
+mod tests;

@@ -1,0 +1,37 @@
+ghost use Rattle.std.specs.Prelude.{◌≡◌};
+ghost use Rattle.ga_chip.specs.Run.{moved_by};
+
+use ga_place::{Node, Side};
+
+/// One try of one node. The side counts where the node takes a word from one of several sides: it looks at
+/// this side alone.
+#[derive(Clone, Copy, Debug, PartialEq, Eq)]
+pub struct Try {
+    pub node: Node,
+    pub side: Side,
+}
+
+/// What came of a try.
+#[derive(Clone, Copy, Debug, PartialEq, Eq)]
+pub enum Outcome {
+    /// The node made a step.
+    Moved,
+    /// The node waits: for a word, or for its own word to be read.
+    Waits,
+    /// The node is about to fetch at a breakpoint.
+    Held,
+    /// The node makes no step any more.
+    Stopped,
+}
+
+impl Outcome {
+    /// How many steps the try made: one where it was `Moved`, and else none.
+    pub(crate) fn moves(self) -> u8
+        ensures { result ≡ moved_by self }
+    {
+        match self {
+            Outcome::Moved => 1,
+            _ => 0,
+        }
+    }
+}

@@ -1,0 +1,186 @@
+ghost use Rattle.std.specs.Prelude.{◌≡◌, ◌≤◌, ◌<◌, ◌^◌, false, true, length, None};
+ghost use Rattle.ga_place.specs.Cell.{cell_of, read_cell};
+ghost use Rattle.ga_place.specs.Side.{one_side};
+ghost use Rattle.ga_node.specs.Need.{is_check, is_own, is_post, need_of, takes_at};
+ghost use Rattle.ga_node.specs.State.{loaded_state};
+ghost use Rattle.ga_chip.specs.Part.{after, after_asked, asks, asks_by, check_of, count_at, looked_at, post_to, take_of};
+ghost use Rattle.ga_chip.specs.Chip.{cells_after, found_by, given, reset_part};
+
+use crate::counts::Counts;
+use crate::outcome::Outcome;
+use ga_node::{Need, NodeState};
+use ga_place::{Node, Side, Sides, cell, neighbour};
+use ga_word::Word18;
+use std::marker::Model;
+
+/// What the chip has of one node: its state, and how many words it has written and read at each side. No
+/// node has a breakpoint or a stream.
+#[derive(Drop)]
+pub(crate) struct NodePart {
+    state: NodeState,
+    written: Counts,
+    read: Counts,
+}
+
+impl Model for NodePart {
+    ghost use Rattle.std.specs.Prelude.{false, replicate, None};
+    ghost use Rattle.ga_chip.specs.Part.{Part};
+    ghost use Rattle.ga_chip.specs.Within.{StepsBound};
+
+    ghost Value = { Part };
+
+    ghost view = { λ part. record {
+      state = part.state;
+      breaks = replicate 512 false;
+      pass = false;
+      stream = None;
+      written = part.written;
+      read = part.read;
+    } };
+
+    ghost invariant = { λ part. StepsBound part.state.steps part.written part.read };
+}
+
+impl NodePart {
+    /// A node after reset.
+    pub(crate) fn reset(node: Node) -> Self
+        ensures { result ≡ reset_part node }
+    {
+        NodePart {
+            state: NodeState::reset(node),
+            written: Counts::new(),
+            read: Counts::new(),
+        }
+    }
+
+    /// The node's state.
+    pub(crate) fn state(&self) -> &NodeState
+        ensures { result.now ≡ self.now.state }
+    {
+        &self.state
+    }
+
+    /// How many words the node has written at a side.
+    pub(crate) fn written(&self, side: Side) -> u64
+        ensures { result ≡ count_at side self.now.written }
+    {
+        self.written.at(side)
+    }
+
+    /// How many words the node has read at a side.
+    pub(crate) fn read(&self, side: Side) -> u64
+        ensures { result ≡ count_at side self.now.read }
+    {
+        self.read.at(side)
+    }
+
+    /// One try of the node that names a side, over the chip's cells.
+    #[inline(always)]
+    pub(crate) fn attempt(&mut self, cells: &mut [Option<Word18>], side: Side) -> Outcome
+        requires { length cells.old ≡ 524 }
+        ensures part { (result, self.new) ≡ after self.old side (found_by (asks self.old side) cells.old) }
+        ensures cells { cells.new ≡ cells_after (asks self.old side) cells.old }
+    {
+        if self.state.try_own() {
+            Outcome::Moved
+        } else {
+            self.attempt_far(cells, side)
+        }
+    }
+
+    /// A try of a node whose need isn't its own.
+    #[inline(never)]
+    fn attempt_far(&mut self, cells: &mut [Option<Word18>], side: Side) -> Outcome
+        requires count { length cells.old ≡ 524 }
+        requires far { is_own (need_of self.old.state) ≡ false }
+        ensures part { (result, self.new) ≡ after self.old side (found_by (asks self.old side) cells.old) }
+        ensures cells { cells.new ≡ cells_after (asks self.old side) cells.old }
+    {
+        match self.state.need() {
+            Need::Take(sides) => match looked_at(sides, side) {
+                Some(at) => self.take(cells, at),
+                None => Outcome::Waits,
+            },
+            Need::Post(to, word) => self.post(cells, to, word),
+            Need::Check(to) => self.check(cells, to),
+            Need::Stopped(_) => Outcome::Stopped,
+            Need::Own | Need::Input => Outcome::Waits,
+        }
+    }
+
+    /// The node takes a word at a side, where one is pending.
+    fn take(&mut self, cells: &mut [Option<Word18>], side: Side) -> Outcome
+        requires count { length cells.old ≡ 524 }
+        requires take { takes_at side (need_of self.old.state) ≡ true }
+        ensures part { let asked = take_of side (read_cell self.old.state.node side) in (result, self.new) ≡ after_asked asked (found_by asked cells.old) self.old }
+        ensures cells { cells.new ≡ cells_after (take_of side (read_cell self.old.state.node side)) cells.old }
+    {
+        let Some(other) = neighbour(self.state.node(), side) else {
+            return Outcome::Waits;
+        };
+        let Some(at) = cell(other, side) else {
+            return Outcome::Waits;
+        };
+        match cells[at.index()].take() {
+            Some(word) => {
+                self.state.step_took(side, word);
+                self.read.count(side);
+                Outcome::Moved
+            }
+            None => Outcome::Waits,
+        }
+    }
+
+    /// The node posts its word at a side.
+    fn post(&mut self, cells: &mut [Option<Word18>], to: Side, word: Word18) -> Outcome
+        requires count { length cells.old ≡ 524 }
+        requires post { is_post (need_of self.old.state) ≡ true }
+        ensures part { let asked = post_to to word (cell_of self.old.state.node to) in (result, self.new) ≡ after_asked asked (found_by asked cells.old) self.old }
+        ensures cells { cells.new ≡ cells_after (post_to to word (cell_of self.old.state.node to)) cells.old }
+    {
+        let Some(at) = cell(self.state.node(), to) else {
+            return Outcome::Waits;
+        };
+        cells[at.index()] = Some(word);
+        self.state.step_posted();
+        self.written.count(to);
+        Outcome::Moved
+    }
+
+    /// The node goes on where the word that it posted at a side was read.
+    fn check(&mut self, cells: &[Option<Word18>], to: Side) -> Outcome
+        requires count { length cells.now ≡ 524 }
+        requires check { is_check (need_of self.old.state) ≡ true }
+        ensures { let asked = check_of to (cell_of self.old.state.node to) in (result, self.new) ≡ after_asked asked (found_by asked cells.now) self.old }
+    {
+        match cell(self.state.node(), to) {
+            Some(at) if cells[at.index()].is_none() => {
+                self.state.step_checked();
+                Outcome::Moved
+            }
+            _ => Outcome::Waits,
+        }
+    }
+
+    /// Gives a node that has made no step words for the front of its memory, at most 64, and P an entry, an
+    /// address of ten bits.
+    pub(crate) fn give(&mut self, words: &[Word18], entry: u16)
+        requires words { length words.now ≤ 64 }
+        requires entry { entry < 2 ^ 10 }
+        requires new { self.old.state.steps ≡ 0 }
+        ensures { self.new ≡ given words.now entry self.old }
+    {
+        self.state = NodeState::loaded(self.state.node(), words, entry);
+    }
+}
+
+/// The side at which a take looks: its one side, or of several the one that the try names.
+fn looked_at(sides: Sides, side: Side) -> Option<Side>
+    ensures { result ≡ looked_at (one_side sides) sides side }
+{
+    match sides.only() {
+        Some(only) => Some(only),
+        None if sides.has(side) => Some(side),
+        None => None,
+    }
+}

@@ -1,0 +1,214 @@
+use crate::{Chip, ChipError, Ledger, Outcome, Try};
+use ga_node::Stop;
+use ga_place::{Node, Side};
+use ga_word::Word18;
+use std::alloc::Global;
+use std::test::Fail;
+
+/// Writes 12 to the port on the right.
+const WRITE_12_RIGHT: [u32; 4] = [0x05DA2, 0x00012, 0x001D5, 0x089B2];
+
+fn node(name: u16) -> Result<Node, Fail> {
+    Ok(Node::new(name).ok_or("no such node")?)
+}
+
+/// Places words in a node, with entry 0.
+fn place(chip: &mut Chip, name: u16, numbers: &[u32]) -> Result<(), Fail> {
+    let mut words = [Word18::default(); 64];
+    for (word, number) in words.iter_mut().zip(numbers) {
+        *word = Word18::new(*number).ok_or("more than 18 bits")?;
+    }
+    chip.place(node(name)?, &words, 0).map_err(|_| "begun")?;
+    Ok(())
+}
+
+fn reset(alloc: Global) -> Result<Chip, Fail> {
+    Ok(Chip::reset(alloc).map_err(|_| "no memory")?)
+}
+
+/// How many of so many tries were `Moved` before the first that wasn't.
+fn moves(chip: &mut Chip, name: u16, side: Side, tries: u32) -> Result<u32, Fail> {
+    let node = node(name)?;
+    for moved in 0..tries {
+        if chip.attempt(Try { node, side }) != Outcome::Moved {
+            return Ok(moved);
+        }
+    }
+    Ok(tries)
+}
+
+/// The outcome of a try.
+fn outcome(chip: &mut Chip, name: u16, side: Side) -> Result<Outcome, Fail> {
+    let node = node(name)?;
+    Ok(chip.attempt(Try { node, side }))
+}
+
+fn ledger(written: u64, read: u64, pending: u8) -> Ledger {
+    Ledger {
+        written,
+        read,
+        pending,
+    }
+}
+
+#[test]
+fn one_word_through_a_port(rt: HostRuntime) -> Result<(), Fail> {
+    let mut chip = reset(rt.alloc())?;
+    place(&mut chip, 708, &WRITE_12_RIGHT)?;
+    assert!(rt; moves(&mut chip, 708, Side::Right, 7)? == 7);
+    for _ in 0..100 {
+        assert!(rt; outcome(&mut chip, 708, Side::Right)? == Outcome::Waits);
+    }
+    assert!(rt; chip.ledger(node(708)?, Side::Right) == ledger(1, 0, 1));
+    assert!(rt; outcome(&mut chip, 709, Side::Down)? == Outcome::Waits);
+    assert!(rt; outcome(&mut chip, 709, Side::Right)? == Outcome::Moved);
+    assert!(rt; chip.state(node(709)?).word().get() == 0x00012);
+    assert!(rt; chip.ledger(node(708)?, Side::Right) == ledger(1, 1, 0));
+    assert!(rt; outcome(&mut chip, 708, Side::Right)? == Outcome::Moved);
+    // The word is run: `@b` reads io.
+    assert!(rt; outcome(&mut chip, 709, Side::Right)? == Outcome::Stopped);
+    assert!(rt; chip.ledger(node(700)?, Side::Up) == ledger(0, 0, 0));
+    Ok(())
+}
+
+/// T of 709 after a take at a side, where 708 has written 12 to its right and 609 has written 34 down, each
+/// by seven tries in an order, and 709 has made three.
+fn taken(alloc: Global, order: &[u16], side: Side) -> Result<u32, Fail> {
+    let mut chip = reset(alloc)?;
+    place(&mut chip, 708, &WRITE_12_RIGHT)?;
+    place(&mut chip, 609, &[0x05DA2, 0x00034, 0x00115, 0x089B2])?;
+    place(&mut chip, 709, &[0x04A0A, 0x001B5])?;
+    for name in order {
+        let _outcome = outcome(&mut chip, *name, Side::Right)?;
+    }
+    let _moved = moves(&mut chip, 709, Side::Left, 3)?;
+    let _outcome = outcome(&mut chip, 709, side)?;
+    Ok(chip.state(node(709)?).t().get())
+}
+
+#[test]
+fn two_writers_one_multiport(rt: HostRuntime) -> Result<(), Fail> {
+    let orders = [
+        [
+            708, 708, 708, 708, 708, 708, 708, 609, 609, 609, 609, 609, 609, 609,
+        ],
+        [
+            609, 609, 609, 609, 609, 609, 609, 708, 708, 708, 708, 708, 708, 708,
+        ],
+        [
+            609, 708, 609, 708, 609, 708, 609, 708, 609, 708, 609, 708, 609, 708,
+        ],
+        [
+            708, 708, 609, 609, 609, 708, 609, 708, 708, 708, 609, 609, 708, 609,
+        ],
+    ];
+    for order in orders {
+        assert!(rt; taken(rt.alloc(), &order, Side::Right)? == 0x00012);
+        assert!(rt; taken(rt.alloc(), &order, Side::Down)? == 0x00034);
+        assert!(rt; taken(rt.alloc(), &order, Side::Left)? == 0);
+    }
+    Ok(())
+}
+
+#[test]
+fn both_neighbours_write_at_once(rt: HostRuntime) -> Result<(), Fail> {
+    let mut chip = reset(rt.alloc())?;
+    place(&mut chip, 708, &WRITE_12_RIGHT)?;
+    place(&mut chip, 709, &[0x05DA2, 0x00034, 0x001D5, 0x089B2])?;
+    for name in [708, 709] {
+        assert!(rt; moves(&mut chip, name, Side::Right, 7)? == 7);
+    }
+    for side in [Side::Right, Side::Down, Side::Left, Side::Up] {
+        assert!(rt; chip.turn(side) == 0);
+        for name in [708, 709] {
+            assert!(rt; outcome(&mut chip, name, side)? == Outcome::Waits);
+        }
+    }
+    for name in [708, 709] {
+        assert!(rt; chip.ledger(node(name)?, Side::Right) == ledger(1, 0, 1));
+    }
+    Ok(())
+}
+
+#[test]
+fn stops(rt: HostRuntime) -> Result<(), Fail> {
+    let table = [
+        ([0x05DA2, 0x00001, 0x001A5, 0x089B2], 6, Stop::MultiWrite),
+        ([0x009B2, 0, 0, 0], 1, Stop::IoRead),
+        ([0x100AA, 0, 0, 0], 2, Stop::Rom),
+        ([0x10141, 0, 0, 0], 2, Stop::Unmapped),
+    ];
+    for (numbers, steps, stop) in table {
+        let mut chip = reset(rt.alloc())?;
+        place(&mut chip, 0, &numbers)?;
+        assert!(rt; moves(&mut chip, 0, Side::Right, 100)? == steps);
+        assert!(rt; outcome(&mut chip, 0, Side::Down)? == Outcome::Stopped);
+        assert!(rt; chip.state(node(0)?).stop() == Some(stop));
+        assert!(rt; chip.state(node(0)?).steps() == u64::from(steps));
+    }
+    Ok(())
+}
+
+#[test]
+fn multiply_step(rt: HostRuntime) -> Result<(), Fail> {
+    let numbers = [
+        0x04A12, 5, 3, 0x049B2, 0, 0x345D1, 0x345D1, 0x345D1, 0x345D1, 0x345B2,
+    ];
+    for (tries, t, a) in [(10, 0, 5), (12, 1, 0x20002), (33, 0, 0x0000F)] {
+        let mut chip = reset(rt.alloc())?;
+        place(&mut chip, 0, &numbers)?;
+        assert!(rt; moves(&mut chip, 0, Side::Right, tries)? == tries);
+        let state = chip.state(node(0)?);
+        assert_eq!(rt; state.t().get(), t);
+        assert_eq!(rt; state.a().get(), a);
+    }
+    Ok(())
+}
+
+#[test]
+fn stack_order(rt: HostRuntime) -> Result<(), Fail> {
+    let numbers = [
+        0x05D17, 1, 2, 3, 4, 0x05D17, 5, 6, 7, 8, 0x05D12, 9, 10, 11, 0x3A2EA, 0x3A2EA, 0x3A2EA,
+        0x3A2B2,
+    ];
+    let mut chip = reset(rt.alloc())?;
+    place(&mut chip, 0, &numbers)?;
+    let one = Try {
+        node: node(0)?,
+        side: Side::Right,
+    };
+    chip.run(&[one; 16]);
+    // Drops stand in slots 0 to 2, so behind three of them there is a `.` and a fetch.
+    for (t, tries) in [
+        (11, 1),
+        (10, 1),
+        (9, 3),
+        (8, 1),
+        (7, 1),
+        (6, 3),
+        (5, 1),
+        (4, 1),
+        (3, 3),
+        (2, 1),
+        (9, 0),
+    ] {
+        assert_eq!(rt; chip.state(node(0)?).t().get(), t);
+        assert!(rt; moves(&mut chip, 0, Side::Right, tries)? == tries);
+    }
+    Ok(())
+}
+
+#[test]
+fn placed_anew_until_it_begins(rt: HostRuntime) -> Result<(), Fail> {
+    let mut chip = reset(rt.alloc())?;
+    assert!(rt; chip.turn(Side::Right) == 0);
+    place(&mut chip, 708, &[0x2C9B2])?;
+    place(&mut chip, 708, &WRITE_12_RIGHT)?;
+    assert!(rt; chip.turn(Side::Right) == 1);
+    let words = [Word18::new(0x2C9B2).ok_or("18 bits")?];
+    let again = chip.place(node(708)?, &words, 1);
+    assert!(rt; again.is_err_and(|error| error == ChipError::Begun));
+    assert!(rt; chip.state(node(708)?).p() == 1);
+    assert!(rt; moves(&mut chip, 708, Side::Right, 100)? == 6);
+    Ok(())
+}
