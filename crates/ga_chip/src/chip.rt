@@ -97,6 +97,7 @@ impl Chip {
     }
 
     /// One try of each node in order of name, all with one side. Answers how many were `Moved`.
+    #[inline(never)]
     pub fn turn(&mut self, side: Side) -> u8
         ensures chip { self.new ≡ ran self.old (turn_of side) }
         ensures moved { result ≡ length (moves self.old (turn_of side)) }
