@@ -8,11 +8,11 @@ use Rattle.ga_node.specs.Need.{is_own, need_of}
 use Rattle.ga_node.specs.Slot.{step_if_own}
 use Rattle.ga_node.specs.declared.need.Need.TheVariants as need
 use Rattle.ga_chip.specs.declared.counts.Counts.{Counts}
-use Rattle.ga_chip.specs.declared.outcome.Outcome.TheVariants.{Moved, Waits}
-use Rattle.ga_chip.proofs.Within.{own_is, own_step, own_still}
+use Rattle.ga_chip.specs.declared.outcome.Outcome.TheVariants.{Waits}
+use Rattle.ga_chip.proofs.Within.{own_step, own_still}
 use Rattle.ga_node.specs.declared.need.Need.{Need}
 use Rattle.ga_chip.specs.declared.outcome.Outcome.{Outcome}
-use Rattle.ga_chip.specs.Part.{Part, Asks, Nothing, Own, asks, asks_by, asks_if, after, after_asked, check_of, is_fetch, is_held, stepped}
+use Rattle.ga_chip.specs.Part.{Part, Asks, Nothing, asks, asks_by, asks_if, after, after_asked, check_of, is_fetch, is_held, stepped}
 use Rattle.ga_chip.specs.Chip.{found_by, cells_after}
 
 -- the part of a node that has no breakpoint, no pass and no stream

@@ -1,8 +1,8 @@
-use Rattle.std.proofs.Common.{ap, ◌∙◌, get_or, set, subst, sym}
+use Rattle.std.proofs.Common.{ap, ◌∙◌, set, subst, sym}
 use Rattle.ga_place.specs.Cell.{name_at}
 use Rattle.ga_chip.specs.Chip.{tried}
 use Rattle.ga_chip.specs.Legal.{IsLegal}
-use Rattle.ga_chip.specs.Stuck.{Knows, marked, none_stuck}
+use Rattle.ga_chip.specs.Stuck.{Knows}
 use Rattle.ga_chip.proofs.Still.{mark_knows, none_knows}
 use Rattle.ga_chip.proofs.Tries.{attempt_at, legal_tried, place_back, tried_still}
 use Rattle.ga_chip.proofs.chip.Chip.attempt_far.Goals as goal

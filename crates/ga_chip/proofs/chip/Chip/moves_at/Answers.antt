@@ -1,4 +1,4 @@
-use Rattle.std.proofs.Common.{◌≡◌, ap, ◌∙◌, subst, sym}
+use Rattle.std.proofs.Common.{◌≡◌, subst, sym}
 use Rattle.ga_place.specs.Cell.{name_at}
 use Rattle.ga_chip.specs.Chip.{tried}
 use Rattle.ga_chip.proofs.Tries.{tried_still}
