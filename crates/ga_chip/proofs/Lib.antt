@@ -15,5 +15,6 @@ pub mod Placed
 pub mod Within
 pub mod Plain
 pub mod Turns
+pub mod Still
 pub mod Tries
 mod WorkedChip

@@ -1,18 +1,18 @@
 -- A try of a part without breakpoints and stream, by the node's need.
 use Rattle.std.proofs.Common.{◌≡◌, ◌⊎◌, inl, inr, ℕ, zero, suc, ◌%◌, ◌^◌, Bool, true, false, List, replicate, get_or, Option, Some, None, refl, sym, ap, ◌∙◌}
 use Rattle.std.proofs.lemmas.Bool.{false≢true}
-use Rattle.std.specs.Prelude.{◌&&◌, not}
+use Rattle.std.specs.Prelude.{◌&&◌, not, if◌then◌else◌}
 use Rattle.ga_place.specs.declared.side.Side.{Side}
 use Rattle.ga_node.specs.State.{State}
 use Rattle.ga_node.specs.Need.{is_own, need_of}
 use Rattle.ga_node.specs.Slot.{step_if_own}
 use Rattle.ga_node.specs.declared.need.Need.TheVariants as need
 use Rattle.ga_chip.specs.declared.counts.Counts.{Counts}
-use Rattle.ga_chip.specs.declared.outcome.Outcome.TheVariants.{Moved, Waits}
-use Rattle.ga_chip.proofs.Within.{own_is, own_step}
+use Rattle.ga_chip.specs.declared.outcome.Outcome.TheVariants.{Waits}
+use Rattle.ga_chip.proofs.Within.{own_step, own_still}
 use Rattle.ga_node.specs.declared.need.Need.{Need}
 use Rattle.ga_chip.specs.declared.outcome.Outcome.{Outcome}
-use Rattle.ga_chip.specs.Part.{Part, Asks, Nothing, Own, asks, asks_by, asks_if, after, after_asked, check_of, is_fetch, is_held, stepped}
+use Rattle.ga_chip.specs.Part.{Part, Asks, Nothing, asks, asks_by, asks_if, after, after_asked, check_of, is_fetch, is_held, stepped}
 use Rattle.ga_chip.specs.Chip.{found_by, cells_after}
 
 -- the part of a node that has no breakpoint, no pass and no stream
@@ -51,16 +51,12 @@ pub check_keeps : (side : Side) (at : Option ℕ) (cells : List (Option ℕ)) �
 check_keeps side None cells = refl
 check_keeps side (Some cell) cells = refl
 
--- a try that is the node's own work
-pub own_tried : (state next : State) (written read : Counts) (part : Part) (side : Side) (cells : List (Option ℕ)) → plain_part state written read ≡ part → is_own (need_of state) ≡ true → next ≡ step_if_own (need_of state) state → ◌≡◌ {A = Outcome × Part} (Moved, plain_part next written read) (after part side (found_by (asks part side) cells))
-own_tried state next written read part side cells is own e =
-    after_by part side cells Own (Moved, plain_part next written read) (plain_asks state written read part side need.Own is (sym (own_is (need_of state) own)))
-    (ap (λ s. (Moved, plain_part s written read)) (own_step state next own e) ∙ ap (λ p. (Moved, stepped None p)) is)
+-- a step of the node's own, where its need is its own
+pub own_part : (state next : State) (written read : Counts) (part : Part) (own : Bool) → plain_part state written read ≡ part → own ≡ is_own (need_of state) → next ≡ step_if_own (need_of state) state → plain_part next written read ≡ (if own then stepped None part else part)
+own_part state next written read part true is e step = ap (λ s. plain_part s written read) (own_step state next (sym e) step) ∙ ap (stepped None) is
+own_part state next written read part false is e step = ap (λ s. plain_part s written read) (own_still state next (sym e) step) ∙ is
 
-pub own_cells : (state : State) (written read : Counts) (part : Part) (side : Side) (cells : List (Option ℕ)) → plain_part state written read ≡ part → is_own (need_of state) ≡ true → cells ≡ cells_after (asks part side) cells
-own_cells state written read part side cells is own = cells_by part side cells cells Own (plain_asks state written read part side need.Own is (sym (own_is (need_of state) own))) refl
-
--- and one whose need is neither its own nor met from outside
+-- a node whose need is neither its own nor met from outside
 pub input_waits : (state : State) (written read : Counts) (part : Part) (side : Side) (n : Need) → plain_part state written read ≡ part → n ≡ need_of state → is_own (need_of part.state) ≡ false → (n ≡ need.Own) ⊎ (n ≡ need.Input) → asks part side ≡ Nothing Waits
 input_waits state written read part side n is e far (inl own) = absurd (false≢true (sym far ∙ ap (λ p. is_own (need_of p.state)) (sym is) ∙ ap is_own (sym e ∙ own)))
 input_waits state written read part side n is e far (inr input) = plain_asks state written read part side n is e ∙ ap (λ m. asks_by m part.state.node None side) input

@@ -103,3 +103,22 @@ own_step state next own e = e ∙ ap (λ n. if_own n (step state None) state) (o
 
 pub own_bound : (state next : State) (written read : Counts) → is_own (need_of state) ≡ true → next ≡ step_if_own (need_of state) state → StepsBound state.steps written read → StepsBound next.steps written read
 own_bound state next written read own e bound = step_bound state next.steps written read (ap is_running (own_is (need_of state) own)) (ap (λ s. s.steps) (own_step state next own e) ∙ step_steps state None) bound
+
+not_own : (n : Need) (own other : State) → is_own n ≡ false → if_own n own other ≡ other
+not_own Own own other e = absurd (false≢true (sym e))
+not_own (Take sides) own other e = refl
+not_own (Post side word) own other e = refl
+not_own (Check side) own other e = refl
+not_own Input own other e = refl
+not_own (Stopped stop) own other e = refl
+
+-- and where it isn't, nothing
+pub own_still : (state next : State) → is_own (need_of state) ≡ false → next ≡ step_if_own (need_of state) state → next ≡ state
+own_still state next far e = e ∙ not_own (need_of state) (step state None) state far
+
+pub try_bound : (state next : State) (written read : Counts) → next ≡ step_if_own (need_of state) state → StepsBound state.steps written read → StepsBound next.steps written read
+try_bound state next written read e bound = by (is_own (need_of state)) refl
+  where
+    by : (b : Bool) → is_own (need_of state) ≡ b → StepsBound next.steps written read
+    by true own = own_bound state next written read own e bound
+    by false far = subst (λ s. StepsBound s.steps written read) (sym (own_still state next far e)) bound

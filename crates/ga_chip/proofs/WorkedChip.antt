@@ -1,51 +1,105 @@
 -- Worked values of the definitions.
-use Rattle.std.proofs.Common.{◌≡◌, Some, None, refl}
+use Rattle.std.proofs.Common.{◌≡◌, Some, None, refl, true, false, replicate, [], ◌∷◌}
 use Rattle.ga_place.specs.declared.side.Side.TheVariants.{Right, Down, Up}
+use Rattle.ga_word.specs.Op.{op_with}
+use Rattle.ga_pack.specs.Decoded.{reading_of}
 use Rattle.ga_node.specs.Need.{need_of}
-use Rattle.ga_node.specs.Slot.{step}
+use Rattle.ga_node.specs.Slot.{row, step}
+use Rattle.ga_node.specs.State.{reset_state}
+use Rattle.ga_node.specs.declared.place.Place.TheVariants.{Slot0, Slot1}
 use Rattle.ga_place.specs.Cell.{cell_of, all_cells}
 use Rattle.ga_chip.specs.declared.outcome.Outcome.TheVariants.{Moved, Waits}
-use Rattle.ga_chip.specs.Part.{Take, Nothing, asks, after}
-use Rattle.ga_chip.specs.Chip.{tried, reset_chip, reset_part}
+use Rattle.ga_chip.specs.Part.{Part, Check, Post, Take, Nothing, asks, after, is_held}
+use Rattle.ga_chip.specs.Chip.{cells_after, has_begun, pending_in, tried, reset_chip, reset_part}
+use Rattle.ga_chip.specs.Ledger.{ledger_of}
 
-first_cell : cell_of 0 Right ≡ Some 0
-unfolding cell_of all_cells
-first_cell = refl
-
-no_cell : cell_of 0 Up ≡ None
-unfolding cell_of all_cells
-no_cell = refl
-
-last_cell : cell_of 717 Down ≡ Some 523
-unfolding cell_of all_cells
-last_cell = refl
-
--- 708 right: what it writes, and what it reads from 709
-cell_708 : cell_of 708 Right ≡ Some 495
-unfolding cell_of all_cells
-cell_708 = refl
-
--- after reset a node takes at the side that is named
+-- after reset a node takes at the side that is named: 709 reads the cell 495 of 708 on its right
 asks_709 : asks (reset_part 709) Right ≡ Take Right 495
 unfolding asks need_of cell_of all_cells
 asks_709 = refl
 
+-- 709 has no node above
 asks_up : asks (reset_part 709) Up ≡ Nothing Waits
 unfolding asks need_of cell_of all_cells
 asks_up = refl
 
+-- it waits for a word, and moves with one, which it then runs
 waits_709 : (after (reset_part 709) Right None).0 ≡ Waits
 unfolding after asks need_of cell_of all_cells
 waits_709 = refl
 
-moves_709 : (after (reset_part 709) Right (Some 18)).0 ≡ Moved
+moves_709 : (after (reset_part 709) Right (Some 0x12)).0 ≡ Moved
 unfolding after asks need_of cell_of all_cells
 moves_709 = refl
 
-word_709 : (after (reset_part 709) Right (Some 18)).1.state.word ≡ 18
+word_709 : (after (reset_part 709) Right (Some 0x12)).1.state.word ≡ 0x12
 unfolding after asks need_of step cell_of all_cells
 word_709 = refl
+
+read_709 : (after (reset_part 709) Right (Some 0x12)).1.read ≡ record { right = 1; down = 0; left = 0; up = 0 }
+unfolding after asks need_of step cell_of all_cells
+read_709 = refl
 
 tried_709 : (tried reset_chip 709 Right).0 ≡ Waits
 unfolding tried after asks need_of reset_chip cell_of all_cells
 tried_709 = refl
+
+-- a node at a breakpoint is held, unless it has a pass
+held : is_held (record (reset_part 0) { breaks = replicate 512 true }) ≡ true
+held = refl
+
+passed : is_held (record (reset_part 0) { breaks = replicate 512 true; pass = true }) ≡ false
+passed = refl
+
+-- A node that stands before `!b` with B at its right port posts T there, waits while the word is pending,
+-- and goes on where it was read.
+abbrev writer : Part
+writer = record (reset_part 708) { state = record (reset_state 708) { word = 0x089B2; place = Slot0; b = 0x1D5; t = 0x12 } }
+
+abbrev posted : Part
+posted = (after writer Down None).1
+
+posts : asks writer Down ≡ Post Right 495 0x12
+unfolding asks need_of reading_of op_with cell_of all_cells
+posts = refl
+
+posts_moves : (after writer Down None).0 ≡ Moved
+unfolding after asks need_of reading_of op_with cell_of all_cells
+posts_moves = refl
+
+counts_it : posted.written ≡ record { right = 1; down = 0; left = 0; up = 0 }
+unfolding after asks need_of step row reading_of op_with cell_of all_cells
+counts_it = refl
+
+checks : asks posted Up ≡ Check Right 495
+unfolding after asks need_of step row reading_of op_with cell_of all_cells
+checks = refl
+
+waits_708 : (after posted Up (Some 0x12)).0 ≡ Waits
+unfolding after asks need_of step row reading_of op_with cell_of all_cells
+waits_708 = refl
+
+goes_on : (after posted Up None).1.state.place ≡ Slot1
+unfolding after asks need_of step row reading_of op_with cell_of all_cells
+goes_on = refl
+
+-- a post fills its cell, and a take empties it
+fills : pending_in (cells_after (Post Right 1 0x12) (None ∷ None ∷ [])) 1 ≡ Some 0x12
+fills = refl
+
+empties : pending_in (cells_after (Take Right 1) (None ∷ Some 0x12 ∷ [])) 1 ≡ None
+empties = refl
+
+-- the ledger of a cell of the chip after reset, and of a side without a neighbour
+ledger_708 : ledger_of reset_chip 708 Right ≡ record { written = 0; read = 0; pending = 0 }
+unfolding reset_chip cell_of all_cells
+ledger_708 = refl
+
+ledger_none : ledger_of reset_chip 0 Up ≡ record { written = 0; read = 0; pending = 0 }
+unfolding reset_chip cell_of all_cells
+ledger_none = refl
+
+-- node 000 begins with its first step
+new_000 : has_begun reset_chip 0 ≡ false
+unfolding reset_chip
+new_000 = refl

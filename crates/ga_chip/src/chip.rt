@@ -1,15 +1,19 @@
-ghost use Rattle.std.specs.Prelude.{◌≡◌, ◌+◌, ◌<◌, ◌≤◌, ◌^◌, IfOk, if◌then◌else◌, length};
+ghost use Rattle.std.specs.Prelude.{◌≡◌, ◌+◌, ◌<◌, ◌≤◌, ◌^◌, IfOk, false, if◌then◌else◌, length, replicate};
 ghost use Rattle.ga_place.specs.Cell.{index_of, name_at};
 ghost use Rattle.ga_chip.specs.declared.error.ChipError.TheVariants.{Begun};
-ghost use Rattle.ga_chip.specs.Chip.{has_begun, placed, reset_chip, state_of, tried};
+ghost use Rattle.ga_chip.specs.Chip.{has_begun, part_of, placed, reset_chip, state_of, tried};
+ghost use Rattle.ga_node.specs.Need.{is_own, need_of};
+ghost use Rattle.ga_chip.specs.Part.{Part};
 ghost use Rattle.ga_chip.specs.Ledger.{ledger_of};
+ghost use Rattle.ga_chip.specs.Stuck.{none_stuck};
 ghost use Rattle.ga_chip.specs.Grow.{LedgersGrow};
-ghost use Rattle.ga_chip.specs.Run.{moves, ran, tries_of, turn_of};
+ghost use Rattle.ga_chip.specs.Run.{moved_by, moves, ran, tries_of, turn_of};
 
 use crate::error::ChipError;
 use crate::ledger::Ledger;
 use crate::outcome::{Outcome, Try};
 use crate::part::NodePart;
+use crate::stuck::Stuck;
 use ga_node::NodeState;
 use ga_place::{Node, Side, cell, neighbour};
 use ga_word::Word18;
@@ -21,18 +25,20 @@ use std::marker::Model;
 pub struct Chip {
     parts: Vec<NodePart>,
     cells: Vec<Option<Word18>>,
+    // The sides at which a try of each node would not move; a turn leaves these tries out.
+    stuck: [Stuck; 144],
 }
 
 impl Model for Chip {
     ghost use Rattle.std.specs.Prelude.{vec_items};
     ghost use Rattle.ga_chip.specs.Chip as chip;
-    ghost use Rattle.ga_chip.specs.Legal.{IsLegal};
+    ghost use Rattle.ga_chip.specs.Stuck.{Knows};
 
     ghost Value = { chip.Chip };
 
     ghost view = { λ c. record { parts = vec_items c.parts; cells = vec_items c.cells } };
 
-    ghost invariant = { λ c. IsLegal (record { parts = vec_items c.parts; cells = vec_items c.cells }) };
+    ghost invariant = { λ c. Knows (record { parts = vec_items c.parts; cells = vec_items c.cells }) c.stuck };
 }
 
 impl Chip {
@@ -46,7 +52,11 @@ impl Chip {
             parts.push(NodePart::reset(node_at(index)))?;
         }
         let cells = Vec::from_array(alloc, [None; 524])?;
-        Ok(Chip { parts, cells })
+        Ok(Chip {
+            parts,
+            cells,
+            stuck: nothing_known(),
+        })
     }
 
     /// Gives a node words, at most 64, and an entry, an address of ten bits: it is then as
@@ -63,6 +73,7 @@ impl Chip {
             return Err(ChipError::Begun);
         }
         part.give(words, entry);
+        self.stuck = nothing_known();
         Ok(())
     }
 
@@ -86,6 +97,7 @@ impl Chip {
     }
 
     /// One try of each node in order of name, all with one side. Answers how many were `Moved`.
+    #[inline(never)]
     pub fn turn(&mut self, side: Side) -> u8
         ensures chip { self.new ≡ ran self.old (turn_of side) }
         ensures moved { result ≡ length (moves self.old (turn_of side)) }
@@ -94,7 +106,7 @@ impl Chip {
         let _ = &self.parts;
         let mut moved = 0;
         for index in 0..144 {
-            moved += self.attempt_at(index, side).moves();
+            moved += self.moves_at(index, side);
         }
         moved
     }
@@ -132,7 +144,40 @@ impl Chip {
         requires { index < 144 }
         ensures { (result, self.new) ≡ tried self.old (name_at index) side }
     {
-        self.parts[index].attempt(&mut self.cells, side)
+        if self.parts[index].try_own() {
+            return Outcome::Moved;
+        }
+        self.attempt_far(index, side)
+    }
+
+    /// One try of the node at a place in order of name, whose need isn't its own.
+    #[inline(never)]
+    fn attempt_far(&mut self, index: usize, side: Side) -> Outcome
+        requires index { index < 144 }
+        requires far { (part : Part) → part_of self.old (name_at index) ≡ Some part → is_own (need_of part.state) ≡ false }
+        ensures { (result, self.new) ≡ tried self.old (name_at index) side }
+    {
+        let outcome = self.parts[index].attempt_far(&mut self.cells, side);
+        if let Outcome::Moved = outcome {
+            self.stuck = nothing_known();
+            return outcome;
+        }
+        self.stuck[index] = self.stuck[index].and(side);
+        outcome
+    }
+
+    /// How many steps a try of the node at a place makes, one or none. A try that is known not to move is
+    /// left out.
+    #[inline(always)]
+    fn moves_at(&mut self, index: usize, side: Side) -> u8
+        requires { index < 144 }
+        ensures moves { result ≡ moved_by (tried self.old (name_at index) side).0 }
+        ensures chip { self.new ≡ (tried self.old (name_at index) side).1 }
+    {
+        if self.stuck[index].at(side) {
+            return 0;
+        }
+        self.attempt_at(index, side).moves()
     }
 }
 
@@ -151,4 +196,11 @@ fn node_at(index: u16) -> Node
     ensures { result ≡ name_at index }
 {
     Node::new(index / 18 * 100 + index % 18).unwrap()
+}
+
+/// That every node may move.
+fn nothing_known() -> [Stuck; 144]
+    ensures { result ≡ replicate 144 none_stuck }
+{
+    [Stuck::none(); 144]
 }

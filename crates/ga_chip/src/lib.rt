@@ -8,6 +8,7 @@ pub mod laws;
 mod ledger;
 mod outcome;
 mod part;
+mod stuck;
 
 pub use chip::Chip;
 pub use error::ChipError;

@@ -1,9 +1,10 @@
-ghost use Rattle.std.specs.Prelude.{◌≡◌, ◌≤◌, ◌<◌, ◌^◌, false, true, length, None};
+ghost use Rattle.std.specs.Prelude.{◌≡◌, ◌≤◌, ◌<◌, ◌^◌, false, true, if◌then◌else◌, length, None};
 ghost use Rattle.ga_place.specs.Cell.{cell_of, read_cell};
 ghost use Rattle.ga_place.specs.Side.{one_side};
+ghost use Rattle.ga_place.specs.declared.side.Side.{Side};
 ghost use Rattle.ga_node.specs.Need.{is_check, is_own, is_post, need_of, takes_at};
 ghost use Rattle.ga_node.specs.State.{loaded_state};
-ghost use Rattle.ga_chip.specs.Part.{after, after_asked, asks, asks_by, check_of, count_at, looked_at, post_to, take_of};
+ghost use Rattle.ga_chip.specs.Part.{Own, after, after_asked, asks, asks_by, check_of, count_at, looked_at, post_to, stepped, take_of};
 ghost use Rattle.ga_chip.specs.Chip.{cells_after, found_by, given, reset_part};
 
 use crate::counts::Counts;
@@ -74,23 +75,18 @@ impl NodePart {
         self.read.at(side)
     }
 
-    /// One try of the node that names a side, over the chip's cells.
+    /// A step where it is the node's own work, and else nothing. Answers whether the node made it.
     #[inline(always)]
-    pub(crate) fn attempt(&mut self, cells: &mut [Option<Word18>], side: Side) -> Outcome
-        requires { length cells.old ≡ 524 }
-        ensures part { (result, self.new) ≡ after self.old side (found_by (asks self.old side) cells.old) }
-        ensures cells { cells.new ≡ cells_after (asks self.old side) cells.old }
+    pub(crate) fn try_own(&mut self) -> bool
+        ensures own { result ≡ is_own (need_of self.old.state) }
+        ensures asks { result ≡ true → (side : Side) → asks self.old side ≡ Own }
+        ensures step { self.new ≡ (if result then stepped None self.old else self.old) }
     {
-        if self.state.try_own() {
-            Outcome::Moved
-        } else {
-            self.attempt_far(cells, side)
-        }
+        self.state.try_own()
     }
 
-    /// A try of a node whose need isn't its own.
-    #[inline(never)]
-    fn attempt_far(&mut self, cells: &mut [Option<Word18>], side: Side) -> Outcome
+    /// A try of a node whose need isn't its own, over the chip's cells.
+    pub(crate) fn attempt_far(&mut self, cells: &mut [Option<Word18>], side: Side) -> Outcome
         requires count { length cells.old ≡ 524 }
         requires far { is_own (need_of self.old.state) ≡ false }
         ensures part { (result, self.new) ≡ after self.old side (found_by (asks self.old side) cells.old) }

@@ -1,5 +1,6 @@
 use Rattle.std.proofs.Common.{◌≡◌, ℕ, ◌+◌, ◌≤◌, ap, ◌∙◌, length, sym, add-zero, zero-add, subst, arith}
 use Rattle.ga_place.specs.Cell.{name_at}
+use Rattle.ga_chip.specs.Chip.{tried}
 use Rattle.ga_chip.specs.Run.{moves, ran, turn_of}
 use Rattle.ga_chip.specs.Grow.{LedgersGrow}
 use Rattle.ga_chip.specs.Legal.{IsLegal}
@@ -18,10 +19,10 @@ counted moved more now rest all e f = omega arith
 
 pub loop-index-preserved : goal.loop-index-preserved
 loop-index-preserved c = (
-  one_more c.loop-index.moved c.loop-index.index c.moves-moved.result c.loop-index.invariant.0 (subst (λ n. n ≤ 1) (sym c.moves-moved.ensures) (moved_once c.attempt_at.result)),
-  sym (ran_next c.loop-index.self c.attempt_at.new.self (name_at c.loop-index.index) c.args.side c.attempt_at.result _ _ (turn_next c.args.side c.loop-index.index c.loop-index-test.true) c.attempt_at.ensures) ∙ c.loop-index.invariant.1,
-  counted c.loop-index.moved c.moves-moved.result _ _ _ c.loop-index.invariant.2
-      (moves_next c.loop-index.self c.attempt_at.new.self (name_at c.loop-index.index) c.args.side c.attempt_at.result _ _ (turn_next c.args.side c.loop-index.index c.loop-index-test.true) c.attempt_at.ensures ∙ ap (λ n. n + length (moves c.attempt_at.new.self (turn_left c.args.side (c.loop-index.index + 1)))) (sym c.moves-moved.ensures)),
+  one_more c.loop-index.moved c.loop-index.index c.moves_at-moved.result c.loop-index.invariant.0 (subst (λ n. n ≤ 1) (sym c.moves_at-moved.ensures.moves) (moved_once _)),
+  sym (ran_next c.loop-index.self c.moves_at-moved.new.self (name_at c.loop-index.index) c.args.side _ _ _ (turn_next c.args.side c.loop-index.index c.loop-index-test.true) (ap (λ z. ((tried c.loop-index.self (name_at c.loop-index.index) c.args.side).0, z)) c.moves_at-moved.ensures.chip)) ∙ c.loop-index.invariant.1,
+  counted c.loop-index.moved c.moves_at-moved.result _ _ _ c.loop-index.invariant.2
+      (moves_next c.loop-index.self c.moves_at-moved.new.self (name_at c.loop-index.index) c.args.side _ _ _ (turn_next c.args.side c.loop-index.index c.loop-index-test.true) (ap (λ z. ((tried c.loop-index.self (name_at c.loop-index.index) c.args.side).0, z)) c.moves_at-moved.ensures.chip) ∙ ap (λ n. n + length (moves c.moves_at-moved.new.self (turn_left c.args.side (c.loop-index.index + 1)))) (sym c.moves_at-moved.ensures.moves)),
 )
 
 pub returns-clause-chip : goal.returns-clause-chip
@@ -33,4 +34,4 @@ returns-clause-moved c =
 
 pub returns-clause-ledgers : goal.returns-clause-ledgers
 returns-clause-ledgers c =
-    subst (λ z. LedgersGrow c.args.self.now z (turn_of c.args.side)) (sym (returns-clause-chip c)) (ledgers_grow c.args.self.now (turn_of c.args.side) (subst IsLegal c.self.view_is c.self.invariant))
+    subst (λ z. LedgersGrow c.args.self.now z (turn_of c.args.side)) (sym (returns-clause-chip c)) (ledgers_grow c.args.self.now (turn_of c.args.side) (subst IsLegal c.self.view_is c.self.invariant.legal))
