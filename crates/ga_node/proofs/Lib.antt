@@ -1,3 +1,5 @@
 pub mod Rows
+pub mod Loading
 mod StackRing
 mod WorkedNodes
+mod WorkedLoader

@@ -1,5 +1,6 @@
 pub mod State
 pub mod Need
 pub mod Fetch
+pub mod Loader
 pub mod Slot
 pub mod Line

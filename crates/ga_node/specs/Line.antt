@@ -11,7 +11,7 @@ use Rattle.ga_node.specs.declared.need.Need.TheVariants.{Own, Take, Post, Check,
 use Rattle.ga_node.specs.declared.need.Stop.{Stop}
 use Rattle.ga_node.specs.declared.need.Stop.TheVariants.{MultiWrite, IoRead, Unmapped, Rom, Extended, Counted}
 use Rattle.ga_node.specs.declared.place.Place.{Place}
-use Rattle.ga_node.specs.declared.place.Place.TheVariants.{Fetch, Slot0, Slot1, Slot2, Slot3}
+use Rattle.ga_node.specs.declared.place.Place.TheVariants.{Fetch, Slot0, Slot1, Slot2, Slot3, Completion, Transfer, Count, Body}
 
 abbrev pub place_text : Place → List ℕ
 place_text Fetch = codes "fetch"
@@ -19,6 +19,10 @@ place_text Slot0 = codes "slot0"
 place_text Slot1 = codes "slot1"
 place_text Slot2 = codes "slot2"
 place_text Slot3 = codes "slot3"
+place_text Completion = codes "completion"
+place_text Transfer = codes "transfer"
+place_text Count = codes "count"
+place_text Body = codes "body"
 
 abbrev pub stop_text : Stop → List ℕ
 stop_text MultiWrite = codes "MultiWrite"

@@ -4,6 +4,7 @@
 mod decoded;
 mod fetch;
 mod line;
+mod loader;
 mod moves;
 mod need;
 mod place;

@@ -78,7 +78,8 @@ impl NodeState {
             Place::Slot0 => Place::Slot1,
             Place::Slot1 => Place::Slot2,
             Place::Slot2 => Place::Slot3,
-            Place::Slot3 | Place::Fetch => Place::Fetch,
+            Place::Slot3 => Place::Fetch,
+            other => other,
         };
     }
 }

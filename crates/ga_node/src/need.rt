@@ -1,6 +1,6 @@
 ghost use Rattle.std.specs.Prelude.{◌≡◌, None, Some};
 ghost use Rattle.ga_node.specs.Line.{need_text, stop_text};
-ghost use Rattle.ga_node.specs.Need.{fetch_need, need_of, op_need, read_need, slot_need, write_need};
+ghost use Rattle.ga_node.specs.Need.{body_need, fetch_need, held_need, input_need, need_of, op_need, read_need, slot_need, write_need};
 ghost use Rattle.ga_node.specs.State.{op_of};
 ghost use Rattle.ga_place.specs.Address.{where_is};
 
@@ -91,6 +91,8 @@ impl NodeState {
         }
         match self.place {
             Place::Fetch => fetch_need(self.p),
+            Place::Completion | Place::Transfer | Place::Count => Need::Input,
+            Place::Body => self.body_need(),
             _ => self.slot_need(),
         }
     }
@@ -102,6 +104,21 @@ impl NodeState {
         match self.posted {
             Some((side, _)) => Need::Check(side),
             None => self.op_need(),
+        }
+    }
+
+    /// What the loader needs in the body of a frame: the check of a post, the post of the word that it holds,
+    /// or the next word of its stream, where that may be written.
+    fn body_need(&self) -> Need
+        ensures { result ≡ body_need self.now.posted self.now.loader.held self.now.loader.transfer }
+    {
+        if let Some((side, _)) = self.posted {
+            return Need::Check(side);
+        }
+        let at = locate(address_in(self.loader.transfer));
+        match self.loader.held {
+            Some(word) => held_need(at, word),
+            None => input_need(at),
         }
     }
 
@@ -154,6 +171,27 @@ pub(crate) fn write_need(at: Where, word: Word18) -> Need
             None => Need::Stopped(Stop::MultiWrite),
         },
         Where::Unmapped => Need::Stopped(Stop::Unmapped),
+    }
+}
+
+/// What the post of a word that the loader holds needs, by what its address reaches.
+fn held_need(at: Where, word: Word18) -> Need
+    ensures { result ≡ held_need at word }
+{
+    match at {
+        Where::Ports(_) => write_need(at, word),
+        _ => Need::Stopped(Stop::Unmapped),
+    }
+}
+
+/// What the loader needs to take a word, by what its address reaches: a word of the stream, or it stops
+/// where a write stops.
+fn input_need(at: Where) -> Need
+    ensures { result ≡ input_need (write_need at 0) }
+{
+    match write_need(at, Word18::default()) {
+        Need::Stopped(stop) => Need::Stopped(stop),
+        _ => Need::Input,
     }
 }
 

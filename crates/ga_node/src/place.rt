@@ -3,7 +3,8 @@ ghost use Rattle.ga_node.specs.Line.{place_text};
 
 use std::fmt;
 
-/// Where a node stands between two steps: before a fetch, or before a slot of the word in execution.
+/// Where a node stands between two steps: before a slot of the word in execution or before a fetch; or, while
+/// it loads itself, before a word of a frame's header or in its body.
 // In this order each slot and then the fetch follows the one before, so that going on is an addition.
 #[derive(Clone, Copy, Debug, PartialEq, Eq)]
 pub enum Place {
@@ -12,6 +13,10 @@ pub enum Place {
     Slot2,
     Slot3,
     Fetch,
+    Completion,
+    Transfer,
+    Count,
+    Body,
 }
 
 impl fmt::Display for Place {
@@ -24,6 +29,10 @@ impl fmt::Display for Place {
             Place::Slot1 => "slot1",
             Place::Slot2 => "slot2",
             Place::Slot3 => "slot3",
+            Place::Completion => "completion",
+            Place::Transfer => "transfer",
+            Place::Count => "count",
+            Place::Body => "body",
         })
     }
 }

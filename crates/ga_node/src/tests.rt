@@ -4,6 +4,8 @@ use ga_place::{Node, Side, Sides};
 use ga_word::{Op, Word18};
 use std::test::Fail;
 
+mod loader;
+
 fn word(number: u32) -> Result<Word18, Fail> {
     Ok(Word18::new(number).ok_or("more than 18 bits")?)
 }
