@@ -1,0 +1,4 @@
+pub mod Hops
+mod OneTree
+mod Walk
+mod WorkedBoots

@@ -1,0 +1,7 @@
+use Rattle.std.proofs.Common.{◌≡◌}
+use Rattle.ga_path.specs.Stream.{unreached}
+use Rattle.ga_path.proofs.stream.unreached.Given as goal
+
+-- the first one is among those that are left
+abbrev pub invariant-loop-node : goal.invariant-loop-node
+invariant-loop-node l = unreached l.node-iterator l.route ≡ unreached l.images l.route

@@ -1,0 +1,3 @@
+pub mod Route
+pub mod Sequences
+pub mod Stream

@@ -1,0 +1,45 @@
+-- Which nodes are a route, and what is wrong with others.
+use Rattle.std.specs.Prelude.{◌≡◌, ℕ, ◌==◌, Bool, ◌||◌, List, [], ◌∷◌, length, Option, Some, None, is_none, IsSome, if◌then◌else◌}
+use Rattle.std.specs.List.{list_any}
+use Rattle.std.specs.Option.{option_or}
+use Rattle.ga_place.specs.Node.{column_of, row_of}
+use Rattle.ga_place.specs.Side.{side_to}
+use Rattle.ga_path.specs.declared.error.RouteError.{RouteError}
+use Rattle.ga_path.specs.declared.error.RouteError.TheVariants.{Empty, Memory, NotEdge, NotNeighbour, Repeated}
+
+-- the node stands in the first or the last row or column
+abbrev pub is_edge : ℕ → Bool
+is_edge name = (row_of name == 0) || ((row_of name == 7) || ((column_of name == 0) || (column_of name == 17)))
+
+-- a name stands among names
+abbrev pub is_among : ℕ → List ℕ → Bool
+is_among name names = list_any (λ other. other == name) names
+
+-- What is wrong with a node behind others, the last of them first: it is no neighbour of that one, or it stands
+-- among them.
+abbrev pub hop_fault : List ℕ → ℕ → Option RouteError
+hop_fault [] name = None
+hop_fault (last ∷ before) name =
+    if is_none (side_to last name) then Some (NotNeighbour (length (last ∷ before)))
+    else if is_among name (last ∷ before) then Some (Repeated (length (last ∷ before)))
+    else None
+
+-- what is wrong with nodes behind others, the last of these first
+abbrev pub hops_fault : List ℕ → List ℕ → Option RouteError
+hops_fault before [] = None
+hops_fault before (name ∷ names) = option_or (hop_fault before name) (hops_fault (name ∷ before) names)
+
+-- what is wrong with nodes as a route
+abbrev pub route_fault : List ℕ → Option RouteError
+route_fault [] = Some Empty
+route_fault (first ∷ names) = if is_edge first then hops_fault (first ∷ []) names else Some NotEdge
+
+-- each node is a neighbour of the one before it
+abbrev pub AreHops : ℕ → List ℕ → Type 0
+AreHops from [] = Unit
+AreHops from (name ∷ names) = IsSome (side_to from name) × AreHops name names
+
+-- The fault of nodes. Want of memory is none.
+abbrev pub IsRouteFault : List ℕ → RouteError → Type 0
+IsRouteFault nodes Memory = Unit
+IsRouteFault nodes fault = route_fault nodes ≡ Some fault

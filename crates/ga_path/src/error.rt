@@ -1,0 +1,62 @@
+ghost use Rattle.std.specs.Prelude.{◌≡◌};
+ghost use Rattle.ga_path.specs.declared.error.BootError.TheVariants as boot;
+ghost use Rattle.ga_path.specs.declared.error.RouteError.TheVariants as route;
+
+use ga_place::Node;
+use std::alloc::{AllocError, AllocFailed};
+use thiserror::Error;
+
+/// Why nodes were refused as a route. Nodes are counted from 0.
+#[derive(Clone, Copy, Debug, PartialEq, Eq, Error)]
+pub enum RouteError {
+    /// There is no node.
+    #[error("Empty")]
+    Empty,
+    /// The first node stands at no edge of the chip.
+    #[error("NotEdge")]
+    NotEdge,
+    /// This node is no neighbour of the one before it.
+    #[error("NotNeighbour {0}")]
+    NotNeighbour(usize),
+    /// This node stands on the route before.
+    #[error("Repeated {0}")]
+    Repeated(usize),
+    /// Memory ran out.
+    #[error("memory")]
+    Memory,
+}
+
+/// Why no boot stream was made.
+#[derive(Clone, Copy, Debug, PartialEq, Eq, Error)]
+pub enum BootError {
+    /// This node has an image and isn't on the route.
+    #[error("Unreached {0}")]
+    Unreached(Node),
+    /// Memory ran out.
+    #[error("memory")]
+    Memory,
+}
+
+impl From<AllocError> for RouteError {
+    ghost from_gives = { λ _ error. error ≡ route.Memory };
+
+    fn from(_refused: AllocError) -> RouteError {
+        RouteError::Memory
+    }
+}
+
+impl From<AllocError> for BootError {
+    ghost from_gives = { λ _ error. error ≡ boot.Memory };
+
+    fn from(_refused: AllocError) -> BootError {
+        BootError::Memory
+    }
+}
+
+impl<T: Drop> From<AllocFailed<T>> for BootError {
+    ghost from_gives = { λ _ error. error ≡ boot.Memory };
+
+    fn from(_failed: AllocFailed<T>) -> BootError {
+        BootError::Memory
+    }
+}

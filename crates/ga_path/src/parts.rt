@@ -1,0 +1,19 @@
+use ga_word::Word18;
+
+/// A boot stream, in its two parts, for the first node of a route: all loads come before all starts.
+#[derive(Debug, PartialEq, Eq, Drop)]
+pub struct Boot {
+    /// Frames that load the memory of each node.
+    pub load: Vec<Word18>,
+    /// Frames that start the nodes, from the far end inward.
+    pub start: Vec<Word18>,
+}
+
+/// The two parts of a boot stream.
+#[derive(Clone, Copy)]
+pub(crate) enum Part {
+    /// Each node's memory is filled.
+    Load,
+    /// Each node starts.
+    Start,
+}

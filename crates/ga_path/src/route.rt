@@ -1,0 +1,77 @@
+ghost use Rattle.std.specs.Prelude.{◌≡◌, ◌≤◌, ◌<◌, IfErr, IfOk, None, length};
+ghost use Rattle.ga_path.specs.Route.{IsRouteFault, route_fault};
+
+use crate::error::RouteError;
+use ga_place::{Node, side_to};
+use std::alloc::Global;
+use std::marker::Model;
+
+/// A way through the chip: nodes, the first at an edge, each other one a neighbour of the node before it,
+/// and no node twice. A contract sees the list of their names.
+#[derive(Debug, Drop)]
+pub struct Route {
+    nodes: Vec<Node>,
+}
+
+impl Model for Route {
+    ghost use Rattle.std.specs.Prelude.{◌≡◌, ◌≤◌, ℕ, List, None, length};
+    ghost use Rattle.ga_path.specs.Route.{route_fault};
+
+    ghost Value = { List ℕ };
+
+    ghost view = { λ route. route.nodes.items };
+
+    ghost invariant = { λ route. (route_fault route.nodes.items ≡ None) × (length route.nodes.items ≤ 144) };
+}
+
+impl Route {
+    /// A route along these nodes, or what is wrong with them first: there is none, the first stands at no
+    /// edge; then, node by node from the second on, it is no neighbour of the one before it, or stands on the
+    /// route already. (Routes are this project's own: profile.) It fails as [`RouteError::Memory`] only where
+    /// memory is refused.
+    pub fn new(alloc: Global, nodes: &[Node]) -> Result<Self, RouteError>
+        ensures route { IfOk result (λ route. route ≡ nodes.now) }
+        ensures faultless { IfOk result (λ _. route_fault nodes.now ≡ None) }
+        ensures fault { IfErr result (λ error. IsRouteFault nodes.now error) }
+    {
+        if let Some(fault) = fault_of(nodes) {
+            return Err(fault);
+        }
+        let nodes = Vec::from_slice(alloc, nodes)?;
+        Ok(Route { nodes })
+    }
+
+    /// The nodes, 1 to 144 of them, the edge node first.
+    pub fn nodes(&self) -> &[Node]
+        ensures value { result.now ≡ self.now }
+        ensures faultless { route_fault result.now ≡ None }
+        ensures most { length result.now ≤ 144 }
+    {
+        &self.nodes
+    }
+}
+
+/// What is wrong with nodes as a route, if something is.
+fn fault_of(nodes: &[Node]) -> Option<RouteError>
+    ensures fault { result ≡ route_fault nodes.now }
+    ensures most { result ≡ None → length nodes.now ≤ 144 }
+{
+    let Some(first) = nodes.first() else {
+        return Some(RouteError::Empty);
+    };
+    // Its name lies in the grid: from this the proof has that a route has 144 nodes at most.
+    let _name = first.name();
+    if !first.is_edge() {
+        return Some(RouteError::NotEdge);
+    }
+    for at in 1..nodes.len() {
+        let node = nodes[at];
+        if side_to(nodes[at - 1], node).is_none() {
+            return Some(RouteError::NotNeighbour(at));
+        }
+        if nodes[..at].contains(&node) {
+            return Some(RouteError::Repeated(at));
+        }
+    }
+    None
+}
