@@ -1,4 +1,5 @@
 pub mod Hops
+mod NamedNodes
 mod OneTree
 mod Walk
 mod WorkedBoots

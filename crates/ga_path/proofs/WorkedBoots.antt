@@ -1,9 +1,11 @@
 -- Routes and boot streams that were worked out by hand.
 use Rattle.std.proofs.Common.{◌≡◌, [], ◌∷◌, Some, None, refl}
+use Rattle.std.specs.Prelude.{codes}
 use Rattle.ga_word.specs.Op.{op_with}
 use Rattle.ga_word.specs.declared.op.Op.TheVariants.{AStore, FetchP, Micronext, Nop, Push, Store, StorePlus}
 use Rattle.ga_pack.specs.Decoded.{reading_of}
 use Rattle.ga_asm.specs.Image.{ImageView}
+use Rattle.ga_path.specs.Names.{nodes_in}
 use Rattle.ga_path.specs.Route.{route_fault}
 use Rattle.ga_path.specs.Sequences.{NOPS, PUSH, SEND, SET_A, STORE, jump_to}
 use Rattle.ga_path.specs.Stream.{load_of, start_of, unreached}
@@ -23,6 +25,16 @@ back = refl
 
 onward : route_fault (708 ∷ 709 ∷ 710 ∷ []) ≡ None
 onward = refl
+
+-- a text of names, and others that are none
+names : nodes_in (codes "708,000") ≡ Some (708 ∷ 0 ∷ [])
+names = refl
+
+comma_at_the_end : nodes_in (codes "708,") ≡ None
+comma_at_the_end = refl
+
+no_such_node : nodes_in (codes "718") ≡ None
+no_such_node = refl
 
 -- the words of the sequences, as opcodes
 set_a : (reading_of SET_A).ops ≡ FetchP ∷ AStore ∷ FetchP ∷ Nop ∷ []

@@ -1,3 +1,4 @@
+pub mod Names
 pub mod Route
 pub mod Sequences
 pub mod Stream

@@ -1,5 +1,6 @@
 ghost use Rattle.std.specs.Prelude.{◌≡◌};
 ghost use Rattle.ga_path.specs.declared.error.BootError.TheVariants as boot;
+ghost use Rattle.ga_path.specs.declared.error.NamesError.TheVariants as names;
 ghost use Rattle.ga_path.specs.declared.error.RouteError.TheVariants as route;
 
 use ga_place::Node;
@@ -26,6 +27,17 @@ pub enum RouteError {
     Memory,
 }
 
+/// Why a text was refused as names of nodes.
+#[derive(Clone, Copy, Debug, PartialEq, Eq, Error)]
+pub enum NamesError {
+    /// It isn't names of nodes, three digits each, with commas between them.
+    #[error("BadNames")]
+    BadNames,
+    /// Memory ran out.
+    #[error("memory")]
+    Memory,
+}
+
 /// Why no boot stream was made.
 #[derive(Clone, Copy, Debug, PartialEq, Eq, Error)]
 pub enum BootError {
@@ -35,6 +47,14 @@ pub enum BootError {
     /// Memory ran out.
     #[error("memory")]
     Memory,
+}
+
+impl<T: Drop> From<AllocFailed<T>> for NamesError {
+    ghost from_gives = { λ _ error. error ≡ names.Memory };
+
+    fn from(_failed: AllocFailed<T>) -> NamesError {
+        NamesError::Memory
+    }
 }
 
 impl From<AllocError> for RouteError {

@@ -2,12 +2,14 @@
 #![tactic(auto)]
 
 mod error;
+mod names;
 mod parts;
 mod route;
 mod sequence;
 mod stream;
 
-pub use error::{BootError, RouteError};
+pub use error::{BootError, NamesError, RouteError};
+pub use names::read_nodes;
 pub use parts::Boot;
 pub use route::Route;
 pub use stream::boot;

@@ -1,4 +1,4 @@
-use crate::{Boot, BootError, Route, RouteError, boot};
+use crate::{Boot, BootError, NamesError, Route, RouteError, boot, read_nodes};
 use ga_asm::{Images, assemble};
 use ga_frame::read_frames;
 use ga_place::Node;
@@ -99,6 +99,27 @@ fn stream_is_frames(rt: HostRuntime) -> Result<(), Fail> {
         lengths.push(frame.words.len())?;
     }
     assert_eq!(rt; lengths.as_slice(), [15, 0, 7, 0].as_slice());
+    Ok(())
+}
+
+#[test]
+fn names_of_nodes(rt: HostRuntime) -> Result<(), Fail> {
+    let alloc = rt.alloc();
+    let nodes = read_nodes(alloc, "708,000,717")?;
+    let mut names = Vec::new(alloc);
+    for node in &nodes {
+        names.push(node.name())?;
+    }
+    assert_eq!(rt; names.as_slice(), [708, 0, 717].as_slice());
+    for text in [
+        "", ",", "708,", ",708", "708,,709", "708;709", "708 709", "8", "0708", "718", "999", "70a",
+    ] {
+        assert_eq!(rt;
+            read_nodes(alloc, text).err(),
+            Some(NamesError::BadNames),
+            "{text}"
+        );
+    }
     Ok(())
 }
 
