@@ -15,7 +15,7 @@ use Rattle.ga_pack.specs.Model.Program.{IsFault, IsProgram, PlacedSection}
 use Rattle.ga_source.specs.Error.{error_place as source_place}
 use Rattle.ga_asm.specs.Assembling.{IsAssembled}
 use Rattle.ga_asm.specs.Error.{error_place as asm_place}
-use Rattle.ga_asm.specs.Image.{ImageView, IsImage, entry_of}
+use Rattle.ga_asm.specs.Image.{ImageView, entry_of}
 use Rattle.ga_disasm.specs.Source.{FitNode, IsSourceOf}
 use Rattle.ga_bench.specs.Asm.{IsAsmOutput, images_text}
 use Rattle.ga_bench.specs.Dis.{AssemblesTo, plain_image}

@@ -1,9 +1,9 @@
 -- Command lines that were worked out by hand.
-use Rattle.std.proofs.Common.{◌≡◌, false, [], ◌∷◌, Some, None, refl, lit<, lit≤}
+use Rattle.std.proofs.Common.{◌≡◌, Global, String, string_bytes, ap, sym, false, [], ◌∷◌, Some, None, refl, lit<, lit≤}
 use Rattle.std.specs.Prelude.{codes}
 use Rattle.clap.proofs.OnLiterals.{clap_on_literals}
 use Rattle.clap.specs.Words.{takes}
-use Rattle.ga_bench.specs.declared.request.Job.TheVariants.{One, Dis}
+use Rattle.ga_bench.specs.declared.request.Job.TheVariants.{One, Dis, Boot}
 use Rattle.ga_bench.specs.CommandLine.{IsRight, bench_command}
 
 right_line : IsRight (codes "ga-bench" ∷ codes "one" ∷ codes "5" ∷ []) (One 5)
@@ -18,6 +18,10 @@ all_code_line : IsRight (codes "ga-bench" ∷ codes "dis" ∷ []) (Dis None)
 unfolding clap_on_literals
 all_code_line = (refl, (refl, refl), tt)
 
+boot_line : (route : String Global) → string_bytes route ≡ codes "708,709" → IsRight (codes "ga-bench" ∷ codes "boot" ∷ codes "708,709" ∷ []) (Boot route)
+unfolding clap_on_literals
+boot_line route is = (refl, (refl, ap Some (sym is)), tt)
+
 -- one more than the most tries, and none
 over_the_range : takes bench_command (codes "ga-bench" ∷ codes "one" ∷ codes "1000001" ∷ []) ≡ false
 unfolding clap_on_literals
@@ -31,6 +35,10 @@ without_tries = refl
 over_the_code : takes bench_command (codes "ga-bench" ∷ codes "dis" ∷ codes "--code" ∷ codes "65" ∷ []) ≡ false
 unfolding clap_on_literals
 over_the_code = refl
+
+without_route : takes bench_command (codes "ga-bench" ∷ codes "boot" ∷ []) ≡ false
+unfolding clap_on_literals
+without_route = refl
 
 without_subcommand : takes bench_command (codes "ga-bench" ∷ []) ≡ false
 unfolding clap_on_literals

@@ -1,5 +1,5 @@
 -- What the program writes for inputs that were worked out by hand.
-use Rattle.std.proofs.Common.{[], ◌∷◌, Some, None, Ok, Err, refl}
+use Rattle.std.proofs.Common.{◌≡◌, [], ◌∷◌, Some, None, Ok, Err, refl}
 use Rattle.std.specs.Prelude.{codes}
 use Rattle.std.specs.Fmt.{digits}
 use Rattle.std.specs.Str.{chars, is_utf8}
@@ -12,13 +12,19 @@ use Rattle.ga_disasm.specs.Printed.{text_of}
 use Rattle.ga_node.specs.Line.{line_of}
 use Rattle.ga_node.specs.Need.{need_of}
 use Rattle.ga_node.specs.Slot.{row, step}
-use Rattle.ga_bench.specs.declared.fault.ServeError.TheVariants.{Input, Words}
+use Rattle.ga_asm.specs.Image.{ImageView}
+use Rattle.ga_path.specs.declared.error.BootError.TheVariants.{Unreached}
+use Rattle.ga_path.specs.declared.error.RouteError.TheVariants.{NotNeighbour}
+use Rattle.ga_bench.specs.declared.fault.RouteFault.TheVariants.{BadRoute, Nodes}
+use Rattle.ga_bench.specs.declared.fault.ServeError.TheVariants.{Boot, Input, Route, Words}
 use Rattle.ga_bench.specs.declared.fault.InputFault.TheVariants.{BadText}
 use Rattle.ga_bench.specs.declared.fault.WordsFault.TheVariants as words
 use Rattle.ga_bench.specs.declared.request.Job.TheVariants.{One, Dis}
 use Rattle.ga_bench.specs.Answer.{IsOutput}
+use Rattle.ga_bench.specs.Boot.{part_text, text_by}
 use Rattle.ga_bench.specs.Dis.{dis_text}
 use Rattle.ga_bench.specs.One.{one_text}
+use Rattle.ga_bench.specs.Route.{route_in}
 use Rattle.ga_bench.specs.Text.{words_in}
 
 a_line : IsOutput (One 5) (codes "04A12 00005 00003 2C9B2\n") (Ok (codes "node 000 P 003 A 00005 B 15D R 00000 S 00000 T 00003 io 00000 at fetch steps 5 need own\n"))
@@ -53,3 +59,20 @@ bad_code = refl
 bad_word_first : IsOutput (Dis (Some 4)) (codes "05872 5") (Err (Words (words.BadWord 1)))
 unfolding words_in is_word_text tokens is_utf8 chars lib.Utf8.encode
 bad_word_first = refl
+
+-- an image of one word
+one_word : ImageView
+one_word = record { words = 0x2C9B2 ∷ []; code_len = 1; entry = 0; labels = [] }
+
+boot_of_a_neighbour : text_by ((709, one_word) ∷ []) (route_in (codes "708,709")) ≡ Ok (codes "load 14\n000AE 001D5 00008 101D5 04A12 00000 00000 2E9B2\n05872 2C9B2 2C9B2 000AE 00000 00000\nstart 7\n000AE 001D5 00001 10000 001B5 00000 00000\n")
+unfolding part_text one_word hex_digits digits
+boot_of_a_neighbour = refl
+
+no_names : text_by [] (route_in []) ≡ Err (Route BadRoute)
+no_names = refl
+
+no_route : text_by [] (route_in (codes "708,710")) ≡ Err (Route (Nodes (NotNeighbour 1)))
+no_route = refl
+
+not_reached : text_by ((710, one_word) ∷ []) (route_in (codes "708,709")) ≡ Err (Boot (Unreached 710))
+not_reached = refl

@@ -1,11 +1,12 @@
 -- The command line: the command as clap's definitions read it, and the job that its words name.
-use Rattle.std.specs.Prelude.{◌≡◌, Bool, List, true, false, codes, IsSomeAnd}
+use Rattle.std.specs.Prelude.{◌≡◌, Bool, List, true, false, codes, IsSomeAnd, string_bytes}
 use Rattle.clap.specs.Words.{App, Row, Text, app_of, new_app, subcommand_of, takes, with_subcommand}
 use Rattle.clap.specs.declared.builder.command.Command.{Command}
 use Rattle.clap.specs.declared.builder.command.Command.TheViews.{out-Command}
 use Rattle.ga_bench.specs.declared.request.Job.{Job}
-use Rattle.ga_bench.specs.declared.request.Job.TheVariants.{One, Asm, Dis}
+use Rattle.ga_bench.specs.declared.request.Job.TheVariants.{One, Asm, Dis, Boot}
 use Rattle.ga_bench.specs.Asm.{AsksForAsm, asm_command}
+use Rattle.ga_bench.specs.Boot.{AsksForBoot, boot_command}
 use Rattle.ga_bench.specs.Dis.{AsksForDis, IsDisInRange, dis_command}
 use Rattle.ga_bench.specs.One.{AsksForOne, IsOneInRange, one_command}
 
@@ -26,19 +27,21 @@ bare_command = record named_command { top = record named_command.top { has_versi
 
 -- the whole command
 abbrev pub bench_command : App
-bench_command = with_subcommand (with_subcommand (with_subcommand bare_command one_command.top) asm_command.top) dis_command.top
+bench_command = with_subcommand (with_subcommand (with_subcommand (with_subcommand bare_command one_command.top) asm_command.top) dis_command.top) boot_command.top
 
 -- the numbers of a job lie in their ranges
 abbrev pub InRange : Job → Type 0
 InRange (One tries) = IsOneInRange tries
 InRange Asm = Unit {0}
 InRange (Dis code) = IsDisInRange code
+InRange (Boot route) = Unit {0}
 
 -- the job that a subcommand and its arguments name
 abbrev pub AsksFor : Text × List Row → Job → Type 0
 AsksFor entered (One tries) = AsksForOne entered tries
 AsksFor entered Asm = AsksForAsm entered
 AsksFor entered (Dis code) = AsksForDis entered code
+AsksFor entered (Boot route) = AsksForBoot entered (string_bytes route)
 
 -- the job that the words of a command line name, of which the first is the program's name
 abbrev pub IsJobOf : List Text → Job → Type 0

@@ -8,8 +8,15 @@ use Rattle.ga_source.specs.declared.error.SourceErrorKind.TheVariants as source
 use Rattle.ga_asm.specs.declared.error.AsmError.{AsmError}
 use Rattle.ga_asm.specs.declared.error.AsmErrorKind.{AsmErrorKind}
 use Rattle.ga_asm.specs.declared.error.AsmErrorKind.TheVariants as assembly
+use Rattle.ga_path.specs.declared.error.BootError.{BootError}
+use Rattle.ga_path.specs.declared.error.BootError.TheVariants as boot
+use Rattle.ga_path.specs.declared.error.NamesError.{NamesError}
+use Rattle.ga_path.specs.declared.error.NamesError.TheVariants as names
+use Rattle.ga_path.specs.declared.error.RouteError.{RouteError}
+use Rattle.ga_path.specs.declared.error.RouteError.TheVariants as route
 use Rattle.ga_bench.specs.declared.fault.ServeError.{ServeError}
-use Rattle.ga_bench.specs.declared.fault.ServeError.TheVariants.{Words, Source, Asm, Read, Write, Memory}
+use Rattle.ga_bench.specs.declared.fault.ServeError.TheVariants.{Words, Source, Asm, Route, Boot, Read, Write, Memory}
+use Rattle.ga_bench.specs.declared.fault.RouteFault.TheVariants.{BadRoute, Nodes}
 use Rattle.ga_bench.specs.declared.fault.WordsFault.TheVariants.{BadWord}
 
 -- the fault of a text that is not all words
@@ -25,6 +32,19 @@ fault_of_source kind error = Source error
 abbrev pub fault_of_asm : AsmErrorKind → AsmError → ServeError
 fault_of_asm assembly.Memory error = Memory
 fault_of_asm kind error = Asm error
+
+-- the fault of a text that doesn't name nodes, of nodes that are no route, and of a node that isn't on the route
+abbrev pub fault_of_names : NamesError → ServeError
+fault_of_names names.BadNames = Route BadRoute
+fault_of_names names.Memory = Memory
+
+abbrev pub fault_of_route : RouteError → ServeError
+fault_of_route route.Memory = Memory
+fault_of_route error = Route (Nodes error)
+
+abbrev pub fault_of_boot : BootError → ServeError
+fault_of_boot boot.Memory = Memory
+fault_of_boot error = Boot error
 
 -- 3 for want of memory, 1 for every other fault
 abbrev pub status_of_fault : ServeError → ℕ

@@ -5,6 +5,8 @@ pub mod One
 pub mod Source
 pub mod Asm
 pub mod Dis
+pub mod Route
+pub mod Boot
 pub mod CommandLine
 pub mod Answer
 pub mod Reading

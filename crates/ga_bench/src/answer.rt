@@ -3,6 +3,7 @@ ghost use Rattle.ga_bench.specs.Answer.{IsJobOutput};
 ghost use Rattle.ga_bench.specs.Fault.{Answers};
 
 use crate::asm::asm;
+use crate::boot::boot;
 use crate::dis::dis;
 use crate::fault::ServeError;
 use crate::one::one;
@@ -16,5 +17,6 @@ pub fn output<Rt: AllocGlobal>(rt: &Rt, job: &Job, input: &[u8]) -> Result<Strin
         Job::One { tries } => one(rt.alloc(), *tries, input),
         Job::Asm => asm(rt.alloc(), input),
         Job::Dis { code } => dis(rt.alloc(), *code, input),
+        Job::Boot { route } => boot(rt.alloc(), route, input),
     }
 }

@@ -5,7 +5,8 @@ ghost use Rattle.ga_bench.specs.declared.command_line.LineError.TheVariants.{Mem
 ghost use Rattle.ga_bench.specs.CommandLine.{InRange, IsCommandOf, IsJobOf, IsRight, bare_command, bench_command, has_globals};
 
 use crate::request::Job;
-use crate::{asm, dis, one};
+use crate::route::route_at;
+use crate::{asm, boot, dis, one};
 use clap::Command;
 use clap::error::ErrorKind;
 use std::alloc::{AllocError, Global};
@@ -58,6 +59,9 @@ pub fn job(alloc: Global, words: &[&str]) -> Result<Job, LineError>
         Some(("dis", found)) => Ok(Job::Dis {
             code: dis::code_of(alloc, found)?,
         }),
+        Some(("boot", found)) => Ok(Job::Boot {
+            route: route_at(alloc, found)?,
+        }),
         _ => Err(refusal(
             alloc,
             ErrorKind::MissingSubcommand,
@@ -85,7 +89,8 @@ fn command<'a>(alloc: Global) -> Result<Command<'a>, AllocError>
     let command = bare_command(alloc)?;
     let command = link(command, one::command(alloc)?)?;
     let command = link(command, asm::command(alloc)?)?;
-    link(command, dis::command(alloc)?)
+    let command = link(command, dis::command(alloc)?)?;
+    link(command, boot::command(alloc)?)
 }
 
 /// The command without its subcommands.

@@ -1,8 +1,9 @@
 ghost use Rattle.std.specs.Prelude.{◌≡◌};
-ghost use Rattle.ga_bench.specs.Fault.{fault_of_asm, fault_of_source, fault_of_words, status_of};
+ghost use Rattle.ga_bench.specs.Fault.{fault_of_asm, fault_of_boot, fault_of_names, fault_of_route, fault_of_source, fault_of_words, status_of};
 ghost use Rattle.ga_bench.specs.declared.fault.ServeError.TheVariants.{Memory};
 
 use ga_asm::{AsmError, AsmErrorKind};
+use ga_path::{BootError, NamesError, RouteError};
 use ga_source::{SourceError, SourceErrorKind};
 use ga_word::WordsError;
 use std::alloc::{AllocError, AllocFailed};
@@ -36,6 +37,17 @@ pub enum WordsFault {
     BadCode,
 }
 
+/// Why a ROUTE was refused.
+#[derive(Debug, PartialEq, Eq, Drop, Error)]
+pub enum RouteFault {
+    /// It isn't names of nodes with commas between them.
+    #[error("BadRoute")]
+    BadRoute,
+    /// The nodes are no route.
+    #[error("{0}")]
+    Nodes(RouteError),
+}
+
 /// Why a job was not served. Its `Display` is the text that the program prints.
 #[derive(Debug, PartialEq, Eq, Drop, Error)]
 pub enum ServeError {
@@ -47,6 +59,10 @@ pub enum ServeError {
     Source(SourceError),
     #[error("asm {0}")]
     Asm(AsmError),
+    #[error("route {0}")]
+    Route(RouteFault),
+    #[error("boot {0}")]
+    Boot(BootError),
     /// A read failed, or the input came in too many pieces.
     #[error("read")]
     Read,
@@ -86,6 +102,39 @@ impl From<AsmError> for ServeError {
         match error.kind {
             AsmErrorKind::Memory => ServeError::Memory,
             _ => ServeError::Asm(error),
+        }
+    }
+}
+
+impl From<NamesError> for ServeError {
+    ghost from_gives = { λ error fault. fault ≡ fault_of_names error };
+
+    fn from(error: NamesError) -> ServeError {
+        match error {
+            NamesError::BadNames => ServeError::Route(RouteFault::BadRoute),
+            NamesError::Memory => ServeError::Memory,
+        }
+    }
+}
+
+impl From<RouteError> for ServeError {
+    ghost from_gives = { λ error fault. fault ≡ fault_of_route error };
+
+    fn from(error: RouteError) -> ServeError {
+        match error {
+            RouteError::Memory => ServeError::Memory,
+            _ => ServeError::Route(RouteFault::Nodes(error)),
+        }
+    }
+}
+
+impl From<BootError> for ServeError {
+    ghost from_gives = { λ error fault. fault ≡ fault_of_boot error };
+
+    fn from(error: BootError) -> ServeError {
+        match error {
+            BootError::Memory => ServeError::Memory,
+            BootError::Unreached(_) => ServeError::Boot(error),
         }
     }
 }

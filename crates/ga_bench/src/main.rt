@@ -3,6 +3,7 @@
 
 mod answer;
 mod asm;
+mod boot;
 mod command_line;
 mod dis;
 mod engine;
@@ -11,6 +12,7 @@ mod number;
 mod one;
 mod reading;
 mod request;
+mod route;
 mod source;
 mod text;
 mod writing;

@@ -7,4 +7,6 @@ pub enum Job {
     Asm,
     /// The source text of the words of the input, of which so many are code, or all.
     Dis { code: Option<u32> },
+    /// The boot stream of a route through the nodes of a source text.
+    Boot { route: String },
 }

@@ -222,6 +222,48 @@ fn refuses_too_much_code(rt: HostRuntime) -> Result<(), Fail> {
 }
 
 #[test]
+fn boots_a_route(rt: HostRuntime) -> Result<(), Fail> {
+    let alloc = rt.alloc();
+    let input = b"node 709 .";
+    let text =
+        "load 14\n000AE 001D5 00008 101D5 04A12 00000 00000 2E9B2\n05872 2C9B2 2C9B2 000AE 00000 00000\n\
+        start 7\n000AE 001D5 00001 10000 001B5 00000 00000\n";
+    let job = boot_of(alloc, "708,709")?;
+    let mut writer = sink_of(alloc, 8192);
+    let outcome = serve(&rt, &mut source_of(input, 8192), &mut writer, &job);
+    assert_eq!(rt; status(&outcome), 0);
+    assert_eq!(rt; writer.taken.as_slice(), text.as_bytes());
+    // faults of the source and of the assembly come before those of the route, and these before the boot's
+    let table = [
+        (b"node 709 .".as_slice(), "", "route BadRoute"),
+        (b"node 709 .", "999", "route BadRoute"),
+        (b"node 709 .", "101,102", "route NotEdge"),
+        (b"node 709 .", "708,710", "route NotNeighbour 1"),
+        (b"node 709 .", "708,709,708", "route Repeated 2"),
+        (b"node 709 .", "708,707", "boot Unreached 709"),
+        (b"node 709 . #", "", "source 1:12 BadToken"),
+        (b"node 709 jump x", "", "asm 709 1:15 UndefinedLabel"),
+    ];
+    for (input, route, text) in table {
+        let mut writer = sink_of(alloc, 8192);
+        let job = boot_of(alloc, route)?;
+        let outcome = serve(&rt, &mut source_of(input, 8192), &mut writer, &job);
+        assert_eq!(rt; status(&outcome), 1);
+        let Err(fault) = outcome else {
+            return Err("an answer".into());
+        };
+        assert!(rt; fault.to_string(alloc)?.as_str() == text, "{text}");
+        assert_eq!(rt; writer.calls, 0);
+    }
+    Ok(())
+}
+
+fn boot_of(alloc: Global, route: &str) -> Result<Job, Fail> {
+    let route = String::from_str(alloc, route)?;
+    Ok(Job::Boot { route })
+}
+
+#[test]
 fn refuses_source_texts(rt: HostRuntime) -> Result<(), Fail> {
     let table = [
         (b"node 000 jump x".as_slice(), "asm 000 1:15 UndefinedLabel"),
@@ -427,6 +469,12 @@ fn reads_command_lines(rt: HostRuntime) -> Result<(), Fail> {
             Err(_) => return Err("a refused line".into()),
         }
     }
+    for route in ["708,709", "", "any text"] {
+        match job(alloc, &["ga-bench", "boot", route]) {
+            Ok(job) => assert_eq!(rt; job, boot_of(alloc, route)?),
+            Err(_) => return Err("a refused line".into()),
+        }
+    }
     let table = [
         (["ga-bench"].as_slice(), LineKind::MissingSubcommand),
         (&["ga-bench", "two"], LineKind::InvalidSubcommand),
@@ -442,6 +490,11 @@ fn reads_command_lines(rt: HostRuntime) -> Result<(), Fail> {
             LineKind::ValueValidation,
         ),
         (&["ga-bench", "dis", "--code"], LineKind::InvalidValue),
+        (&["ga-bench", "boot"], LineKind::MissingRequiredArgument),
+        (
+            &["ga-bench", "boot", "708", "709"],
+            LineKind::UnknownArgument,
+        ),
         (&["ga-bench", "--help"], LineKind::DisplayHelp),
         (&["ga-bench", "one", "--help"], LineKind::DisplayHelp),
         (&["ga-bench", "--version"], LineKind::DisplayVersion),

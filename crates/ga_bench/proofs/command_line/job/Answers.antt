@@ -1,4 +1,4 @@
-use Rattle.std.proofs.Common.{◌≡◌, ◌∙◌, ap, refl, sym, List, ℕ, Option, map, codes, true, false}
+use Rattle.std.proofs.Common.{◌≡◌, ◌∙◌, ap, refl, sym, List, ℕ, Option, map, codes, string_bytes, true, false}
 use Rattle.std.specs.Str.{bytes_eq}
 use Rattle.std.proofs.lemmas.Bool.{true≢false}
 use Rattle.clap.specs.Words.{App, Row, Text, kind_of, takes, rows_of, found_of}
@@ -6,11 +6,12 @@ use Rattle.clap.specs.declared.error.kind.ErrorKind.TheVariants.{OutOfMemory}
 use Rattle.ga_bench.specs.declared.command_line.LineError.{LineError}
 use Rattle.ga_bench.specs.declared.command_line.LineError.TheVariants.{Memory}
 use Rattle.ga_bench.specs.declared.request.Job.{Job}
-use Rattle.ga_bench.specs.declared.request.Job.TheVariants.{One, Asm, Dis}
+use Rattle.ga_bench.specs.declared.request.Job.TheVariants.{One, Asm, Dis, Boot}
 use Rattle.ga_bench.specs.CommandLine.{AsksFor, InRange}
 use Rattle.ga_bench.specs.Dis.{IsDisInRange}
 use Rattle.ga_bench.specs.Number.{IsNumberAt, IsNumberIfAt}
 use Rattle.ga_bench.specs.One.{IsOneInRange}
+use Rattle.ga_bench.specs.Route.{IsRouteAt}
 use Rattle.ga_bench.proofs.Entered.{asked, each_error}
 use Rattle.ga_bench.proofs.command_line.job.Goals as goal
 
@@ -30,6 +31,7 @@ one_refused : (name : Text) (rows : List Row) (error : LineError) → name ≡ c
 one_refused name rows error is refused (One tries) asks = refused tries asks.1 asks.0.1
 one_refused name rows error is refused Asm asks = absurd (two_names name (codes "one") (codes "asm") is asks.0 refl refl)
 one_refused name rows error is refused (Dis code) asks = absurd (two_names name (codes "one") (codes "dis") is asks.0.0 refl refl)
+one_refused name rows error is refused (Boot route) asks = absurd (two_names name (codes "one") (codes "boot") is asks.0.0 refl refl)
 
 pub returns-in_err-tries_of-in-Some-one-default-clause-right : goal.returns-in_err-tries_of-in-Some-one-default-clause-right
 returns-in_err-tries_of-in-Some-one-default-clause-right c =
@@ -45,6 +47,7 @@ dis_refused : (name : Text) (rows : List Row) (error : LineError) → name ≡ c
 dis_refused name rows error is refused (One tries) asks = absurd (two_names name (codes "dis") (codes "one") is asks.0.0 refl refl)
 dis_refused name rows error is refused Asm asks = absurd (two_names name (codes "dis") (codes "asm") is asks.0 refl refl)
 dis_refused name rows error is refused (Dis code) asks = refused code asks.1 asks.0.1
+dis_refused name rows error is refused (Boot route) asks = absurd (two_names name (codes "dis") (codes "boot") is asks.0.0 refl refl)
 
 pub returns-in_err-code_of-in-Some-dis-default-clause-right : goal.returns-in_err-code_of-in-Some-dis-default-clause-right
 returns-in_err-code_of-in-Some-dis-default-clause-right c =
@@ -53,3 +56,19 @@ returns-in_err-code_of-in-Some-dis-default-clause-right c =
     let refused = c.in_err-code_of-in-Some-dis-default in
     let asks = asked c.in_ok-command.field-0 words c.in_ok-matches.matches met.field-0-0.now (rows_of (found_of met.found.now)) c.in_ok-command.ensures c.in_ok-matches.ensures.matches met.ensures.name met.ensures.rows in
     each_error c.from_residual-in_err-code_of-in-Some-dis-default.result words (λ fault. fault ≡ refused.field-0.0) c.from_residual-in_err-code_of-in-Some-dis-default.ensures.1 (λ error same job right. same ∙ dis_refused met.field-0-0.now (rows_of (found_of met.found.now)) refused.field-0.0 met.is-dis refused.ensures.right job (asks job right))
+
+-- the same of `boot`
+boot_refused : (name : Text) (rows : List Row) (error : LineError) → name ≡ codes "boot" → ((route : Text) → IsRouteAt rows route → error ≡ Memory)
+    → (job : Job) → AsksFor (name, rows) job × InRange job → error ≡ Memory
+boot_refused name rows error is refused (One tries) asks = absurd (two_names name (codes "boot") (codes "one") is asks.0.0 refl refl)
+boot_refused name rows error is refused Asm asks = absurd (two_names name (codes "boot") (codes "asm") is asks.0 refl refl)
+boot_refused name rows error is refused (Dis code) asks = absurd (two_names name (codes "boot") (codes "dis") is asks.0.0 refl refl)
+boot_refused name rows error is refused (Boot route) asks = refused (string_bytes route) asks.0.1
+
+pub returns-in_err-route_at-in-Some-boot-default-clause-right : goal.returns-in_err-route_at-in-Some-boot-default-clause-right
+returns-in_err-route_at-in-Some-boot-default-clause-right c =
+    let words = map (λ word. word.now) c.args.words.now in
+    let met = c.in-Some-boot-default in
+    let refused = c.in_err-route_at-in-Some-boot-default in
+    let asks = asked c.in_ok-command.field-0 words c.in_ok-matches.matches met.field-0-0.now (rows_of (found_of met.found.now)) c.in_ok-command.ensures c.in_ok-matches.ensures.matches met.ensures.name met.ensures.rows in
+    each_error c.from_residual-in_err-route_at-in-Some-boot-default.result words (λ fault. fault ≡ refused.field-0.0) c.from_residual-in_err-route_at-in-Some-boot-default.ensures.1 (λ error same job right. same ∙ boot_refused met.field-0-0.now (rows_of (found_of met.found.now)) refused.field-0.0 met.is-boot refused.ensures.right job (asks job right))

@@ -1,0 +1,58 @@
+ghost use Rattle.std.specs.Prelude.{◌≡◌, ℕ, IfErr, IfOk, List, codes, string_bytes};
+ghost use Rattle.clap.specs.Words.{found_of, rows_of};
+ghost use Rattle.ga_word.specs.Text.{text_of_words};
+ghost use Rattle.ga_bench.specs.Boot.{IsBootOutput, boot_command, part_text};
+ghost use Rattle.ga_bench.specs.CommandLine.{IsCommandOf};
+ghost use Rattle.ga_bench.specs.Fault.{Answers};
+
+use crate::fault::ServeError;
+use crate::route::route_of;
+use crate::source::images_of;
+use clap::{Arg, Command};
+use ga_word::{Word18, words_text};
+use std::alloc::{AllocError, Global};
+use std::fmt::Write;
+
+const HELP: &str = "\
+Reads source text, as asm does. Writes a line 'load' with a number and so many words, eight on a
+line, and 'start' in the same way: what the loader of the route's first node is to be given, so that
+each node of the route has its words in memory, and then starts.
+
+Example: echo 'node 709 .' | ga-bench boot 708,709";
+
+/// The subcommand `boot ROUTE`.
+pub fn command<'a>(alloc: Global) -> Result<Command<'a>, AllocError>
+    ensures { IfOk result (IsCommandOf boot_command) }
+{
+    let route = Arg::new(alloc, "ROUTE").required(true).help(
+        "Node names with commas between them: an edge node, and each next one its neighbour",
+    );
+    Command::new(alloc, "boot")
+        .about("Assembles source text, and prints the words that boot a route")
+        .after_help(HELP)
+        .arg(route)
+}
+
+/// Both parts of the boot stream of a route and of the input, which is source text, as text.
+pub fn boot(alloc: Global, route: &str, input: &[u8]) -> Result<String, ServeError>
+    ensures { Answers string_bytes (IsBootOutput route.now input.now) result }
+{
+    let images = images_of(alloc, input)?;
+    let route = route_of(alloc, route)?;
+    let boot = ga_path::boot(alloc, &route, &images)?;
+    let mut text = String::new(alloc);
+    text.push_str(&part_text(alloc, "load", &boot.load)?)?;
+    text.push_str(&part_text(alloc, "start", &boot.start)?)?;
+    Ok(text)
+}
+
+/// A line with the name of a part and the number of its words, and the words, eight on a line.
+#[tactic(auto, unfolding(crate::specs::Boot::part_text))]
+fn part_text(alloc: Global, name: &str, words: &[Word18]) -> Result<String, AllocError>
+    ensures { IfOk result (λ text. string_bytes text ≡ part_text name.now words.now) }
+{
+    let mut text = String::new(alloc);
+    writeln!(text, "{name} {}", words.len())?;
+    text.push_str(&words_text(alloc, words)?)?;
+    Ok(text)
+}
