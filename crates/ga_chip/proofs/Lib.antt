@@ -15,6 +15,8 @@ pub mod Placed
 pub mod Within
 pub mod Plain
 pub mod Turns
-pub mod Still
+pub mod Members
+pub mod Stays
+pub mod Awake
 pub mod Tries
 mod WorkedChip

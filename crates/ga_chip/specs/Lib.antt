@@ -5,5 +5,5 @@ pub mod Ledger
 pub mod Run
 pub mod Grow
 pub mod Legal
-pub mod Stuck
+pub mod Awake
 pub mod Laws

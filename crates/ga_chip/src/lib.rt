@@ -6,9 +6,9 @@ mod counts;
 mod error;
 pub mod laws;
 mod ledger;
+mod node_set;
 mod outcome;
 mod part;
-mod stuck;
 
 pub use chip::Chip;
 pub use error::ChipError;

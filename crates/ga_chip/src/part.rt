@@ -1,16 +1,18 @@
-ghost use Rattle.std.specs.Prelude.{◌≡◌, ◌≤◌, ◌<◌, ◌^◌, false, true, if◌then◌else◌, length, None};
+ghost use Rattle.std.specs.Prelude.{◌≡◌, ◌≢◌, ◌≤◌, ◌<◌, ◌^◌, false, true, if◌then◌else◌, length, None};
 ghost use Rattle.ga_place.specs.Cell.{cell_of, read_cell};
-ghost use Rattle.ga_place.specs.Side.{one_side};
+ghost use Rattle.ga_place.specs.Side.{is_among, one_side};
 ghost use Rattle.ga_place.specs.declared.side.Side.{Side};
 ghost use Rattle.ga_node.specs.Need.{is_check, is_own, is_post, need_of, takes_at};
 ghost use Rattle.ga_node.specs.State.{loaded_state};
 ghost use Rattle.ga_chip.specs.Part.{Own, after, after_asked, asks, asks_by, check_of, count_at, looked_at, post_to, stepped, take_of};
 ghost use Rattle.ga_chip.specs.Chip.{cells_after, found_by, given, reset_part};
+ghost use Rattle.ga_chip.specs.Awake.{partner_of};
+ghost use Rattle.ga_chip.specs.declared.outcome.Outcome.TheVariants.{Moved};
 
 use crate::counts::Counts;
 use crate::outcome::Outcome;
 use ga_node::{Need, NodeState};
-use ga_place::{Node, Side, Sides, cell, neighbour};
+use ga_place::{CellId, Node, Side, Sides, cell, neighbour};
 use ga_word::Word18;
 use std::marker::Model;
 
@@ -21,6 +23,16 @@ pub(crate) struct NodePart {
     state: NodeState,
     written: Counts,
     read: Counts,
+}
+
+/// What came of a try of a node whose need isn't its own.
+#[derive(Clone, Copy)]
+pub(crate) struct Far {
+    pub outcome: Outcome,
+    /// The neighbour that may move now, since the node took its word or posted one to it.
+    pub wakes: Option<Node>,
+    /// Whether a try would move at no side.
+    pub sleeps: bool,
 }
 
 impl Model for NodePart {
@@ -86,13 +98,42 @@ impl NodePart {
     }
 
     /// A try of a node whose need isn't its own, over the chip's cells.
-    pub(crate) fn attempt_far(&mut self, cells: &mut [Option<Word18>], side: Side) -> Outcome
+    pub(crate) fn attempt_far(&mut self, cells: &mut [Option<Word18>], side: Side) -> Far
         requires count { length cells.old ≡ 524 }
+        requires far { is_own (need_of self.old.state) ≡ false }
+        ensures part { (result.outcome, self.new) ≡ after self.old side (found_by (asks self.old side) cells.old) }
+        ensures cells { cells.new ≡ cells_after (asks self.old side) cells.old }
+        ensures wakes { result.outcome ≡ Moved → result.wakes ≡ partner_of self.old.state.node (need_of self.old.state) side }
+        ensures sleeps { result.sleeps ≡ true → (other : Side) → (after self.old other (found_by (asks self.old other) cells.old)).0 ≢ Moved }
+    {
+        let need = self.state.need();
+        let outcome = self.meet(&need, cells, side);
+        if let Outcome::Moved = outcome {
+            let wakes = self.partner(&need, side);
+            return Far {
+                outcome,
+                wakes,
+                sleeps: false,
+            };
+        }
+        let sleeps = self.is_still(&need, cells);
+        Far {
+            outcome,
+            wakes: None,
+            sleeps,
+        }
+    }
+
+    /// Meets a need where it can be met now.
+    fn meet(&mut self, need: &Need, cells: &mut [Option<Word18>], side: Side) -> Outcome
+        requires count { length cells.old ≡ 524 }
+        requires need { need.now ≡ need_of self.old.state }
         requires far { is_own (need_of self.old.state) ≡ false }
         ensures part { (result, self.new) ≡ after self.old side (found_by (asks self.old side) cells.old) }
         ensures cells { cells.new ≡ cells_after (asks self.old side) cells.old }
     {
-        match self.state.need() {
+        let _ = &self.state;
+        match *need {
             Need::Take(sides) => match looked_at(sides, side) {
                 Some(at) => self.take(cells, at),
                 None => Outcome::Waits,
@@ -104,6 +145,59 @@ impl NodePart {
         }
     }
 
+    /// The neighbour at the port at which a step that meets the need takes or posts a word.
+    fn partner(&self, need: &Need, side: Side) -> Option<Node>
+        ensures { result ≡ partner_of self.now.state.node need.now side }
+    {
+        let at = match *need {
+            Need::Take(sides) => looked_at(sides, side)?,
+            Need::Post(to, _) => to,
+            _ => return None,
+        };
+        neighbour(self.state.node(), at)
+    }
+
+    /// Whether a try would move at no side, where a try at one side didn't. It may say no all the same.
+    fn is_still(&self, need: &Need, cells: &[Option<Word18>]) -> bool
+        requires count { length cells.now ≡ 524 }
+        requires need { need.now ≡ need_of self.now.state }
+        requires still { (side : Side) × ((after self.now side (found_by (asks self.now side) cells.now)).0 ≢ Moved) }
+        ensures { result ≡ true → (side : Side) → (after self.now side (found_by (asks self.now side) cells.now)).0 ≢ Moved }
+    {
+        let Need::Take(sides) = *need else {
+            return true;
+        };
+        if sides.only().is_some() {
+            return true;
+        }
+        let right = self.finds(cells, sides, Side::Right);
+        let down = self.finds(cells, sides, Side::Down);
+        let left = self.finds(cells, sides, Side::Left);
+        let up = self.finds(cells, sides, Side::Up);
+        !(right | down | left | up)
+    }
+
+    /// Whether a side is one of several and a word is pending there.
+    fn finds(&self, cells: &[Option<Word18>], sides: Sides, side: Side) -> bool
+        requires { length cells.now ≡ 524 }
+        ensures { result ≡ false → is_among side sides ≡ true → found_by (take_of side (read_cell self.now.state.node side)) cells.now ≡ None }
+    {
+        if !sides.has(side) {
+            return false;
+        }
+        match self.reads(side) {
+            Some(at) => cells[at.index()].is_some(),
+            None => false,
+        }
+    }
+
+    /// The cell that the node reads at a side.
+    fn reads(&self, side: Side) -> Option<CellId>
+        ensures { result ≡ read_cell self.now.state.node side }
+    {
+        cell(neighbour(self.state.node(), side)?, side)
+    }
+
     /// The node takes a word at a side, where one is pending.
     fn take(&mut self, cells: &mut [Option<Word18>], side: Side) -> Outcome
         requires count { length cells.old ≡ 524 }
@@ -111,10 +205,7 @@ impl NodePart {
         ensures part { let asked = take_of side (read_cell self.old.state.node side) in (result, self.new) ≡ after_asked asked (found_by asked cells.old) self.old }
         ensures cells { cells.new ≡ cells_after (take_of side (read_cell self.old.state.node side)) cells.old }
     {
-        let Some(other) = neighbour(self.state.node(), side) else {
-            return Outcome::Waits;
-        };
-        let Some(at) = cell(other, side) else {
+        let Some(at) = self.reads(side) else {
             return Outcome::Waits;
         };
         match cells[at.index()].take() {
