@@ -20,8 +20,9 @@ use ga_word::Word18;
 use std::alloc::{AllocError, Global};
 use std::marker::Model;
 
-/// Where more nodes than this are awake, a turn tries each node, which then is faster than to look for them.
-const MANY: u32 = 72;
+/// Where more nodes than this are awake, a turn tries each node: as long as few of them sleep, that is faster
+/// than to go from one awake node to the next.
+const MANY: u32 = 140;
 
 /// The chip: 144 nodes, and the 524 one-way cells over which they pass words.
 #[derive(Drop)]
