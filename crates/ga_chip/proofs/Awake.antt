@@ -1,21 +1,18 @@
 -- Nodes that can't move stay so until a neighbour passes them a word, or takes theirs.
-use Rattle.std.proofs.Common.{◌≡◌, ◌≢◌, ℕ, ◌<◌, ◌==◌, ◌⊎◌, inl, inr, Bool, true, false, List, length, set, Option, Some, None, refl, sym, ap, ◌∙◌, subst}
-use Rattle.std.specs.Prelude.{if◌then◌else◌}
+use Rattle.std.proofs.Common.{◌≡◌, ◌≢◌, ℕ, ◌<◌, ◌==◌, ◌⊎◌, inl, inr, Bool, true, false, List, set, Option, Some, None, refl, sym, ap, ◌∙◌, subst}
+use Rattle.std.specs.Prelude.{if◌then◌else◌, option_map}
 use Rattle.std.proofs.lemmas.Bool.{eqb-true, eqb-false, false≢true}
 use Rattle.std.proofs.lemmas.Option.{same_Some}
-use Rattle.ga_place.specs.Cell.{cell_of, index_of, name_at, read_cell}
-use Rattle.ga_place.specs.Side.{neighbour_of, one_side}
+use Rattle.ga_place.specs.Cell.{index_of, name_at}
 use Rattle.ga_place.specs.Node.{IsNodeName}
 use Rattle.ga_place.specs.declared.side.Side.{Side}
 use Rattle.ga_place.specs.declared.side.Side.TheVariants.{Right}
 use Rattle.ga_node.specs.Need.{need_of}
-use Rattle.ga_node.specs.declared.need.Need.{Need}
-use Rattle.ga_node.specs.declared.need.Need.TheVariants as need
 use Rattle.ga_chip.specs.declared.node_set.NodeSet.{NodeSet}
 use Rattle.ga_chip.specs.declared.outcome.Outcome.{Outcome}
 use Rattle.ga_chip.specs.declared.outcome.Outcome.TheVariants.{Moved, Waits, Held, Stopped}
 use Rattle.ga_chip.specs.Awake.{Knows, is_in, partner_of, port_by}
-use Rattle.ga_chip.specs.Part.{Part, Asks, Nothing, Own, Feed, Post, Take, Check, after, asks, asks_by, check_of, input_of, looked_at, post_to, take_from, take_of}
+use Rattle.ga_chip.specs.Part.{Part, after, asks}
 use Rattle.ga_chip.specs.Chip.{Chip, cells_after, found_by, part_of, tried}
 use Rattle.ga_chip.specs.Legal.{IsLegal}
 use Rattle.ga_chip.proofs.Kept.{has_name}
@@ -122,14 +119,14 @@ far_knows chip awake now index side part knows within there moved slept = record
         ∙ ap (λ r. (tried r.1 (name_at other) at).0) (sym (tried_there chip (name_at index) side part there)) ∙ e)
 
 -- who sleeps, where the neighbour at the port was put into the set
-pub one_woken : (awake now : NodeSet) (place name : ℕ) (wakes : Option ℕ) → wakes ≡ Some name → place ≡ index_of name → ((other : ℕ) → is_in other now ≡ (if other == place then true else is_in other awake)) → (other : ℕ) → other < 144 → is_in other now ≡ false → (is_in other awake ≡ false) × (wakes ≡ Some (name_at other) → ⊥)
-one_woken awake now place name wakes is at puts other below asleep =
+pub one_woken : (awake now : NodeSet) (place : ℕ) (wakes : Option ℕ) → wakes ≡ Some place → ((other : ℕ) → is_in other now ≡ (if other == place then true else is_in other awake)) → (other : ℕ) → other < 144 → is_in other now ≡ false → (is_in other awake ≡ false) × (wakes ≡ Some other → ⊥)
+one_woken awake now place wakes is puts other below asleep =
     let else_ = asleep_else place other awake now (puts other) asleep in
-    (else_.1, λ e. else_.0 (sym (place_back other below) ∙ ap index_of (same_Some (name_at other) name (sym e ∙ is)) ∙ sym at))
+    (else_.1, λ e. else_.0 (same_Some other place (sym e ∙ is)))
 
 -- and where there is none
-pub none_woken : (awake : NodeSet) (wakes : Option ℕ) → ((name : ℕ) → wakes ≡ Some name → ⊥) → (other : ℕ) → other < 144 → is_in other awake ≡ false → (is_in other awake ≡ false) × (wakes ≡ Some (name_at other) → ⊥)
-none_woken awake wakes none other below asleep = (asleep, none (name_at other))
+pub none_woken : (awake : NodeSet) (wakes : Option ℕ) → ((place : ℕ) → wakes ≡ Some place → ⊥) → (other : ℕ) → other < 144 → is_in other awake ≡ false → (is_in other awake ≡ false) × (wakes ≡ Some other → ⊥)
+none_woken awake wakes none other below asleep = (asleep, none other)
 
 -- What is known after a try of a node whose need isn't its own: where it would move at no side and was put to sleep,
 pub far_slept : (chip next : Chip) (awake now : NodeSet) (index : ℕ) (side : Side) (part : Part) (outcome : Outcome) → Knows chip awake → part_of chip (name_at index) ≡ Some part → ◌≡◌ {A = Outcome × Chip} (outcome, next) (tried chip (name_at index) side) → ((at : Side) → Stays part chip.cells at) → ((other : ℕ) → is_in other now ≡ (if other == index then false else is_in other awake)) → Knows next now
@@ -138,14 +135,14 @@ far_slept chip next awake now index side part outcome knows there is still takes
     subst (λ z. Knows z now) (sym (ap (λ r. r.1) is ∙ tried_still chip (name_at index) side (stays side))) (slept_knows chip awake now index knows takes stays)
 
 -- and else, where the neighbour at the port was woken if the node moved.
-pub far_woken : (chip next : Chip) (awake now : NodeSet) (index : ℕ) (side : Side) (part : Part) (outcome : Outcome) (wakes : Option ℕ) → Knows chip awake → index < 144 → part_of chip (name_at index) ≡ Some part → ◌≡◌ {A = Outcome × Chip} (outcome, next) (tried chip (name_at index) side) → (outcome ≡ Moved → wakes ≡ partner_of part.state.node (need_of part.state) side) → ((other : ℕ) → other < 144 → is_in other now ≡ false → (is_in other awake ≡ false) × (wakes ≡ Some (name_at other) → ⊥)) → Knows next now
+pub far_woken : (chip next : Chip) (awake now : NodeSet) (index : ℕ) (side : Side) (part : Part) (outcome : Outcome) (wakes : Option ℕ) → Knows chip awake → index < 144 → part_of chip (name_at index) ≡ Some part → ◌≡◌ {A = Outcome × Chip} (outcome, next) (tried chip (name_at index) side) → (outcome ≡ Moved → wakes ≡ option_map index_of (partner_of part.state.node (need_of part.state) side)) → ((other : ℕ) → other < 144 → is_in other now ≡ false → (is_in other awake ≡ false) × (wakes ≡ Some other → ⊥)) → Knows next now
 far_woken chip next awake now index side part outcome wakes knows within there is partner slept = subst (λ z. Knows z now) (sym (ap (λ r. r.1) is)) (by outcome (sym (ap (λ r. r.0) is)) partner)
   where
     still : (tried chip (name_at index) side).0 ≢ Moved → Knows (tried chip (name_at index) side).1 now
     still stays = subst (λ z. Knows z now) (sym (tried_still chip (name_at index) side stays)) (record { legal = knows.legal; still = λ other at below asleep. knows.still other at below (slept other below asleep).0 })
 
-    by : (o : Outcome) → (tried chip (name_at index) side).0 ≡ o → (o ≡ Moved → wakes ≡ partner_of part.state.node (need_of part.state) side) → Knows (tried chip (name_at index) side).1 now
-    by Moved e known = far_knows chip awake now index side part knows within there e (λ other below asleep. let s = slept other below asleep in (s.0, λ f. s.1 (known refl ∙ f)))
+    by : (o : Outcome) → (tried chip (name_at index) side).0 ≡ o → (o ≡ Moved → wakes ≡ option_map index_of (partner_of part.state.node (need_of part.state) side)) → Knows (tried chip (name_at index) side).1 now
+    by Moved e known = far_knows chip awake now index side part knows within there e (λ other below asleep. let s = slept other below asleep in (s.0, λ f. s.1 (known refl ∙ ap (option_map index_of) f ∙ ap Some (place_back other below))))
     by Waits e known = still (λ f. let no_ : Waits ≡ Moved = sym e ∙ f in cc)
     by Held e known = still (λ f. let no_ : Held ≡ Moved = sym e ∙ f in cc)
     by Stopped e known = still (λ f. let no_ : Stopped ≡ Moved = sym e ∙ f in cc)

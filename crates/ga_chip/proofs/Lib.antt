@@ -15,6 +15,7 @@ pub mod Placed
 pub mod Within
 pub mod Plain
 pub mod Turns
+pub mod Sharing
 pub mod Members
 pub mod Stays
 pub mod Awake

@@ -1,9 +1,9 @@
 -- A node that waits or is stopped stays so at each side, and until a neighbour passes it a word or takes its own.
-use Rattle.std.proofs.Common.{◌≡◌, ◌≢◌, ℕ, List, [], ◌∷◌, Bool, true, false, Option, Some, None, refl, sym, ap, ◌∙◌, subst}
+use Rattle.std.proofs.Common.{◌≡◌, ◌≢◌, ℕ, List, [], ◌∷◌, Bool, true, false, Option, Some, None, refl, sym, ap, ◌∙◌}
 use Rattle.std.specs.Prelude.{if◌then◌else◌, is_some, not, ◌||◌}
 use Rattle.std.proofs.lemmas.Bool.{false≢true}
 use Rattle.std.specs.Option.{option_and_then}
-use Rattle.std.proofs.lemmas.Option.{none-some, same_Some}
+use Rattle.std.proofs.lemmas.Option.{none-some}
 use Rattle.ga_place.specs.Cell.{cell_of, read_cell}
 use Rattle.ga_place.specs.Node.{IsNodeName}
 use Rattle.ga_place.specs.Side.{is_among, neighbour_of, one_side}
@@ -16,7 +16,7 @@ use Rattle.ga_node.specs.Need.{need_of}
 use Rattle.ga_node.specs.declared.need.Need.{Need}
 use Rattle.ga_node.specs.declared.need.Need.TheVariants as need
 use Rattle.ga_chip.specs.declared.outcome.Outcome.TheVariants.{Moved, Waits}
-use Rattle.ga_chip.specs.Awake.{partner_of, port_by}
+use Rattle.ga_chip.specs.Awake.{port_by}
 use Rattle.ga_chip.specs.Part.{Part, Asks, Nothing, Own, Feed, Post, Take, Check, after, after_asked, asks, asks_by, asks_if, check_of, held_by, input_of, is_held, looked_at, picked_by, picked_of, post_to, take_from, take_of}
 use Rattle.ga_chip.specs.Chip.{cells_after, found_by}
 use Rattle.ga_chip.proofs.Commuting.{cell_at, set_finds}

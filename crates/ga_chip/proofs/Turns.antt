@@ -60,13 +60,13 @@ tries_next tries index item below read =
     let next : suc index ≡ index + 1 = omega arith in
     ap tries_of (drop-cons tries index item below ∙ ap₂ (λ x k. x ∷ drop k tries) (sym read) next)
 
-one_more : (f : ℕ → Part) (from n next : ℕ) → next ≡ from + n → map f (range_with_len from n) ++ f next ∷ [] ≡ map f (range_with_len from (suc n))
+one_more : {A : Type 0} (f : ℕ → A) (from n next : ℕ) → next ≡ from + n → map f (range_with_len from n) ++ f next ∷ [] ≡ map f (range_with_len from (suc n))
 one_more f from zero next e = let same : next ≡ from = omega arith in ap (λ k. f k ∷ []) same
 one_more f from (suc n) next e = let later : next ≡ from + 1 + n = omega arith in ap (λ l. f from ∷ l) (one_more f (from + 1) n next later)
 
--- one more of the nodes
-pub nodes_next : (f : ℕ → Part) (n : ℕ) → map f (range_with_len 0 n) ++ f n ∷ [] ≡ map f (range_with_len 0 (n + 1))
-nodes_next f n =
+-- one more of what there is for each node
+pub places_next : {A : Type 0} (f : ℕ → A) (n : ℕ) → map f (range_with_len 0 n) ++ f n ∷ [] ≡ map f (range_with_len 0 (n + 1))
+places_next f n =
     let same : n ≡ 0 + n = omega arith in
     let next : suc n ≡ n + 1 = omega arith in
     one_more f 0 n n same ∙ ap (λ k. map f (range_with_len 0 k)) next

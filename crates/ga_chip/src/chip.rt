@@ -14,6 +14,7 @@ use crate::ledger::Ledger;
 use crate::node_set::NodeSet;
 use crate::outcome::{Outcome, Try};
 use crate::part::NodePart;
+use crate::port::{Ports, all_ports};
 use ga_node::NodeState;
 use ga_place::{Node, Side, cell, neighbour};
 use ga_word::Word18;
@@ -29,12 +30,15 @@ const MANY: u32 = 140;
 pub struct Chip {
     parts: Vec<NodePart>,
     cells: Vec<Option<Word18>>,
+    // The ports of each node, so that they aren't worked out at each step.
+    ports: Vec<Ports>,
     // The nodes that may move. All others sleep, and a turn leaves them out.
     awake: NodeSet,
 }
 
 impl Model for Chip {
-    ghost use Rattle.std.specs.Prelude.{vec_items};
+    ghost use Rattle.std.specs.Prelude.{◌≡◌, vec_items};
+    ghost use Rattle.ga_chip.specs.Port.{all_ports};
     ghost use Rattle.ga_chip.specs.Chip as chip;
     ghost use Rattle.ga_chip.specs.Awake.{Knows};
 
@@ -42,7 +46,7 @@ impl Model for Chip {
 
     ghost view = { λ c. record { parts = vec_items c.parts; cells = vec_items c.cells } };
 
-    ghost invariant = { λ c. Knows (record { parts = vec_items c.parts; cells = vec_items c.cells }) c.awake };
+    ghost invariant = { λ c. Knows (record { parts = vec_items c.parts; cells = vec_items c.cells }) c.awake × (vec_items c.ports ≡ all_ports) };
 }
 
 impl Chip {
@@ -55,10 +59,12 @@ impl Chip {
         for index in 0..144 {
             parts.push(NodePart::reset(node_at(index)))?;
         }
+        let ports = all_ports(alloc)?;
         let cells = Vec::from_array(alloc, [None; 524])?;
         Ok(Chip {
             parts,
             cells,
+            ports,
             awake: NodeSet::all(),
         })
     }
@@ -190,13 +196,13 @@ impl Chip {
         requires far { (part : Part) → part_of self.old (name_at index) ≡ Some part → is_own (need_of part.state) ≡ false }
         ensures { (result, self.new) ≡ tried self.old (name_at index) side }
     {
-        let far = self.parts[index].attempt_far(&mut self.cells, side);
+        let far = self.parts[index].attempt_far(&self.ports[index], &mut self.cells, side);
         if far.sleeps {
             self.awake.remove(index);
             return far.outcome;
         }
         if let Some(other) = far.wakes {
-            self.awake.insert(index_of(other));
+            self.awake.insert(other);
         }
         far.outcome
     }
@@ -213,7 +219,7 @@ impl Chip {
 }
 
 /// The place of a node in order of name.
-fn index_of(node: Node) -> usize
+pub(crate) fn index_of(node: Node) -> usize
     ensures value { result ≡ index_of node }
     ensures bound { result < 144 }
     ensures back { name_at result ≡ node }
@@ -222,7 +228,7 @@ fn index_of(node: Node) -> usize
 }
 
 /// The node at a place in order of name.
-fn node_at(index: u16) -> Node
+pub(crate) fn node_at(index: u16) -> Node
     requires { index < 144 }
     ensures { result ≡ name_at index }
 {

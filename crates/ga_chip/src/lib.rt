@@ -9,6 +9,7 @@ mod ledger;
 mod node_set;
 mod outcome;
 mod part;
+mod port;
 
 pub use chip::Chip;
 pub use error::ChipError;

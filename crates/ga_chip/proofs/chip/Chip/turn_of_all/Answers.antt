@@ -1,7 +1,6 @@
 use Rattle.std.proofs.Common.{◌≡◌, ℕ, ◌+◌, ◌≤◌, ap, ◌∙◌, length, sym, add-zero, zero-add, subst, arith}
 use Rattle.ga_place.specs.Cell.{name_at}
-use Rattle.ga_chip.specs.Chip.{tried}
-use Rattle.ga_chip.specs.Run.{moves, ran, turn_of}
+use Rattle.ga_chip.specs.Run.{moves, ran}
 use Rattle.ga_chip.proofs.Turns.{moved_once, moves_next, ran_next, turn_end, turn_left, turn_next, turn_whole}
 use Rattle.ga_chip.proofs.chip.Chip.turn_of_all.Goals as goal
 

@@ -1,4 +1,4 @@
-use Rattle.std.specs.Prelude.{◌≡◌, ℕ, ◌≤◌, ◌+◌, ◌-◌, length}
+use Rattle.std.specs.Prelude.{◌≡◌, ◌≤◌, ◌+◌, ◌-◌, length}
 use Rattle.ga_chip.specs.Run.{moves, ran, turn_of}
 use Rattle.ga_chip.proofs.Turns.{turn_left}
 use Rattle.ga_chip.proofs.chip.Chip.turn_of_awake.Given as goal

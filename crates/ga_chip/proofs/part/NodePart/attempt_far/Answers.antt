@@ -1,22 +1,32 @@
-use Rattle.std.proofs.Common.{◌≢◌, length, ap, ap₂, ◌∙◌, subst, sym, List, Option, ℕ}
+use Rattle.std.proofs.Common.{length, ap, ap₂, ◌∙◌, subst, sym}
 use Rattle.ga_node.specs.Need.{need_of}
 use Rattle.ga_chip.specs.Awake.{partner_of}
-use Rattle.ga_chip.specs.Part.{Part, after, asks}
-use Rattle.ga_chip.specs.Chip.{cells_after, found_by}
+use Rattle.ga_place.specs.Cell.{index_of}
+use Rattle.std.specs.Prelude.{option_map}
+use Rattle.ga_chip.specs.Port.{FitsPorts}
+use Rattle.ga_chip.specs.Part.{asks}
+use Rattle.ga_chip.specs.Chip.{found_by}
 use Rattle.ga_chip.proofs.Parts.{name_after}
 use Rattle.ga_chip.proofs.Stays.{Stays, still_all}
 use Rattle.ga_chip.proofs.part.NodePart.attempt_far.Goals as goal
 
+pub partner-wakes-requires : goal.partner-wakes-requires
+partner-wakes-requires c =
+    subst (λ name. FitsPorts name c.args.ports.now)
+    (sym (ap (λ r. r.1.state.node) c.meet-outcome.ensures.part ∙ name_after c.args.self.now c.args.side (found_by (asks c.args.self.now c.args.side) c.args.cells.now)))
+    c.requires.ports
+
 pub returns-in-Moved-clause-wakes : goal.returns-in-Moved-clause-wakes
 returns-in-Moved-clause-wakes c = λ moved.
-    c.partner-wakes.ensures
-    ∙ ap₂ (λ name n. partner_of name n c.args.side) (ap (λ r. r.1.state.node) c.meet-outcome.ensures.part ∙ name_after c.args.self.now c.args.side (found_by (asks c.args.self.now c.args.side) c.args.cells.now))
+    c.partner-wakes.ensures.value
+    ∙ ap₂ (λ name n. option_map index_of (partner_of name n c.args.side)) (ap (λ r. r.1.state.node) c.meet-outcome.ensures.part ∙ name_after c.args.self.now c.args.side (found_by (asks c.args.self.now c.args.side) c.args.cells.now))
     (c.need-need.ensures ∙ ap (λ p. need_of p.state) c.self.view_is)
 
 pub is_still-sleeps-requires : goal.is_still-sleeps-requires
 is_still-sleeps-requires c =
     let same = still_all c.args.self.now c.meet-outcome.new.self c.args.cells.now c.meet-outcome.new.cells c.args.side c.meet-outcome.result c.meet-outcome.ensures.part c.meet-outcome.ensures.cells c.in_default.not-Moved in
     record {
+      ports = subst (λ p. FitsPorts p.state.node c.args.ports.now) (sym same.0) c.requires.ports;
       count = ap length same.1 ∙ c.requires.count;
       need = c.need-need.ensures ∙ ap (λ p. need_of p.state) (c.self.view_is ∙ sym same.0);
       still = (c.args.side, subst (λ p. Stays p c.meet-outcome.new.cells c.args.side) (sym same.0) (subst (λ cells. Stays c.args.self.now cells c.args.side) (sym same.1) (λ moved. c.in_default.not-Moved (ap (λ r. r.0) c.meet-outcome.ensures.part ∙ moved))));
@@ -29,5 +39,6 @@ returns c =
       part = c.meet-outcome.ensures.part;
       cells = c.meet-outcome.ensures.cells;
       wakes = λ moved. absurd (c.in_default.not-Moved moved);
+      place = tt;
       sleeps = λ yes other. subst (λ p. Stays p c.args.cells.now other) same.0 (subst (λ cells. Stays c.meet-outcome.new.self cells other) same.1 (c.is_still-sleeps.ensures yes other));
     }
