@@ -1,5 +1,5 @@
 ghost use Rattle.std.specs.Prelude.{◌≡◌, ◌≢◌, ℕ, ◌+◌, ◌<◌, ◌≤◌, ◌^◌, IfOk, false, if◌then◌else◌, length};
-ghost use Rattle.ga_place.specs.Cell.{index_of, name_at};
+ghost use Rattle.ga_place.specs.Cell.{name_at};
 ghost use Rattle.ga_chip.specs.declared.error.ChipError.TheVariants.{Begun};
 ghost use Rattle.ga_chip.specs.Chip.{has_begun, part_of, placed, reset_chip, state_of, tried};
 ghost use Rattle.ga_node.specs.Need.{is_own, need_of};
@@ -12,6 +12,7 @@ ghost use Rattle.ga_chip.specs.Run.{moved_by, moves, ran, tries_of, turn_of};
 use crate::error::ChipError;
 use crate::ledger::Ledger;
 use crate::node_set::NodeSet;
+use crate::order::{index_of, node_at};
 use crate::outcome::{Outcome, Try};
 use crate::part::NodePart;
 use crate::port::{Ports, all_ports};
@@ -216,21 +217,4 @@ impl Chip {
     {
         self.awake.next(from)
     }
-}
-
-/// The place of a node in order of name.
-pub(crate) fn index_of(node: Node) -> usize
-    ensures value { result ≡ index_of node }
-    ensures bound { result < 144 }
-    ensures back { name_at result ≡ node }
-{
-    usize::from(node.row()) * 18 + usize::from(node.column())
-}
-
-/// The node at a place in order of name.
-pub(crate) fn node_at(index: u16) -> Node
-    requires { index < 144 }
-    ensures { result ≡ name_at index }
-{
-    Node::new(index / 18 * 100 + index % 18).unwrap()
 }

@@ -7,6 +7,7 @@ mod error;
 pub mod laws;
 mod ledger;
 mod node_set;
+mod order;
 mod outcome;
 mod part;
 mod port;

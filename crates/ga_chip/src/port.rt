@@ -1,7 +1,7 @@
 ghost use Rattle.std.specs.Prelude.{◌≡◌, IfOk};
 ghost use Rattle.ga_chip.specs.Port.{all_ports, port_at, port_of};
 
-use crate::chip::{index_of, node_at};
+use crate::order::{index_of, node_at};
 use ga_place::{CellId, Node, Side, cell, neighbour};
 use std::alloc::{AllocError, Global};
 
