@@ -1,5 +1,5 @@
 -- Which nodes are in a set, when a bit of it was changed.
-use Rattle.std.proofs.Common.{◌≡◌, ◌≢◌, ℕ, zero, suc, [], ◌∷◌, ◌+◌, ◌-◌, ◌*◌, ◌/◌, ◌%◌, ◌^◌, ◌<◌, ◌≤◌, ◌==◌, ◌⊎◌, inl, inr, true, false, List, length, set, get_or, refl, sym, ap, ◌∙◌, arith}
+use Rattle.std.proofs.Common.{◌≡◌, ◌≢◌, ℕ, zero, suc, [], ◌∷◌, ◌+◌, ◌-◌, ◌*◌, ◌/◌, ◌%◌, ◌^◌, ◌<◌, ◌≤◌, ◌==◌, ◌⊎◌, inl, inr, true, false, List, length, set, get_or, refl, sym, ap, ap₂, ◌∙◌, arith}
 use Rattle.std.specs.Prelude.{if◌then◌else◌}
 use Rattle.std.specs.Int.{bit_at, trailing_zeros, w64}
 use Rattle.std.proofs.lemmas.Bool.{cases_eq, cases_lt, eq-eqb, ne_eqb}
@@ -118,3 +118,28 @@ none_yet set from at other before behind h = by (cases_lt other (at * 64))
     by : (other < at * 64) ⊎ (at * 64 ≤ other) → is_in other set ≡ false
     by (inl earlier) = before other h earlier
     by (inr later) = behind later
+
+-- the lowest is in the set
+pub found_from : (set : NodeSet) (from : ℕ) → get_or set.words (from / 64) 0 < 2 ^ 64 → 0 < get_or set.words (from / 64) 0 / 2 ^ (from % 64) → is_in (from + trailing_zeros w64 (get_or set.words (from / 64) 0 / 2 ^ (from % 64))) set ≡ true
+unfolding is_in
+found_from set from fits some =
+    let zeros = zeros_from (get_or set.words (from / 64) 0) (from % 64) fits some in
+    let within : from % 64 + trailing_zeros w64 (get_or set.words (from / 64) 0 / 2 ^ (from % 64)) < 64 = zeros.0 in
+    let word : (from + trailing_zeros w64 (get_or set.words (from / 64) 0 / 2 ^ (from % 64))) / 64 ≡ from / 64 = omega arith in
+    let bit : (from + trailing_zeros w64 (get_or set.words (from / 64) 0 / 2 ^ (from % 64))) % 64 ≡ from % 64 + trailing_zeros w64 (get_or set.words (from / 64) 0 / 2 ^ (from % 64)) = omega arith in
+    ap (λ n. n == 1) (ap₂ (λ i j. bit_at (get_or set.words i 0) j) word bit ∙ sym (bit_from (get_or set.words (from / 64) 0) (from % 64) _) ∙ lowest (get_or set.words (from / 64) 0 / 2 ^ (from % 64)) some (below (get_or set.words (from / 64) 0) (from % 64) fits))
+  where
+    lowest : (n : ℕ) → 0 < n → n < 2 ^ 64 → bit_at n (trailing_zeros w64 n) ≡ 1
+    lowest n some_ fits_ = (bit_at-trailing_zeros w64 n some_ fits_).1
+
+    below : (n k : ℕ) → n < 2 ^ 64 → n / 2 ^ k < 2 ^ 64
+    below n k fits_ = omega (arith, div-le_self n (2 ^ k))
+
+pub found_whole : (set : NodeSet) (at : ℕ) → get_or set.words at 0 < 2 ^ 64 → 0 < get_or set.words at 0 → is_in (at * 64 + trailing_zeros w64 (get_or set.words at 0)) set ≡ true
+unfolding is_in
+found_whole set at fits some =
+    let first = bit_at-trailing_zeros w64 (get_or set.words at 0) some fits in
+    let within : trailing_zeros w64 (get_or set.words at 0) < 64 = first.0 in
+    let word : (at * 64 + trailing_zeros w64 (get_or set.words at 0)) / 64 ≡ at = omega arith in
+    let bit : (at * 64 + trailing_zeros w64 (get_or set.words at 0)) % 64 ≡ trailing_zeros w64 (get_or set.words at 0) = omega arith in
+    ap (λ n. n == 1) (ap₂ (λ i j. bit_at (get_or set.words i 0) j) word bit ∙ first.1)

@@ -45,6 +45,7 @@ impl NodeSet {
     pub(crate) fn next(&self, from: usize) -> usize
         requires { from ≤ 144 }
         ensures on { from ≤ result }
+        ensures found { result < 144 → is_in result self.now ≡ true }
         ensures first { (other : ℕ) → from ≤ other → other < result → is_in other self.now ≡ false }
     {
         let here = self.words[from / 64] >> (from % 64);
