@@ -22,7 +22,7 @@ record Tries (chip : Chip) (name : ℕ) (q : Asks) : Type 0 where
   fits : Fits q (need_of part.state) name
   passed : Passed q (found_by q chip.cells)
 
-abbrev cell_at : Asks → Option ℕ
+abbrev pub cell_at : Asks → Option ℕ
 cell_at (Nothing outcome) = None
 cell_at Own = None
 cell_at (Feed fed) = None
@@ -68,10 +68,10 @@ apart chip a b x y (Check s c) (Take t d) legal ne p q e f same = take_check chi
 apart chip a b x y (Check s c) (Check t d) legal ne p q e f same = both_write a b c d s t ne p.fits.0 q.fits.0 (same_Some c x e ∙ same ∙ sym (same_Some d y f))
 
 -- so neither changes what the other finds
-abbrev Apart : Asks → Asks → Type 0
+abbrev pub Apart : Asks → Asks → Type 0
 Apart q r = (x y : ℕ) → cell_at q ≡ Some x → cell_at r ≡ Some y → x ≡ y → ⊥
 
-set_finds : (c : ℕ) (o : Option ℕ) (r : Asks) (cells : List (Option ℕ)) → ((y : ℕ) → cell_at r ≡ Some y → c ≡ y → ⊥) → found_by r (set cells c o) ≡ found_by r cells
+pub set_finds : (c : ℕ) (o : Option ℕ) (r : Asks) (cells : List (Option ℕ)) → ((y : ℕ) → cell_at r ≡ Some y → c ≡ y → ⊥) → found_by r (set cells c o) ≡ found_by r cells
 set_finds c o (Nothing p) cells ne = refl
 set_finds c o Own cells ne = refl
 set_finds c o (Feed fed) cells ne = refl
@@ -79,7 +79,7 @@ set_finds c o (Post t d v) cells ne = refl
 set_finds c o (Take t d) cells ne = get_or-set_other cells c d o None (λ e. ne d refl (sym e))
 set_finds c o (Check t d) cells ne = get_or-set_other cells c d o None (λ e. ne d refl (sym e))
 
-finds : (q r : Asks) (cells : List (Option ℕ)) → Apart q r → found_by r (cells_after q cells) ≡ found_by r cells
+pub finds : (q r : Asks) (cells : List (Option ℕ)) → Apart q r → found_by r (cells_after q cells) ≡ found_by r cells
 finds (Nothing o) r cells ne = refl
 finds Own r cells ne = refl
 finds (Feed fed) r cells ne = refl

@@ -15,6 +15,9 @@ pub mod Placed
 pub mod Within
 pub mod Plain
 pub mod Turns
-pub mod Still
+pub mod Sharing
+pub mod Members
+pub mod Stays
+pub mod Awake
 pub mod Tries
 mod WorkedChip

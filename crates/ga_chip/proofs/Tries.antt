@@ -37,7 +37,7 @@ still_cells (Take side cell) cells part still = go (get_or cells cell None) refl
     go None e = ap (set cells cell) (sym e) ∙ set-get_or cells cell None
     go (Some word) e = absurd (still (ap (λ o. (after_asked (Take side cell) o part).0) e))
 
-still_at : (part : Part) (side : Side) (cells : List (Option ℕ)) → ((after part side (found_by (asks part side) cells)).0 ≡ Moved → ⊥) → cells_after (asks part side) cells ≡ cells
+pub still_at : (part : Part) (side : Side) (cells : List (Option ℕ)) → ((after part side (found_by (asks part side) cells)).0 ≡ Moved → ⊥) → cells_after (asks part side) cells ≡ cells
 unfolding after
 still_at part side cells still = still_cells (asks part side) cells part still
 

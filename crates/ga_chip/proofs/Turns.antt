@@ -1,16 +1,17 @@
 -- Lists of tries, as a loop goes along them.
-use Rattle.std.proofs.Common.{◌≡◌, ℕ, zero, suc, get_or, drop, ◌+◌, ◌-◌, ◌<◌, ◌≤◌, lit≤, List, [], ◌∷◌, ◌++◌, map, length, Option, Some, None, refl, sym, ap, ap₂, ◌∙◌, arith, length-append}
+use Rattle.std.proofs.Common.{◌≡◌, ◌≢◌, ◌⊎◌, inl, inr, zero-add, ℕ, zero, suc, get_or, drop, ◌+◌, ◌-◌, ◌<◌, ◌≤◌, lit≤, List, [], ◌∷◌, ◌++◌, map, length, Option, Some, None, refl, sym, ap, ap₂, ◌∙◌, arith, length-append}
 use Rattle.std.specs.List.{range_with_len}
 use Rattle.ga_place.specs.Cell.{name_at}
 use Rattle.ga_place.specs.declared.side.Side.{Side}
 use Rattle.std.proofs.Math.Seq.{drop-cons}
+use Rattle.std.proofs.lemmas.Bool.{cases_lt}
 use Rattle.ga_chip.specs.declared.outcome.Try as asked
 use Rattle.ga_chip.specs.declared.outcome.Outcome.{Outcome}
 use Rattle.ga_chip.specs.declared.outcome.Outcome.TheVariants.{Moved, Waits, Held, Stopped}
 use Rattle.ga_chip.specs.Part.{Part, asks, after}
 use Rattle.ga_chip.specs.Chip.{Chip, part_of, found_by, tried}
 use Rattle.ga_chip.specs.Run.{moved_by, Event, Try, Move, happened, if_moved, move_at, move_in, moves, ran, tries_of, turn_of}
-use Rattle.ga_chip.proofs.Tries.{tried_there, tried_none}
+use Rattle.ga_chip.proofs.Tries.{tried_none, tried_still, tried_there}
 
 -- one try of each node from a place on
 unfoldable pub turn_left : Side → ℕ → List Event
@@ -19,10 +20,6 @@ turn_left side index = map (λ at. Try (name_at at) side) (range_with_len index 
 pub turn_whole : (side : Side) → turn_left side 0 ≡ turn_of side
 unfolding turn_left turn_of
 turn_whole side = refl
-
-pub turn_done : (side : Side) → turn_left side 144 ≡ []
-unfolding turn_left
-turn_done side = refl
 
 pub happened_try : (chip : Chip) (name : ℕ) (side : Side) → happened chip (Try name side) ≡ (tried chip name side).1
 unfolding happened
@@ -63,20 +60,59 @@ tries_next tries index item below read =
     let next : suc index ≡ index + 1 = omega arith in
     ap tries_of (drop-cons tries index item below ∙ ap₂ (λ x k. x ∷ drop k tries) (sym read) next)
 
-one_more : (f : ℕ → Part) (from n next : ℕ) → next ≡ from + n → map f (range_with_len from n) ++ f next ∷ [] ≡ map f (range_with_len from (suc n))
+one_more : {A : Type 0} (f : ℕ → A) (from n next : ℕ) → next ≡ from + n → map f (range_with_len from n) ++ f next ∷ [] ≡ map f (range_with_len from (suc n))
 one_more f from zero next e = let same : next ≡ from = omega arith in ap (λ k. f k ∷ []) same
 one_more f from (suc n) next e = let later : next ≡ from + 1 + n = omega arith in ap (λ l. f from ∷ l) (one_more f (from + 1) n next later)
 
--- one more of the nodes
-pub nodes_next : (f : ℕ → Part) (n : ℕ) → map f (range_with_len 0 n) ++ f n ∷ [] ≡ map f (range_with_len 0 (n + 1))
-nodes_next f n =
+-- one more of what there is for each node
+pub places_next : {A : Type 0} (f : ℕ → A) (n : ℕ) → map f (range_with_len 0 n) ++ f n ∷ [] ≡ map f (range_with_len 0 (n + 1))
+places_next f n =
     let same : n ≡ 0 + n = omega arith in
     let next : suc n ≡ n + 1 = omega arith in
     one_more f 0 n n same ∙ ap (λ k. map f (range_with_len 0 k)) next
 
 -- a turn is at its end
-pub turn_end : (side : Side) (index : ℕ) → 144 ≤ index → index ≤ 144 → turn_left side index ≡ []
-turn_end side index reached within = let last : index ≡ 144 = omega arith in ap (turn_left side) last ∙ turn_done side
+pub turn_end : (side : Side) (index : ℕ) → 144 ≤ index → turn_left side index ≡ []
+unfolding turn_left
+turn_end side index reached = let none : 144 - index ≡ 0 = omega arith in ap (λ n. map (λ at. Try (name_at at) side) (range_with_len index n)) none
+
+-- tries that don't move may be left out of a turn
+pub record Skips (chip : Chip) (side : Side) (from to : ℕ) : Type 0 where
+  pub runs : ran chip (turn_left side from) ≡ ran chip (turn_left side to)
+  pub moves : length (moves chip (turn_left side from)) ≡ length (moves chip (turn_left side to))
+
+skips_none : (chip : Chip) (side : Side) (from to : ℕ) → turn_left side from ≡ turn_left side to → Skips chip side from to
+skips_none chip side from to same = record { runs = ap (ran chip) same; moves = ap (λ l. length (moves chip l)) same }
+
+no_move : (outcome : Outcome) → outcome ≢ Moved → moved_by outcome ≡ 0
+no_move Moved still = absurd (still refl)
+no_move Waits still = refl
+no_move Held still = refl
+no_move Stopped still = refl
+
+skips_one : (chip : Chip) (side : Side) (from : ℕ) → from < 144 → (tried chip (name_at from) side).0 ≢ Moved → Skips chip side from (from + 1)
+skips_one chip side from below still =
+    let stays : ◌≡◌ {A = Outcome × Chip} ((tried chip (name_at from) side).0, chip) (tried chip (name_at from) side) = ap (λ c. ((tried chip (name_at from) side).0, c)) (sym (tried_still chip (name_at from) side still)) in
+    record {
+      runs = ran_next chip chip (name_at from) side _ _ _ (turn_next side from below) stays;
+      moves = moves_next chip chip (name_at from) side _ _ _ (turn_next side from below) stays ∙ ap (λ n. n + length (moves chip (turn_left side (from + 1)))) (no_move _ still) ∙ zero-add _;
+    }
+
+skips_by : (chip : Chip) (side : Side) (n from to : ℕ) → to ≡ from + n → ((index : ℕ) → from ≤ index → index < to → index < 144 → (tried chip (name_at index) side).0 ≢ Moved) → Skips chip side from to
+skips_by chip side zero from to e still = let same : from ≡ to = omega arith in skips_none chip side from to (ap (turn_left side) same)
+skips_by chip side (suc n) from to e still =
+    let next : to ≡ from + 1 + n = omega arith in
+    first (cases_lt from 144) (skips_by chip side n (from + 1) to next (λ index h. still index (omega arith)))
+  where
+    first : (from < 144) ⊎ (144 ≤ from) → Skips chip side (from + 1) to → Skips chip side from to
+    first (inl below) others =
+        let here : from < to = omega arith in
+        let one = skips_one chip side from below (still from (omega arith) here below) in
+        record { runs = one.runs ∙ others.runs; moves = one.moves ∙ others.moves }
+    first (inr past) others = let later : 144 ≤ to = omega arith in skips_none chip side from to (turn_end side from past ∙ sym (turn_end side to later))
+
+pub skips : (chip : Chip) (side : Side) (from to : ℕ) → from ≤ to → ((index : ℕ) (at : Side) → from ≤ index → index < to → index < 144 → (tried chip (name_at index) at).0 ≢ Moved) → Skips chip side from to
+skips chip side from to h still = let sum : to ≡ from + (to - from) = omega arith in skips_by chip side (to - from) from to sum (λ index. still index side)
 
 pub moved_once : (outcome : Outcome) → moved_by outcome ≤ 1
 moved_once Moved = lit≤ tt

@@ -5,5 +5,6 @@ pub mod Ledger
 pub mod Run
 pub mod Grow
 pub mod Legal
-pub mod Stuck
+pub mod Port
+pub mod Awake
 pub mod Laws

@@ -1,44 +1,53 @@
-ghost use Rattle.std.specs.Prelude.{◌≡◌, ◌+◌, ◌<◌, ◌≤◌, ◌^◌, IfOk, false, if◌then◌else◌, length, replicate};
-ghost use Rattle.ga_place.specs.Cell.{index_of, name_at};
+ghost use Rattle.std.specs.Prelude.{◌≡◌, ◌≢◌, ℕ, ◌+◌, ◌<◌, ◌≤◌, ◌^◌, IfOk, false, if◌then◌else◌, length};
+ghost use Rattle.ga_place.specs.Cell.{name_at};
 ghost use Rattle.ga_chip.specs.declared.error.ChipError.TheVariants.{Begun};
 ghost use Rattle.ga_chip.specs.Chip.{has_begun, part_of, placed, reset_chip, state_of, tried};
 ghost use Rattle.ga_node.specs.Need.{is_own, need_of};
 ghost use Rattle.ga_chip.specs.Part.{Part};
 ghost use Rattle.ga_chip.specs.Ledger.{ledger_of};
-ghost use Rattle.ga_chip.specs.Stuck.{none_stuck};
+ghost use Rattle.ga_chip.specs.declared.outcome.Outcome.TheVariants.{Moved};
 ghost use Rattle.ga_chip.specs.Grow.{LedgersGrow};
 ghost use Rattle.ga_chip.specs.Run.{moved_by, moves, ran, tries_of, turn_of};
 
 use crate::error::ChipError;
 use crate::ledger::Ledger;
+use crate::node_set::NodeSet;
+use crate::order::{index_of, node_at};
 use crate::outcome::{Outcome, Try};
 use crate::part::NodePart;
-use crate::stuck::Stuck;
+use crate::port::{Ports, all_ports};
 use ga_node::NodeState;
 use ga_place::{Node, Side, cell, neighbour};
 use ga_word::Word18;
 use std::alloc::{AllocError, Global};
 use std::marker::Model;
 
+/// Where more nodes than this are awake, a turn tries each node: as long as few of them sleep, that is faster
+/// than to go from one awake node to the next.
+const MANY: u32 = 140;
+
 /// The chip: 144 nodes, and the 524 one-way cells over which they pass words.
 #[derive(Drop)]
 pub struct Chip {
     parts: Vec<NodePart>,
     cells: Vec<Option<Word18>>,
-    // The sides at which a try of each node would not move; a turn leaves these tries out.
-    stuck: [Stuck; 144],
+    // The ports of each node, so that they aren't worked out at each step.
+    ports: Vec<Ports>,
+    // The nodes that may move. All others sleep, and a turn leaves them out.
+    awake: NodeSet,
 }
 
 impl Model for Chip {
-    ghost use Rattle.std.specs.Prelude.{vec_items};
+    ghost use Rattle.std.specs.Prelude.{◌≡◌, vec_items};
+    ghost use Rattle.ga_chip.specs.Port.{all_ports};
     ghost use Rattle.ga_chip.specs.Chip as chip;
-    ghost use Rattle.ga_chip.specs.Stuck.{Knows};
+    ghost use Rattle.ga_chip.specs.Awake.{Knows};
 
     ghost Value = { chip.Chip };
 
     ghost view = { λ c. record { parts = vec_items c.parts; cells = vec_items c.cells } };
 
-    ghost invariant = { λ c. Knows (record { parts = vec_items c.parts; cells = vec_items c.cells }) c.stuck };
+    ghost invariant = { λ c. Knows (record { parts = vec_items c.parts; cells = vec_items c.cells }) c.awake × (vec_items c.ports ≡ all_ports) };
 }
 
 impl Chip {
@@ -51,11 +60,13 @@ impl Chip {
         for index in 0..144 {
             parts.push(NodePart::reset(node_at(index)))?;
         }
+        let ports = all_ports(alloc)?;
         let cells = Vec::from_array(alloc, [None; 524])?;
         Ok(Chip {
             parts,
             cells,
-            stuck: nothing_known(),
+            ports,
+            awake: NodeSet::all(),
         })
     }
 
@@ -68,12 +79,13 @@ impl Chip {
         ensures begun { result ≡ (if has_begun self.old node then Err Begun else Ok tt) }
         ensures chip { self.new ≡ (if has_begun self.old node then self.old else placed self.old node words.now entry) }
     {
-        let part = &mut self.parts[index_of(node)];
+        let index = index_of(node);
+        let part = &mut self.parts[index];
         if part.state().steps() != 0 {
             return Err(ChipError::Begun);
         }
         part.give(words, entry);
-        self.stuck = nothing_known();
+        self.awake.insert(index);
         Ok(())
     }
 
@@ -97,18 +109,17 @@ impl Chip {
     }
 
     /// One try of each node in order of name, all with one side. Answers how many were `Moved`.
-    #[inline(never)]
+    #[inline]
     pub fn turn(&mut self, side: Side) -> u8
         ensures chip { self.new ≡ ran self.old (turn_of side) }
         ensures moved { result ≡ length (moves self.old (turn_of side)) }
         ensures ledgers { LedgersGrow self.old self.new (turn_of side) }
     {
-        let _ = &self.parts;
-        let mut moved = 0;
-        for index in 0..144 {
-            moved += self.moves_at(index, side);
+        if self.awake.len() > MANY {
+            self.turn_of_all(side)
+        } else {
+            self.turn_of_awake(side)
         }
-        moved
     }
 
     /// A node's state.
@@ -138,6 +149,35 @@ impl Chip {
         }
     }
 
+    /// A turn that tries each node.
+    #[inline(never)]
+    fn turn_of_all(&mut self, side: Side) -> u8
+        ensures chip { self.new ≡ ran self.old (turn_of side) }
+        ensures moved { result ≡ length (moves self.old (turn_of side)) }
+    {
+        let _ = &self.parts;
+        let mut moved = 0;
+        for index in 0..144 {
+            moved += self.attempt_at(index, side).moves();
+        }
+        moved
+    }
+
+    /// A turn that leaves out the nodes that sleep.
+    #[inline(never)]
+    fn turn_of_awake(&mut self, side: Side) -> u8
+        ensures chip { self.new ≡ ran self.old (turn_of side) }
+        ensures moved { result ≡ length (moves self.old (turn_of side)) }
+    {
+        let mut moved = 0;
+        let mut place = self.next_awake(0);
+        while place < 144 {
+            moved += self.attempt_at(place, side).moves();
+            place = self.next_awake(place + 1);
+        }
+        moved
+    }
+
     /// One try of the node at a place in order of name.
     #[inline(always)]
     fn attempt_at(&mut self, index: usize, side: Side) -> Outcome
@@ -157,50 +197,24 @@ impl Chip {
         requires far { (part : Part) → part_of self.old (name_at index) ≡ Some part → is_own (need_of part.state) ≡ false }
         ensures { (result, self.new) ≡ tried self.old (name_at index) side }
     {
-        let outcome = self.parts[index].attempt_far(&mut self.cells, side);
-        if let Outcome::Moved = outcome {
-            self.stuck = nothing_known();
-            return outcome;
+        let far = self.parts[index].attempt_far(&self.ports[index], &mut self.cells, side);
+        if far.sleeps {
+            self.awake.remove(index);
+            return far.outcome;
         }
-        self.stuck[index] = self.stuck[index].and(side);
-        outcome
+        if let Some(other) = far.wakes {
+            self.awake.insert(other);
+        }
+        far.outcome
     }
 
-    /// How many steps a try of the node at a place makes, one or none. A try that is known not to move is
-    /// left out.
+    /// The place of the first awake node from a place on, or more than 143 where there is none.
     #[inline(always)]
-    fn moves_at(&mut self, index: usize, side: Side) -> u8
-        requires { index < 144 }
-        ensures moves { result ≡ moved_by (tried self.old (name_at index) side).0 }
-        ensures chip { self.new ≡ (tried self.old (name_at index) side).1 }
+    fn next_awake(&self, from: usize) -> usize
+        requires { from ≤ 144 }
+        ensures on { from ≤ result }
+        ensures asleep { (index : ℕ) (side : Side) → from ≤ index → index < result → index < 144 → (tried self.now (name_at index) side).0 ≢ Moved }
     {
-        if self.stuck[index].at(side) {
-            return 0;
-        }
-        self.attempt_at(index, side).moves()
+        self.awake.next(from)
     }
-}
-
-/// The place of a node in order of name.
-fn index_of(node: Node) -> usize
-    ensures value { result ≡ index_of node }
-    ensures bound { result < 144 }
-    ensures back { name_at result ≡ node }
-{
-    usize::from(node.row()) * 18 + usize::from(node.column())
-}
-
-/// The node at a place in order of name.
-fn node_at(index: u16) -> Node
-    requires { index < 144 }
-    ensures { result ≡ name_at index }
-{
-    Node::new(index / 18 * 100 + index % 18).unwrap()
-}
-
-/// That every node may move.
-fn nothing_known() -> [Stuck; 144]
-    ensures { result ≡ replicate 144 none_stuck }
-{
-    [Stuck::none(); 144]
 }

@@ -6,9 +6,11 @@ mod counts;
 mod error;
 pub mod laws;
 mod ledger;
+mod node_set;
+mod order;
 mod outcome;
 mod part;
-mod stuck;
+mod port;
 
 pub use chip::Chip;
 pub use error::ChipError;

@@ -1,16 +1,20 @@
-ghost use Rattle.std.specs.Prelude.{◌≡◌, ◌≤◌, ◌<◌, ◌^◌, false, true, if◌then◌else◌, length, None};
-ghost use Rattle.ga_place.specs.Cell.{cell_of, read_cell};
-ghost use Rattle.ga_place.specs.Side.{one_side};
+ghost use Rattle.std.specs.Prelude.{◌≡◌, ◌≢◌, ◌≤◌, ◌<◌, ◌^◌, false, true, if◌then◌else◌, length, IfSome, None, option_map};
+ghost use Rattle.ga_place.specs.Cell.{cell_of, index_of, read_cell};
+ghost use Rattle.ga_place.specs.Side.{is_among, one_side};
 ghost use Rattle.ga_place.specs.declared.side.Side.{Side};
 ghost use Rattle.ga_node.specs.Need.{is_check, is_own, is_post, need_of, takes_at};
 ghost use Rattle.ga_node.specs.State.{loaded_state};
 ghost use Rattle.ga_chip.specs.Part.{Own, after, after_asked, asks, asks_by, check_of, count_at, looked_at, post_to, stepped, take_of};
 ghost use Rattle.ga_chip.specs.Chip.{cells_after, found_by, given, reset_part};
+ghost use Rattle.ga_chip.specs.Awake.{partner_of};
+ghost use Rattle.ga_chip.specs.Port.{FitsPorts};
+ghost use Rattle.ga_chip.specs.declared.outcome.Outcome.TheVariants.{Moved};
 
 use crate::counts::Counts;
 use crate::outcome::Outcome;
+use crate::port::Ports;
 use ga_node::{Need, NodeState};
-use ga_place::{Node, Side, Sides, cell, neighbour};
+use ga_place::{CellId, Node, Side, Sides};
 use ga_word::Word18;
 use std::marker::Model;
 
@@ -21,6 +25,17 @@ pub(crate) struct NodePart {
     state: NodeState,
     written: Counts,
     read: Counts,
+}
+
+/// What came of a try of a node whose need isn't its own.
+#[derive(Clone, Copy)]
+pub(crate) struct Far {
+    pub outcome: Outcome,
+    /// The place in order of name of the neighbour that may move now, since the node took its word or posted
+    /// one to it.
+    pub wakes: Option<usize>,
+    /// Whether a try would move at no side.
+    pub sleeps: bool,
 }
 
 impl Model for NodePart {
@@ -86,35 +101,143 @@ impl NodePart {
     }
 
     /// A try of a node whose need isn't its own, over the chip's cells.
-    pub(crate) fn attempt_far(&mut self, cells: &mut [Option<Word18>], side: Side) -> Outcome
+    pub(crate) fn attempt_far(
+        &mut self,
+        ports: &Ports,
+        cells: &mut [Option<Word18>],
+        side: Side,
+    ) -> Far
+        requires ports { FitsPorts self.old.state.node ports.now }
         requires count { length cells.old ≡ 524 }
+        requires far { is_own (need_of self.old.state) ≡ false }
+        ensures part { (result.outcome, self.new) ≡ after self.old side (found_by (asks self.old side) cells.old) }
+        ensures cells { cells.new ≡ cells_after (asks self.old side) cells.old }
+        ensures wakes { result.outcome ≡ Moved → result.wakes ≡ option_map index_of (partner_of self.old.state.node (need_of self.old.state) side) }
+        ensures place { IfSome result.wakes (λ place. place < 144) }
+        ensures sleeps { result.sleeps ≡ true → (other : Side) → (after self.old other (found_by (asks self.old other) cells.old)).0 ≢ Moved }
+    {
+        let need = self.state.need();
+        let outcome = self.meet(&need, ports, cells, side);
+        if let Outcome::Moved = outcome {
+            let wakes = self.partner(&need, ports, side);
+            return Far {
+                outcome,
+                wakes,
+                sleeps: false,
+            };
+        }
+        let sleeps = self.is_still(&need, ports, cells);
+        Far {
+            outcome,
+            wakes: None,
+            sleeps,
+        }
+    }
+
+    /// Meets a need where it can be met now.
+    fn meet(
+        &mut self,
+        need: &Need,
+        ports: &Ports,
+        cells: &mut [Option<Word18>],
+        side: Side,
+    ) -> Outcome
+        requires ports { FitsPorts self.old.state.node ports.now }
+        requires count { length cells.old ≡ 524 }
+        requires need { need.now ≡ need_of self.old.state }
         requires far { is_own (need_of self.old.state) ≡ false }
         ensures part { (result, self.new) ≡ after self.old side (found_by (asks self.old side) cells.old) }
         ensures cells { cells.new ≡ cells_after (asks self.old side) cells.old }
     {
-        match self.state.need() {
+        let _ = &self.state;
+        match *need {
             Need::Take(sides) => match looked_at(sides, side) {
-                Some(at) => self.take(cells, at),
+                Some(at) => self.take(ports, cells, at),
                 None => Outcome::Waits,
             },
-            Need::Post(to, word) => self.post(cells, to, word),
-            Need::Check(to) => self.check(cells, to),
+            Need::Post(to, word) => self.post(ports, cells, to, word),
+            Need::Check(to) => self.check(ports, cells, to),
             Need::Stopped(_) => Outcome::Stopped,
             Need::Own | Need::Input => Outcome::Waits,
         }
     }
 
+    /// The place in order of name of the neighbour to which a step that meets the need posts a word, or from
+    /// which it takes one.
+    fn partner(&self, need: &Need, ports: &Ports, side: Side) -> Option<usize>
+        requires { FitsPorts self.now.state.node ports.now }
+        ensures value { result ≡ option_map index_of (partner_of self.now.state.node need.now side) }
+        ensures bound { IfSome result (λ place. place < 144) }
+    {
+        let at = match *need {
+            Need::Take(sides) => looked_at(sides, side)?,
+            Need::Post(to, _) => to,
+            _ => return None,
+        };
+        Some(usize::from(ports.at(at)?.neighbour))
+    }
+
+    /// Whether a try would move at no side, where a try at one side didn't. It may say no all the same.
+    fn is_still(&self, need: &Need, ports: &Ports, cells: &[Option<Word18>]) -> bool
+        requires ports { FitsPorts self.now.state.node ports.now }
+        requires count { length cells.now ≡ 524 }
+        requires need { need.now ≡ need_of self.now.state }
+        requires still { (side : Side) × ((after self.now side (found_by (asks self.now side) cells.now)).0 ≢ Moved) }
+        ensures { result ≡ true → (side : Side) → (after self.now side (found_by (asks self.now side) cells.now)).0 ≢ Moved }
+    {
+        let Need::Take(sides) = *need else {
+            return true;
+        };
+        if sides.only().is_some() {
+            return true;
+        }
+        let right = self.finds(ports, cells, sides, Side::Right);
+        let down = self.finds(ports, cells, sides, Side::Down);
+        let left = self.finds(ports, cells, sides, Side::Left);
+        let up = self.finds(ports, cells, sides, Side::Up);
+        !(right | down | left | up)
+    }
+
+    /// Whether a side is one of several and a word is pending there.
+    fn finds(&self, ports: &Ports, cells: &[Option<Word18>], sides: Sides, side: Side) -> bool
+        requires ports { FitsPorts self.now.state.node ports.now }
+        requires count { length cells.now ≡ 524 }
+        ensures { result ≡ false → is_among side sides ≡ true → found_by (take_of side (read_cell self.now.state.node side)) cells.now ≡ None }
+    {
+        if !sides.has(side) {
+            return false;
+        }
+        match self.reads(ports, side) {
+            Some(at) => cells[at.index()].is_some(),
+            None => false,
+        }
+    }
+
+    /// The cell that the node reads at a side.
+    fn reads(&self, ports: &Ports, side: Side) -> Option<CellId>
+        requires { FitsPorts self.now.state.node ports.now }
+        ensures { result ≡ read_cell self.now.state.node side }
+    {
+        Some(ports.at(side)?.reads)
+    }
+
+    /// The cell that the node writes at a side.
+    fn writes(&self, ports: &Ports, side: Side) -> Option<CellId>
+        requires { FitsPorts self.now.state.node ports.now }
+        ensures { result ≡ cell_of self.now.state.node side }
+    {
+        Some(ports.at(side)?.writes)
+    }
+
     /// The node takes a word at a side, where one is pending.
-    fn take(&mut self, cells: &mut [Option<Word18>], side: Side) -> Outcome
+    fn take(&mut self, ports: &Ports, cells: &mut [Option<Word18>], side: Side) -> Outcome
+        requires ports { FitsPorts self.old.state.node ports.now }
         requires count { length cells.old ≡ 524 }
         requires take { takes_at side (need_of self.old.state) ≡ true }
         ensures part { let asked = take_of side (read_cell self.old.state.node side) in (result, self.new) ≡ after_asked asked (found_by asked cells.old) self.old }
         ensures cells { cells.new ≡ cells_after (take_of side (read_cell self.old.state.node side)) cells.old }
     {
-        let Some(other) = neighbour(self.state.node(), side) else {
-            return Outcome::Waits;
-        };
-        let Some(at) = cell(other, side) else {
+        let Some(at) = self.reads(ports, side) else {
             return Outcome::Waits;
         };
         match cells[at.index()].take() {
@@ -128,13 +251,20 @@ impl NodePart {
     }
 
     /// The node posts its word at a side.
-    fn post(&mut self, cells: &mut [Option<Word18>], to: Side, word: Word18) -> Outcome
+    fn post(
+        &mut self,
+        ports: &Ports,
+        cells: &mut [Option<Word18>],
+        to: Side,
+        word: Word18,
+    ) -> Outcome
+        requires ports { FitsPorts self.old.state.node ports.now }
         requires count { length cells.old ≡ 524 }
         requires post { is_post (need_of self.old.state) ≡ true }
         ensures part { let asked = post_to to word (cell_of self.old.state.node to) in (result, self.new) ≡ after_asked asked (found_by asked cells.old) self.old }
         ensures cells { cells.new ≡ cells_after (post_to to word (cell_of self.old.state.node to)) cells.old }
     {
-        let Some(at) = cell(self.state.node(), to) else {
+        let Some(at) = self.writes(ports, to) else {
             return Outcome::Waits;
         };
         cells[at.index()] = Some(word);
@@ -144,12 +274,13 @@ impl NodePart {
     }
 
     /// The node goes on where the word that it posted at a side was read.
-    fn check(&mut self, cells: &[Option<Word18>], to: Side) -> Outcome
+    fn check(&mut self, ports: &Ports, cells: &[Option<Word18>], to: Side) -> Outcome
+        requires ports { FitsPorts self.old.state.node ports.now }
         requires count { length cells.now ≡ 524 }
         requires check { is_check (need_of self.old.state) ≡ true }
         ensures { let asked = check_of to (cell_of self.old.state.node to) in (result, self.new) ≡ after_asked asked (found_by asked cells.now) self.old }
     {
-        match cell(self.state.node(), to) {
+        match self.writes(ports, to) {
             Some(at) if cells[at.index()].is_none() => {
                 self.state.step_checked();
                 Outcome::Moved

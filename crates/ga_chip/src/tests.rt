@@ -71,6 +71,27 @@ fn one_word_through_a_port(rt: HostRuntime) -> Result<(), Fail> {
     Ok(())
 }
 
+#[test]
+fn sleepers_are_woken(rt: HostRuntime) -> Result<(), Fail> {
+    let mut chip = reset(rt.alloc())?;
+    place(&mut chip, 708, &WRITE_12_RIGHT)?;
+    for _ in 0..6 {
+        assert!(rt; chip.turn(Side::Right) == 1);
+    }
+    // 708 posts its word to the right, where 709 doesn't look yet.
+    assert!(rt; chip.turn(Side::Down) == 1);
+    for _ in 0..3 {
+        assert!(rt; chip.turn(Side::Down) == 0);
+    }
+    // 709 takes it, so that 708 goes on in the next turn.
+    assert!(rt; chip.turn(Side::Right) == 1);
+    assert!(rt; chip.ledger(node(708)?, Side::Right) == ledger(1, 1, 0));
+    assert!(rt; chip.turn(Side::Down) == 1);
+    assert!(rt; chip.state(node(708)?).steps() == 8);
+    assert!(rt; chip.state(node(709)?).steps() == 1);
+    Ok(())
+}
+
 /// T of 709 after a take at a side, where 708 has written 12 to its right and 609 has written 34 down, each
 /// by seven tries in an order, and 709 has made three.
 fn taken(alloc: Global, order: &[u16], side: Side) -> Result<u32, Fail> {

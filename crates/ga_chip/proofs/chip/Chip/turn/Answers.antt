@@ -1,37 +1,14 @@
-use Rattle.std.proofs.Common.{◌≡◌, ℕ, ◌+◌, ◌≤◌, ap, ◌∙◌, length, sym, add-zero, zero-add, subst, arith}
-use Rattle.ga_place.specs.Cell.{name_at}
-use Rattle.ga_chip.specs.Chip.{tried}
-use Rattle.ga_chip.specs.Run.{moves, ran, turn_of}
+use Rattle.std.proofs.Common.{subst, sym}
+use Rattle.ga_chip.specs.Run.{turn_of}
 use Rattle.ga_chip.specs.Grow.{LedgersGrow}
 use Rattle.ga_chip.specs.Legal.{IsLegal}
 use Rattle.ga_chip.proofs.Grow.{ledgers_grow}
-use Rattle.ga_chip.proofs.Turns.{moved_once, moves_next, ran_next, turn_end, turn_left, turn_next, turn_whole}
 use Rattle.ga_chip.proofs.chip.Chip.turn.Goals as goal
 
-pub loop-index-init : goal.loop-index-init
-loop-index-init c = (omega arith, ap (ran c.args.self.now) (turn_whole c.args.side), zero-add _ ∙ ap (λ l. length (moves c.args.self.now l)) (turn_whole c.args.side))
+pub returns-then-len-gt-MANY-clause-ledgers : goal.returns-then-len-gt-MANY-clause-ledgers
+returns-then-len-gt-MANY-clause-ledgers c =
+    subst (λ z. LedgersGrow c.args.self.now z (turn_of c.args.side)) (sym c.turn_of_all.ensures.chip) (ledgers_grow c.args.self.now (turn_of c.args.side) (subst IsLegal c.self.view_is c.self.invariant.0.legal))
 
-one_more : (moved index more : ℕ) → moved ≤ index → more ≤ 1 → moved + more ≤ index + 1
-one_more moved index more e f = omega arith
-
-counted : (moved more now rest all : ℕ) → moved + rest ≡ all → rest ≡ more + now → moved + more + now ≡ all
-counted moved more now rest all e f = omega arith
-
-pub loop-index-preserved : goal.loop-index-preserved
-loop-index-preserved c = (
-  one_more c.loop-index.moved c.loop-index.index c.moves_at-moved.result c.loop-index.invariant.0 (subst (λ n. n ≤ 1) (sym c.moves_at-moved.ensures.moves) (moved_once _)),
-  sym (ran_next c.loop-index.self c.moves_at-moved.new.self (name_at c.loop-index.index) c.args.side _ _ _ (turn_next c.args.side c.loop-index.index c.loop-index-test.true) (ap (λ z. ((tried c.loop-index.self (name_at c.loop-index.index) c.args.side).0, z)) c.moves_at-moved.ensures.chip)) ∙ c.loop-index.invariant.1,
-  counted c.loop-index.moved c.moves_at-moved.result _ _ _ c.loop-index.invariant.2
-      (moves_next c.loop-index.self c.moves_at-moved.new.self (name_at c.loop-index.index) c.args.side _ _ _ (turn_next c.args.side c.loop-index.index c.loop-index-test.true) (ap (λ z. ((tried c.loop-index.self (name_at c.loop-index.index) c.args.side).0, z)) c.moves_at-moved.ensures.chip) ∙ ap (λ n. n + length (moves c.moves_at-moved.new.self (turn_left c.args.side (c.loop-index.index + 1)))) (sym c.moves_at-moved.ensures.moves)),
-)
-
-pub returns-clause-chip : goal.returns-clause-chip
-returns-clause-chip c = ap (ran c.loop-index.self) (sym (turn_end c.args.side c.loop-index.index c.loop-index-test.false c.loop-index.auto.index-end)) ∙ c.loop-index.invariant.1
-
-pub returns-clause-moved : goal.returns-clause-moved
-returns-clause-moved c =
-    sym (add-zero _) ∙ ap (λ l. c.loop-index.moved + length (moves c.loop-index.self l)) (sym (turn_end c.args.side c.loop-index.index c.loop-index-test.false c.loop-index.auto.index-end)) ∙ c.loop-index.invariant.2
-
-pub returns-clause-ledgers : goal.returns-clause-ledgers
-returns-clause-ledgers c =
-    subst (λ z. LedgersGrow c.args.self.now z (turn_of c.args.side)) (sym (returns-clause-chip c)) (ledgers_grow c.args.self.now (turn_of c.args.side) (subst IsLegal c.self.view_is c.self.invariant.legal))
+pub returns-else-len-gt-MANY-clause-ledgers : goal.returns-else-len-gt-MANY-clause-ledgers
+returns-else-len-gt-MANY-clause-ledgers c =
+    subst (λ z. LedgersGrow c.args.self.now z (turn_of c.args.side)) (sym c.turn_of_awake.ensures.chip) (ledgers_grow c.args.self.now (turn_of c.args.side) (subst IsLegal c.self.view_is c.self.invariant.0.legal))

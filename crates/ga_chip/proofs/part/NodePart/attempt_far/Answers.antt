@@ -1,67 +1,44 @@
-use Rattle.std.proofs.Common.{ap, ◌∙◌, refl, sym}
-use Rattle.ga_place.specs.Cell.{cell_of, read_cell}
-use Rattle.ga_node.specs.declared.need.Need.TheVariants as need
-use Rattle.ga_chip.specs.declared.outcome.Outcome.TheVariants.{Stopped, Waits}
-use Rattle.ga_chip.specs.Part.{Nothing, check_of, post_to, take_from, take_of}
-use Rattle.ga_chip.proofs.Plain.{after_by, cells_by, check_keeps, input_waits, plain_asks}
+use Rattle.std.proofs.Common.{length, ap, ap₂, ◌∙◌, subst, sym}
+use Rattle.ga_node.specs.Need.{need_of}
+use Rattle.ga_chip.specs.Awake.{partner_of}
+use Rattle.ga_place.specs.Cell.{index_of}
+use Rattle.std.specs.Prelude.{option_map}
+use Rattle.ga_chip.specs.Port.{FitsPorts}
+use Rattle.ga_chip.specs.Part.{asks}
+use Rattle.ga_chip.specs.Chip.{found_by}
+use Rattle.ga_chip.proofs.Parts.{name_after}
+use Rattle.ga_chip.proofs.Stays.{Stays, still_all}
 use Rattle.ga_chip.proofs.part.NodePart.attempt_far.Goals as goal
 
-pub returns-in-Some-clause-part : goal.returns-in-Some-clause-part
-returns-in-Some-clause-part c =
-    after_by c.args.self.now c.args.side c.args.cells.now (take_of c.in-Some.at (read_cell c.args.self.now.state.node c.in-Some.at)) (c.take.result, c.take.new.self)
-    (plain_asks c.self.inside.state c.self.inside.written c.self.inside.read c.args.self.now c.args.side (need.Take c.in-Take.sides) c.self.view_is c.in-Take.ensures ∙ ap (take_from c.args.self.now.state.node) (sym c.in-Some.ensures)) c.take.ensures.part
+pub partner-wakes-requires : goal.partner-wakes-requires
+partner-wakes-requires c =
+    subst (λ name. FitsPorts name c.args.ports.now)
+    (sym (ap (λ r. r.1.state.node) c.meet-outcome.ensures.part ∙ name_after c.args.self.now c.args.side (found_by (asks c.args.self.now c.args.side) c.args.cells.now)))
+    c.requires.ports
 
-pub returns-in-Some-clause-cells : goal.returns-in-Some-clause-cells
-returns-in-Some-clause-cells c =
-    cells_by c.args.self.now c.args.side c.args.cells.now c.take.new.cells (take_of c.in-Some.at (read_cell c.args.self.now.state.node c.in-Some.at))
-    (plain_asks c.self.inside.state c.self.inside.written c.self.inside.read c.args.self.now c.args.side (need.Take c.in-Take.sides) c.self.view_is c.in-Take.ensures ∙ ap (take_from c.args.self.now.state.node) (sym c.in-Some.ensures)) c.take.ensures.cells
+pub returns-in-Moved-clause-wakes : goal.returns-in-Moved-clause-wakes
+returns-in-Moved-clause-wakes c = λ moved.
+    c.partner-wakes.ensures.value
+    ∙ ap₂ (λ name n. option_map index_of (partner_of name n c.args.side)) (ap (λ r. r.1.state.node) c.meet-outcome.ensures.part ∙ name_after c.args.self.now c.args.side (found_by (asks c.args.self.now c.args.side) c.args.cells.now))
+    (c.need-need.ensures ∙ ap (λ p. need_of p.state) c.self.view_is)
 
-pub returns-in-None-clause-part : goal.returns-in-None-clause-part
-returns-in-None-clause-part c =
-    after_by c.args.self.now c.args.side c.args.cells.now (Nothing Waits) (Waits, c.args.self.now)
-    (plain_asks c.self.inside.state c.self.inside.written c.self.inside.read c.args.self.now c.args.side (need.Take c.in-Take.sides) c.self.view_is c.in-Take.ensures ∙ ap (take_from c.args.self.now.state.node) (sym c.in-None.ensures)) refl
+pub is_still-sleeps-requires : goal.is_still-sleeps-requires
+is_still-sleeps-requires c =
+    let same = still_all c.args.self.now c.meet-outcome.new.self c.args.cells.now c.meet-outcome.new.cells c.args.side c.meet-outcome.result c.meet-outcome.ensures.part c.meet-outcome.ensures.cells c.in_default.not-Moved in
+    record {
+      ports = subst (λ p. FitsPorts p.state.node c.args.ports.now) (sym same.0) c.requires.ports;
+      count = ap length same.1 ∙ c.requires.count;
+      need = c.need-need.ensures ∙ ap (λ p. need_of p.state) (c.self.view_is ∙ sym same.0);
+      still = (c.args.side, subst (λ p. Stays p c.meet-outcome.new.cells c.args.side) (sym same.0) (subst (λ cells. Stays c.args.self.now cells c.args.side) (sym same.1) (λ moved. c.in_default.not-Moved (ap (λ r. r.0) c.meet-outcome.ensures.part ∙ moved))));
+    }
 
-pub returns-in-None-clause-cells : goal.returns-in-None-clause-cells
-returns-in-None-clause-cells c =
-    cells_by c.args.self.now c.args.side c.args.cells.now c.args.cells.now (Nothing Waits)
-    (plain_asks c.self.inside.state c.self.inside.written c.self.inside.read c.args.self.now c.args.side (need.Take c.in-Take.sides) c.self.view_is c.in-Take.ensures ∙ ap (take_from c.args.self.now.state.node) (sym c.in-None.ensures)) refl
-
-pub returns-in-Post-clause-part : goal.returns-in-Post-clause-part
-returns-in-Post-clause-part c =
-    after_by c.args.self.now c.args.side c.args.cells.now (post_to c.in-Post.to c.in-Post.word (cell_of c.args.self.now.state.node c.in-Post.to)) (c.post.result, c.post.new.self)
-    (plain_asks c.self.inside.state c.self.inside.written c.self.inside.read c.args.self.now c.args.side (need.Post c.in-Post.to c.in-Post.word) c.self.view_is c.in-Post.ensures) c.post.ensures.part
-
-pub returns-in-Post-clause-cells : goal.returns-in-Post-clause-cells
-returns-in-Post-clause-cells c =
-    cells_by c.args.self.now c.args.side c.args.cells.now c.post.new.cells (post_to c.in-Post.to c.in-Post.word (cell_of c.args.self.now.state.node c.in-Post.to))
-    (plain_asks c.self.inside.state c.self.inside.written c.self.inside.read c.args.self.now c.args.side (need.Post c.in-Post.to c.in-Post.word) c.self.view_is c.in-Post.ensures) c.post.ensures.cells
-
-pub returns-in-Check-clause-part : goal.returns-in-Check-clause-part
-returns-in-Check-clause-part c =
-    after_by c.args.self.now c.args.side c.args.cells.now (check_of c.in-Check.to (cell_of c.args.self.now.state.node c.in-Check.to)) (c.check.result, c.check.new.self)
-    (plain_asks c.self.inside.state c.self.inside.written c.self.inside.read c.args.self.now c.args.side (need.Check c.in-Check.to) c.self.view_is c.in-Check.ensures) c.check.ensures
-
-pub returns-in-Check-clause-cells : goal.returns-in-Check-clause-cells
-returns-in-Check-clause-cells c =
-    cells_by c.args.self.now c.args.side c.args.cells.now c.args.cells.now (check_of c.in-Check.to (cell_of c.args.self.now.state.node c.in-Check.to))
-    (plain_asks c.self.inside.state c.self.inside.written c.self.inside.read c.args.self.now c.args.side (need.Check c.in-Check.to) c.self.view_is c.in-Check.ensures) (check_keeps c.in-Check.to (cell_of c.args.self.now.state.node c.in-Check.to) c.args.cells.now)
-
-pub returns-in-Stopped-clause-part : goal.returns-in-Stopped-clause-part
-returns-in-Stopped-clause-part c =
-    after_by c.args.self.now c.args.side c.args.cells.now (Nothing Stopped) (Stopped, c.args.self.now)
-    (plain_asks c.self.inside.state c.self.inside.written c.self.inside.read c.args.self.now c.args.side (need.Stopped c.in-Stopped.field-0) c.self.view_is c.in-Stopped.ensures) refl
-
-pub returns-in-Stopped-clause-cells : goal.returns-in-Stopped-clause-cells
-returns-in-Stopped-clause-cells c =
-    cells_by c.args.self.now c.args.side c.args.cells.now c.args.cells.now (Nothing Stopped)
-    (plain_asks c.self.inside.state c.self.inside.written c.self.inside.read c.args.self.now c.args.side (need.Stopped c.in-Stopped.field-0) c.self.view_is c.in-Stopped.ensures) refl
-
-pub returns-in-Own-clause-part : goal.returns-in-Own-clause-part
-returns-in-Own-clause-part c =
-    after_by c.args.self.now c.args.side c.args.cells.now (Nothing Waits) (Waits, c.args.self.now)
-    (input_waits c.self.inside.state c.self.inside.written c.self.inside.read c.args.self.now c.args.side c.need.result c.self.view_is c.need.ensures c.requires.far c.in-Own.is) refl
-
-pub returns-in-Own-clause-cells : goal.returns-in-Own-clause-cells
-returns-in-Own-clause-cells c =
-    cells_by c.args.self.now c.args.side c.args.cells.now c.args.cells.now (Nothing Waits)
-    (input_waits c.self.inside.state c.self.inside.written c.self.inside.read c.args.self.now c.args.side c.need.result c.self.view_is c.need.ensures c.requires.far c.in-Own.is) refl
+pub returns : goal.returns
+returns c =
+    let same = still_all c.args.self.now c.meet-outcome.new.self c.args.cells.now c.meet-outcome.new.cells c.args.side c.meet-outcome.result c.meet-outcome.ensures.part c.meet-outcome.ensures.cells c.in_default.not-Moved in
+    record {
+      part = c.meet-outcome.ensures.part;
+      cells = c.meet-outcome.ensures.cells;
+      wakes = λ moved. absurd (c.in_default.not-Moved moved);
+      place = tt;
+      sleeps = λ yes other. subst (λ p. Stays p c.args.cells.now other) same.0 (subst (λ cells. Stays c.meet-outcome.new.self cells other) same.1 (c.is_still-sleeps.ensures yes other));
+    }

@@ -1,7 +1,7 @@
 use Rattle.std.specs.Prelude.{◌≡◌, ◌≤◌, ◌+◌, length}
 use Rattle.ga_chip.specs.Run.{moves, ran, turn_of}
 use Rattle.ga_chip.proofs.Turns.{turn_left}
-use Rattle.ga_chip.proofs.chip.Chip.turn.Given as goal
+use Rattle.ga_chip.proofs.chip.Chip.turn_of_all.Given as goal
 
 -- the tries that are left lead to the end, and their moves with those that were counted are all moves
 abbrev pub invariant-loop-index : goal.invariant-loop-index

@@ -1,0 +1,41 @@
+-- The ports of a node: what it shares with its neighbour at each side.
+use Rattle.std.specs.Prelude.{◌≡◌, ◌<◌, ℕ, List, map, Option, Some, None, option_map}
+use Rattle.std.specs.List.{range_with_len}
+use Rattle.ga_place.specs.Cell.{cell_of, index_of, name_at, read_cell}
+use Rattle.ga_place.specs.Side.{neighbour_of}
+use Rattle.ga_place.specs.declared.side.Side.{Side}
+use Rattle.ga_place.specs.declared.side.Side.TheVariants.{Right, Down, Left, Up}
+use Rattle.ga_chip.specs.declared.port.Port.{Port}
+use Rattle.ga_chip.specs.declared.port.Ports.{Ports}
+
+-- a port of a cell that is read, one that is written, and the neighbour
+abbrev pub port_with : Option ℕ → Option ℕ → Option ℕ → Option Port
+port_with (Some neighbour) (Some reads) (Some writes) = Some (record { reads = reads; writes = writes; neighbour = index_of neighbour })
+port_with (Some neighbour) (Some reads) None = None
+port_with (Some neighbour) None writes = None
+port_with None reads writes = None
+
+-- the port of a node at a side
+abbrev pub port_of : ℕ → Side → Option Port
+port_of name side = port_with (neighbour_of name side) (read_cell name side) (cell_of name side)
+
+-- the ports of a node
+unfoldable pub ports_of : ℕ → Ports
+ports_of name = record { right = port_of name Right; down = port_of name Down; left = port_of name Left; up = port_of name Up }
+
+abbrev pub port_at : Side → Ports → Option Port
+port_at Right ports = ports.right
+port_at Down ports = ports.down
+port_at Left ports = ports.left
+port_at Up ports = ports.up
+
+-- they are what the node shares with its neighbours
+pub record FitsPorts (name : ℕ) (ports : Ports) : Type 0 where
+  pub reads : (side : Side) → option_map (λ port. port.reads) (port_at side ports) ≡ read_cell name side
+  pub writes : (side : Side) → option_map (λ port. port.writes) (port_at side ports) ≡ cell_of name side
+  pub neighbours : (side : Side) → option_map (λ port. port.neighbour) (port_at side ports) ≡ option_map index_of (neighbour_of name side)
+  pub places : (side : Side) (port : Port) → port_at side ports ≡ Some port → port.neighbour < 144
+
+-- the ports of all nodes, in order of name
+unfoldable pub all_ports : List Ports
+all_ports = map (λ index. ports_of (name_at index)) (range_with_len 0 144)

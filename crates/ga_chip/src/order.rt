@@ -1,0 +1,22 @@
+//! The nodes in order of name.
+ghost use Rattle.std.specs.Prelude.{◌≡◌, ◌<◌};
+ghost use Rattle.ga_place.specs.Cell.{index_of, name_at};
+
+use ga_place::Node;
+
+/// The place of a node in order of name.
+pub(crate) fn index_of(node: Node) -> usize
+    ensures value { result ≡ index_of node }
+    ensures bound { result < 144 }
+    ensures back { name_at result ≡ node }
+{
+    usize::from(node.row()) * 18 + usize::from(node.column())
+}
+
+/// The node at a place in order of name.
+pub(crate) fn node_at(index: u16) -> Node
+    requires { index < 144 }
+    ensures { result ≡ name_at index }
+{
+    Node::new(index / 18 * 100 + index % 18).unwrap()
+}
