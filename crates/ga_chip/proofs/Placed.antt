@@ -2,14 +2,18 @@
 use Rattle.std.proofs.Common.{◌≡◌, ℕ, ◌+◌, ◌≤◌, ◌<◌, ◌⊎◌, inl, inr, List, length, length-set, Bool, true, false, set, get_or, Some, refl, sym, ap, ap₂, ◌∙◌, subst, arith}
 use Rattle.std.specs.Option.{option_to_list}
 use Rattle.std.proofs.lemmas.Option.{same_Some, slice_get_within}
-use Rattle.std.specs.Prelude.{◌==◌, not, if◌then◌else◌}
-use Rattle.std.specs.Option.{option_map_or}
+use Rattle.std.specs.Prelude.{◌==◌, is_some, None, if◌then◌else◌}
+use Rattle.std.specs.Option.{option_and_then}
 use Rattle.std.proofs.lemmas.Bool.{cases_eq, eqb-true}
 use Rattle.ga_place.specs.declared.side.Side.{Side}
 use Rattle.ga_place.proofs.SideLemmas.{neighbour_of-IsNodeName}
+use Rattle.std.proofs.lemmas.Grind.{common_steps}
 use Rattle.ga_place.specs.Cell.{index_of, cell_of}
+use Rattle.ga_place.specs.Node.{IsOnEdge, is_edge}
 use Rattle.ga_chip.specs.Part.{Part, count_at}
-use Rattle.ga_chip.specs.Chip.{Chip, given, has_begun, part_of, pending, placed, with_changed, with_part}
+use Rattle.ga_chip.specs.Chip.{Chip, given, part_of, part_refusal, pending, placed, refusal, streamed, streaming, unless_refused, with_changed, with_part}
+use Rattle.ga_chip.specs.declared.error.ChipError.{ChipError}
+use Rattle.ga_chip.specs.declared.error.ChipError.TheVariants.{AlreadyGiven, Begun}
 use Rattle.ga_chip.specs.Legal.{IsLegal, StandsAtCheck}
 use Rattle.ga_chip.proofs.Lists.{get-set_here, get-set_else, set-get}
 use Rattle.ga_place.proofs.Cells.{one_place, neighbour_there}
@@ -69,30 +73,54 @@ legal_placed chip name part next legal there unstepped named written read = reco
     steps_by n side w (inl (same, e)) = none_yet (count_at side w.written) part.state.steps w.state.steps (subst (λ c. count_at side c ≤ part.state.steps) (sym written ∙ ap (λ x. x.written) (sym e)) (legal.within_steps name side part there)) unstepped
     steps_by n side w (inr (apart, old)) = legal.within_steps n side w old
 
--- a chip with its node given words and an entry
-pub placed_there : (chip : Chip) (name entry : ℕ) (words : List ℕ) (part : Part) → part_of chip name ≡ Some part → placed chip name words entry ≡ with_part chip name (given words entry part)
-unfolding placed
-placed_there chip name entry words part there = ap (λ o. with_changed (given words entry) o chip name) there
+-- what a change of a node's part makes of the chip
+pub changed_there : (change : Part → Part) (chip : Chip) (name : ℕ) (part : Part) → part_of chip name ≡ Some part → with_changed change (part_of chip name) chip name ≡ with_part chip name (change part)
+changed_there change chip name part there = ap (λ o. with_changed change o chip name) there
 
--- whether a node has begun
-pub begun_there : (chip : Chip) (name : ℕ) (part : Part) → part_of chip name ≡ Some part → has_begun chip name ≡ not (part.state.steps == 0)
-begun_there chip name part there = ap (λ o. option_map_or (λ p. not (p.state.steps == 0)) o false) there
+-- why a node is refused
+refusal_there : (chip : Chip) (name : ℕ) (part : Part) → part_of chip name ≡ Some part → refusal chip name ≡ part_refusal part
+refusal_there chip name part there = ap (option_and_then part_refusal) there
 
--- what the code leaves where it refuses, and where it gives words and an entry
-pub refused_at : (chip other : Chip) (name index : ℕ) (part : Part) → IsLegal chip → index ≡ index_of name → index < 144 → part ≡ get_or chip.parts index part → (part.state.steps ≡ 0 → ⊥) → (has_begun chip name ≡ true) × (record chip { parts = set chip.parts index part } ≡ (if has_begun chip name then chip else other))
-refused_at chip other name index part legal is below read begun =
+-- what the code leaves where it refuses
+pub refused_at : (chip changed : Chip) (name index : ℕ) (part : Part) (fault : ChipError) → IsLegal chip → index ≡ index_of name → index < 144 → part ≡ get_or chip.parts index part → part_refusal part ≡ Some fault
+    → (refusal chip name ≡ Some fault) × (record chip { parts = set chip.parts index part } ≡ unless_refused (refusal chip name) changed chip)
+refused_at chip changed name index part fault legal is below read refused =
     let there = part_at chip name index part legal.parts is below read in
-    let yes : has_begun chip name ≡ true = begun_there chip name part there ∙ stepped (part.state.steps == 0) refl in
-    (yes, ap (λ ps. record chip { parts = ps }) (ap (λ i. set chip.parts i part) is ∙ set-get chip.parts (index_of name) part there) ∙ sym (ap (λ b. if b then chip else other) yes))
+    let yes : refusal chip name ≡ Some fault = refusal_there chip name part there ∙ refused in
+    (yes, ap (λ ps. record chip { parts = ps }) (ap (λ i. set chip.parts i part) is ∙ set-get chip.parts (index_of name) part there) ∙ sym (ap (λ r. unless_refused r changed chip) yes))
+
+-- a node that isn't refused has made no step
+pub unstepped : (part : Part) → part_refusal part ≡ None → part.state.steps ≡ 0
+unstepped part free = by (is_some part.stream) (part.state.steps == 0) refl free
   where
-    stepped : (b : Bool) → (part.state.steps == 0) ≡ b → not (part.state.steps == 0) ≡ true
-    stepped true e = absurd (begun (eqb-true _ _ e))
-    stepped false e = ap not e
+    by : (given begun : Bool) → (part.state.steps == 0) ≡ begun → (if given then Some AlreadyGiven else if begun then None else Some Begun) ≡ None → part.state.steps ≡ 0
+    by true begun e free = absurd cc
+    by false true e free = eqb-true _ _ e
+    by false false e free = absurd cc
 
-pub given_at : (chip : Chip) (name index entry : ℕ) (words : List ℕ) (part next : Part) → IsLegal chip → index ≡ index_of name → index < 144 → part ≡ get_or chip.parts index part → part.state.steps ≡ 0 → next ≡ given words entry part → (has_begun chip name ≡ false) × (record chip { parts = set chip.parts index next } ≡ (if has_begun chip name then chip else placed chip name words entry)) × IsLegal (record chip { parts = set chip.parts index next })
-given_at chip name index entry words part next legal is below read new gives =
+-- what the code leaves where it changes the part of a node that has made no step, and counts no word
+pub given_at : (change : Part → Part) (chip : Chip) (name index : ℕ) (part next : Part) → IsLegal chip → index ≡ index_of name → index < 144 → part ≡ get_or chip.parts index part → part_refusal part ≡ None → next ≡ change part
+    → (change part).state.node ≡ part.state.node → (change part).written ≡ part.written → (change part).read ≡ part.read
+    → (refusal chip name ≡ None) × (record chip { parts = set chip.parts index next } ≡ unless_refused (refusal chip name) (with_changed change (part_of chip name) chip name) chip) × IsLegal (record chip { parts = set chip.parts index next })
+given_at change chip name index part next legal is below read free gives node written read_same =
     let there = part_at chip name index part legal.parts is below read in
-    let no : has_begun chip name ≡ false = begun_there chip name part there ∙ ap (λ n. not (n == 0)) new in
-    let put : record chip { parts = set chip.parts index next } ≡ with_part chip name (given words entry part) = ap₂ (λ i p. record chip { parts = set chip.parts i p }) is gives in
-    let legal_then = legal_placed chip name part (given words entry part) legal there new (legal.named name part there) refl refl in
-    (no, put ∙ sym (placed_there chip name entry words part there) ∙ sym (ap (λ b. if b then chip else placed chip name words entry) no), subst IsLegal (sym put) legal_then)
+    let no : refusal chip name ≡ None = refusal_there chip name part there ∙ free in
+    let put : record chip { parts = set chip.parts index next } ≡ with_part chip name (change part) = ap₂ (λ i p. record chip { parts = set chip.parts i p }) is gives in
+    let legal_then = legal_placed chip name part (change part) legal there (unstepped part free) (node ∙ legal.named name part there) written read_same in
+    (no, put ∙ sym (changed_there change chip name part there) ∙ sym (ap (λ r. unless_refused r (with_changed change (part_of chip name) chip name) chip) no), subst IsLegal (sym put) legal_then)
+
+-- what both calls make of the chip
+pub placed_is : (chip : Chip) (name entry : ℕ) (words : List ℕ) → placed chip name words entry ≡ with_changed (given words entry) (part_of chip name) chip name
+unfolding placed
+placed_is chip name entry words = refl
+
+pub streamed_is : (chip : Chip) (name : ℕ) (words : List ℕ) → streamed chip name words ≡ with_changed (streaming words) (part_of chip name) chip name
+unfolding streamed
+streamed_is chip name words = refl
+
+-- a node that stands at an edge
+pub on_edge : (name : ℕ) → IsOnEdge name → is_edge name ≡ true
+on_edge name (inl south) = grind (arith, common_steps)
+on_edge name (inr (inl north)) = grind (arith, common_steps)
+on_edge name (inr (inr (inl west))) = grind (arith, common_steps)
+on_edge name (inr (inr (inr east))) = grind (arith, common_steps)

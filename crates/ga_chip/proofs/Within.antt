@@ -79,6 +79,9 @@ take_runs side (Check to) e = absurd (false≢true e)
 take_runs side Input e = absurd (false≢true e)
 take_runs side (Stopped stop) e = absurd (false≢true e)
 
+pub input_runs : (n : Need) → n ≡ Input → is_running n ≡ true
+input_runs n is = ap is_running is
+
 pub own_is : (n : Need) → is_own n ≡ true → n ≡ Own
 own_is Own e = refl
 own_is (Take sides) e = absurd (false≢true e)

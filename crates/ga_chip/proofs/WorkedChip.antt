@@ -9,8 +9,10 @@ use Rattle.ga_node.specs.State.{reset_state}
 use Rattle.ga_node.specs.declared.place.Place.TheVariants.{Slot0, Slot1}
 use Rattle.ga_place.specs.Cell.{cell_of, all_cells}
 use Rattle.ga_chip.specs.declared.outcome.Outcome.TheVariants.{Moved, Waits}
-use Rattle.ga_chip.specs.Part.{Part, Check, Post, Take, Nothing, asks, after, is_held}
-use Rattle.ga_chip.specs.Chip.{cells_after, has_begun, pending_in, tried, reset_chip, reset_part}
+use Rattle.ga_node.specs.declared.need.Need.TheVariants as need
+use Rattle.ga_chip.specs.declared.error.ChipError.TheVariants.{AlreadyGiven, NotEdge}
+use Rattle.ga_chip.specs.Part.{Part, Check, Feed, Post, Take, Nothing, asks, asks_by, after, is_held, rest_of}
+use Rattle.ga_chip.specs.Chip.{cells_after, pending_in, refusal, reset_chip, reset_part, stream_refusal, streamed, tried}
 use Rattle.ga_chip.specs.Ledger.{ledger_of}
 
 -- after reset a node takes at the side that is named: 709 reads the cell 495 of 708 on its right
@@ -99,7 +101,23 @@ ledger_none : ledger_of reset_chip 0 Up ≡ record { written = 0; read = 0; pend
 unfolding reset_chip cell_of all_cells
 ledger_none = refl
 
--- node 000 begins with its first step
-new_000 : has_begun reset_chip 0 ≡ false
+-- a node after reset can be given words, and at an edge a stream
+new_000 : stream_refusal reset_chip 0 ≡ None
 unfolding reset_chip
 new_000 = refl
+
+inner_101 : stream_refusal reset_chip 101 ≡ Some NotEdge
+unfolding reset_chip
+inner_101 = refl
+
+-- but no second one
+given_000 : refusal (streamed reset_chip 0 (0x000AE ∷ [])) 0 ≡ Some AlreadyGiven
+unfolding streamed reset_chip
+given_000 = refl
+
+-- a word of the stream is taken from its front
+feeds : asks_by need.Input 0 (Some (0x000AE ∷ 0x00000 ∷ [])) Up ≡ Feed 0x000AE
+feeds = refl
+
+leaves : rest_of (Some (0x000AE ∷ 0x00000 ∷ [])) ≡ Some (0x00000 ∷ [])
+leaves = refl

@@ -1,11 +1,14 @@
 -- The chip: the nodes' parts in order of name, and the word pending in each cell. A try of one node.
-use Rattle.std.specs.Prelude.{ℕ, ◌==◌, Bool, false, not, List, map, replicate, Option, Some, None, option_map, set, slice_get, slice_index_or}
-use Rattle.std.specs.Option.{option_map_or}
+use Rattle.std.specs.Prelude.{ℕ, ◌==◌, false, List, map, replicate, Option, Some, None, Result, Ok, Err, is_some, option_map, set, slice_get, slice_index_or, if◌then◌else◌}
+use Rattle.std.specs.Option.{option_and_then}
 use Rattle.std.specs.List.{range_with_len}
 use Rattle.ga_place.specs.Cell.{index_of, name_at}
+use Rattle.ga_place.specs.Node.{is_edge}
 use Rattle.ga_place.specs.declared.side.Side.{Side}
-use Rattle.ga_node.specs.State.{State, loaded_state, reset_state}
+use Rattle.ga_node.specs.State.{State, booting_state, loaded_state, reset_state}
 use Rattle.ga_chip.specs.declared.counts.Counts.{Counts}
+use Rattle.ga_chip.specs.declared.error.ChipError.{ChipError}
+use Rattle.ga_chip.specs.declared.error.ChipError.TheVariants.{AlreadyGiven, Begun, NotEdge}
 use Rattle.ga_chip.specs.declared.outcome.Outcome.{Outcome}
 use Rattle.ga_chip.specs.declared.outcome.Outcome.TheVariants.{Waits}
 use Rattle.ga_chip.specs.Part.{Part, Asks, Nothing, Own, Feed, Post, Check, Take, asks, after}
@@ -81,9 +84,30 @@ reset_part name = record { state = reset_state name; breaks = replicate 512 fals
 unfoldable pub reset_chip : Chip
 reset_chip = record { parts = map (λ index. reset_part (name_at index)) (range_with_len 0 144); cells = replicate 524 None }
 
--- the node has made a step
-abbrev pub has_begun : Chip → ℕ → Bool
-has_begun chip name = option_map_or (λ part. not (part.state.steps == 0)) (part_of chip name) false
+-- Why a node can't be given words or a stream: it has a stream, or it has made a step.
+abbrev pub part_refusal : Part → Option ChipError
+part_refusal part = if is_some part.stream then Some AlreadyGiven else if part.state.steps == 0 then None else Some Begun
+
+abbrev pub refusal : Chip → ℕ → Option ChipError
+refusal chip name = option_and_then part_refusal (part_of chip name)
+
+-- Why a node can't be given a stream: it stands at no edge of the chip, or for the reasons above.
+abbrev pub stream_refusal : Chip → ℕ → Option ChipError
+stream_refusal chip name = if is_edge name then refusal chip name else Some NotEdge
+
+-- the answer of a call that may be refused, and where what was moved in comes back
+abbrev pub answer_of : Option ChipError → Result (Unit {0}) ChipError
+answer_of None = Ok tt
+answer_of (Some fault) = Err fault
+
+abbrev pub with_words : {W : Type 0} → W → Option ChipError → Result (Unit {0}) (ChipError × W)
+with_words words None = Ok tt
+with_words words (Some fault) = Err (fault, words)
+
+-- a call that is refused leaves the chip as it was
+abbrev pub unless_refused : Option ChipError → Chip → Chip → Chip
+unless_refused None changed chip = changed
+unless_refused (Some fault) changed chip = chip
 
 -- a part whose node is as after reset, with these words at the front of its memory and P at the entry
 abbrev pub given : List ℕ → ℕ → Part → Part
@@ -92,3 +116,11 @@ given words entry part = record part { state = loaded_state part.state.node word
 -- The chip where a node was given words and an entry.
 unfoldable pub placed : Chip → ℕ → List ℕ → ℕ → Chip
 placed chip name words entry = with_changed (given words entry) (part_of chip name) chip name
+
+-- a part whose node is as after reset, and loads itself from these words
+abbrev pub streaming : List ℕ → Part → Part
+streaming words part = record part { state = booting_state part.state.node; stream = Some words }
+
+-- The chip where a node was given a stream.
+unfoldable pub streamed : Chip → ℕ → List ℕ → Chip
+streamed chip name words = with_changed (streaming words) (part_of chip name) chip name

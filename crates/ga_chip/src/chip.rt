@@ -1,7 +1,6 @@
 ghost use Rattle.std.specs.Prelude.{◌≡◌, ◌≢◌, ℕ, ◌+◌, ◌<◌, ◌≤◌, ◌^◌, IfOk, false, if◌then◌else◌, length};
 ghost use Rattle.ga_place.specs.Cell.{name_at};
-ghost use Rattle.ga_chip.specs.declared.error.ChipError.TheVariants.{Begun};
-ghost use Rattle.ga_chip.specs.Chip.{has_begun, part_of, placed, reset_chip, state_of, tried};
+ghost use Rattle.ga_chip.specs.Chip.{answer_of, part_of, placed, refusal, reset_chip, state_of, stream_refusal, streamed, tried, unless_refused, with_words};
 ghost use Rattle.ga_node.specs.Need.{is_own, need_of};
 ghost use Rattle.ga_chip.specs.Part.{Part};
 ghost use Rattle.ga_chip.specs.Ledger.{ledger_of};
@@ -70,19 +69,44 @@ impl Chip {
         })
     }
 
+    /// Gives a node a stream: it is then as `NodeState::booting` says, and loads itself from these words. Refused
+    /// are a node that stands at no edge, `NotEdge`; one that has a stream, `AlreadyGiven`; and one that has
+    /// made a step, `Begun`. The chip is left as it was then, and the words come back. (Streams are this
+    /// project's own: profile.)
+    pub fn give_stream(
+        &mut self,
+        node: Node,
+        words: Vec<Word18>,
+    ) -> Result<(), (ChipError, Vec<Word18>)>
+        ensures refused { result ≡ with_words words (stream_refusal self.old node) }
+        ensures chip { self.new ≡ unless_refused (stream_refusal self.old node) (streamed self.old node words.items) self.old }
+    {
+        if !node.is_edge() {
+            return Err((ChipError::NotEdge, words));
+        }
+        let index = index_of(node);
+        let part = &mut self.parts[index];
+        if let Some(fault) = part.refusal() {
+            return Err((fault, words));
+        }
+        part.give_stream(words);
+        self.awake.insert(index);
+        Ok(())
+    }
+
     /// Gives a node words, at most 64, and an entry, an address of ten bits: it is then as
-    /// `NodeState::loaded` says, so that a second call starts it anew. A node that has made a step is
-    /// refused, `Begun`, and the chip is left as it was.
+    /// `NodeState::loaded` says, so that a second call starts it anew. A node that has a stream is refused,
+    /// `AlreadyGiven`, and one that has made a step, `Begun`; the chip is left as it was then.
     pub fn place(&mut self, node: Node, words: &[Word18], entry: u16) -> Result<(), ChipError>
         requires words { length words.now ≤ 64 }
         requires entry { entry < 2 ^ 10 }
-        ensures begun { result ≡ (if has_begun self.old node then Err Begun else Ok tt) }
-        ensures chip { self.new ≡ (if has_begun self.old node then self.old else placed self.old node words.now entry) }
+        ensures refused { result ≡ answer_of (refusal self.old node) }
+        ensures chip { self.new ≡ unless_refused (refusal self.old node) (placed self.old node words.now entry) self.old }
     {
         let index = index_of(node);
         let part = &mut self.parts[index];
-        if part.state().steps() != 0 {
-            return Err(ChipError::Begun);
+        if let Some(fault) = part.refusal() {
+            return Err(fault);
         }
         part.give(words, entry);
         self.awake.insert(index);

@@ -1,6 +1,10 @@
 /// Why a chip refuses a call. It is left as it was.
 #[derive(Clone, Copy, Debug, PartialEq, Eq)]
 pub enum ChipError {
+    /// The node stands at no edge of the chip, so it can't be given a stream.
+    NotEdge,
+    /// The node was given a stream before.
+    AlreadyGiven,
     /// The node has made a step.
     Begun,
 }

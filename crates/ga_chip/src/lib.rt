@@ -11,6 +11,7 @@ mod order;
 mod outcome;
 mod part;
 mod port;
+mod stream;
 
 pub use chip::Chip;
 pub use error::ChipError;

@@ -4,27 +4,31 @@ ghost use Rattle.ga_place.specs.Side.{is_among, one_side};
 ghost use Rattle.ga_place.specs.declared.side.Side.{Side};
 ghost use Rattle.ga_node.specs.Need.{is_check, is_own, is_post, need_of, takes_at};
 ghost use Rattle.ga_node.specs.State.{loaded_state};
-ghost use Rattle.ga_chip.specs.Part.{Own, after, after_asked, asks, asks_by, check_of, count_at, looked_at, post_to, stepped, take_of};
-ghost use Rattle.ga_chip.specs.Chip.{cells_after, found_by, given, reset_part};
+ghost use Rattle.ga_node.specs.declared.need.Need.TheVariants.{Input};
+ghost use Rattle.ga_chip.specs.Part.{Own, after, after_asked, asks, asks_by, check_of, count_at, input_of, looked_at, post_to, stepped, take_of};
+ghost use Rattle.ga_chip.specs.Chip.{cells_after, found_by, given, part_refusal, reset_part, streaming};
 ghost use Rattle.ga_chip.specs.Awake.{partner_of};
 ghost use Rattle.ga_chip.specs.Port.{FitsPorts};
 ghost use Rattle.ga_chip.specs.declared.outcome.Outcome.TheVariants.{Moved};
 
 use crate::counts::Counts;
+use crate::error::ChipError;
 use crate::outcome::Outcome;
 use crate::port::Ports;
+use crate::stream::Stream;
 use ga_node::{Need, NodeState};
 use ga_place::{CellId, Node, Side, Sides};
 use ga_word::Word18;
 use std::marker::Model;
 
-/// What the chip has of one node: its state, and how many words it has written and read at each side. No
-/// node has a breakpoint or a stream.
+/// What the chip has of one node: its state, how many words it has written and read at each side, and its
+/// stream, if it was given one. No node has a breakpoint.
 #[derive(Drop)]
 pub(crate) struct NodePart {
     state: NodeState,
     written: Counts,
     read: Counts,
+    stream: Option<Stream>,
 }
 
 /// What came of a try of a node whose need isn't its own.
@@ -49,7 +53,7 @@ impl Model for NodePart {
       state = part.state;
       breaks = replicate 512 false;
       pass = false;
-      stream = None;
+      stream = part.stream;
       written = part.written;
       read = part.read;
     } };
@@ -66,6 +70,7 @@ impl NodePart {
             state: NodeState::reset(node),
             written: Counts::new(),
             read: Counts::new(),
+            stream: None,
         }
     }
 
@@ -157,8 +162,9 @@ impl NodePart {
             },
             Need::Post(to, word) => self.post(ports, cells, to, word),
             Need::Check(to) => self.check(ports, cells, to),
+            Need::Input => self.input(),
             Need::Stopped(_) => Outcome::Stopped,
-            Need::Own | Need::Input => Outcome::Waits,
+            Need::Own => Outcome::Waits,
         }
     }
 
@@ -287,6 +293,43 @@ impl NodePart {
             }
             _ => Outcome::Waits,
         }
+    }
+
+    /// The loader takes the next word of the node's stream, where one is left.
+    fn input(&mut self) -> Outcome
+        requires { need_of self.old.state ≡ Input }
+        ensures { (result, self.new) ≡ after_asked (input_of self.old.stream) None self.old }
+    {
+        let Some(stream) = &mut self.stream else {
+            return Outcome::Waits;
+        };
+        let Some(word) = stream.next() else {
+            return Outcome::Waits;
+        };
+        self.state.step_input(word);
+        Outcome::Moved
+    }
+
+    /// Why the node can't be given words or a stream, if it can't.
+    pub(crate) fn refusal(&self) -> Option<ChipError>
+        ensures { result ≡ part_refusal self.now }
+    {
+        if self.stream.is_some() {
+            Some(ChipError::AlreadyGiven)
+        } else if self.state.steps() == 0 {
+            None
+        } else {
+            Some(ChipError::Begun)
+        }
+    }
+
+    /// Gives a node that has made no step a stream, from which it loads itself.
+    pub(crate) fn give_stream(&mut self, words: Vec<Word18>)
+        requires new { self.old.state.steps ≡ 0 }
+        ensures { self.new ≡ streaming words.items self.old }
+    {
+        self.state = NodeState::booting(self.state.node());
+        self.stream = Some(Stream::new(words));
     }
 
     /// Gives a node that has made no step words for the front of its memory, at most 64, and P an entry, an

@@ -10,12 +10,12 @@ use Rattle.std.proofs.lemmas.List.FromFn.{get_or-map-range_with_len}
 use Rattle.std.proofs.lemmas.List.Folds.{list_any_at}
 use Rattle.std.proofs.lemmas.Map.Made.{length-le_from_is_member}
 use Rattle.ga_place.specs.Cell.{index_of, name_at}
-use Rattle.ga_place.specs.Node.{IsNodeName}
+use Rattle.ga_place.specs.Node.{IsNodeName, is_edge}
 use Rattle.ga_place.specs.Side.{SIDES, is_the_node, neighbour_of, side_to}
 use Rattle.ga_place.specs.declared.side.Side.{Side}
 use Rattle.ga_place.proofs.Cells.{index_below, name_back}
 use Rattle.ga_place.proofs.SideLemmas.{neighbour_of-IsNodeName}
-use Rattle.ga_path.specs.Route.{AreHops, hop_fault, hops_fault, is_among, is_edge, route_fault}
+use Rattle.ga_path.specs.Route.{AreHops, hop_fault, hops_fault, is_among, route_fault}
 use Rattle.ga_path.specs.declared.error.RouteError.{RouteError}
 use Rattle.ga_path.specs.declared.error.RouteError.TheVariants.{NotEdge, NotNeighbour, Repeated}
 

@@ -1,15 +1,11 @@
 -- Which nodes are a route, and what is wrong with others.
-use Rattle.std.specs.Prelude.{◌≡◌, ℕ, ◌==◌, Bool, ◌||◌, List, [], ◌∷◌, length, Option, Some, None, is_none, IsSome, if◌then◌else◌}
+use Rattle.std.specs.Prelude.{◌≡◌, ℕ, ◌==◌, Bool, List, [], ◌∷◌, length, Option, Some, None, is_none, IsSome, if◌then◌else◌}
 use Rattle.std.specs.List.{list_any}
 use Rattle.std.specs.Option.{option_or}
-use Rattle.ga_place.specs.Node.{column_of, row_of}
+use Rattle.ga_place.specs.Node.{is_edge}
 use Rattle.ga_place.specs.Side.{side_to}
 use Rattle.ga_path.specs.declared.error.RouteError.{RouteError}
 use Rattle.ga_path.specs.declared.error.RouteError.TheVariants.{Empty, Memory, NotEdge, NotNeighbour, Repeated}
-
--- the node stands in the first or the last row or column
-abbrev pub is_edge : ℕ → Bool
-is_edge name = (row_of name == 0) || ((row_of name == 7) || ((column_of name == 0) || (column_of name == 17)))
 
 -- a name stands among names
 abbrev pub is_among : ℕ → List ℕ → Bool

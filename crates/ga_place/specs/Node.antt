@@ -1,5 +1,5 @@
 -- The 144 nodes, in 8 rows by 18 columns. A node is seen as its name, the number row * 100 + column.
-use Rattle.std.specs.Prelude.{◌≡◌, ℕ, ◌+◌, ◌/◌, ◌%◌, ◌<◌, List, [], ◌∷◌, ◌⊎◌}
+use Rattle.std.specs.Prelude.{◌≡◌, ℕ, ◌+◌, ◌/◌, ◌%◌, ◌<◌, ◌==◌, Bool, ◌||◌, List, [], ◌∷◌, ◌⊎◌}
 
 -- the row of a node, counted from the south: the hundreds of its name
 abbrev pub row_of : ℕ → ℕ
@@ -16,6 +16,10 @@ IsNodeName name = (row_of name < 8) × (column_of name < 18)
 -- the node stands in the first or the last row or column
 abbrev pub IsOnEdge : ℕ → Type 0
 IsOnEdge name = (row_of name ≡ 0) ⊎ (row_of name ≡ 7) ⊎ (column_of name ≡ 0) ⊎ (column_of name ≡ 17)
+
+-- whether it does
+abbrev pub is_edge : ℕ → Bool
+is_edge name = (row_of name == 0) || ((row_of name == 7) || ((column_of name == 0) || (column_of name == 17)))
 
 -- the text of a node: the three decimal digits of its name
 abbrev pub node_text : ℕ → List ℕ

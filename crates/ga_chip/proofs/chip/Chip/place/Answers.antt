@@ -1,33 +1,35 @@
-use Rattle.std.specs.Prelude.{if◌then◌else◌, Err, Ok}
-use Rattle.std.proofs.Common.{ap, ◌∙◌, sym}
-use Rattle.ga_chip.specs.Chip.{has_begun, placed}
-use Rattle.ga_chip.specs.declared.error.ChipError.TheVariants.{Begun}
+use Rattle.std.proofs.Common.{◌∙◌, ap, refl, sym}
+use Rattle.ga_chip.specs.Chip.{Chip, answer_of, given, placed, refusal, unless_refused}
 use Rattle.ga_chip.proofs.Awake.{placed_knows}
-use Rattle.ga_chip.proofs.Placed.{given_at, refused_at}
+use Rattle.ga_chip.proofs.Placed.{given_at, placed_is, refused_at}
 use Rattle.ga_chip.proofs.chip.Chip.place.Goals as goal
 
-pub returns-then-steps-ne0-clause-chip : goal.returns-then-steps-ne0-clause-chip
-returns-then-steps-ne0-clause-chip c =
-    (refused_at (record { parts = c.self.inside.parts.items; cells = c.self.inside.cells.items }) (placed (record { parts = c.self.inside.parts.items; cells = c.self.inside.cells.items }) c.args.node c.args.words.now c.args.entry) c.args.node c.index_of-index.result c.index_mut-part.result.now c.self.invariant.0.legal c.index_of-index.ensures.value c.index_of-index.ensures.bound c.index_mut-part.ensures.value
-    (λ e. c.if-steps-ne0.true (c.steps.ensures ∙ ap (λ s. s.steps) c.state.ensures ∙ e))).1
-    ∙ ap (λ z. if has_begun z c.args.node then z else placed z c.args.node c.args.words.now c.args.entry) c.self.view_is
+pub returns-in-Some-clause-chip : goal.returns-in-Some-clause-chip
+returns-in-Some-clause-chip c =
+    let chip : Chip = record { parts = c.self.inside.parts.items; cells = c.self.inside.cells.items } in
+    (refused_at chip (placed chip c.args.node c.args.words.now c.args.entry) c.args.node c.index_of-index.result c.index_mut-part.result.now c.in-Some.fault c.self.invariant.0.legal c.index_of-index.ensures.value c.index_of-index.ensures.bound c.index_mut-part.ensures.value
+    (sym c.refusal.ensures ∙ c.in-Some.is)).1
+    ∙ ap (λ z. unless_refused (refusal z c.args.node) (placed z c.args.node c.args.words.now c.args.entry) z) c.self.view_is
 
 pub invariant_of-self-2 : goal.invariant_of-self-2
-invariant_of-self-2 c = (
-  (placed_knows (record { parts = c.self.inside.parts.items; cells = c.self.inside.cells.items }) c.self.inside.awake c.insert.new.self c.index_of-index.result c.give.new.self c.self.invariant.0 c.insert.ensures
-      (given_at (record { parts = c.self.inside.parts.items; cells = c.self.inside.cells.items }) c.args.node c.index_of-index.result c.args.entry c.args.words.now c.index_mut-part.result.now c.give.new.self c.self.invariant.0.legal c.index_of-index.ensures.value c.index_of-index.ensures.bound c.index_mut-part.ensures.value
-      (ap (λ s. s.steps) (sym c.state.ensures) ∙ sym c.steps.ensures ∙ c.if-steps-ne0.false) c.give.ensures).2),
-  c.self.invariant.1,
-)
+invariant_of-self-2 c =
+    let chip : Chip = record { parts = c.self.inside.parts.items; cells = c.self.inside.cells.items } in
+    let after = given_at (given c.args.words.now c.args.entry) chip c.args.node c.index_of-index.result c.index_mut-part.result.now c.give.new.self c.self.invariant.0.legal c.index_of-index.ensures.value c.index_of-index.ensures.bound c.index_mut-part.ensures.value
+    (sym c.refusal.ensures ∙ c.in_default.is) c.give.ensures refl refl refl in
+    (placed_knows chip c.self.inside.awake c.insert.new.self c.index_of-index.result c.give.new.self c.self.invariant.0 c.insert.ensures after.2, c.self.invariant.1)
 
-pub returns-clause-begun : goal.returns-clause-begun
-returns-clause-begun c =
-    sym (ap (λ b. if b then Err Begun else Ok tt) (ap (λ z. has_begun z c.args.node) (sym c.self.view_is)
-    ∙ (given_at (record { parts = c.self.inside.parts.items; cells = c.self.inside.cells.items }) c.args.node c.index_of-index.result c.args.entry c.args.words.now c.index_mut-part.result.now c.give.new.self c.self.invariant.0.legal c.index_of-index.ensures.value c.index_of-index.ensures.bound c.index_mut-part.ensures.value
-    (ap (λ s. s.steps) (sym c.state.ensures) ∙ sym c.steps.ensures ∙ c.if-steps-ne0.false) c.give.ensures).0))
+pub returns-clause-refused : goal.returns-clause-refused
+returns-clause-refused c =
+    let chip : Chip = record { parts = c.self.inside.parts.items; cells = c.self.inside.cells.items } in
+    let after = given_at (given c.args.words.now c.args.entry) chip c.args.node c.index_of-index.result c.index_mut-part.result.now c.give.new.self c.self.invariant.0.legal c.index_of-index.ensures.value c.index_of-index.ensures.bound c.index_mut-part.ensures.value
+    (sym c.refusal.ensures ∙ c.in_default.is) c.give.ensures refl refl refl in
+    sym (ap answer_of (ap (λ z. refusal z c.args.node) (sym c.self.view_is) ∙ after.0))
 
 pub returns-clause-chip : goal.returns-clause-chip
 returns-clause-chip c =
-    (given_at (record { parts = c.self.inside.parts.items; cells = c.self.inside.cells.items }) c.args.node c.index_of-index.result c.args.entry c.args.words.now c.index_mut-part.result.now c.give.new.self c.self.invariant.0.legal c.index_of-index.ensures.value c.index_of-index.ensures.bound c.index_mut-part.ensures.value
-    (ap (λ s. s.steps) (sym c.state.ensures) ∙ sym c.steps.ensures ∙ c.if-steps-ne0.false) c.give.ensures).1
-    ∙ ap (λ z. if has_begun z c.args.node then z else placed z c.args.node c.args.words.now c.args.entry) c.self.view_is
+    let chip : Chip = record { parts = c.self.inside.parts.items; cells = c.self.inside.cells.items } in
+    let after = given_at (given c.args.words.now c.args.entry) chip c.args.node c.index_of-index.result c.index_mut-part.result.now c.give.new.self c.self.invariant.0.legal c.index_of-index.ensures.value c.index_of-index.ensures.bound c.index_mut-part.ensures.value
+    (sym c.refusal.ensures ∙ c.in_default.is) c.give.ensures refl refl refl in
+    after.1
+    ∙ ap (λ p. unless_refused (refusal chip c.args.node) p chip) (sym (placed_is chip c.args.node c.args.entry c.args.words.now))
+    ∙ ap (λ z. unless_refused (refusal z c.args.node) (placed z c.args.node c.args.words.now c.args.entry) z) c.self.view_is
