@@ -197,7 +197,7 @@ impl<'a> Parser<'a> {
                     return Err(SourceErrorKind::DuplicateNode);
                 }
                 self.node = node;
-                self.items = Vec::with_capacity(self.alloc, 64)?;
+                self.items = Vec::with_capacity(self.alloc, 128)?;
                 self.labels = IndexSet::new(self.alloc);
                 self.part = Part::Code(0);
                 self.has_word = false;
