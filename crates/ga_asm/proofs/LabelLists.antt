@@ -70,7 +70,7 @@ names_by (item.Transfer o v) items e = e
 names_by (item.Literal n) items e = e
 names_by item.Align items e = e
 names_by (item.Word ops) items e = e
-names_by (item.WordTo ops o v spare) items e = e
+names_by (item.WordTo word) items e = e
 names_by (item.Plain v) items e = e
 names_by item.Data items e = e
 

@@ -12,7 +12,7 @@ use Rattle.ga_pack.proofs.Placed.{add, add_stands}
 use Rattle.ga_source.specs.declared.item.PlacedItem as placed
 use Rattle.ga_source.specs.Item.{item_of}
 use Rattle.ga_asm.specs.Image.{all_near, labels_of}
-use Rattle.ga_asm.specs.Layout.{IsFirstPassFault, Laying, Placing, closed_counts, counts_after, data_after, data_at, joins_open, labels_with, names_of, open_after, open_at, open_count, open_if, open_of, plain}
+use Rattle.ga_asm.specs.Layout.{IsBlank, IsFirstPassFault, Laying, Placing, closed_counts, counts_after, data_after, data_at, joins_open, labels_with, names_of, open_after, open_at, open_count, open_if, open_of, plain}
 use Rattle.ga_asm.specs.declared.layout.Layout as the
 use Rattle.ga_asm.proofs.RightItems.{items_new}
 use Rattle.ga_asm.proofs.Summary.{address_add, counts_add, counts_closed, data_add, joins_is, labels_add, open_add}
@@ -166,22 +166,25 @@ laying_fault items at d l (Some kind) h is laying e = record {
 
 -- ---- the beginning and the end
 
-pub laying_none : (names : List (List ℕ)) (l : the.Layout) → l.labels.entries ≡ [] → l.address ≡ 0 → l.is_open ≡ false → l.word ≡ 0 → l.counts.items ≡ [] → l.data_start ≡ None → Laying names [] l
+pub laying_none : (names : List (List ℕ)) (l : the.Layout) → IsBlank l → Laying names [] l
 unfolding Arranged Passed
-laying_none names l labels address closed word counts data_start = record {
-  groups = [];
-  stand_in = record { in_order = refl; arranged = tt };
-  passed = tt;
-  labels_are = ap labels_of labels;
-  names_are = ap (λ t. names_of (labels_of t)) labels;
-  address_is = address;
-  open_is = ap (λ t. open_if t l.word l.ops.items) closed;
-  counts_are = counts;
-  data_is = data_start;
-  few = omega arith;
-  near = omega arith;
-  labels_near = ap (λ t. all_near (labels_of t)) labels;
-}
+laying_none names l blank =
+    let address = blank.address in
+    let word = blank.word in
+    record {
+      groups = [];
+      stand_in = record { in_order = refl; arranged = tt };
+      passed = tt;
+      labels_are = ap labels_of blank.labels;
+      names_are = ap (λ t. names_of (labels_of t)) blank.labels;
+      address_is = address;
+      open_is = ap (λ t. open_if t l.word l.ops.items) blank.closed;
+      counts_are = blank.counts;
+      data_is = blank.data_start;
+      few = omega arith;
+      near = omega arith;
+      labels_near = ap (λ t. all_near (labels_of t)) blank.labels;
+    }
 
 pub laying_all : (items : List Item) (l m : the.Layout) → Laying (names_in items) items l → m ≡ record l { is_open = false; counts = m.counts } → m.counts.items ≡ l.counts.items ++ open_count (open_of l) → Placing items m
 laying_all items l m laying same counts =

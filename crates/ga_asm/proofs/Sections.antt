@@ -13,7 +13,7 @@ use Rattle.ga_pack.proofs.OneLayout.{one_laid}
 use Rattle.ga_pack.proofs.OneFault.{right_program}
 use Rattle.ga_source.specs.declared.item.PlacedItem as placed
 use Rattle.ga_source.specs.declared.section.Section as written
-use Rattle.ga_source.specs.Item.{item_of, placed_of}
+use Rattle.ga_source.specs.Item.{item_of, name_place_in, placed_of}
 use Rattle.ga_source.specs.Token.{place_of}
 use Rattle.ga_source.specs.declared.token.Place as here
 use Rattle.ga_source.specs.Section.{section_of}
@@ -37,11 +37,11 @@ items_are : (items : List placed.PlacedItem) → items_in (map placed_of items) 
 items_are [] = refl
 items_are (i ∷ items) = ap (λ t. item_of i.item ∷ t) (items_are items)
 
-pub told_name : (i : placed.PlacedItem) (place p : here.Place) → place ≡ p → i.name_place ≡ Some p → place_of place ≡ fault_place (placed_of i)
-told_name i place p e is = ap place_of e ∙ ap (λ t. unwrap_or (option_map place_of t) (place_of i.place)) (sym is)
+pub told_name : (i : placed.PlacedItem) (told : Option here.Place) (place p : here.Place) → option_map place_of told ≡ name_place_in i.item → place ≡ p → told ≡ Some p → place_of place ≡ fault_place (placed_of i)
+told_name i told place p same e is = ap place_of e ∙ ap (λ t. unwrap_or (option_map place_of t) (place_of i.place)) (sym is) ∙ ap (λ t. unwrap_or t (place_of i.place)) same
 
-pub told_place : (i : placed.PlacedItem) (place : here.Place) → place ≡ i.place → i.name_place ≡ None → place_of place ≡ fault_place (placed_of i)
-told_place i place e is = ap place_of e ∙ ap (λ t. unwrap_or (option_map place_of t) (place_of i.place)) (sym is)
+pub told_place : (i : placed.PlacedItem) (told : Option here.Place) (place : here.Place) → option_map place_of told ≡ name_place_in i.item → place ≡ i.place → told ≡ None → place_of place ≡ fault_place (placed_of i)
+told_place i told place same e is = ap place_of e ∙ ap (λ t. unwrap_or (option_map place_of t) (place_of i.place)) (sym is) ∙ ap (λ t. unwrap_or t (place_of i.place)) same
 
 pub place_at : (items : List placed.PlacedItem) (at : ℕ) (d : placed.PlacedItem) (place : Place) → at < length items → d ≡ get_or items at d → place ≡ fault_place (placed_of d) → IsPlaceOf items at place
 place_at [] at d place h is e = absurd (omega arith)

@@ -92,6 +92,15 @@ data_at address (Alone i ∷ groups) = if is_data i then Some address else data_
 abbrev pub names_of : Labels → List (List ℕ)
 names_of labels = map (λ label. label.0) labels
 
+-- Nothing is laid.
+pub record IsBlank (l : the.Layout) : Type 0 where
+  pub labels : l.labels.entries ≡ []
+  pub address : l.address ≡ 0
+  pub closed : l.is_open ≡ false
+  pub word : l.word ≡ 0
+  pub counts : l.counts.items ≡ []
+  pub data_start : l.data_start ≡ None
+
 -- The items stand in groups without a fault of the first pass, and this is kept of them.
 pub record Laying (names : List (List ℕ)) (items : List Item) (l : the.Layout) : Type 0 where
   pub groups : List Group

@@ -81,7 +81,7 @@ fn error_at(node: Node, items: &[PlacedItem], refusal: Refusal) -> AsmError
     ensures place { IsPlaceOf items.now refusal.at (error_place result) }
 {
     let placed = &items[refusal.at];
-    let place = match placed.name_place {
+    let place = match placed.name_place() {
         Some(place) => place,
         None => placed.place,
     };

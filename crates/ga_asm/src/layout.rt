@@ -9,18 +9,18 @@ ghost use Rattle.ga_pack.specs.Model.Source.{Items, start};
 ghost use Rattle.ga_pack.specs.Model.Source as words;
 ghost use Rattle.ga_word.specs.Op.{ends_word};
 ghost use Rattle.ga_pack.specs.Followers as counted;
-ghost use Rattle.ga_source.specs.Item.{item_of, value_of};
+ghost use Rattle.ga_source.specs.Item.{item_of, value_of, word_of};
 ghost use Rattle.ga_asm.specs.Error.{kind_in, kind_of};
 ghost use Rattle.ga_asm.specs.Image.{labels_of};
-ghost use Rattle.ga_asm.specs.Layout.{IsFirstPassFault, counts_after, data_after, joins_word, Placing, labels_with, names_of, open_after, open_count, open_of, plain};
+ghost use Rattle.ga_asm.specs.Layout.{IsBlank, IsFirstPassFault, counts_after, data_after, joins_word, Placing, labels_with, names_of, open_after, open_count, open_of, plain};
 ghost use Rattle.ga_asm.specs.declared.error.AsmErrorKind.TheVariants.{Memory};
 
 use crate::error::AsmErrorKind;
 use arrayvec::ArrayVec;
-use ga_source::{Item, PlacedItem, Section, Value};
+use ga_source::{Item, PlacedItem, Section, TransferWord, Value};
 use ga_word::{Op, Word18};
 use indexmap::{IndexMap, IndexSet};
-use std::alloc::Global;
+use std::alloc::{AllocError, Global};
 
 // What is kept of the items that are laid.
 #[derive(Drop)]
@@ -52,7 +52,7 @@ fn is_value(names: &IndexSet<String>, value: &Value) -> bool
 {
     match value {
         Value::Number(_) => true,
-        Value::Label(name) => names.contains(name.as_str()),
+        Value::Label(label) => names.contains(label.name.as_str()),
     }
 }
 
@@ -61,7 +61,8 @@ fn is_defined(names: &IndexSet<String>, item: &Item) -> bool
     ensures { result ≡ laid.is_defined (map string_bytes names.now.keys) (item_of item.now) }
 {
     match item {
-        Item::Transfer { dest, .. } | Item::WordTo { dest, .. } => is_value(names, dest),
+        Item::Transfer { dest, .. } => is_value(names, dest),
+        Item::WordTo(word) => is_value(names, &word.dest),
         Item::Plain(value) => is_value(names, value),
         _ => true,
     }
@@ -183,7 +184,7 @@ pub(crate) fn value_among(labels: &IndexMap<String, u8>, value: &Value) -> Optio
 {
     match value {
         Value::Number(number) => Some(*number),
-        Value::Label(name) => Word18::new(u32::from(address_of(labels, name.as_str())?)),
+        Value::Label(label) => { Word18::new(u32::from(address_of(labels, label.name.as_str())?)) }
     }
 }
 
@@ -193,19 +194,25 @@ pub(crate) fn is_in_reach(labels: &IndexMap<String, u8>, address: u8, item: &Ite
     ensures { result ≡ laid.is_in_reach (labels_of labels.now.entries) address (item_of item.now) }
 {
     match item {
-        Item::WordTo {
-            ops,
-            dest: Value::Label(name),
-            ..
-        } => match address_of(labels, name.as_str()) {
-            Some(dest) => reaches(
-                ops.len(),
-                p_behind(address, ops.as_slice()),
-                u32::from(dest),
-            ),
-            None => true,
-        },
+        Item::WordTo(word) => word_reaches(labels, address, word),
         _ => true,
+    }
+}
+
+fn word_reaches(labels: &IndexMap<String, u8>, address: u8, word: &TransferWord) -> bool
+    requires { address ≤ 64 }
+    ensures { result ≡ laid.is_in_reach (labels_of labels.now.entries) address (word_of word.now) }
+{
+    let Value::Label(label) = &word.dest else {
+        return true;
+    };
+    match address_of(labels, label.name.as_str()) {
+        Some(dest) => reaches(
+            word.ops.len(),
+            p_behind(address, word.ops.as_slice()),
+            u32::from(dest),
+        ),
+        None => true,
     }
 }
 
@@ -269,6 +276,21 @@ impl Layout {
 }
 
 impl Layout {
+    // Nothing is laid, and there is room for so many labels and counts.
+    fn new(alloc: Global, labels: usize, counts: usize) -> Result<Self, AllocError>
+        ensures { IfOk result IsBlank }
+    {
+        Ok(Layout {
+            labels: IndexMap::with_capacity(alloc, labels)?,
+            address: 0,
+            is_open: false,
+            word: 0,
+            ops: ArrayVec::new(),
+            counts: Vec::with_capacity(alloc, counts)?,
+            data_start: None,
+        })
+    }
+
     // A word that is open is closed.
     fn close(&mut self) -> Result<(), AsmErrorKind>
         ensures ok { OnOk result (self.new ≡ record self.old { is_open = false; counts = self.new.counts }) }
@@ -365,14 +387,12 @@ pub(crate) fn first_pass(
     ensures err { IfErr result (λ refusal. IsFirstPassFault (plain items.now) refusal.at (kind_of refusal.kind)) }
     ensures at { IfErr result (λ refusal. refusal.at < length items.now) }
 {
-    let mut layout = Layout {
-        labels: IndexMap::new(alloc),
-        address: 0,
-        is_open: false,
-        word: 0,
-        ops: ArrayVec::new(),
-        counts: Vec::new(alloc),
-        data_start: None,
+    let mut layout = match Layout::new(alloc, names.len(), items.len()) {
+        Ok(layout) => layout,
+        Err(_) => {
+            let kind = AsmErrorKind::Memory;
+            return Err(Refusal { at: 0, kind });
+        }
     };
     for (at, placed) in items.iter().enumerate() {
         let joined = layout.joins(&placed.item);

@@ -8,7 +8,7 @@ ghost use Rattle.ga_pack.specs.Reading.{Reads};
 ghost use Rattle.ga_pack.specs.Model.Layout as laid;
 ghost use Rattle.ga_pack.specs.Model.Layout.{Alone, GroupWords, IsWord, Laid, last_dest, ops_of};
 ghost use Rattle.ga_pack.specs.Model.Source as source;
-ghost use Rattle.ga_source.specs.Item.{item_of, value_of};
+ghost use Rattle.ga_source.specs.Item.{item_of, value_of, word_of};
 ghost use Rattle.ga_asm.specs.Error.{kind_of};
 ghost use Rattle.ga_asm.specs.Image.{labels_of};
 ghost use Rattle.ga_asm.specs.Layout.{Placing, plain};
@@ -20,7 +20,7 @@ use crate::error::AsmErrorKind;
 use crate::layout::{Layout, Refusal, is_in_reach, is_loose, op_of, value_among};
 use arrayvec::ArrayVec;
 use ga_pack::{Packed, encode};
-use ga_source::{Item, PlacedItem, Value};
+use ga_source::{Item, PlacedItem, TransferWord, Value};
 use ga_word::{Op, Word18};
 use indexmap::IndexMap;
 use std::alloc::Global;
@@ -137,6 +137,17 @@ fn push_followers(items: &[PlacedItem], words: &mut Vec<Word18>) -> Result<(), A
     Ok(())
 }
 
+// A bracketed word with a destination.
+fn word_to(labels: &IndexMap<String, u8>, bracketed: &TransferWord) -> Word18
+    requires { source.is_item (word_of bracketed.now) ≡ true }
+    ensures { IsWord result (bracketed.now.ops.items ++ bracketed.now.op ∷ []) (Some (laid.dest_in (labels_of labels.now.entries) (length bracketed.now.ops.items) (value_of bracketed.now.dest))) (unwrap_or bracketed.now.spare 0) }
+{
+    let mut slots = slots_of(bracketed.ops.as_slice());
+    slots.push(bracketed.op);
+    let dest = dest_in(labels, bracketed.ops.len(), &bracketed.dest);
+    word(slots, Some(dest), bracketed.spare.unwrap_or(0))
+}
+
 // The words of an item that shares no word.
 #[tactic(auto, unfolding(ga_pack::specs::Model::Layout::GroupWords))]
 fn push_alone(
@@ -153,16 +164,8 @@ fn push_alone(
         Item::Word(ops) => {
             words.push(word(slots_of(ops.as_slice()), None, 0))?;
         }
-        Item::WordTo {
-            ops,
-            op,
-            dest,
-            spare,
-        } => {
-            let mut slots = slots_of(ops.as_slice());
-            slots.push(*op);
-            let dest = dest_in(labels, ops.len(), dest);
-            words.push(word(slots, Some(dest), spare.unwrap_or(0)))?;
+        Item::WordTo(bracketed) => {
+            words.push(word_to(labels, bracketed))?;
         }
         Item::Plain(value) => {
             words.push(number_of(labels, value))?;
@@ -200,11 +203,15 @@ pub(crate) fn second_pass(
 ) -> Result<Vec<Word18>, Refusal>
     requires placed { Placing (plain items.now) layout.now }
     requires right { list_all source.is_item (plain items.now) ≡ true }
+    requires some { 0 < length items.now }
     ensures ok { IfOk result (λ made. IsMade (plain items.now) layout.now made.items) }
     ensures err { IfErr result (λ refusal. IsSecondPassFault (plain items.now) refusal.at (kind_of refusal.kind)) }
     ensures at { IfErr result (λ refusal. refusal.at < length items.now) }
 {
-    let mut words = Vec::new(alloc);
+    let Ok(mut words) = Vec::with_capacity(alloc, usize::from(layout.address)) else {
+        let kind = AsmErrorKind::Memory;
+        return Err(Refusal { at: 0, kind });
+    };
     let mut rest = items;
     for count in &layout.counts {
         let (group, behind) = rest.split_at(*count);

@@ -21,6 +21,9 @@ eight on a line.
 
 Example: echo 'node 709 main: $5 $7 + @b' | ga-bench asm";
 
+/// The most bytes that the line in front of a node's words has.
+const HEAD_LENGTH: usize = 36;
+
 /// The subcommand `asm`.
 pub fn command<'a>(alloc: Global) -> Result<Command<'a>, AllocError>
     ensures { IfOk result (IsCommandOf asm_command) }
@@ -56,11 +59,11 @@ fn text_of_images(alloc: Global, images: &Images) -> Result<String, AllocError>
 fn text_of_image(alloc: Global, node: Node, image: &Image) -> Result<String, AllocError>
     ensures { IfOk result (λ text. string_bytes text ≡ image_text node image.now) }
 {
-    let mut text = String::new(alloc);
     let entry = Address {
         number: u16::from(image.entry()),
     };
     let words = image.words();
+    let mut text = String::with_capacity(alloc, HEAD_LENGTH + 6 * words.len())?;
     write!(text, "node {node} entry {entry} code {}", image.code_len())?;
     writeln!(text, " words {}", words.len())?;
     text.push_str(&words_text(alloc, words)?)?;

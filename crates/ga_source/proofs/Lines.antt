@@ -11,8 +11,6 @@ use Rattle.std.proofs.lemmas.List.Splits.{slice_split-cons_no, slice_split-cons_
 use Rattle.std.proofs.lemmas.List.Sums.{count_by-le-length, fails_before_first, sum_by-append}
 use Rattle.ga_word.specs.Text.{is_blank, is_empty}
 use Rattle.ga_pack.specs.Model.Text.{Lexeme, Place, Run, before_comment, begins_character, end_from, lexemes, lexemes_from, line_lexemes, lines_of, place_behind, runs_from}
-use Rattle.ga_source.specs.Token.{token_of}
-use Rattle.ga_source.specs.declared.token.Token.{Token}
 
 -- ---- the first part of a list that is cut
 
@@ -98,20 +96,9 @@ pub record Stands (bytes : List ℕ) (at column : ℕ) (left : List (List ℕ)) 
   pub parts : slice_split is_blank rest ≡ left
   pub columns : column ≡ 1 + count_by begins_character front
 
--- the tokens of a line as far as a scan of its parts has come
-pub record Scanned (line offset : ℕ) (bytes : List ℕ) (start column : ℕ) (left : List (List ℕ)) (before tokens : List Token) : Type 0 where
-  pub at : ℕ
-  pub starts : start ≡ offset + at
-  pub found : before ++ map token_of (line_lexemes line offset bytes) ≡ tokens ++ map token_of (of_parts line offset bytes at left)
-  pub stands : (left ≡ []) ⊎ Stands bytes at column left
-
-pub nothing_scanned : (line offset : ℕ) (bytes : List ℕ) (tokens : List Token) → Scanned line offset bytes offset 1 (slice_split is_blank bytes) tokens tokens
-nothing_scanned line offset bytes tokens = record {
-  at = 0;
-  starts = omega arith;
-  found = refl;
-  stands = inr (record { front = []; rest = bytes; whole = refl; behind = refl; parts = refl; columns = refl });
-}
+-- a token of a line
+abbrev pub lexeme_at : ℕ → ℕ → ℕ → List ℕ → Lexeme
+lexeme_at line column start run = record { place = record { line = line; column = column }; start = start; text = run }
 
 -- the first part that is left
 pub record Next (bytes : List ℕ) (at column : ℕ) (run : List ℕ) (others : List (List ℕ)) : Type 0 where
@@ -154,82 +141,114 @@ next_part bytes at column run others (inr s) =
     cut_inside rest run others (inl (none, whole)) = omega (arith, ap length whole)
     cut_inside rest run others (inr (y, left, whole, blank, parts)) = omega (arith, ap length whole, length-append run (y ∷ left))
 
--- ---- a scan goes on
+-- What is made of each token is gathered, as it is itself.
+module _ {X : Type 0} (f : Lexeme → X) where
+  -- the tokens of a line as far as a scan of its parts has come
+  pub record Scanned (line offset : ℕ) (bytes : List ℕ) (start column : ℕ) (left : List (List ℕ)) (before tokens : List X) : Type 0 where
+    pub at : ℕ
+    pub starts : start ≡ offset + at
+    pub found : before ++ map f (line_lexemes line offset bytes) ≡ tokens ++ map f (of_parts line offset bytes at left)
+    pub stands : (left ≡ []) ⊎ Stands bytes at column left
 
--- a comment begins: no tokens are left
-pub at_mark : (line offset : ℕ) (bytes : List ℕ) (start column : ℕ) (run : List ℕ) (others : List (List ℕ)) (before tokens : List Token)
-    → Scanned line offset bytes start column (run ∷ others) before tokens → is_mark run ≡ true → tokens ≡ before ++ map token_of (line_lexemes line offset bytes)
-at_mark line offset bytes start column run others before tokens s mark =
-    sym (append-nil tokens) ∙ ap (λ ls. tokens ++ map token_of ls) (sym (of_mark line offset bytes s.at run others mark)) ∙ sym s.found
+  pub nothing_scanned : (line offset : ℕ) (bytes : List ℕ) (tokens : List X) → Scanned line offset bytes offset 1 (slice_split is_blank bytes) tokens tokens
+  nothing_scanned line offset bytes tokens = record {
+    at = 0;
+    starts = omega arith;
+    found = refl;
+    stands = inr (record { front = []; rest = bytes; whole = refl; behind = refl; parts = refl; columns = refl });
+  }
 
--- no part is left
-pub at_end : (line offset : ℕ) (bytes : List ℕ) (start column : ℕ) (left : List (List ℕ)) (before tokens : List Token)
-    → Scanned line offset bytes start column left before tokens → left ≡ [] → tokens ≡ before ++ map token_of (line_lexemes line offset bytes)
-at_end line offset bytes start column left before tokens s none =
-    sym (append-nil tokens) ∙ ap (λ ls. tokens ++ map token_of (of_parts line offset bytes s.at ls)) (sym none) ∙ sym s.found
+  -- ---- a scan goes on
 
--- an empty run
-pub behind_empty : (line offset : ℕ) (bytes : List ℕ) (start column : ℕ) (run : List ℕ) (others : List (List ℕ)) (before tokens : List Token)
-    → Scanned line offset bytes start column (run ∷ others) before tokens → length run ≡ 0
-    → Scanned line offset bytes (start + length run + 1) (column + (count_by begins_character run + 1)) others before tokens
-behind_empty line offset bytes start column run others before tokens s none = record {
-  at = s.at + length run + 1;
-  starts = omega (arith, s.starts);
-  found = s.found ∙ ap (λ ls. tokens ++ map token_of ls) (of_empty line offset bytes s.at run others none);
-  stands = (next_part bytes s.at column run others s.stands).behind;
-}
+  -- a comment begins: no tokens are left
+  pub at_mark : (line offset : ℕ) (bytes : List ℕ) (start column : ℕ) (run : List ℕ) (others : List (List ℕ)) (before tokens : List X)
+      → Scanned line offset bytes start column (run ∷ others) before tokens → is_mark run ≡ true → tokens ≡ before ++ map f (line_lexemes line offset bytes)
+  at_mark line offset bytes start column run others before tokens s mark =
+      sym (append-nil tokens) ∙ ap (λ ls. tokens ++ map f ls) (sym (of_mark line offset bytes s.at run others mark)) ∙ sym s.found
 
--- a token
-pub behind_token : (line offset : ℕ) (bytes : List ℕ) (start column : ℕ) (run : List ℕ) (others : List (List ℕ)) (before tokens more : List Token)
-    → Scanned line offset bytes start column (run ∷ others) before tokens → is_mark run ≡ false → 0 < length run
-    → more ≡ tokens ++ record { start = start; end = start + length run; line = line; column = column } ∷ []
-    → Scanned line offset bytes (start + length run + 1) (column + (count_by begins_character run + 1)) others before more
-behind_token line offset bytes start column run others before tokens more s mark some e =
-    let next = next_part bytes s.at column run others s.stands in
-    let token : record { start = start; end = start + length run; line = line; column = column } ≡ token_of (placed_run line offset bytes (record { offset = s.at; text = run })) = rw (s.starts, next.columns) refl in
-    record {
-      at = s.at + length run + 1;
-      starts = omega (arith, s.starts);
-      found = s.found ∙ ap (λ ls. tokens ++ map token_of ls) (of_run line offset bytes s.at run others mark some) ∙ sym (append_assoc tokens _ _) ∙ ap (λ t. (tokens ++ t ∷ []) ++ map token_of (of_parts line offset bytes (s.at + length run + 1) others)) (sym token) ∙ ap (λ ts. ts ++ map token_of (of_parts line offset bytes (s.at + length run + 1) others)) (sym e);
-      stands = next.behind;
-    }
+  -- no part is left
+  pub at_end : (line offset : ℕ) (bytes : List ℕ) (start column : ℕ) (left : List (List ℕ)) (before tokens : List X)
+      → Scanned line offset bytes start column left before tokens → left ≡ [] → tokens ≡ before ++ map f (line_lexemes line offset bytes)
+  at_end line offset bytes start column left before tokens s none =
+      sym (append-nil tokens) ∙ ap (λ ls. tokens ++ map f (of_parts line offset bytes s.at ls)) (sym none) ∙ sym s.found
 
--- ---- the lines of a text
+  -- an empty run
+  pub behind_empty : (line offset : ℕ) (bytes : List ℕ) (start column : ℕ) (run : List ℕ) (others : List (List ℕ)) (before tokens : List X)
+      → Scanned line offset bytes start column (run ∷ others) before tokens → length run ≡ 0
+      → Scanned line offset bytes (start + length run + 1) (column + (count_by begins_character run + 1)) others before tokens
+  behind_empty line offset bytes start column run others before tokens s none = record {
+    at = s.at + length run + 1;
+    starts = omega (arith, s.starts);
+    found = s.found ∙ ap (λ ls. tokens ++ map f ls) (of_empty line offset bytes s.at run others none);
+    stands = (next_part bytes s.at column run others s.stands).behind;
+  }
 
--- the tokens of a text as far as a scan of its lines has come
-pub record Read (text : List ℕ) (line start : ℕ) (left : List (List ℕ)) (tokens : List Token) : Type 0 where
-  pub room : start + span left ≡ length text + 1
-  pub low : line ≤ start + 1
-  pub found : map token_of (lexemes text) ≡ tokens ++ map token_of (lexemes_from line start left)
+  -- a token
+  pub behind_token : (line offset : ℕ) (bytes : List ℕ) (start column : ℕ) (run : List ℕ) (others : List (List ℕ)) (before tokens more : List X)
+      → Scanned line offset bytes start column (run ∷ others) before tokens → is_mark run ≡ false → 0 < length run
+      → more ≡ tokens ++ f (lexeme_at line column start run) ∷ []
+      → Scanned line offset bytes (start + length run + 1) (column + (count_by begins_character run + 1)) others before more
+  behind_token line offset bytes start column run others before tokens more s mark some e =
+      let next = next_part bytes s.at column run others s.stands in
+      let token : lexeme_at line column start run ≡ placed_run line offset bytes (record { offset = s.at; text = run }) = rw (s.starts, next.columns) refl in
+      record {
+        at = s.at + length run + 1;
+        starts = omega (arith, s.starts);
+        found = s.found ∙ ap (λ ls. tokens ++ map f ls) (of_run line offset bytes s.at run others mark some) ∙ sym (append_assoc tokens _ _) ∙ ap (λ t. (tokens ++ f t ∷ []) ++ map f (of_parts line offset bytes (s.at + length run + 1) others)) (sym token) ∙ ap (λ ts. ts ++ map f (of_parts line offset bytes (s.at + length run + 1) others)) (sym e);
+        stands = next.behind;
+      }
 
-pub nothing_read : (text : List ℕ) → Read text 1 0 (lines_of text) []
-unfolding lexemes
-nothing_read text = record { room = omega (arith, span_split (λ byte. byte == 10) text); low = omega arith; found = refl }
+  -- ---- the lines of a text
 
--- the line at hand is the first of those that are left
-pub at_line : (text : List ℕ) (line start n : ℕ) (part bytes : List ℕ) (tokens : List Token) → (n < length (lines_of text)) × (part ≡ get_or (lines_of text) n part) → bytes ≡ part
-    → Read text line start (drop n (lines_of text)) tokens → Read text line start (bytes ∷ drop (n + 1) (lines_of text)) tokens
-at_line text line start n part bytes tokens turn same r =
-    subst (λ left. Read text line start left tokens)
-    (drop_more (lines_of text) n part turn.0 ∙ ap (λ first. first ∷ drop (n + 1) (lines_of text)) (sym turn.1 ∙ sym same))
-    r
+  -- the tokens of a text as far as a scan of its lines has come
+  pub record Read (text : List ℕ) (line start : ℕ) (left : List (List ℕ)) (tokens : List X) : Type 0 where
+    pub room : start + span left ≡ length text + 1
+    pub low : line ≤ start + 1
+    pub found : map f (lexemes text) ≡ tokens ++ map f (lexemes_from line start left)
 
-pub behind_line : (text : List ℕ) (line start : ℕ) (bytes : List ℕ) (others : List (List ℕ)) (tokens more : List Token)
-    → Read text line start (bytes ∷ others) tokens → more ≡ tokens ++ map token_of (line_lexemes line start bytes) → Read text (line + 1) (start + (length bytes + 1)) others more
-behind_line text line start bytes others tokens more r e =
-    let here = map token_of (line_lexemes line start bytes) in
-    let there : lexemes_from (line + 1) (start + length bytes + 1) others ≡ lexemes_from (line + 1) (start + (length bytes + 1)) others = ap (λ n. lexemes_from (line + 1) n others) (omega arith) in
-    record {
-      room = omega (arith, r.room);
-      low = omega (arith, r.low);
-      found =
-          r.found ∙ ap (λ l. tokens ++ l) (map-append token_of (line_lexemes line start bytes) _)
-          ∙ sym (append_assoc tokens here _)
-          ∙ ap₂ (λ xs ys. xs ++ map token_of ys) (sym e) there;
-    }
+  pub nothing_read : (text : List ℕ) → Read text 1 0 (lines_of text) []
+  unfolding lexemes
+  nothing_read text = record { room = omega (arith, span_split (λ byte. byte == 10) text); low = omega arith; found = refl }
 
-pub all_read : (text : List ℕ) (line start : ℕ) (left : List (List ℕ)) (tokens : List Token) → Read text line start left tokens → left ≡ [] → tokens ≡ map token_of (lexemes text)
-all_read text line start left tokens r none = sym (append-nil tokens) ∙ ap (λ ls. tokens ++ map token_of (lexemes_from line start ls)) (sym none) ∙ sym r.found
+  -- the line at hand is the first of those that are left
+  pub at_line : (text : List ℕ) (line start n : ℕ) (part bytes : List ℕ) (tokens : List X) → (n < length (lines_of text)) × (part ≡ get_or (lines_of text) n part) → bytes ≡ part
+      → Read text line start (drop n (lines_of text)) tokens → Read text line start (bytes ∷ drop (n + 1) (lines_of text)) tokens
+  at_line text line start n part bytes tokens turn same r =
+      subst (λ left. Read text line start left tokens)
+      (drop_more (lines_of text) n part turn.0 ∙ ap (λ first. first ∷ drop (n + 1) (lines_of text)) (sym turn.1 ∙ sym same))
+      r
+
+  pub behind_line : (text : List ℕ) (line start : ℕ) (bytes : List ℕ) (others : List (List ℕ)) (tokens more : List X)
+      → Read text line start (bytes ∷ others) tokens → more ≡ tokens ++ map f (line_lexemes line start bytes) → Read text (line + 1) (start + (length bytes + 1)) others more
+  behind_line text line start bytes others tokens more r e =
+      let here = map f (line_lexemes line start bytes) in
+      let there : lexemes_from (line + 1) (start + length bytes + 1) others ≡ lexemes_from (line + 1) (start + (length bytes + 1)) others = ap (λ n. lexemes_from (line + 1) n others) (omega arith) in
+      record {
+        room = omega (arith, r.room);
+        low = omega (arith, r.low);
+        found =
+            r.found ∙ ap (λ l. tokens ++ l) (map-append f (line_lexemes line start bytes) _)
+            ∙ sym (append_assoc tokens here _)
+            ∙ ap₂ (λ xs ys. xs ++ map f ys) (sym e) there;
+      }
+
+  -- a token of the line at hand, and what is made of those behind it
+  pub one_more : (text : List ℕ) (line offset : ℕ) (bytes : List ℕ) (lines : List (List ℕ)) (start column : ℕ) (run : List ℕ) (others : List (List ℕ)) (before tokens : List X)
+      → Read text line offset (bytes ∷ lines) before → Scanned line offset bytes start column (run ∷ others) before tokens → is_mark run ≡ false → 0 < length run
+      → (more : List X) × (map f (lexemes text) ≡ tokens ++ f (lexeme_at line column start run) ∷ more)
+  one_more text line offset bytes lines start column run others before tokens r s mark some =
+      let next = next_part bytes s.at column run others s.stands in
+      let token : lexeme_at line column start run ≡ placed_run line offset bytes (record { offset = s.at; text = run }) = rw (s.starts, next.columns) refl in
+      let here = map f (of_parts line offset bytes (s.at + length run + 1) others) in
+      let there = map f (lexemes_from (line + 1) (offset + length bytes + 1) lines) in (
+        here ++ there,
+        r.found ∙ ap (λ l. before ++ l) (map-append f (line_lexemes line offset bytes) _) ∙ sym (append_assoc before _ there) ∙ ap (λ l. l ++ there) s.found
+            ∙ ap (λ ls. (tokens ++ map f ls) ++ there) (of_run line offset bytes s.at run others mark some) ∙ append_assoc tokens _ there
+            ∙ ap (λ t. tokens ++ f t ∷ (here ++ there)) (sym token),
+      )
+
+  pub all_read : (text : List ℕ) (line start : ℕ) (left : List (List ℕ)) (tokens : List X) → Read text line start left tokens → left ≡ [] → tokens ≡ map f (lexemes text)
+  all_read text line start left tokens r none = sym (append-nil tokens) ∙ ap (λ ls. tokens ++ map f (lexemes_from line start ls)) (sym none) ∙ sym r.found
 
 -- the end of the last of some lines, where the line before has a number
 pub last_end : (line : ℕ) (lines : List (List ℕ)) (last : List ℕ) → end_from (line + 1) (lines ++ last ∷ []) ≡ place_behind (line + length lines + 1) last

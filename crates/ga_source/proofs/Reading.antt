@@ -1,7 +1,10 @@
--- The loop over the tokens of a text.
-use Rattle.std.proofs.Common.{◌≡◌, ℕ, zero, suc, ◌+◌, ◌<◌, ◌≤◌, Bool, false, List, [], ◌∷◌, ◌++◌, length, drop, get_or, map, Option, Some, None, Result, Ok, Err, refl, sym, ap, ◌∙◌, subst, arith}
-use Rattle.std.specs.Prelude.{slice_range}
-use Rattle.ga_pack.specs.Model.Text.{Lexeme, Place, end_of, lexemes, places_of, texts_of}
+-- The loops over the lines of a text and the runs of a line.
+use Rattle.std.proofs.Common.{◌≡◌, ℕ, zero, suc, ◌+◌, ◌<◌, ◌≤◌, Bool, true, false, List, [], ◌∷◌, ◌++◌, length, drop, get_or, map, Option, Some, None, Result, Ok, Err, refl, sym, ap, ◌∙◌, subst, arith}
+use Rattle.std.specs.Prelude.{count_by}
+use Rattle.std.specs.List.{slice_split}
+use Rattle.std.proofs.lemmas.List.Sums.{count_by-le-length}
+use Rattle.ga_word.specs.Text.{is_blank}
+use Rattle.ga_pack.specs.Model.Text.{Lexeme, Place, begins_character, end_of, lexemes, line_lexemes, lines_of, places_of, texts_of}
 use Rattle.ga_pack.specs.Model.Token.{SourceKind, Token, end, is_node}
 use Rattle.ga_pack.specs.Model.Meaning.{meaning_at, meanings}
 use Rattle.ga_pack.specs.Model.Source.{Section, Sections, Source}
@@ -12,15 +15,14 @@ use Rattle.ga_source.specs.declared.meaning.Meaning.TheVariants as means
 use Rattle.ga_source.specs.declared.parser.Parser as the
 use Rattle.ga_source.specs.declared.parser.Position.{Position}
 use Rattle.ga_source.specs.declared.parser.Position.TheVariants as position
-use Rattle.ga_source.specs.declared.token.Token as written
 use Rattle.ga_source.specs.Machine.{State, Good, IsConsistent, nothing, finished, take}
 use Rattle.ga_source.specs.Meaning.{meaning_of}
 use Rattle.ga_source.specs.Parser.{RefusedAs, at_position, done_of, state_of}
 use Rattle.ga_source.specs.Program.{HasNoProgram, IsFirstFault, IsRight, sections_in}
-use Rattle.ga_source.specs.Token.{token_of}
 use Rattle.ga_source.proofs.Erasure.{answer_in, good_in, state_in, take_in}
 use Rattle.ga_source.proofs.Exact.{length_snoc, regroup}
 use Rattle.ga_source.proofs.Placing.{Kept, KeptBy, kept_consistent, take_kept}
+use Rattle.ga_source.proofs.Lines.{Read, Scanned, all_read, at_end as at_line_end, at_line, at_mark, behind_empty, behind_line, behind_token, is_mark, lexeme_at, next_part, nothing_read, nothing_scanned, one_more}
 use Rattle.ga_source.proofs.PlainMachine as plain
 use Rattle.ga_source.proofs.Steps.{Right, take_right}
 use Rattle.ga_source.proofs.Whole.{ReadSoFar, at_end, at_fault, at_first, at_next, is_end}
@@ -143,51 +145,43 @@ reading_end text i behind s p r f e =
 
 -- ---- the tokens of a text
 
-place_in : (ls : List Lexeme) (rest : List Place) (i : ℕ) (d : written.Token) (e : Place) → i < length (map token_of ls)
-    → record { line = (get_or (map token_of ls) i d).line; column = (get_or (map token_of ls) i d).column } ≡ get_or (map (λ l. l.place) ls ++ rest) i e
-place_in [] rest i d e h = absurd (omega (arith, h))
-place_in (l ∷ ls) rest zero d e h = refl
-place_in (l ∷ ls) rest (suc i) d e h = place_in ls rest i d e (omega (arith, h))
+text_in : (seen more : List Lexeme) (x : Lexeme) → drop (length seen) (map (λ l. l.text) (seen ++ x ∷ more)) ≡ x.text ∷ drop (suc (length seen)) (map (λ l. l.text) (seen ++ x ∷ more))
+text_in [] more x = refl
+text_in (l ∷ seen) more x = text_in seen more x
 
--- a token's place
-pub token_place : (text : List ℕ) (ts : List written.Token) (i : ℕ) (d : written.Token) → ts ≡ map token_of (lexemes text) → i < length ts
-    → record { line = (get_or ts i d).line; column = (get_or ts i d).column } ≡ place_at (places_of text) i
-unfolding places_of
-token_place text ts i d e h =
-    subst (λ us. record { line = (get_or us i d).line; column = (get_or us i d).column } ≡ place_at (places_of text) i) (sym e)
-    (place_in (lexemes text) (end_of text ∷ []) i d (record { line = 1; column = 1 }) (subst (λ us. i < length us) e h))
-
-end_in : (ls : List Lexeme) (place e : Place) → place ≡ get_or (map (λ l. l.place) ls ++ place ∷ []) (length (map token_of ls)) e
-end_in [] place e = refl
-end_in (l ∷ ls) place e = end_in ls place e
-
--- the end's place
-pub end_place : (text : List ℕ) (ts : List written.Token) (i : ℕ) → ts ≡ map token_of (lexemes text) → length ts ≡ i → end_of text ≡ place_at (places_of text) i
-unfolding places_of
-end_place text ts i e f =
-    end_in (lexemes text) (end_of text) (record { line = 1; column = 1 }) ∙ ap (place_at (places_of text)) (ap length (sym e) ∙ f)
-
-text_in : {X : Type 0} (f : X → List ℕ) (xs : List X) (i : ℕ) (d : X) → i < length xs → drop i (map f xs) ≡ f (get_or xs i d) ∷ drop (suc i) (map f xs)
-text_in f [] i d h = absurd (omega (arith, h))
-text_in f (x ∷ xs) zero d h = refl
-text_in f (x ∷ xs) (suc i) d h = text_in f xs i d (omega (arith, h))
+place_in : (seen more : List Lexeme) (x : Lexeme) (rest : List Place) (d : Place) → get_or (map (λ l. l.place) (seen ++ x ∷ more) ++ rest) (length seen) d ≡ x.place
+place_in [] more x rest d = refl
+place_in (l ∷ seen) more x rest d = place_in seen more x rest d
 
 -- a token's text, and those behind it
-pub token_text : (text : List ℕ) (ts : List written.Token) (i : ℕ) (d : written.Token) → map (λ t. slice_range text t.start t.end) ts ≡ texts_of text → i < length ts
-    → drop i (texts_of text) ≡ slice_range text (get_or ts i d).start (get_or ts i d).end ∷ drop (suc i) (texts_of text)
-token_text text ts i d e h =
-    let f : written.Token → List ℕ = λ t. slice_range text t.start t.end in
-    subst (λ us. drop i us ≡ f (get_or ts i d) ∷ drop (suc i) us) e (text_in f ts i d h)
+token_text : (text : List ℕ) (seen more : List Lexeme) (x : Lexeme) → lexemes text ≡ seen ++ x ∷ more → drop (length seen) (texts_of text) ≡ x.text ∷ drop (suc (length seen)) (texts_of text)
+unfolding texts_of
+token_text text seen more x e = subst (λ ls. drop (length seen) (map (λ l. l.text) ls) ≡ x.text ∷ drop (suc (length seen)) (map (λ l. l.text) ls)) (sym e) (text_in seen more x)
 
-none_left : {X : Type 0} (f : X → List ℕ) (xs : List X) → drop (length xs) (map f xs) ≡ []
-none_left f [] = refl
-none_left f (x ∷ xs) = none_left f xs
+-- a token's place
+token_place : (text : List ℕ) (seen more : List Lexeme) (x : Lexeme) → lexemes text ≡ seen ++ x ∷ more → x.place ≡ place_at (places_of text) (length seen)
+unfolding places_of
+token_place text seen more x e =
+    sym (subst (λ ls. get_or (map (λ l. l.place) ls ++ end_of text ∷ []) (length seen) (record { line = 1; column = 1 }) ≡ x.place) (sym e) (place_in seen more x (end_of text ∷ []) (record { line = 1; column = 1 })))
+
+none_left : (seen : List Lexeme) → drop (length seen) (map (λ l. l.text) seen) ≡ []
+none_left [] = refl
+none_left (l ∷ seen) = none_left seen
+
+end_in : (seen : List Lexeme) (place e : Place) → place ≡ get_or (map (λ l. l.place) seen ++ place ∷ []) (length seen) e
+end_in [] place e = refl
+end_in (l ∷ seen) place e = end_in seen place e
 
 -- no text is left behind the last token
-pub no_text : (text : List ℕ) (ts : List written.Token) (i : ℕ) → map (λ t. slice_range text t.start t.end) ts ≡ texts_of text → length ts ≡ i → drop i (texts_of text) ≡ []
-no_text text ts i e f =
-    let g : written.Token → List ℕ = λ t. slice_range text t.start t.end in
-    ap (drop i) (sym e) ∙ ap (λ n. drop n (map g ts)) (sym f) ∙ none_left g ts
+no_text : (text : List ℕ) (seen : List Lexeme) → seen ≡ lexemes text → drop (length seen) (texts_of text) ≡ []
+unfolding texts_of
+no_text text seen e = ap (λ ls. drop (length seen) (map (λ l. l.text) ls)) (sym e) ∙ none_left seen
+
+-- the end's place
+end_place : (text : List ℕ) (seen : List Lexeme) → seen ≡ lexemes text → end_of text ≡ place_at (places_of text) (length seen)
+unfolding places_of
+end_place text seen e =
+    end_in seen (end_of text) (record { line = 1; column = 1 }) ∙ ap (λ ls. get_or (map (λ l. l.place) ls ++ end_of text ∷ []) (length seen) (record { line = 1; column = 1 })) e
 
 -- what a token means is never the text's end
 pub no_end : (m : Meaning) → is_end (meaning_of m) ≡ false
@@ -206,43 +200,139 @@ no_end means.Slash = refl
 no_end means.BadToken = refl
 no_end means.NumberRange = refl
 
--- ---- the loop's steps, over the tokens that were read
+-- ---- the lines of a text, and the runs of a line
 
-abbrev pub no_token : written.Token
-no_token = record { start = 0; end = 0; line = 0; column = 0 }
+abbrev pub itself : Lexeme → Lexeme
+itself l = l
 
-module _ (text : List ℕ) (ts all : List written.Token) (same : ts ≡ all) (are_all : all ≡ map token_of (lexemes text)) (texts_all : map (λ t. slice_range text t.start t.end) all ≡ texts_of text) where
-  are : ts ≡ map token_of (lexemes text)
-  are = same ∙ are_all
+all_same : (ls : List Lexeme) → map itself ls ≡ ls
+all_same [] = refl
+all_same (l ∷ ls) = ap (λ r. l ∷ r) (all_same ls)
 
-  texts : map (λ t. slice_range text t.start t.end) ts ≡ texts_of text
-  texts = ap (map (λ t. slice_range text t.start t.end)) same ∙ texts_all
+-- the tokens of the lines in front were taken
+pub record Lines (text : List ℕ) (line : ℕ) (left : List (List ℕ)) (behind : Bool) (s : State) : Type 0 where
+  pub start : ℕ
+  pub seen : List Lexeme
+  pub read : Read itself text line start left seen
+  pub reading : Reading text (length seen) behind s
 
-  pub step : (i : ℕ) (d : written.Token) (behind behind' : Bool) (s s' : State) (m : Token) → i < length ts → Reading text i behind s
-      → m ≡ meaning_at behind (slice_range text (get_or ts i d).start (get_or ts i d).end) → is_end m ≡ false
-      → take s m (record { line = (get_or ts i d).line; column = (get_or ts i d).column }) ≡ Ok s' → behind' ≡ is_node m → (i + 1 ≤ length ts) × Reading text (i + 1) behind' s'
-  step i d behind behind' s s' m h r e n f b =
-      let t = slice_range text (get_or ts i d).start (get_or ts i d).end in
-      let g : take s (meaning_at behind t) (place_at (places_of text) i) ≡ Ok s' = ap (λ x. take s x (place_at (places_of text) i)) (sym e) ∙ ap (take s m) (sym (token_place text ts i d are h)) ∙ f in
-      let next = reading_next text i behind s s' t r (token_text text ts i d texts h) (ap is_end (sym e) ∙ n) g in
-      let more : suc i ≡ i + 1 = omega arith in
-      (omega (arith, h), subst (λ k. Reading text k behind' s') more (subst (λ x. Reading text (suc i) x s') (ap is_node (sym e) ∙ sym b) next))
+-- so were those of the runs in front in the line at hand
+pub record Scan (text : List ℕ) (line offset : ℕ) (bytes : List ℕ) (lines : List (List ℕ)) (before : List Lexeme) (column : ℕ) (runs : List (List ℕ)) (behind : Bool) (s : State) : Type 0 where
+  pub start : ℕ
+  pub seen : List Lexeme
+  pub read : Read itself text line offset (bytes ∷ lines) before
+  pub scanned : Scanned itself line offset bytes start column runs before seen
+  pub reading : Reading text (length seen) behind s
 
-  pub step_fault : (i : ℕ) (d : written.Token) (behind : Bool) (s : State) (m : Token) (o : Option SourceKind) → i < length ts → Reading text i behind s
-      → m ≡ meaning_at behind (slice_range text (get_or ts i d).start (get_or ts i d).end)
-      → RefusedAs (take s m (record { line = (get_or ts i d).line; column = (get_or ts i d).column })) o → IsFirstFault text o (record { line = (get_or ts i d).line; column = (get_or ts i d).column }) × HasNoProgram text o
-  step_fault i d behind s m o h r e f =
-      let place : Place = record { line = (get_or ts i d).line; column = (get_or ts i d).column } in
-      reading_fault text i behind s (slice_range text (get_or ts i d).start (get_or ts i d).end) o place r (token_text text ts i d texts h) (token_place text ts i d are h)
-      (subst (λ x. RefusedAs (take s x place) o) e f)
+-- wherever the line stands
+abbrev pub Scanning : List ℕ → ℕ → ℕ → List (List ℕ) → List (List ℕ) → Bool → Bool → State → State → Type 0
+Scanning text line column all runs behind behind' s s' =
+    (bytes : List ℕ) (offset : ℕ) (lines : List (List ℕ)) (before : List Lexeme) → all ≡ slice_split is_blank bytes → Read itself text line offset (bytes ∷ lines) before → Reading text (length before) behind s
+    → Scan text line offset bytes lines before column runs behind' s'
 
-  at_the_end : (i : ℕ) → length ts ≤ i → i ≤ length ts → length ts ≡ i
-  at_the_end i h k = omega (arith, h, k)
+pub lines_first : (text : List ℕ) → Lines text 1 (lines_of text) false nothing
+lines_first text = record { start = 0; seen = []; read = nothing_read itself text; reading = reading_first text }
 
-  pub end_fault : (i : ℕ) (behind : Bool) (s : State) (o : Option SourceKind) (place : Place) → length ts ≤ i → i ≤ length ts → Reading text i behind s → place ≡ end_of text
-      → RefusedAs (take s end place) o → IsFirstFault text o place × HasNoProgram text o
-  end_fault i behind s o place h k r e f =
-      reading_fault_end text i behind s o place r (no_text text ts i texts (at_the_end i h k)) (e ∙ end_place text ts i are (at_the_end i h k)) f
+-- the line at hand is the first of those that are left
+pub lines_turn : (text : List ℕ) (line n : ℕ) (part bytes : List ℕ) (behind : Bool) (s : State) → (n < length (lines_of text)) × (part ≡ get_or (lines_of text) n part) → bytes ≡ part
+    → Lines text line (drop n (lines_of text)) behind s → Lines text line (bytes ∷ drop (n + 1) (lines_of text)) behind s
+lines_turn text line n part bytes behind s turn same l = record { start = l.start; seen = l.seen; read = at_line itself text line l.start n part bytes l.seen turn same l.read; reading = l.reading }
 
-  pub end_taken : (i : ℕ) (behind : Bool) (s : State) (p : the.Parser) → length ts ≤ i → i ≤ length ts → Reading text i behind s → ((place : Place) → take s end place ≡ Ok (state_of p)) → Whole text (done_of p)
-  end_taken i behind s p h k r f = reading_end text i behind s p r (no_text text ts i texts (at_the_end i h k)) f
+pub lines_low : (text : List ℕ) (line : ℕ) (bytes : List ℕ) (lines : List (List ℕ)) (behind : Bool) (s : State) → Lines text line (bytes ∷ lines) behind s → line ≤ length text + 1
+lines_low text line bytes lines behind s l = let low = l.read.low in let room = l.read.room in omega (arith, low, room)
+
+pub scan_first : (text : List ℕ) (line : ℕ) (all : List (List ℕ)) (behind : Bool) (s : State) → Scanning text line 1 all all behind behind s s
+scan_first text line all behind s bytes offset lines before e read reading = record {
+  start = offset;
+  seen = before;
+  read = read;
+  scanned = subst (λ (runs : List (List ℕ)). Scanned itself line offset bytes offset 1 runs before before) (sym e) (nothing_scanned itself line offset bytes before);
+  reading = reading;
+}
+
+-- in the line at hand
+pub scan_here : (text : List ℕ) (line column : ℕ) (bytes : List ℕ) (lines all runs : List (List ℕ)) (behind behind' : Bool) (s s' : State) → (l : Lines text line (bytes ∷ lines) behind s) → all ≡ slice_split is_blank bytes
+    → Scanning text line column all runs behind behind' s s' → Scan text line l.start bytes lines l.seen column runs behind' s'
+scan_here text line column bytes lines all runs behind behind' s s' l e scanning = scanning bytes l.start lines l.seen e l.read l.reading
+
+pub scan_next : (text : List ℕ) (line offset : ℕ) (bytes : List ℕ) (lines : List (List ℕ)) (before : List Lexeme) (column : ℕ) (runs : List (List ℕ)) (run : List ℕ) (others : List (List ℕ)) (behind : Bool) (s : State)
+    → Scan text line offset bytes lines before column runs behind s → runs ≡ run ∷ others → Scan text line offset bytes lines before column (run ∷ others) behind s
+scan_next text line offset bytes lines before column runs run others behind s scan e = subst (λ (left : List (List ℕ)). Scan text line offset bytes lines before column left behind s) e scan
+
+module _ (text : List ℕ) (line offset : ℕ) (bytes : List ℕ) (lines : List (List ℕ)) (before : List Lexeme) (column : ℕ) where
+  pub scan_low : (run : List ℕ) (runs : List (List ℕ)) (behind : Bool) (s : State) → Scan text line offset bytes lines before column (run ∷ runs) behind s → column + (count_by begins_character run + 1) ≤ length bytes + 2
+  scan_low run runs behind s scan =
+      let next = next_part bytes scan.scanned.at column run runs scan.scanned.stands in
+      omega (arith, next.inside, next.low, count_by-le-length begins_character run)
+
+  pub scan_empty : (run : List ℕ) (runs : List (List ℕ)) (behind : Bool) (s : State) → Scan text line offset bytes lines before column (run ∷ runs) behind s → length run ≡ 0
+      → Scan text line offset bytes lines before (column + (count_by begins_character run + 1)) runs behind s
+  scan_empty run runs behind s scan none = record {
+    start = scan.start + length run + 1;
+    seen = scan.seen;
+    read = scan.read;
+    scanned = behind_empty itself line offset bytes scan.start column run runs before scan.seen scan.scanned none;
+    reading = scan.reading;
+  }
+
+  -- a token is taken
+  pub scan_token : (run : List ℕ) (runs : List (List ℕ)) (behind behind' : Bool) (s s' : State) → Scan text line offset bytes lines before column (run ∷ runs) behind s → is_mark run ≡ false → 0 < length run
+      → is_end (meaning_at behind run) ≡ false → take s (meaning_at behind run) (record { line = line; column = column }) ≡ Ok s' → behind' ≡ is_node (meaning_at behind run)
+      → Scan text line offset bytes lines before (column + (count_by begins_character run + 1)) runs behind' s'
+  scan_token run runs behind behind' s s' scan mark some n e b =
+      let x = lexeme_at line column scan.start run in
+      let (more, found) = one_more itself text line offset bytes lines scan.start column run runs before scan.seen scan.read scan.scanned mark some in
+      let there : lexemes text ≡ scan.seen ++ x ∷ more = sym (all_same (lexemes text)) ∙ found in
+      let f : take s (meaning_at behind run) (place_at (places_of text) (length scan.seen)) ≡ Ok s' = ap (take s (meaning_at behind run)) (sym (token_place text scan.seen more x there)) ∙ e in
+      let next = reading_next text (length scan.seen) behind s s' run scan.reading (token_text text scan.seen more x there) n f in
+      record {
+        start = scan.start + length run + 1;
+        seen = scan.seen ++ x ∷ [];
+        read = scan.read;
+        scanned = behind_token itself line offset bytes scan.start column run runs before scan.seen (scan.seen ++ x ∷ []) scan.scanned mark some refl;
+        reading = subst (λ k. Reading text k behind' s') (sym (longer scan.seen x)) (subst (λ y. Reading text (suc (length scan.seen)) y s') (sym b) next);
+      }
+    where
+      longer : (ls : List Lexeme) (x : Lexeme) → length (ls ++ x ∷ []) ≡ suc (length ls)
+      longer [] x = refl
+      longer (l ∷ ls) x = ap suc (longer ls x)
+
+  -- a token is refused
+  pub scan_fault : (run : List ℕ) (runs : List (List ℕ)) (behind : Bool) (s : State) (o : Option SourceKind) (place : Place) → Scan text line offset bytes lines before column (run ∷ runs) behind s → is_mark run ≡ false → 0 < length run
+      → place ≡ record { line = line; column = column } → RefusedAs (take s (meaning_at behind run) (record { line = line; column = column })) o → IsFirstFault text o place × HasNoProgram text o
+  scan_fault run runs behind s o place scan mark some p e =
+      let x = lexeme_at line column scan.start run in
+      let (more, found) = one_more itself text line offset bytes lines scan.start column run runs before scan.seen scan.read scan.scanned mark some in
+      let there : lexemes text ≡ scan.seen ++ x ∷ more = sym (all_same (lexemes text)) ∙ found in
+      reading_fault text (length scan.seen) behind s run o place scan.reading (token_text text scan.seen more x there) (p ∙ token_place text scan.seen more x there)
+      (subst (λ q. RefusedAs (take s (meaning_at behind run) q) o) (sym p) e)
+
+  line_behind : (runs : List (List ℕ)) (behind : Bool) (s : State) → (scan : Scan text line offset bytes lines before column runs behind s) → scan.seen ≡ before ++ map itself (line_lexemes line offset bytes) → Lines text (line + 1) lines behind s
+  line_behind runs behind s scan e = record {
+    start = offset + (length bytes + 1);
+    seen = scan.seen;
+    read = behind_line itself text line offset bytes lines before scan.seen scan.read e;
+    reading = scan.reading;
+  }
+
+  -- no run is left
+  pub scan_none : (runs : List (List ℕ)) (behind : Bool) (s : State) → Scan text line offset bytes lines before column runs behind s → runs ≡ [] → Lines text (line + 1) lines behind s
+  scan_none runs behind s scan none = line_behind runs behind s scan (at_line_end itself line offset bytes scan.start column runs before scan.seen scan.scanned none)
+
+  -- a comment begins
+  pub scan_mark : (run : List ℕ) (runs : List (List ℕ)) (behind : Bool) (s : State) → Scan text line offset bytes lines before column (run ∷ runs) behind s → is_mark run ≡ true → Lines text (line + 1) lines behind s
+  scan_mark run runs behind s scan mark = line_behind (run ∷ runs) behind s scan (at_mark itself line offset bytes scan.start column run runs before scan.seen scan.scanned mark)
+
+-- ---- all lines
+
+all_seen : (text : List ℕ) (line : ℕ) (left : List (List ℕ)) (behind : Bool) (s : State) → (l : Lines text line left behind s) → left ≡ [] → l.seen ≡ lexemes text
+all_seen text line left behind s l none = all_read itself text line l.start left l.seen l.read none ∙ all_same (lexemes text)
+
+pub lines_fault : (text : List ℕ) (line : ℕ) (left : List (List ℕ)) (behind : Bool) (s : State) (o : Option SourceKind) (place : Place) → Lines text line left behind s → left ≡ [] → place ≡ end_of text
+    → RefusedAs (take s end place) o → IsFirstFault text o place × HasNoProgram text o
+lines_fault text line left behind s o place l none e f =
+    let all = all_seen text line left behind s l none in
+    reading_fault_end text (length l.seen) behind s o place l.reading (no_text text l.seen all) (e ∙ end_place text l.seen all) f
+
+pub lines_taken : (text : List ℕ) (line : ℕ) (left : List (List ℕ)) (behind : Bool) (s : State) (p : the.Parser) → Lines text line left behind s → left ≡ [] → ((place : Place) → take s end place ≡ Ok (state_of p)) → Whole text (done_of p)
+lines_taken text line left behind s p l none f = reading_end text (length l.seen) behind s p l.reading (no_text text l.seen (all_seen text line left behind s l none)) f

@@ -1,14 +1,13 @@
 //! The parser: it takes one token at a time, and refuses the first with which no text goes on.
 ghost use Rattle.std.specs.Prelude.{◌≡◌, ◌+◌, ◌<◌, ◌≤◌, ◌++◌, ◌∷◌, [], length, map, false, IfOk, IfErr, OnOk, None, Some, List, ℕ, suc};
-ghost use Rattle.std.specs.Option.{option_map};
 ghost use Rattle.ga_pack.specs.Followers as counted;
 ghost use Rattle.ga_pack.specs.Model.Source as words;
-ghost use Rattle.ga_pack.specs.Model.Source.{Behind, Code, Plain, Transfer, Word, WordTo, labels_with};
+ghost use Rattle.ga_pack.specs.Model.Source.{Behind, Code, Label, Plain, Transfer, Word, WordTo, labels_with};
 ghost use Rattle.ga_pack.specs.Model.Text as model;
 ghost use Rattle.ga_pack.specs.Model.SourceFault as faults;
 ghost use Rattle.ga_pack.specs.Model.Token.{end};
 ghost use Rattle.ga_source.specs.Error.{kind_of};
-ghost use Rattle.ga_source.specs.Item.{item_of, labels_in, placed_of, value_of};
+ghost use Rattle.ga_source.specs.Item.{item_of, labels_in, name_place_in, placed_of, value_of, value_place};
 ghost use Rattle.ga_source.specs.Machine as machine;
 ghost use Rattle.ga_source.specs.Machine.{Good, IsConsistent, added, closed, nothing};
 ghost use Rattle.ga_source.specs.Meaning.{meaning_of};
@@ -19,7 +18,7 @@ ghost use Rattle.ga_source.specs.declared.parser.Part.TheVariants as part;
 ghost use Rattle.ga_source.specs.declared.parser.Position.TheVariants as at;
 
 use crate::error::SourceErrorKind;
-use crate::item::{Item, PlacedItem, Value};
+use crate::item::{Item, PlacedItem, PlacedName, TransferWord, Value};
 use crate::meaning::{Meaning, is_reserved};
 use crate::section::Section;
 use crate::token::Place;
@@ -88,23 +87,44 @@ pub(crate) struct Parser<'a> {
 impl<'a> Pending<'a> {
     // The value, which owns its name.
     fn value(self, alloc: Global) -> Result<Value, AllocError>
-        ensures { IfOk result (λ value. value_of value ≡ pending_of self.entry) }
+        ensures value { IfOk result (λ value. value_of value ≡ pending_of self.entry) }
+        ensures place { IfOk result (λ value. value_place value ≡ name_place_of self.entry) }
     {
         match self {
             Pending::Number(number) => Ok(Value::Number(Word18::new(u32::from(number)).unwrap())),
-            Pending::Name(name, _) => Ok(Value::Label(String::from_str(alloc, name)?)),
+            Pending::Name(name, place) => label_at(alloc, name, place),
         }
     }
+}
 
-    // The place of the name.
-    fn name_place(self) -> Option<Place>
-        ensures { option_map place_of result ≡ name_place_of self.entry }
-    {
-        match self {
-            Pending::Number(_) => None,
-            Pending::Name(_, place) => Some(place),
-        }
-    }
+// A name that is used at a place.
+fn label_at(alloc: Global, name: &str, place: Place) -> Result<Value, AllocError>
+    ensures value { IfOk result (λ value. value_of value ≡ Label name.now) }
+    ensures place { IfOk result (λ value. value_place value ≡ Some (place_of place)) }
+{
+    let name = String::from_str(alloc, name)?;
+    Ok(Value::Label(Box::new(alloc, PlacedName { name, place })?))
+}
+
+// A bracketed word with a destination.
+fn word_to(
+    alloc: Global,
+    ops: ArrayVec<Op, 4>,
+    op: Op,
+    dest: Pending<'_>,
+    spare: Option<u8>,
+) -> Result<Item, AllocError>
+    ensures item { IfOk result (λ item. item_of item ≡ WordTo ops.items op (pending_of dest.entry) spare) }
+    ensures place { IfOk result (λ item. name_place_in item ≡ name_place_of dest.entry) }
+{
+    let dest = dest.value(alloc)?;
+    let word = TransferWord {
+        ops,
+        op,
+        dest,
+        spare,
+    };
+    Ok(Item::WordTo(Box::new(alloc, word)?))
 }
 
 impl<'a> Parser<'a> {
@@ -128,23 +148,14 @@ impl<'a> Parser<'a> {
 
     // The item is whole; the next one stands in this part.
     #[inline(always)]
-    fn add(
-        &mut self,
-        item: Item,
-        name_place: Option<Place>,
-        part: Part,
-    ) -> Result<(), SourceErrorKind>
+    fn add(&mut self, item: Item, part: Part) -> Result<(), SourceErrorKind>
         requires no_label { (labels : List (List ℕ)) → labels_with (item_of item) labels ≡ labels }
-        ensures ok { OnOk result (state_of self.new ≡ added (inside_of self.old) (item_of item) (place_of self.old.place) (option_map place_of name_place) (part_of part)) }
+        ensures ok { OnOk result (state_of self.new ≡ added (inside_of self.old) (item_of item) (place_of self.old.place) (name_place_in item) (part_of part)) }
         ensures err { IfErr result (λ kind. kind ≡ Memory) }
     {
         let makes_word = item.makes_word();
         let place = self.place;
-        self.items.push(PlacedItem {
-            item,
-            place,
-            name_place,
-        })?;
+        self.items.push(PlacedItem { item, place })?;
         self.has_word = self.has_word || makes_word;
         self.part = part;
         self.position = Position::Between;
@@ -186,7 +197,7 @@ impl<'a> Parser<'a> {
                     return Err(SourceErrorKind::DuplicateNode);
                 }
                 self.node = node;
-                self.items = Vec::with_capacity(self.alloc, 64)?;
+                self.items = Vec::with_capacity(self.alloc, 128)?;
                 self.labels = IndexSet::new(self.alloc);
                 self.part = Part::Code(0);
                 self.has_word = false;
@@ -205,11 +216,7 @@ impl<'a> Parser<'a> {
         ensures err { IfErr result (λ kind. kind ≡ Memory) }
     {
         let dest = value.value(self.alloc)?;
-        self.add(
-            Item::Transfer { op, dest },
-            value.name_place(),
-            Part::Code(0),
-        )
+        self.add(Item::Transfer { op, dest }, Part::Code(0))
     }
 
     // Behind an opcode that takes a destination, outside brackets.
@@ -234,15 +241,15 @@ impl<'a> Parser<'a> {
     }
 
     // A plain word is whole.
-    fn add_plain(&mut self, value: Value, name_place: Option<Place>) -> Result<(), SourceErrorKind>
+    fn add_plain(&mut self, value: Value) -> Result<(), SourceErrorKind>
         requires owed { (owed : ℕ) → self.old.part ≡ part.Code owed → 0 < owed }
-        ensures { Answered (machine.with_part (inside_of self.old) (Plain (value_of value)) (place_of self.old.place) (option_map place_of name_place)) result (state_of self.new) }
+        ensures { Answered (machine.with_part (inside_of self.old) (Plain (value_of value)) (place_of self.old.place) (value_place value)) result (state_of self.new) }
     {
         let part = match self.part {
             Part::Code(owed) => Part::Code(owed - 1),
             Part::Data => Part::Data,
         };
-        self.add(Item::Plain(value), name_place, part)
+        self.add(Item::Plain(value), part)
     }
 
     // Behind a comma.
@@ -252,10 +259,10 @@ impl<'a> Parser<'a> {
         ensures { Took (state_of self.old) (meaning_of token.now) (place_of place) result (state_of self.new) }
     {
         match *token {
-            Meaning::Number(number) => self.add_plain(Value::Number(number), None),
+            Meaning::Number(number) => self.add_plain(Value::Number(number)),
             Meaning::Name(name) => {
-                let label = String::from_str(self.alloc, name)?;
-                self.add_plain(Value::Label(label), Some(place))
+                let label = label_at(self.alloc, name, place)?;
+                self.add_plain(label)
             }
             Meaning::NumberRange => Err(SourceErrorKind::NumberRange),
             _ => Err(SourceErrorKind::BadToken),
@@ -356,7 +363,7 @@ impl<'a> Parser<'a> {
     {
         let owed = followers(&self.ops);
         let ops = std::mem::replace(&mut self.ops, ArrayVec::new());
-        self.add(Item::Word(ops), None, Part::Code(owed))
+        self.add(Item::Word(ops), Part::Code(owed))
     }
 
     // A bracketed word with a destination is whole.
@@ -364,19 +371,10 @@ impl<'a> Parser<'a> {
         requires code { part_of self.old.part ≡ Code 0 }
         ensures { Answered (machine.with_part (inside_of self.old) (WordTo self.old.ops.items op (pending_of dest.entry) spare) (place_of self.old.place) (name_place_of dest.entry)) result (state_of self.new) }
     {
-        let value = dest.value(self.alloc)?;
         let owed = followers(&self.ops);
         let ops = std::mem::replace(&mut self.ops, ArrayVec::new());
-        self.add(
-            Item::WordTo {
-                ops,
-                op,
-                dest: value,
-                spare,
-            },
-            dest.name_place(),
-            Part::Code(owed),
-        )
+        let item = word_to(self.alloc, ops, op, dest, spare)?;
+        self.add(item, Part::Code(owed))
     }
 
     // In brackets, behind `/`.
@@ -429,7 +427,7 @@ impl<'a> Parser<'a> {
         if is_followed(op) {
             return Err(SourceErrorKind::BadToken);
         }
-        self.add(Item::Instruction(op), None, Part::Code(0))
+        self.add(Item::Instruction(op), Part::Code(0))
     }
 
     // Behind `data`.
@@ -456,7 +454,7 @@ impl<'a> Parser<'a> {
                 self.position = Position::BehindComma;
                 Ok(())
             }
-            Meaning::Data => self.add(Item::Data, None, Part::Data),
+            Meaning::Data => self.add(Item::Data, Part::Data),
             Meaning::Op(op) if !is_followed(op) => Err(SourceErrorKind::BadWord),
             Meaning::Number(_) | Meaning::Align | Meaning::OpenMark => Err(
                 SourceErrorKind::BadWord,
@@ -472,9 +470,9 @@ impl<'a> Parser<'a> {
     {
         match *token {
             Meaning::Op(op) => self.take_op(op),
-            Meaning::Number(number) => self.add(Item::Literal(number), None, Part::Code(0)),
-            Meaning::Align => self.add(Item::Align, None, Part::Code(0)),
-            Meaning::Data => self.add(Item::Data, None, Part::Data),
+            Meaning::Number(number) => self.add(Item::Literal(number), Part::Code(0)),
+            Meaning::Align => self.add(Item::Align, Part::Code(0)),
+            Meaning::Data => self.add(Item::Data, Part::Data),
             Meaning::OpenMark => {
                 self.ops = ArrayVec::new();
                 self.position = Position::InWord;
@@ -527,7 +525,8 @@ impl<'a> Parser<'a> {
         ensures names { OnOk result (names_of self.new ≡ names_of self.old ++ self.old.node ∷ []) }
         ensures err { IfErr result (λ kind. kind ≡ Memory) }
     {
-        let items = std::mem::replace(&mut self.items, Vec::new(self.alloc));
+        let mut items = std::mem::replace(&mut self.items, Vec::new(self.alloc));
+        items.shrink_to_fit();
         let labels = std::mem::replace(&mut self.labels, IndexSet::new(self.alloc));
         self.sections.insert(self.node, Section { items, labels })?;
         Ok(())
@@ -565,11 +564,7 @@ impl<'a> Parser<'a> {
         self.add_label(name)?;
         let place = self.place;
         let item = Item::Label(String::from_str(self.alloc, name)?);
-        self.items.push(PlacedItem {
-            item,
-            place,
-            name_place: None,
-        })?;
+        self.items.push(PlacedItem { item, place })?;
         Ok(())
     }
 

@@ -1,17 +1,20 @@
 //! The program of a text.
-ghost use Rattle.std.specs.Prelude.{◌≡◌, IfErr, IfOk, List, map};
+ghost use Rattle.std.specs.Prelude.{◌≡◌, IfErr, IfOk, List, OnOk, map};
 ghost use Rattle.ga_pack.specs.Model.Program.{IsProgram, PlacedSection};
 ghost use Rattle.ga_pack.specs.Model.Token as token;
 ghost use Rattle.ga_source.specs.Error.{error_place, kind_of};
 ghost use Rattle.ga_source.specs.Section.{section_of};
+ghost use Rattle.ga_source.specs.Machine.{Good, IsConsistent, take};
 ghost use Rattle.ga_source.specs.Meaning.{meaning_of};
+ghost use Rattle.ga_source.specs.Parser.{RefusedAs, state_of};
 ghost use Rattle.ga_source.specs.Program.{HasNoProgram, IsFirstFault, IsRight};
+ghost use Rattle.ga_source.specs.Token.{place_of};
 
 use crate::error::{SourceError, SourceErrorKind};
 use crate::meaning::{Meaning, meaning_at};
 use crate::parser::Parser;
 use crate::section::Section;
-use crate::token::{Place, end_place, tokens};
+use crate::token::{Place, Runs, characters, end_place, is_comment};
 use ga_place::Node;
 use indexmap::IndexMap;
 use std::alloc::Global;
@@ -56,28 +59,47 @@ pub fn parse(alloc: Global, text: &str) -> Result<Program, SourceError>
     // and the text has no program
     ensures none { IfErr result (λ error. HasNoProgram text.now (kind_of error.kind)) }
 {
-    let Ok(tokens) = tokens(alloc, text) else {
-        let start = Place { line: 1, column: 1 };
-        return Err(fault_at(start, SourceErrorKind::Memory));
-    };
     let mut parser = Parser::new(alloc);
     let mut is_behind_node = false;
-    for token in &tokens {
-        let meaning = meaning_at(is_behind_node, &text.as_bytes()[token.start..token.end]);
-        let place = Place {
-            line: token.line,
-            column: token.column,
-        };
-        if let Err(kind) = parser.take(&meaning, place) {
-            return Err(fault_at(place, kind));
+    let mut line = 1;
+    for part in text.split('\n') {
+        let mut column = 1;
+        for run in Runs::new(part.as_bytes()) {
+            if is_comment(run) {
+                break;
+            }
+            if !run.is_empty() {
+                let meaning = meaning_at(is_behind_node, run);
+                take_at(&mut parser, &meaning, Place { line, column })?;
+                is_behind_node = is_node(&meaning);
+            }
+            column += characters(run) + 1;
         }
-        is_behind_node = is_node(&meaning);
+        line += 1;
     }
     match parser.finish() {
         Ok(()) => Ok(Program {
             sections: parser.sections,
         }),
         Err(kind) => Err(fault_at(end_place(text), kind)),
+    }
+}
+
+/// Takes a token, or refuses it at its place.
+fn take_at<'a>(
+    parser: &mut Parser<'a>,
+    meaning: &Meaning<'a>,
+    place: Place,
+) -> Result<(), SourceError>
+    requires good { Good (state_of parser.old) }
+    requires consistent { IsConsistent (state_of parser.old) }
+    ensures taken { OnOk result (take (state_of parser.old) (meaning_of meaning.now) (place_of place) ≡ Ok (state_of parser.new)) }
+    ensures refused { IfErr result (λ error. RefusedAs (take (state_of parser.old) (meaning_of meaning.now) (place_of place)) (kind_of error.kind)) }
+    ensures at { IfErr result (λ error. error_place error ≡ place_of place) }
+{
+    match parser.take(meaning, place) {
+        Ok(()) => Ok(()),
+        Err(kind) => Err(fault_at(place, kind)),
     }
 }
 

@@ -1,4 +1,7 @@
-use crate::{Item, Place, PlacedItem, SourceError, SourceErrorKind, Token, Value, parse, tokens};
+use crate::{
+    Item, Place, PlacedItem, PlacedName, SourceError, SourceErrorKind, Token, TransferWord, Value,
+    parse, tokens,
+};
 use arrayvec::ArrayVec;
 use ga_place::Node;
 use ga_word::{Op, Word18};
@@ -17,7 +20,6 @@ fn item(item: Item, line: usize, column: usize) -> PlacedItem {
     PlacedItem {
         item,
         place: Place { line, column },
-        name_place: None,
     }
 }
 
@@ -25,19 +27,11 @@ fn number(value: u32) -> Result<Word18, Fail> {
     Ok(Word18::new(value).ok_or("more than 18 bits")?)
 }
 
-/// An item that uses a name as a value.
-fn using(item: Item, place: (usize, usize), name_place: (usize, usize)) -> PlacedItem {
-    PlacedItem {
-        item,
-        place: Place {
-            line: place.0,
-            column: place.1,
-        },
-        name_place: Some(Place {
-            line: name_place.0,
-            column: name_place.1,
-        }),
-    }
+/// A name that is used as a value.
+fn using(alloc: Global, name: &str, line: usize, column: usize) -> Result<Value, Fail> {
+    let name = String::from_str(alloc, name)?;
+    let place = Place { line, column };
+    Ok(Value::Label(Box::new(alloc, PlacedName { name, place })?))
 }
 
 /// A section for each node, each of one word and on a line of its own.
@@ -159,10 +153,56 @@ fn every_node_once(rt: HostRuntime) -> Result<(), Fail> {
     Ok(())
 }
 
+/// The bracketed words of the text below.
+fn bracketed_words(alloc: Global) -> Result<(PlacedItem, PlacedItem), Fail> {
+    let printed = TransferWord {
+        ops: ArrayVec::new(),
+        op: Op::Next,
+        dest: using(alloc, "loop", 4, 10)?,
+        spare: Some(3),
+    };
+    let mut ops = ArrayVec::new();
+    ops.push(Op::FetchP);
+    let followed = TransferWord {
+        ops,
+        op: Op::Jump,
+        dest: Value::Number(number(7)?),
+        spare: None,
+    };
+    let first = item(Item::WordTo(Box::new(alloc, printed)?), 4, 3);
+    let second = item(Item::WordTo(Box::new(alloc, followed)?), 5, 2);
+    Ok((first, second))
+}
+
+/// The items of the text below.
+fn expected_items(alloc: Global) -> Result<Vec<PlacedItem>, Fail> {
+    let (one, five, ones) = (number(1)?, number(5)?, number(0x3FFFF)?);
+    let name = String::from_str(alloc, "loop")?;
+    let dest = using(alloc, "loop", 2, 18)?;
+    let follower = using(alloc, "loop", 3, 14)?;
+    let mut word = ArrayVec::new();
+    word.push(Op::FetchP);
+    word.push(Op::Nop);
+    let (first, second) = bracketed_words(alloc)?;
+    Ok(vec![in alloc;
+        item(Item::Label(name), 2, 3),
+        item(Item::Instruction(Op::Dup), 2, 9),
+        item(Item::Literal(five), 2, 13),
+        item(Item::Transfer { op: Op::If, dest }, 2, 15),
+        item(Item::Word(word), 3, 3),
+        item(Item::Plain(follower), 3, 12),
+        first,
+        second,
+        item(Item::Plain(Value::Number(one)), 5, 16),
+        item(Item::Align, 5, 20),
+        item(Item::Data, 5, 26),
+        item(Item::Plain(Value::Number(ones)), 5, 31),
+    ]?)
+}
+
 #[test]
 fn items_and_places(rt: HostRuntime) -> Result<(), Fail> {
     let alloc = rt.alloc();
-    let (one, five, seven, ones) = (number(1)?, number(5)?, number(7)?, number(0x3FFFF)?);
     let text =
         "node 008 \\ é\n  loop: dup 5 if loop\n  [ @p . ] , loop\n  [ next loop / 3 ]\r\n [ @p jump 7 ] , 1 align data , $3FFFF\nnode 717 DUP: jump DUP";
     let program = parse(alloc, text)?;
@@ -170,51 +210,7 @@ fn items_and_places(rt: HostRuntime) -> Result<(), Fail> {
     assert_eq!(rt; sections.len(), 2);
     let node = Node::new(8).ok_or("no node")?;
     let section = sections.get(&node).ok_or("no section")?;
-    let name = || String::from_str(alloc, "loop");
-    let mut with_follower = ArrayVec::new();
-    with_follower.push(Op::FetchP);
-    let mut word = ArrayVec::new();
-    word.push(Op::FetchP);
-    word.push(Op::Nop);
-    let expected = vec![in alloc;
-        item(Item::Label(name()?), 2, 3),
-        item(Item::Instruction(Op::Dup), 2, 9),
-        item(Item::Literal(five), 2, 13),
-        using(
-            Item::Transfer {
-                op: Op::If,
-                dest: Value::Label(name()?)
-            },
-            (2, 15),
-            (2, 18)
-        ),
-        item(Item::Word(word), 3, 3),
-        using(Item::Plain(Value::Label(name()?)), (3, 12), (3, 14)),
-        using(
-            Item::WordTo {
-                ops: ArrayVec::new(),
-                op: Op::Next,
-                dest: Value::Label(name()?),
-                spare: Some(3)
-            },
-            (4, 3),
-            (4, 10),
-        ),
-        item(
-            Item::WordTo {
-                ops: with_follower,
-                op: Op::Jump,
-                dest: Value::Number(seven),
-                spare: None
-            },
-            5,
-            2,
-        ),
-        item(Item::Plain(Value::Number(one)), 5, 16),
-        item(Item::Align, 5, 20),
-        item(Item::Data, 5, 26),
-        item(Item::Plain(Value::Number(ones)), 5, 31),
-    ]?;
+    let expected = expected_items(alloc)?;
     assert!(rt; section.items == expected);
     assert_eq!(rt; section.labels.len(), 1);
     assert!(rt; section.labels.contains("loop"));
@@ -230,16 +226,24 @@ fn upper_case_is_a_name(rt: HostRuntime) -> Result<(), Fail> {
     let name = || String::from_str(alloc, "DUP");
     let expected = vec![in alloc;
         item(Item::Label(name()?), 1, 10),
-        using(
+        item(
             Item::Transfer {
                 op: Op::Jump,
-                dest: Value::Label(name()?)
+                dest: using(alloc, "DUP", 1, 20)?
             },
-            (1, 15),
-            (1, 20)
+            1,
+            15
         ),
     ]?;
     assert!(rt; section.items == expected);
+    let last = section.items.last().ok_or("no item")?;
+    assert!(rt;
+        last.name_place()
+            == Some(Place {
+                line: 1,
+                column: 20
+            })
+    );
     Ok(())
 }
 

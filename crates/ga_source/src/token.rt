@@ -1,6 +1,7 @@
-ghost use Rattle.std.specs.Prelude.{◌≡◌, ◌+◌, ◌^◌, ◌<◌, ◌≤◌, ◌++◌, ◌∷◌, All, IfOk, count_by, length, map, slice_range};
+ghost use Rattle.std.specs.Prelude.{◌≡◌, ◌+◌, ◌^◌, ◌<◌, ◌≤◌, ◌++◌, ◌∷◌, All, IfOk, codes, count_by, length, map, slice_range};
 ghost use Rattle.std.specs.Iterator.{YieldsFirstRef, item_count};
 ghost use Rattle.std.specs.List.{position, slice_split};
+ghost use Rattle.std.specs.Str.{bytes_eq};
 ghost use Rattle.ga_word.specs.Text.{is_blank};
 ghost use Rattle.ga_pack.specs.Model.Text.{begins_character, end_of, lexemes, line_lexemes, texts_of};
 ghost use Rattle.ga_source.specs.Token.{place_of, runs_left, runs_of, token_of};
@@ -61,7 +62,7 @@ fn add_line(
     let mut start = start;
     let mut column = 1;
     for run in Runs::new(bytes) {
-        if run == b"\\".as_slice() {
+        if is_comment(run) {
             break;
         }
         let end = start + run.len();
@@ -79,6 +80,13 @@ fn add_line(
     Ok(())
 }
 
+/// Whether a run begins a comment.
+pub(crate) fn is_comment(run: &[u8]) -> bool
+    ensures { result ≡ bytes_eq run.now (codes "\\") }
+{
+    run == b"\\".as_slice()
+}
+
 /// The place behind the last character of a text.
 pub(crate) fn end_place(text: &str) -> Place
     ensures { place_of result ≡ end_of text.now }
@@ -94,12 +102,12 @@ pub(crate) fn end_place(text: &str) -> Place
 
 /// The runs of a line, which stand one blank apart, from the front. A run may be empty.
 #[derive(Drop)]
-struct Runs<'a> {
+pub(crate) struct Runs<'a> {
     rest: Option<&'a [u8]>,
 }
 
 impl<'a> Runs<'a> {
-    fn new(line: &'a [u8]) -> Self
+    pub(crate) fn new(line: &'a [u8]) -> Self
         ensures { runs_left result ≡ slice_split is_blank line.now }
     {
         Runs { rest: Some(line) }
@@ -138,7 +146,7 @@ fn run_end(line: &[u8]) -> Option<usize>
 }
 
 /// How many characters some bytes begin.
-fn characters(bytes: &[u8]) -> usize
+pub(crate) fn characters(bytes: &[u8]) -> usize
     ensures { result ≡ count_by begins_character bytes.now }
 {
     let mut characters = 0;

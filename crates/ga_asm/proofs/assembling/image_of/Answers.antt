@@ -1,4 +1,4 @@
-use Rattle.std.proofs.Common.{◌∙◌, sym, ap, subst}
+use Rattle.std.proofs.Common.{◌∙◌, ◌<◌, length, sym, ap, subst}
 use Rattle.std.specs.List.{list_all}
 use Rattle.std.specs.Option.{unwrap_or}
 use Rattle.ga_pack.specs.Model.Layout.{names_in}
@@ -6,7 +6,7 @@ use Rattle.ga_pack.specs.Model.Source.{is_item, start}
 use Rattle.ga_asm.specs.Layout.{Placing, plain}
 use Rattle.ga_asm.specs.Making.{IsMade}
 use Rattle.ga_asm.proofs.LabelLists.{names_are}
-use Rattle.ga_asm.proofs.RightItems.{items_right}
+use Rattle.ga_asm.proofs.RightItems.{items_right, items_some}
 use Rattle.ga_asm.proofs.Sections.{image_fits}
 use Rattle.ga_asm.proofs.assembling.image_of.Goals as goal
 
@@ -17,6 +17,9 @@ first_pass-requires-clause-names c =
 pub second_pass-requires-clause-right : goal.second_pass-requires-clause-right
 second_pass-requires-clause-right c =
     ap (λ t. list_all is_item (plain t)) c.as_slice-items.ensures.value ∙ items_right start (plain c.args.section.now.items.items) c.requires
+
+pub second_pass-requires-clause-some : goal.second_pass-requires-clause-some
+second_pass-requires-clause-some c = subst (λ t. 0 < length t) (sym c.as_slice-items.ensures.value) (items_some c.args.section.now.items.items c.requires)
 
 pub invariant_of-result : goal.invariant_of-result
 invariant_of-result c =

@@ -10,7 +10,7 @@ use Rattle.ga_asm.proofs.RightItems.{items_some}
 use Rattle.ga_asm.proofs.layout.first_pass.Goals as goal
 
 pub loop-at-init : goal.loop-at-init
-loop-at-init c = laying_none (names_in (plain c.args.items.now)) _ c.new.ensures.empty refl refl refl c.new-3.ensures.items refl
+loop-at-init c = laying_none (names_in (plain c.args.items.now)) _ c.in-Ok.ensures
 
 pub returns-in-Some-clause-err : goal.returns-in-Some-clause-err
 returns-in-Some-clause-err c =
@@ -37,11 +37,14 @@ loop-at-preserved c =
     (sym (c.in_default.ensures ∙ ap (λ t. fault_at t (labels_of l.labels.entries) l.address (joins_open (labels_of l.labels.entries) (open_of l) x) x) c.requires.names))
     (record { labels = e.labels; address = e.address; word = e.word; counts = e.counts; data_start = e.data; near = e.near }))
 
-pub returns-in-Ok-clause-ok : goal.returns-in-Ok-clause-ok
-returns-in-Ok-clause-ok c =
+pub returns-in-Ok-close-clause-ok : goal.returns-in-Ok-close-clause-ok
+returns-in-Ok-close-clause-ok c =
     let items = c.args.items.now in
     let laying = subst (λ t. Laying (names_in (plain items)) (plain t) c.loop-at.layout) (front_all items c.loop-at.at c.loop-at-test.false) c.loop-at.invariant in
-    laying_all (plain items) c.loop-at.layout c.close.new.self laying c.in-Ok.ensures.ok c.in-Ok.ensures.counts
+    laying_all (plain items) c.loop-at.layout c.close.new.self laying c.in-Ok-close.ensures.ok c.in-Ok-close.ensures.counts
 
 pub returns-in-Err-close-clause-at : goal.returns-in-Err-close-clause-at
 returns-in-Err-close-clause-at c = items_some c.args.items.now c.requires.right
+
+pub returns-in-Err-clause-at : goal.returns-in-Err-clause-at
+returns-in-Err-clause-at c = items_some c.args.items.now c.requires.right

@@ -10,6 +10,6 @@ use Rattle.ga_asm.proofs.layout.is_value.Goals as goal
 pub returns-in-Label : goal.returns-in-Label
 returns-in-Label c =
     c.contains.ensures
-    ∙ ap (λ t. list_any (λ k. bytes_eq t (string_bytes k)) c.args.names.now.keys) c.as_str.ensures.value
-    ∙ sym (list_any_map (bytes_eq (string_bytes c.in-Label.name)) string_bytes c.args.names.now.keys)
+    ∙ ap (λ t. list_any (λ k. bytes_eq t (string_bytes k)) c.args.names.now.keys) (c.as_str.ensures.value ∙ ap (λ label. string_bytes label.name) c.deref.ensures)
+    ∙ sym (list_any_map (bytes_eq (string_bytes c.in-Label.label.value.name)) string_bytes c.args.names.now.keys)
     ∙ ap (λ t. is_value (map string_bytes c.args.names.now.keys) (value_of t)) (sym c.in-Label.is)

@@ -7,7 +7,7 @@ use Rattle.ga_asm.proofs.Groups.{making_all, making_none, next_at, next_far, nex
 use Rattle.ga_asm.proofs.making.second_pass.Goals as goal
 
 pub loop-count-init : goal.loop-count-init
-loop-count-init c = making_none (plain c.args.items.now) c.args.layout.now c.new-words.result.items c.requires.placed c.new-words.ensures.items
+loop-count-init c = making_none (plain c.args.items.now) c.args.layout.now c.in-Ok.words.items c.requires.placed c.in-Ok.ensures.items
 
 pub split_at-requires : goal.split_at-requires
 split_at-requires c =
@@ -66,7 +66,7 @@ loop-count-preserved c =
     let count : c.len-address.result ≡ length c.loop-count.words.items = omega (arith, c.len-address.ensures) in
     next_made c.args.items.now c.loop-count.rest.now c.args.layout.now c.deref-count-items.result.now c.loop-count.count-index c.loop-count.words.items n c.split_at.result.0.now c.split_at.result.1.now c.index-group-0.result c.push_group.new.words.items c.split_at.ensures.front c.split_at.ensures.back
     (ap (λ t. is_in_reach (labels_of c.args.layout.now.labels.entries) t (item_of (get_or c.split_at.result.0.now 0 c.index-group-0.result).item)) (sym count) ∙ sym c.is_in_reach.ensures ∙ c.if-not-is_in_reach.false)
-    c.in_default.ensures.ok
+    c.in_default-push_group.ensures.ok
 
 pub returns-clause-ok : goal.returns-clause-ok
 returns-clause-ok c =

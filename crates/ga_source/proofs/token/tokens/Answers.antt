@@ -12,35 +12,35 @@ use Rattle.ga_source.proofs.token.tokens.Goals as goal
 use Rattle.ga_source.proofs.token.tokens.Goals.{In-None}
 
 pub loop-part-init : goal.loop-part-init
-loop-part-init c = subst (λ (ts : List Token). Read c.args.text.now 1 0 (lines_of c.args.text.now) ts) (sym c.new-tokens.ensures.items) (nothing_read c.args.text.now)
+loop-part-init c = subst (λ (ts : List Token). Read token_of c.args.text.now 1 0 (lines_of c.args.text.now) ts) (sym c.new-tokens.ensures.items) (nothing_read token_of c.args.text.now)
 
 pub add_line-requires : goal.add_line-requires
 add_line-requires c =
     let text = c.args.text.now in
     let turn = YieldsList-turn (YieldsList-from_str_split 10 text (lit< tt) (cc) (cc) (cc)) c.loop-part.yielded _ c.loop-part.yielded_by _ _ c.in-Some.part c.in-Some.is c.next.ensures.steps in
-    let here = at_line text c.loop-part.line c.loop-part.start (length c.loop-part.yielded) c.in-Some.part.now c.as_bytes-bytes.result.now c.loop-part.tokens.items turn c.as_bytes-bytes.ensures.value c.loop-part.invariant in
+    let here = at_line token_of text c.loop-part.line c.loop-part.start (length c.loop-part.yielded) c.in-Some.part.now c.as_bytes-bytes.result.now c.loop-part.tokens.items turn c.as_bytes-bytes.ensures.value c.loop-part.invariant in
     omega (arith, here.room)
 
 pub overflow_add-start-in-loop-part : goal.overflow_add-start-in-loop-part
 overflow_add-start-in-loop-part c =
     let text = c.args.text.now in
     let turn = YieldsList-turn (YieldsList-from_str_split 10 text (lit< tt) (cc) (cc) (cc)) c.loop-part.yielded _ c.loop-part.yielded_by _ _ c.in-Some.part c.in-Some.is c.next.ensures.steps in
-    let here = at_line text c.loop-part.line c.loop-part.start (length c.loop-part.yielded) c.in-Some.part.now c.as_bytes-bytes.result.now c.loop-part.tokens.items turn c.as_bytes-bytes.ensures.value c.loop-part.invariant in
+    let here = at_line token_of text c.loop-part.line c.loop-part.start (length c.loop-part.yielded) c.in-Some.part.now c.as_bytes-bytes.result.now c.loop-part.tokens.items turn c.as_bytes-bytes.ensures.value c.loop-part.invariant in
     omega (arith, here.room)
 
 pub loop-part-preserved : goal.loop-part-preserved
 loop-part-preserved c =
     let text = c.args.text.now in
     let turn = YieldsList-turn (YieldsList-from_str_split 10 text (lit< tt) (cc) (cc) (cc)) c.loop-part.yielded _ c.loop-part.yielded_by _ _ c.in-Some.part c.in-Some.is c.next.ensures.steps in
-    let here = at_line text c.loop-part.line c.loop-part.start (length c.loop-part.yielded) c.in-Some.part.now c.as_bytes-bytes.result.now c.loop-part.tokens.items turn c.as_bytes-bytes.ensures.value c.loop-part.invariant in
-    subst (λ n. Read text (c.loop-part.line + 1) (c.loop-part.start + (length c.as_bytes-bytes.result.now + 1)) (drop n (lines_of text)) c.add_line.new.tokens.items) (sym (length_push c.loop-part.yielded c.in-Some.part))
-    (behind_line text c.loop-part.line c.loop-part.start c.as_bytes-bytes.result.now _ c.loop-part.tokens.items c.add_line.new.tokens.items here c.in_ok-add_line.ensures)
+    let here = at_line token_of text c.loop-part.line c.loop-part.start (length c.loop-part.yielded) c.in-Some.part.now c.as_bytes-bytes.result.now c.loop-part.tokens.items turn c.as_bytes-bytes.ensures.value c.loop-part.invariant in
+    subst (λ n. Read token_of text (c.loop-part.line + 1) (c.loop-part.start + (length c.as_bytes-bytes.result.now + 1)) (drop n (lines_of text)) c.add_line.new.tokens.items) (sym (length_push c.loop-part.yielded c.in-Some.part))
+    (behind_line token_of text c.loop-part.line c.loop-part.start c.as_bytes-bytes.result.now _ c.loop-part.tokens.items c.add_line.new.tokens.items here c.in_ok-add_line.ensures)
 
 all_tokens : (c : In-None) → c.loop-part.tokens.items ≡ map token_of (lexemes c.args.text.now)
 all_tokens c =
     let text = c.args.text.now in
     let t = YieldsList-end (YieldsList-from_str_split 10 text (lit< tt) (cc) (cc) (cc)) c.loop-part.yielded _ c.loop-part.yielded_by _ _ c.in-None.is c.next.ensures.steps in
-    all_read text c.loop-part.line c.loop-part.start _ c.loop-part.tokens.items c.loop-part.invariant (drop_all (length c.loop-part.yielded) (lines_of text) (omega (arith, t.1)))
+    all_read token_of text c.loop-part.line c.loop-part.start _ c.loop-part.tokens.items c.loop-part.invariant (drop_all (length c.loop-part.yielded) (lines_of text) (omega (arith, t.1)))
 
 pub returns-clause-tokens : goal.returns-clause-tokens
 returns-clause-tokens c = all_tokens c
