@@ -1,6 +1,7 @@
 ghost use Rattle.std.specs.Prelude.{◌≡◌, ◌++◌, List, ℕ, Ok, OnOk};
 ghost use Rattle.ga_bench.specs.Answer.{IsOutput};
 
+mod boots;
 mod round_trips;
 
 use crate::command_line::{LineError, job};

@@ -233,3 +233,87 @@ fn placed_anew_until_it_begins(rt: HostRuntime) -> Result<(), Fail> {
     assert!(rt; moves(&mut chip, 708, Side::Right, 100)? == 6);
     Ok(())
 }
+
+/// The load and the start of 710 over two hops from 708, with the one word `. . . .`.
+const TWO_HOPS: [u32; 34] = [
+    0x000AE, 0x001D5, 0x0000F, 0x101D5, 0x04A12, 0x00175, 0x00007, 0x2E9B2, 0x05A72, 0x10175,
+    0x04A12, 0x00000, 0x00000, 0x2E9B2, 0x05872, 0x2C9B2, 0x2C9B2, 0x2C9B2, 0x000AE, 0x00000,
+    0x00000, 0x000AE, 0x001D5, 0x00007, 0x04A12, 0x00175, 0x00000, 0x2E9B2, 0x05A72, 0x10000,
+    0x101B5, 0x001B5, 0x00000, 0x00000,
+];
+
+fn words(alloc: Global, numbers: &[u32]) -> Result<Vec<Word18>, Fail> {
+    let mut words = Vec::new(alloc);
+    for number in numbers {
+        words.push(Word18::new(*number).ok_or("more than 18 bits")?)?;
+    }
+    Ok(words)
+}
+
+/// Gives a node a stream, which it isn't refused.
+fn give(alloc: Global, chip: &mut Chip, name: u16, numbers: &[u32]) -> Result<(), Fail> {
+    chip.give_stream(node(name)?, words(alloc, numbers)?)
+        .map_err(|_| "refused")?;
+    Ok(())
+}
+
+#[test]
+fn boot_two_hops(rt: HostRuntime) -> Result<(), Fail> {
+    let mut chip = reset(rt.alloc())?;
+    give(rt.alloc(), &mut chip, 708, &TWO_HOPS)?;
+    for _ in 0..1000 {
+        for side in [Side::Right, Side::Down, Side::Left, Side::Up] {
+            let _moved = chip.turn(side);
+        }
+    }
+    let loaded = chip.state(node(710)?);
+    assert!(rt; loaded.stop() == Some(Stop::IoRead));
+    assert_eq!(rt; loaded.p(), 2);
+    assert_eq!(rt; loaded.ram()[0].get(), 0x2C9B2);
+    for word in &loaded.ram()[1..] {
+        assert_eq!(rt; word.get(), 0);
+    }
+    // the edge node and the one on the way went idle
+    assert_eq!(rt;
+        (chip.state(node(708)?).p(), chip.state(node(709)?).p()),
+        (0x1B5, 0x1B5)
+    );
+    assert!(rt; chip.turn(Side::Right) == 0);
+    Ok(())
+}
+
+#[test]
+fn streams_refused_by_name(rt: HostRuntime) -> Result<(), Fail> {
+    let alloc = rt.alloc();
+    let mut chip = reset(alloc)?;
+    give(alloc, &mut chip, 708, &TWO_HOPS)?;
+    place(&mut chip, 0, &[0x2C9B2])?;
+    assert!(rt; moves(&mut chip, 0, Side::Right, 1)? == 1);
+    for (name, fault) in [
+        (101, ChipError::NotEdge),
+        (708, ChipError::AlreadyGiven),
+        (0, ChipError::Begun),
+    ] {
+        let Err((refused, back)) = chip.give_stream(node(name)?, words(alloc, &TWO_HOPS)?) else {
+            return Err("given")?;
+        };
+        assert_eq!(rt; refused, fault);
+        assert_eq!(rt; back.len(), 34);
+    }
+    // a node with a stream is given no words, before its first step and after
+    for _ in 0..2 {
+        let placed = chip.place(node(708)?, &[], 0);
+        assert!(rt; placed.is_err_and(|error| error == ChipError::AlreadyGiven));
+        assert!(rt; moves(&mut chip, 708, Side::Up, 1)? == 1);
+    }
+    // a node that was placed and made no step is given a stream
+    place(&mut chip, 1, &[0x2C9B2])?;
+    give(alloc, &mut chip, 1, &[0x00003, 0x00000, 0x00000])?;
+    assert!(rt; moves(&mut chip, 1, Side::Up, 3)? == 3);
+    assert_eq!(rt; chip.state(node(1)?).p(), 3);
+    // without words left it waits
+    give(alloc, &mut chip, 17, &[0x000AE])?;
+    assert!(rt; moves(&mut chip, 17, Side::Up, 9)? == 1);
+    assert!(rt; outcome(&mut chip, 17, Side::Up)? == Outcome::Waits);
+    Ok(())
+}
