@@ -10,8 +10,7 @@ use std::fmt::Write;
 use std::test::Fail;
 
 /// The nodes of a snake through the chip, row by row to and fro.
-fn snake(alloc: Global, count: u16) -> Result<Vec<Node>, Fail>
-{
+fn snake(alloc: Global, count: u16) -> Result<Vec<Node>, Fail> {
     let mut nodes = Vec::new(alloc);
     for at in 0..count {
         let (row, column) = (at / 18 % 8, at % 18);
@@ -74,7 +73,10 @@ fn snakes_boot(rt: HostRuntime) -> Result<(), Fail> {
         chip.give_stream(root, stream.load).map_err(|_| "refused")?;
         let moved = run(&mut chip);
         assert!(rt; are_booted(&chip, &images), "{count} nodes");
-        assert!(rt; all_moves.is_none_or(|all| all == moved), "{count} nodes: {moved}");
+        assert!(rt;
+            all_moves.is_none_or(|all| all == moved),
+            "{count} nodes: {moved}"
+        );
     }
     Ok(())
 }
