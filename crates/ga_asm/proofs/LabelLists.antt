@@ -64,7 +64,7 @@ near_entry labels h = by (address_of labels (codes "main")) (near_found labels (
 -- the labels of a section's items
 names_by : (x : Item) (items : List placed.PlacedItem) → labels_in (map placed_of items) ≡ names_in (plain items)
     → label_before (item_of x) (labels_in (map placed_of items)) ≡ names_in (item_of x ∷ plain items)
-names_by (item.Label s) items e = ap (λ r. string_bytes s ∷ r) e
+names_by (item.Label s) items e = ap (λ r. s.bytes ∷ r) e
 names_by (item.Instruction o) items e = e
 names_by (item.Transfer o v) items e = e
 names_by (item.Literal n) items e = e

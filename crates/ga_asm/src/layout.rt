@@ -1,7 +1,6 @@
 //! The first pass over the items of a node: where each one comes to stand, or the first fault.
 ghost use Rattle.std.specs.Prelude.{◌≡◌, ◌+◌, ◌<◌, ◌≤◌, ◌++◌, ◌∷◌, [], IfErr, IfOk, None, OnOk, Some, false, length, map, true};
 ghost use Rattle.std.specs.List.{list_any};
-ghost use Rattle.std.specs.String.{string_bytes};
 ghost use Rattle.ga_pack.specs.Model.Layout as laid;
 ghost use Rattle.ga_pack.specs.Model.Layout.{names_in};
 ghost use Rattle.ga_pack.specs.Model.LayoutFault as faults;
@@ -17,7 +16,7 @@ ghost use Rattle.ga_asm.specs.declared.error.AsmErrorKind.TheVariants.{Memory};
 
 use crate::error::AsmErrorKind;
 use arrayvec::ArrayVec;
-use ga_source::{Item, PlacedItem, Section, TransferWord, Value};
+use ga_source::{Item, Name, PlacedItem, Section, TransferWord, Value};
 use ga_word::{Op, Word18};
 use indexmap::{IndexMap, IndexSet};
 use std::alloc::{AllocError, Global};
@@ -25,6 +24,7 @@ use std::alloc::{AllocError, Global};
 // What is kept of the items that are laid.
 #[derive(Drop)]
 pub(crate) struct Layout {
+    alloc: Global,
     // The labels with their addresses.
     pub(crate) labels: IndexMap<String, u8>,
     // The next address.
@@ -47,18 +47,18 @@ pub(crate) struct Refusal {
     pub(crate) kind: AsmErrorKind,
 }
 
-fn is_value(names: &IndexSet<String>, value: &Value) -> bool
-    ensures { result ≡ laid.is_value (map string_bytes names.now.keys) (value_of value.now) }
+fn is_value(names: &IndexSet<Name>, value: &Value) -> bool
+    ensures { result ≡ laid.is_value (map (λ name. name.bytes) names.now.keys) (value_of value.now) }
 {
     match value {
         Value::Number(_) => true,
-        Value::Label(label) => names.contains(label.name.as_str()),
+        Value::Label(label) => names.contains(&label.name),
     }
 }
 
 // The name that the item uses is a label of the node.
-fn is_defined(names: &IndexSet<String>, item: &Item) -> bool
-    ensures { result ≡ laid.is_defined (map string_bytes names.now.keys) (item_of item.now) }
+fn is_defined(names: &IndexSet<Name>, item: &Item) -> bool
+    ensures { result ≡ laid.is_defined (map (λ name. name.bytes) names.now.keys) (item_of item.now) }
 {
     match item {
         Item::Transfer { dest, .. } => is_value(names, dest),
@@ -253,11 +253,11 @@ impl Layout {
     }
 
     // The first fault of the item, which joins the open word or not, in a node with these labels.
-    fn fault_of(&self, names: &IndexSet<String>, item: &Item, joined: bool) -> Option<AsmErrorKind>
+    fn fault_of(&self, names: &IndexSet<Name>, item: &Item, joined: bool) -> Option<AsmErrorKind>
         requires joined { joined ≡ joins_word self.now (item_of item.now) }
         requires near { self.now.word ≤ 64 }
         requires few { self.now.address ≤ 64 }
-        ensures { kind_in result ≡ faults.fault_at (map string_bytes names.now.keys) (labels_of self.now.labels.entries) self.now.address (joins_word self.now (item_of item.now)) (item_of item.now) }
+        ensures { kind_in result ≡ faults.fault_at (map (λ name. name.bytes) names.now.keys) (labels_of self.now.labels.entries) self.now.address (joins_word self.now (item_of item.now)) (item_of item.now) }
     {
         if !is_defined(names, item) {
             return Some(AsmErrorKind::UndefinedLabel);
@@ -281,6 +281,7 @@ impl Layout {
         ensures { IfOk result IsBlank }
     {
         Ok(Layout {
+            alloc,
             labels: IndexMap::with_capacity(alloc, labels)?,
             address: 0,
             is_open: false,
@@ -340,7 +341,8 @@ impl Layout {
     {
         match item {
             Item::Label(name) => {
-                self.labels.insert(name.clone()?, self.address)?;
+                let name = String::from_str(self.alloc, name.as_str())?;
+                self.labels.insert(name, self.address)?;
             }
             Item::Data => {
                 if self.data_start.is_none() {
@@ -378,11 +380,11 @@ impl Layout {
 /// all labels of the node.
 pub(crate) fn first_pass(
     alloc: Global,
-    names: &IndexSet<String>,
+    names: &IndexSet<Name>,
     items: &[PlacedItem],
 ) -> Result<Layout, Refusal>
     requires right { Items start (plain items.now) }
-    requires names { map string_bytes names.now.keys ≡ names_in (plain items.now) }
+    requires names { map (λ name. name.bytes) names.now.keys ≡ names_in (plain items.now) }
     ensures ok { IfOk result (λ layout. Placing (plain items.now) layout) }
     ensures err { IfErr result (λ refusal. IsFirstPassFault (plain items.now) refusal.at (kind_of refusal.kind)) }
     ensures at { IfErr result (λ refusal. refusal.at < length items.now) }

@@ -3,6 +3,7 @@ mod Completes
 mod Steps
 mod Exact
 mod FaultKinds
+mod Hex
 mod Whole
 mod Erasure
 mod ParserSteps

@@ -1,5 +1,5 @@
 -- A text is cut into lines, and a line into runs, and so its tokens are found.
-use Rattle.std.proofs.Common.{rules, ◌≡◌, ◌∙◌, ◌++◌, ◌+◌, ◌-◌, ◌<◌, ◌≤◌, ◌⊎◌, ℕ, Bool, true, false, not, Some, None, List, [], ◌∷◌, inl, inr, map, length, take, drop, get_or, take_all, take-append-drop, length-drop, refl, sym, ap, ap₂, subst, append_assoc, arith, length-append}
+use Rattle.std.proofs.Common.{rules, ◌≡◌, ◌∙◌, ◌++◌, ◌+◌, ◌-◌, ◌<◌, ◌≤◌, ◌⊎◌, ℕ, suc, Bool, true, false, not, Some, None, List, [], ◌∷◌, inl, inr, map, length, take, drop, get_or, take_all, take-append-drop, length-drop, refl, sym, ap, ap₂, subst, append_assoc, arith, length-append}
 use Rattle.std.specs.Prelude.{◌==◌, All, codes, count_by, filter, if◌then◌else◌}
 use Rattle.std.specs.List.{position, position_or_len, slice_split, onto_first}
 use Rattle.std.specs.Str.{bytes_eq}
@@ -9,6 +9,12 @@ use Rattle.std.proofs.lemmas.List.Quantifiers.{position-Some}
 use Rattle.std.proofs.lemmas.Grind.{common_steps}
 use Rattle.std.proofs.lemmas.List.Splits.{slice_split-cons_no, slice_split-cons_yes, length-slice_split, slice_split_at, slice_split_none}
 use Rattle.std.proofs.lemmas.List.Sums.{count_by-le-length, fails_before_first, sum_by-append}
+use Rattle.std.proofs.lemmas.Bool.Decides.{nat_tests}
+use Rattle.std.proofs.lemmas.Str.Ascii.{All-from_ascii}
+use Rattle.std.proofs.lemmas.Bool.{false_from_ne_true}
+use Rattle.std.specs.Bool.{MatchBool}
+use Rattle.memchr.specs.Find.{NoneBefore, Nowhere, Passes, is_byte}
+use Rattle.std.specs.Str.{IsAscii, IsNotAscii}
 use Rattle.ga_word.specs.Text.{is_blank, is_empty}
 use Rattle.ga_pack.specs.Model.Text.{Lexeme, Place, Run, before_comment, begins_character, end_from, lexemes, lexemes_from, line_lexemes, lines_of, place_behind, runs_from}
 
@@ -110,6 +116,19 @@ pub record Next (bytes : List ℕ) (at column : ℕ) (run : List ℕ) (others : 
 count_append : (xs ys : List ℕ) → count_by begins_character (xs ++ ys) ≡ count_by begins_character xs + count_by begins_character ys
 count_append xs ys = sum_by-append _ xs ys
 
+-- each byte of an ASCII line begins a character
+plain_all : (bytes : List ℕ) → All (λ c. c < 128) bytes → count_by begins_character bytes ≡ length bytes
+plain_all [] all = refl
+plain_all (x ∷ xs) all =
+    let first : x < 128 = all 0 0 (omega arith) in
+    let begins : begins_character x ≡ true = grind (arith, nat_tests) in
+    let rest : count_by begins_character xs ≡ length xs = plain_all xs (λ k d m. all (suc k) d (omega (arith, m))) in
+    omega (arith, rest, count_append (x ∷ []) xs, ap {B = ℕ} (λ b. if b then 1 else 0) begins)
+
+pub plain_ascii : (bytes : List ℕ) (b : Bool) → MatchBool b (IsAscii bytes) (IsNotAscii bytes) → b ≡ true → count_by begins_character bytes ≡ length bytes
+plain_ascii bytes true is e = plain_all bytes (All-from_ascii bytes is)
+plain_ascii bytes false is e = absurd (cc)
+
 blank_begins : (y : ℕ) → is_blank y ≡ true → begins_character y ≡ true
 blank_begins y e = search rules
 
@@ -124,6 +143,20 @@ next_stands bytes at column run others s (inr (y, rest, whole, blank, left)) = i
   parts = left;
   columns = omega (arith, s.columns, count_append s.front (run ++ y ∷ []), count_append run (y ∷ []), ap {B = ℕ} (λ b. if b then 1 else 0) (blank_begins y blank));
 })
+
+-- a part of a line each of whose bytes begins a character is such a part
+pub plain_part : (bytes : List ℕ) (at column : ℕ) (run : List ℕ) (others : List (List ℕ)) → (run ∷ others ≡ []) ⊎ Stands bytes at column (run ∷ others)
+    → count_by begins_character bytes ≡ length bytes → count_by begins_character run ≡ length run
+plain_part bytes at column run others (inl none) plain = absurd (cc)
+plain_part bytes at column run others (inr s) plain = more (cut is_blank s.rest run others s.parts)
+  where
+    whole : count_by begins_character s.rest ≡ length s.rest
+    whole = omega (arith, plain, ap (count_by begins_character) s.whole ∙ count_append s.front s.rest, ap length s.whole ∙ length-append s.front s.rest, count_by-le-length begins_character s.front, count_by-le-length begins_character s.rest)
+
+    more : Cut is_blank s.rest run others → count_by begins_character run ≡ length run
+    more (inl (none, same)) = sym (ap (count_by begins_character) same) ∙ whole ∙ ap length same
+    more (inr (y, rest, same, blank, left)) =
+        omega (arith, whole, ap (count_by begins_character) same ∙ count_append run (y ∷ rest), ap length same ∙ length-append run (y ∷ rest), count_by-le-length begins_character run, count_by-le-length begins_character (y ∷ rest))
 
 pub next_part : (bytes : List ℕ) (at column : ℕ) (run : List ℕ) (others : List (List ℕ)) → (run ∷ others ≡ []) ⊎ Stands bytes at column (run ∷ others) → Next bytes at column run others
 next_part bytes at column run others (inl none) = absurd (cc)
@@ -210,14 +243,6 @@ module _ {X : Type 0} (f : Lexeme → X) where
   unfolding lexemes
   nothing_read text = record { room = omega (arith, span_split (λ byte. byte == 10) text); low = omega arith; found = refl }
 
-  -- the line at hand is the first of those that are left
-  pub at_line : (text : List ℕ) (line start n : ℕ) (part bytes : List ℕ) (tokens : List X) → (n < length (lines_of text)) × (part ≡ get_or (lines_of text) n part) → bytes ≡ part
-      → Read text line start (drop n (lines_of text)) tokens → Read text line start (bytes ∷ drop (n + 1) (lines_of text)) tokens
-  at_line text line start n part bytes tokens turn same r =
-      subst (λ left. Read text line start left tokens)
-      (drop_more (lines_of text) n part turn.0 ∙ ap (λ first. first ∷ drop (n + 1) (lines_of text)) (sym turn.1 ∙ sym same))
-      r
-
   pub behind_line : (text : List ℕ) (line start : ℕ) (bytes : List ℕ) (others : List (List ℕ)) (tokens more : List X)
       → Read text line start (bytes ∷ others) tokens → more ≡ tokens ++ map f (line_lexemes line start bytes) → Read text (line + 1) (start + (length bytes + 1)) others more
   behind_line text line start bytes others tokens more r e =
@@ -256,22 +281,31 @@ last_end line [] last = ap (λ n. place_behind n last) (omega arith)
 last_end line (bytes ∷ []) last = ap (λ n. place_behind n last) (omega arith)
 last_end line (bytes ∷ next ∷ lines) last = last_end (line + 1) (next ∷ lines) last ∙ ap (λ n. place_behind n last) (omega arith)
 
--- ---- the first run of a line
+-- ---- the first part of a list
+
+pub split_at : (p : ℕ → Bool) (xs : List ℕ) (end : ℕ) → end < length xs → p (get_or xs end 0) ≡ true → ((k : ℕ) → k < end → p (get_or xs k 0) ≡ false)
+    → slice_split p xs ≡ take end xs ∷ slice_split p (take (length xs - (end + 1)) (drop (end + 1) xs))
+split_at p xs end inside here none =
+    let seam : xs ≡ take end xs ++ get_or xs end 0 ∷ drop (end + 1) xs = sym (take-append-drop end xs) ∙ ap (λ l. take end xs ++ l) (drop_more xs end 0 inside) in
+    let before : All (λ c. p c ≡ false) (take end xs) =
+    λ k d m. ap p (get_or-take end xs k d (omega (arith, length-take end xs)) ∙ get_or_default xs k d 0 (omega (arith, length-take end xs))) ∙ none k (omega (arith, length-take end xs)) in
+    ap (slice_split p) seam
+    ∙ slice_split_at p (take end xs) (get_or xs end 0) (drop (end + 1) xs) before here
+    ∙ ap (λ l. take end xs ∷ slice_split p l) (sym (take_all _ (drop (end + 1) xs) (omega (arith, length-drop (end + 1) xs))))
 
 pub split_at_end : (line : List ℕ) (end : ℕ) → position is_blank line ≡ Some end → slice_split is_blank line ≡ take end line ∷ slice_split is_blank (take (length line - (end + 1)) (drop (end + 1) line))
-split_at_end line end e =
-    let at = position-Some is_blank line end 0 e in
-    let seam : line ≡ take end line ++ get_or line end 0 ∷ drop (end + 1) line = sym (take-append-drop end line) ∙ ap (λ l. take end line ++ l) (drop_more line end 0 at.0) in
-    let before : All (λ c. is_blank c ≡ false) (take end line) =
-    λ k d m. ap is_blank (get_or-take end line k d (omega (arith, length-take end line)) ∙ get_or_default line k d 0 (omega (arith, length-take end line))) ∙ at.2 k (omega (arith, length-take end line)) in
-    ap (slice_split is_blank) seam
-    ∙ slice_split_at is_blank (take end line) (get_or line end 0) (drop (end + 1) line) before at.1
-    ∙ ap (λ l. take end line ∷ slice_split is_blank l) (sym (take_all _ (drop (end + 1) line) (omega (arith, length-drop (end + 1) line))))
+split_at_end line end e = let at = position-Some is_blank line end 0 e in split_at is_blank line end at.0 at.1 at.2
 
 pub split_without_end : (line : List ℕ) → position is_blank line ≡ None → slice_split is_blank line ≡ line ∷ []
 split_without_end line e =
     let none : length line ≤ position_or_len is_blank line = grind (arith, common_steps) in
     slice_split_none is_blank line (λ k d m. fails_before_first is_blank line k d (omega arith))
+
+pub lines_at_end : (text : List ℕ) (end : ℕ) → NoneBefore (Passes (is_byte 10) text) 0 (length text) end × Passes (is_byte 10) text end → lines_of text ≡ take end text ∷ lines_of (take (length text - (end + 1)) (drop (end + 1) text))
+lines_at_end text end first = split_at (λ byte. byte == 10) text end first.0.high first.1 (λ k m. false_from_ne_true (get_or text k 0 == 10) (first.0.before k (omega arith) m))
+
+pub lines_without_end : (text : List ℕ) → Nowhere (Passes (is_byte 10) text) 0 (length text) → lines_of text ≡ text ∷ []
+lines_without_end text nowhere = slice_split_none (λ byte. byte == 10) text (λ k d m. ap (λ byte. byte == 10) (get_or_default text k d 0 m) ∙ false_from_ne_true (get_or text k 0 == 10) (nowhere k (omega arith) m))
 
 -- ---- the end of a text
 

@@ -1,12 +1,12 @@
 -- Names, and names in front of `:`.
 use Rattle.std.proofs.Common.{◌≡◌, ◌∙◌, ◌++◌, ◌<◌, ◌≤◌, ℕ, zero, suc, Bool, true, false, List, [], ◌∷◌, Option, Result, Ok, Err, Some, None, length, refl, sym, ap, arith, append_assoc, inl, inr, lit<, eq-eqb}
-use Rattle.std.specs.Borrow.{Bor}
-use Rattle.std.specs.Result.{MatchResult, result_ok}
+use Rattle.std.specs.Prelude.{IfOk, IsOk}
+use Rattle.std.specs.Result.{result_ok}
 use Rattle.std.specs.Option.{option_map}
 use Rattle.std.specs.Prelude.{◌==◌, ◌&&◌, nat_le, nat_lt, if◌then◌else◌}
 use Rattle.std.specs.List.{list_all}
 use Rattle.std.specs.Str.{IsAscii, IsUtf8}
-use Rattle.std.proofs.lemmas.Bool.{and_parts, cases_lt, false≢true, le-leb, le-ltb, lt-leb, ne_eqb}
+use Rattle.std.proofs.lemmas.Bool.{and_parts, cases_lt, false≢true, le-leb, le-ltb, lt-leb, ltb-true, ne_eqb}
 use Rattle.std.proofs.lemmas.List.{append-nil}
 use Rattle.std.proofs.lemmas.Str.{IsUtf8-from_ascii}
 use Rattle.ga_pack.specs.Model.Meaning.{as_label, as_name, is_letter, is_letter_or_digit, is_name, label_from}
@@ -54,23 +54,31 @@ all_letters (c ∷ cs) e =
 pub name-IsUtf8 : (text : List ℕ) → is_name text ≡ true → IsUtf8 text
 name-IsUtf8 text e = IsUtf8-from_ascii text (letters_below text (all_letters text e))
 
--- what a text is as a name, which is read as UTF-8
-pub name_read : {E : Type 0} (text : List ℕ) (read : Result (Bor (List ℕ)) E) (Q : E → Type 0) → is_name text ≡ true → MatchResult read (λ s. (s.now ≡ text) × IsUtf8 text) (λ e. ¬ (IsUtf8 text) × Q e)
-    → option_map (λ t. name t.now) (result_ok read) ≡ as_name text
-name_read text (Ok s) Q e h = rw e (ap (λ (t : List ℕ). Some (name t)) h.0)
-name_read text (Err x) Q e h = absurd (h.0 (name-IsUtf8 text e))
+-- a name is no longer than sixteen bytes
+pub name_fits : (text : List ℕ) → is_name text ≡ true → length text ≤ 16
+name_fits [] e = absurd (false≢true e)
+name_fits (c ∷ cs) e =
+    let both = and_parts (is_letter c && nat_lt (length cs) 16) (list_all is_letter_or_digit cs) e in
+    let few = ltb-true (length cs) 16 (and_parts (is_letter c) (nat_lt (length cs) 16) both.0).1 in
+    omega (arith, few)
 
-same_name : (b : Bool) (front : List ℕ) (read : Option (Bor (List ℕ))) → option_map (λ t. name t.now) read ≡ (if b then Some (name front) else None) → option_map (λ t. label t.now) read ≡ (if b then Some (label front) else None)
-same_name true front None e = absurd (cc)
-same_name true front (Some t) e = cc
-same_name false front None e = refl
-same_name false front (Some t) e = absurd (cc)
+module _ {N : Type 0} (bytes : N → List ℕ) where
+  -- the name that is kept of a text
+  pub name_kept : {E : Type 0} (text : List ℕ) (kept : Result N E) → is_name text ≡ true → IsOk kept → IfOk kept (λ n. bytes n ≡ text) → option_map (λ n. name (bytes n)) (result_ok kept) ≡ as_name text
+  name_kept text (Ok n) e ok same = rw e (ap (λ (t : List ℕ). Some (name t)) same)
+  name_kept text (Err x) e ok same = absurd (cc)
 
--- the label that a name in front of `:` is
-pub label_read : (text front : List ℕ) (last : ℕ) (read : Option (Bor (List ℕ))) → text ≡ front ++ last ∷ [] → last ≡ 58 → option_map (λ t. name t.now) read ≡ as_name front → option_map (λ t. label t.now) read ≡ as_label text
-label_read text front last read cut colon e =
-    same_name (is_name front) front read e
-    ∙ sym (ap (label_from []) cut ∙ label_from-last [] front last ∙ ap (λ (t : Bool). if t && is_name front then Some (label front) else None) (eq-eqb last 58 colon))
+  same_name : (b : Bool) (front : List ℕ) (read : Option N) → option_map (λ t. name (bytes t)) read ≡ (if b then Some (name front) else None) → option_map (λ t. label (bytes t)) read ≡ (if b then Some (label front) else None)
+  same_name true front None e = absurd (cc)
+  same_name true front (Some t) e = cc
+  same_name false front None e = refl
+  same_name false front (Some t) e = absurd (cc)
+
+  -- the label that a name in front of `:` is
+  pub label_read : (text front : List ℕ) (last : ℕ) (read : Option N) → text ≡ front ++ last ∷ [] → last ≡ 58 → option_map (λ t. name (bytes t)) read ≡ as_name front → option_map (λ t. label (bytes t)) read ≡ as_label text
+  label_read text front last read cut colon e =
+      same_name (is_name front) front read e
+      ∙ sym (ap (label_from []) cut ∙ label_from-last [] front last ∙ ap (λ (t : Bool). if t && is_name front then Some (label front) else None) (eq-eqb last 58 colon))
 
 pub no_label : (text front : List ℕ) (last : ℕ) → text ≡ front ++ last ∷ [] → (last ≡ 58 → ⊥) → None ≡ as_label text
 no_label text front last cut other = sym (ap (label_from []) cut ∙ label_from-last [] front last ∙ ap (λ (t : Bool). if t && is_name front then Some (label front) else None) (ne_eqb last 58 other))

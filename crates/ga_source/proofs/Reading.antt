@@ -1,5 +1,5 @@
 -- The loops over the lines of a text and the runs of a line.
-use Rattle.std.proofs.Common.{◌≡◌, ℕ, zero, suc, ◌+◌, ◌<◌, ◌≤◌, Bool, true, false, List, [], ◌∷◌, ◌++◌, length, drop, get_or, map, Option, Some, None, Result, Ok, Err, refl, sym, ap, ◌∙◌, subst, arith}
+use Rattle.std.proofs.Common.{◌≡◌, ℕ, suc, ◌+◌, ◌<◌, ◌≤◌, Bool, true, false, List, [], ◌∷◌, ◌++◌, length, drop, get_or, map, Option, Some, None, Result, Ok, Err, refl, sym, ap, ◌∙◌, subst, arith}
 use Rattle.std.specs.Prelude.{count_by}
 use Rattle.std.specs.List.{slice_split}
 use Rattle.std.proofs.lemmas.List.Sums.{count_by-le-length}
@@ -22,7 +22,7 @@ use Rattle.ga_source.specs.Program.{HasNoProgram, IsFirstFault, IsRight, section
 use Rattle.ga_source.proofs.Erasure.{answer_in, good_in, state_in, take_in}
 use Rattle.ga_source.proofs.Exact.{length_snoc, regroup}
 use Rattle.ga_source.proofs.Placing.{Kept, KeptBy, kept_consistent, take_kept}
-use Rattle.ga_source.proofs.Lines.{Read, Scanned, all_read, at_end as at_line_end, at_line, at_mark, behind_empty, behind_line, behind_token, is_mark, lexeme_at, next_part, nothing_read, nothing_scanned, one_more}
+use Rattle.ga_source.proofs.Lines.{Read, Scanned, all_read, at_end as at_line_end, at_mark, behind_empty, behind_line, behind_token, is_mark, lexeme_at, next_part, nothing_read, nothing_scanned, one_more, plain_part}
 use Rattle.ga_source.proofs.PlainMachine as plain
 use Rattle.ga_source.proofs.Steps.{Right, take_right}
 use Rattle.ga_source.proofs.Whole.{ReadSoFar, at_end, at_fault, at_first, at_next, is_end}
@@ -233,11 +233,6 @@ Scanning text line column all runs behind behind' s s' =
 pub lines_first : (text : List ℕ) → Lines text 1 (lines_of text) false nothing
 lines_first text = record { start = 0; seen = []; read = nothing_read itself text; reading = reading_first text }
 
--- the line at hand is the first of those that are left
-pub lines_turn : (text : List ℕ) (line n : ℕ) (part bytes : List ℕ) (behind : Bool) (s : State) → (n < length (lines_of text)) × (part ≡ get_or (lines_of text) n part) → bytes ≡ part
-    → Lines text line (drop n (lines_of text)) behind s → Lines text line (bytes ∷ drop (n + 1) (lines_of text)) behind s
-lines_turn text line n part bytes behind s turn same l = record { start = l.start; seen = l.seen; read = at_line itself text line l.start n part bytes l.seen turn same l.read; reading = l.reading }
-
 pub lines_low : (text : List ℕ) (line : ℕ) (bytes : List ℕ) (lines : List (List ℕ)) (behind : Bool) (s : State) → Lines text line (bytes ∷ lines) behind s → line ≤ length text + 1
 lines_low text line bytes lines behind s l = let low = l.read.low in let room = l.read.room in omega (arith, low, room)
 
@@ -264,6 +259,10 @@ module _ (text : List ℕ) (line offset : ℕ) (bytes : List ℕ) (lines : List 
   scan_low run runs behind s scan =
       let next = next_part bytes scan.scanned.at column run runs scan.scanned.stands in
       omega (arith, next.inside, next.low, count_by-le-length begins_character run)
+
+  -- the run is plain where the line is
+  pub scan_plain : (run : List ℕ) (runs : List (List ℕ)) (behind : Bool) (s : State) → Scan text line offset bytes lines before column (run ∷ runs) behind s → count_by begins_character bytes ≡ length bytes → count_by begins_character run ≡ length run
+  scan_plain run runs behind s scan plain = plain_part bytes scan.scanned.at column run runs scan.scanned.stands plain
 
   pub scan_empty : (run : List ℕ) (runs : List (List ℕ)) (behind : Bool) (s : State) → Scan text line offset bytes lines before column (run ∷ runs) behind s → length run ≡ 0
       → Scan text line offset bytes lines before (column + (count_by begins_character run + 1)) runs behind s

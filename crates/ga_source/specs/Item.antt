@@ -1,6 +1,5 @@
 -- The items of a program, as the model has them.
 use Rattle.std.specs.Prelude.{ℕ, List, [], ◌∷◌, Option, Some, None}
-use Rattle.std.specs.String.{string_bytes}
 use Rattle.ga_source.specs.declared.item.Value.{Value}
 use Rattle.ga_source.specs.declared.item.Value.TheVariants as value
 use Rattle.ga_source.specs.declared.item.Item.{Item}
@@ -14,7 +13,7 @@ use Rattle.ga_pack.specs.Model.Text.{Place}
 
 abbrev pub value_of : Value → model.Value
 value_of (value.Number n) = model.Number n
-value_of (value.Label label) = model.Label (string_bytes label.value.name)
+value_of (value.Label label) = model.Label label.value.name.bytes
 
 -- the place of the name that a value is, if it is one
 abbrev pub value_place : Value → Option Place
@@ -28,7 +27,7 @@ abbrev pub item_of : Item → model.Item
 item_of (item.Instruction o) = model.Instruction o
 item_of (item.Transfer o v) = model.Transfer o (value_of v)
 item_of (item.Literal n) = model.Literal n
-item_of (item.Label s) = model.Here (string_bytes s)
+item_of (item.Label s) = model.Here s.bytes
 item_of item.Align = model.Align
 item_of (item.Word ops) = model.Word ops.items
 item_of (item.WordTo word) = word_of word.value

@@ -7,8 +7,8 @@ use Rattle.ga_pack.specs.Model.Token as model
 abbrev pub meaning_of : Meaning → Token
 meaning_of (means.Op o) = op o
 meaning_of (means.Number n) = number n
-meaning_of (means.Name s) = name s.now
-meaning_of (means.Label s) = label s.now
+meaning_of (means.Name s) = name s.bytes
+meaning_of (means.Label s) = label s.bytes
 meaning_of means.Node = node
 meaning_of (means.NodeName n) = node_name n
 meaning_of means.Align = align

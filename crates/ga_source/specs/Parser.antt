@@ -1,7 +1,6 @@
 -- The parser's state, as its machine has it.
 use Rattle.std.specs.Prelude.{◌≡◌, ℕ, List, map, Option, Some, None, Result, Ok, Err}
 use Rattle.std.specs.Map.{keys_of}
-use Rattle.std.specs.String.{string_bytes}
 use Rattle.ga_source.specs.declared.error.SourceErrorKind.{SourceErrorKind}
 use Rattle.ga_source.specs.declared.parser.Parser as written
 use Rattle.ga_source.specs.declared.parser.Part as standing
@@ -26,7 +25,7 @@ part_of part.Data = Behind
 
 abbrev pub pending_of : Pending → Value
 pending_of (pending.Number n) = Number n
-pending_of (pending.Name s at) = Label s.now
+pending_of (pending.Name s at) = Label s.bytes
 
 abbrev pub name_place_of : Pending → Option Place
 name_place_of (pending.Number n) = None
@@ -39,7 +38,7 @@ abbrev pub names_of : written.Parser → List ℕ
 names_of p = keys_of p.sections.entries
 
 abbrev pub labels_of : written.Parser → List (List ℕ)
-labels_of p = map string_bytes p.labels.keys
+labels_of p = map (λ name. name.bytes) p.labels.keys
 
 abbrev pub inside_of : written.Parser → Inside
 inside_of p = record { done = done_of p; seen = names_of p; name = p.node; items = map placed_of p.items.items; before = record { part = part_of p.part; labels = labels_of p; has_word = p.has_word } }

@@ -4,9 +4,10 @@ use Rattle.std.specs.Borrow.{Bor}
 use Rattle.std.specs.List.{slice_split}
 use Rattle.std.specs.Option.{option_map_or}
 use Rattle.ga_word.specs.Text.{is_blank}
-use Rattle.ga_pack.specs.Model.Text.{Lexeme, Place}
+use Rattle.ga_pack.specs.Model.Text.{Lexeme, Place, lines_of}
 use Rattle.ga_source.specs.declared.token.Token as written
 use Rattle.ga_source.specs.declared.token.Place as here
+use Rattle.ga_source.specs.declared.token.Lines.{Lines}
 use Rattle.ga_source.specs.declared.token.Runs.{Runs}
 
 -- a token of a text ends behind its bytes
@@ -15,6 +16,14 @@ token_of lexeme = record { start = lexeme.start; end = lexeme.start + length lex
 
 abbrev pub place_of : here.Place → Place
 place_of place = record { line = place.line; column = place.column }
+
+-- the lines of what is left of a text, if anything is
+abbrev pub lines_in : Option (Bor (List ℕ)) → List (List ℕ)
+lines_in rest = option_map_or (λ text. lines_of text.now) rest []
+
+-- the lines that an iterator has left
+abbrev pub lines_left : Lines → List (List ℕ)
+lines_left lines = lines_in lines.rest
 
 -- the runs of what is left of a line, if anything is
 abbrev pub runs_of : Option (Bor (List ℕ)) → List (List ℕ)

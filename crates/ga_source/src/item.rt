@@ -5,8 +5,11 @@ ghost use Rattle.ga_source.specs.Item.{item_of, name_place_in, placed_of, value_
 ghost use Rattle.ga_source.specs.Token.{place_of};
 
 use crate::token::Place;
-use arrayvec::ArrayVec;
+use arrayvec::{ArrayString, ArrayVec};
 use ga_word::{Op, Word18};
+
+/// The name of a label: one to sixteen letters, digits and `_`.
+pub type Name = ArrayString<16>;
 
 /// A number, or the name of a label of the node, which stands for its address.
 #[derive(Debug, PartialEq, Eq, Drop)]
@@ -19,7 +22,7 @@ pub enum Value {
 /// The name of a label where an item uses it, and where it stands in its text.
 #[derive(Debug, PartialEq, Eq, Drop)]
 pub struct PlacedName {
-    pub name: String,
+    pub name: Name,
     pub place: Place,
 }
 
@@ -44,7 +47,7 @@ pub enum Item {
     /// A number: `@p`, with the number as its follower.
     Literal(Word18),
     /// A label, which names the next address.
-    Label(String),
+    Label(Name),
     /// The next item begins a word.
     Align,
     /// A bracketed word without a destination: its opcodes.

@@ -10,7 +10,7 @@ mod section;
 mod token;
 
 pub use error::{SourceError, SourceErrorKind};
-pub use item::{Item, PlacedItem, PlacedName, TransferWord, Value};
+pub use item::{Item, Name, PlacedItem, PlacedName, TransferWord, Value};
 pub use program::{Program, parse};
 pub use section::Section;
 pub use token::{Place, Token, tokens};

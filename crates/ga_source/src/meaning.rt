@@ -5,20 +5,21 @@ ghost use Rattle.ga_pack.specs.Model.Meaning as model;
 ghost use Rattle.ga_pack.specs.Model.Token.{label, name, node_name};
 ghost use Rattle.ga_source.specs.Meaning.{meaning_of};
 
+use crate::item::Name;
 use ga_place::Node;
 use ga_word::{Op, Word18};
 use std::str;
 
 /// What a token means.
 #[derive(Clone, Copy)]
-pub(crate) enum Meaning<'a> {
+pub(crate) enum Meaning {
     Op(Op),
     /// A number that a word holds.
     Number(Word18),
     /// A name that is not reserved.
-    Name(&'a str),
+    Name(Name),
     /// A name, reserved or not, that stood in front of `:`.
-    Label(&'a str),
+    Label(Name),
     Node,
     /// The name of a node, behind `node`.
     NodeName(Node),
@@ -36,7 +37,7 @@ pub(crate) enum Meaning<'a> {
 
 /// What a token means that stands behind the token `node` or not.
 #[tactic(auto, unfolding(ga_pack::specs::Model::Meaning::meaning_at))]
-pub(crate) fn meaning_at(is_behind_node: bool, text: &[u8]) -> Meaning<'_>
+pub(crate) fn meaning_at(is_behind_node: bool, text: &[u8]) -> Meaning
     ensures { meaning_of result ≡ model.meaning_at is_behind_node text.now }
 {
     if is_behind_node {
@@ -58,9 +59,13 @@ pub(crate) fn is_reserved(name: &str) -> bool
 
 /// What a token means, but for the name of a node.
 #[tactic(auto, unfolding(ga_pack::specs::Model::Meaning::meaning_of))]
-fn plain_meaning(text: &[u8]) -> Meaning<'_>
+fn plain_meaning(text: &[u8]) -> Meaning
     ensures { meaning_of result ≡ model.meaning_of text.now }
 {
+    // Most numbers are hex, and nothing else begins with `$`.
+    if let Some(number) = hex_numeral(text) {
+        return ranged(number);
+    }
     if let Some(op) = Op::from_bytes(text) {
         return Meaning::Op(op);
     }
@@ -71,9 +76,6 @@ fn plain_meaning(text: &[u8]) -> Meaning<'_>
         return meaning;
     }
     if let Some(number) = numeral(10, text) {
-        return ranged(number);
-    }
-    if let Some(number) = hex_numeral(text) {
         return ranged(number);
     }
     if let Some(name) = label_name(text) {
@@ -114,7 +116,7 @@ fn number_named(text: &[u8]) -> Option<Word18>
 }
 
 /// A word or a mark with a meaning of its own.
-fn fixed(text: &[u8]) -> Option<Meaning<'_>>
+fn fixed(text: &[u8]) -> Option<Meaning>
     ensures { option_map meaning_of result ≡ model.as_fixed text.now }
 {
     let meaning = match text {
@@ -131,7 +133,7 @@ fn fixed(text: &[u8]) -> Option<Meaning<'_>>
 }
 
 /// A number that a word holds, or not.
-fn ranged<'a>(number: u32) -> Meaning<'a>
+fn ranged(number: u32) -> Meaning
     ensures { meaning_of result ≡ model.ranged number }
 {
     match Word18::new(number) {
@@ -179,8 +181,8 @@ fn node_named(text: &[u8]) -> Option<Node>
 }
 
 /// The name in front of `:`.
-fn label_name(text: &[u8]) -> Option<&str>
-    ensures { option_map (λ text. label text.now) result ≡ model.as_label text.now }
+fn label_name(text: &[u8]) -> Option<Name>
+    ensures { option_map (λ name. label name.bytes) result ≡ model.as_label text.now }
 {
     let (last, name) = text.split_last()?;
     if *last != b':' {
@@ -190,13 +192,16 @@ fn label_name(text: &[u8]) -> Option<&str>
 }
 
 /// A text that is a name, reserved or not.
-fn name_in(text: &[u8]) -> Option<&str>
-    ensures { option_map (λ text. name text.now) result ≡ model.as_name text.now }
+fn name_in(text: &[u8]) -> Option<Name>
+    ensures { option_map (λ found. name found.bytes) result ≡ model.as_name text.now }
 {
-    if is_name(text) {
-        return str::from_utf8(text).ok();
+    if !is_name(text) {
+        return None;
     }
-    None
+    match str::from_utf8(text) {
+        Ok(text) => Name::from(text).ok(),
+        Err(_) => None,
+    }
 }
 
 /// One to sixteen letters and digits, the first no digit.

@@ -18,7 +18,7 @@ ghost use Rattle.ga_source.specs.declared.parser.Part.TheVariants as part;
 ghost use Rattle.ga_source.specs.declared.parser.Position.TheVariants as at;
 
 use crate::error::SourceErrorKind;
-use crate::item::{Item, PlacedItem, PlacedName, TransferWord, Value};
+use crate::item::{Item, Name, PlacedItem, PlacedName, TransferWord, Value};
 use crate::meaning::{Meaning, is_reserved};
 use crate::section::Section;
 use crate::token::Place;
@@ -39,14 +39,14 @@ enum Part {
 
 // A destination. A name has its place.
 #[derive(Clone, Copy)]
-enum Pending<'a> {
+enum Pending {
     Number(u16),
-    Name(&'a str, Place),
+    Name(Name, Place),
 }
 
 // Where the parser stands.
 #[derive(Clone, Copy)]
-enum Position<'a> {
+enum Position {
     // No token was taken.
     Nothing,
     // Behind `node`.
@@ -60,35 +60,35 @@ enum Position<'a> {
     InWord,
     // In brackets, behind an opcode that takes a destination; and behind its destination, `/` and spare bits.
     BehindDestOp(Op),
-    BehindDest(Op, Pending<'a>),
-    BehindSlash(Op, Pending<'a>),
-    BehindSpare(Op, Pending<'a>, u8),
+    BehindDest(Op, Pending),
+    BehindSlash(Op, Pending),
+    BehindSpare(Op, Pending, u8),
     // The text's end was taken.
     Finished,
 }
 
 // The sections that are done, the section that is open, and the item that is begun.
 #[derive(Drop)]
-pub(crate) struct Parser<'a> {
+pub(crate) struct Parser {
     alloc: Global,
     pub(crate) sections: IndexMap<Node, Section>,
     node: Node,
     items: Vec<PlacedItem>,
-    labels: IndexSet<String>,
+    labels: IndexSet<Name>,
     part: Part,
     has_word: bool,
-    position: Position<'a>,
+    position: Position,
     // The place of the item's first token.
     place: Place,
     // The opcodes of a bracketed word, but for one that takes a destination.
     ops: ArrayVec<Op, 4>,
 }
 
-impl<'a> Pending<'a> {
+impl Pending {
     // The value, which owns its name.
     fn value(self, alloc: Global) -> Result<Value, AllocError>
-        ensures value { IfOk result (λ value. value_of value ≡ pending_of self.entry) }
-        ensures place { IfOk result (λ value. value_place value ≡ name_place_of self.entry) }
+        ensures value { IfOk result (λ value. value_of value ≡ pending_of self) }
+        ensures place { IfOk result (λ value. value_place value ≡ name_place_of self) }
     {
         match self {
             Pending::Number(number) => Ok(Value::Number(Word18::new(u32::from(number)).unwrap())),
@@ -98,11 +98,10 @@ impl<'a> Pending<'a> {
 }
 
 // A name that is used at a place.
-fn label_at(alloc: Global, name: &str, place: Place) -> Result<Value, AllocError>
-    ensures value { IfOk result (λ value. value_of value ≡ Label name.now) }
+fn label_at(alloc: Global, name: Name, place: Place) -> Result<Value, AllocError>
+    ensures value { IfOk result (λ value. value_of value ≡ Label name.bytes) }
     ensures place { IfOk result (λ value. value_place value ≡ Some (place_of place)) }
 {
-    let name = String::from_str(alloc, name)?;
     Ok(Value::Label(Box::new(alloc, PlacedName { name, place })?))
 }
 
@@ -111,11 +110,11 @@ fn word_to(
     alloc: Global,
     ops: ArrayVec<Op, 4>,
     op: Op,
-    dest: Pending<'_>,
+    dest: Pending,
     spare: Option<u8>,
 ) -> Result<Item, AllocError>
-    ensures item { IfOk result (λ item. item_of item ≡ WordTo ops.items op (pending_of dest.entry) spare) }
-    ensures place { IfOk result (λ item. name_place_in item ≡ name_place_of dest.entry) }
+    ensures item { IfOk result (λ item. item_of item ≡ WordTo ops.items op (pending_of dest) spare) }
+    ensures place { IfOk result (λ item. name_place_in item ≡ name_place_of dest) }
 {
     let dest = dest.value(alloc)?;
     let word = TransferWord {
@@ -127,7 +126,7 @@ fn word_to(
     Ok(Item::WordTo(Box::new(alloc, word)?))
 }
 
-impl<'a> Parser<'a> {
+impl Parser {
     /// A parser that has taken no token.
     pub(crate) fn new(alloc: Global) -> Self
         ensures { state_of result ≡ nothing }
@@ -163,7 +162,7 @@ impl<'a> Parser<'a> {
     }
 
     // Before the first `node`.
-    fn take_nothing(&mut self, token: &Meaning<'a>) -> Result<(), SourceErrorKind>
+    fn take_nothing(&mut self, token: &Meaning) -> Result<(), SourceErrorKind>
         requires position { self.old.position ≡ at.Nothing }
         ensures { (place : model.Place) → Took (state_of self.old) (meaning_of token.now) place result (state_of self.new) }
     {
@@ -187,7 +186,7 @@ impl<'a> Parser<'a> {
     }
 
     // Behind `node`.
-    fn take_name(&mut self, token: &Meaning<'a>) -> Result<(), SourceErrorKind>
+    fn take_name(&mut self, token: &Meaning) -> Result<(), SourceErrorKind>
         requires position { self.old.position ≡ at.Naming }
         ensures { (place : model.Place) → Took (state_of self.old) (meaning_of token.now) place result (state_of self.new) }
     {
@@ -197,7 +196,7 @@ impl<'a> Parser<'a> {
                     return Err(SourceErrorKind::DuplicateNode);
                 }
                 self.node = node;
-                self.items = Vec::with_capacity(self.alloc, 128)?;
+                self.items.clear();
                 self.labels = IndexSet::new(self.alloc);
                 self.part = Part::Code(0);
                 self.has_word = false;
@@ -211,8 +210,8 @@ impl<'a> Parser<'a> {
     }
 
     // An opcode outside brackets and its destination are whole.
-    fn add_transfer(&mut self, op: Op, value: Pending<'a>) -> Result<(), SourceErrorKind>
-        ensures ok { OnOk result (state_of self.new ≡ added (inside_of self.old) (Transfer op (pending_of value.entry)) (place_of self.old.place) (name_place_of value.entry) (Code 0)) }
+    fn add_transfer(&mut self, op: Op, value: Pending) -> Result<(), SourceErrorKind>
+        ensures ok { OnOk result (state_of self.new ≡ added (inside_of self.old) (Transfer op (pending_of value)) (place_of self.old.place) (name_place_of value) (Code 0)) }
         ensures err { IfErr result (λ kind. kind ≡ Memory) }
     {
         let dest = value.value(self.alloc)?;
@@ -220,12 +219,7 @@ impl<'a> Parser<'a> {
     }
 
     // Behind an opcode that takes a destination, outside brackets.
-    fn take_dest(
-        &mut self,
-        op: Op,
-        token: &Meaning<'a>,
-        place: Place,
-    ) -> Result<(), SourceErrorKind>
+    fn take_dest(&mut self, op: Op, token: &Meaning, place: Place) -> Result<(), SourceErrorKind>
         requires position { self.old.position ≡ at.BehindOp op }
         ensures { Took (state_of self.old) (meaning_of token.now) (place_of place) result (state_of self.new) }
     {
@@ -253,7 +247,7 @@ impl<'a> Parser<'a> {
     }
 
     // Behind a comma.
-    fn take_plain(&mut self, token: &Meaning<'a>, place: Place) -> Result<(), SourceErrorKind>
+    fn take_plain(&mut self, token: &Meaning, place: Place) -> Result<(), SourceErrorKind>
         requires position { self.old.position ≡ at.BehindComma }
         requires owed { (owed : ℕ) → self.old.part ≡ part.Code owed → 0 < owed }
         ensures { Took (state_of self.old) (meaning_of token.now) (place_of place) result (state_of self.new) }
@@ -270,7 +264,7 @@ impl<'a> Parser<'a> {
     }
 
     // In brackets, where no opcode with a destination stands yet.
-    fn take_slot(&mut self, token: &Meaning<'a>) -> Result<(), SourceErrorKind>
+    fn take_slot(&mut self, token: &Meaning) -> Result<(), SourceErrorKind>
         requires position { self.old.position ≡ at.InWord }
         requires code { part_of self.old.part ≡ Code 0 }
         ensures { (place : model.Place) → Took (state_of self.old) (meaning_of token.now) place result (state_of self.new) }
@@ -302,12 +296,7 @@ impl<'a> Parser<'a> {
     }
 
     // In brackets, behind an opcode that takes a destination.
-    fn take_field(
-        &mut self,
-        op: Op,
-        token: &Meaning<'a>,
-        place: Place,
-    ) -> Result<(), SourceErrorKind>
+    fn take_field(&mut self, op: Op, token: &Meaning, place: Place) -> Result<(), SourceErrorKind>
         requires position { self.old.position ≡ at.BehindDestOp op }
         ensures { Took (state_of self.old) (meaning_of token.now) (place_of place) result (state_of self.new) }
     {
@@ -336,8 +325,8 @@ impl<'a> Parser<'a> {
     fn take_behind_dest(
         &mut self,
         op: Op,
-        dest: Pending<'a>,
-        token: &Meaning<'a>,
+        dest: Pending,
+        token: &Meaning,
     ) -> Result<(), SourceErrorKind>
         requires position { self.old.position ≡ at.BehindDest op dest }
         requires code { part_of self.old.part ≡ Code 0 }
@@ -367,9 +356,9 @@ impl<'a> Parser<'a> {
     }
 
     // A bracketed word with a destination is whole.
-    fn close(&mut self, op: Op, dest: Pending<'a>, spare: Option<u8>) -> Result<(), SourceErrorKind>
+    fn close(&mut self, op: Op, dest: Pending, spare: Option<u8>) -> Result<(), SourceErrorKind>
         requires code { part_of self.old.part ≡ Code 0 }
-        ensures { Answered (machine.with_part (inside_of self.old) (WordTo self.old.ops.items op (pending_of dest.entry) spare) (place_of self.old.place) (name_place_of dest.entry)) result (state_of self.new) }
+        ensures { Answered (machine.with_part (inside_of self.old) (WordTo self.old.ops.items op (pending_of dest) spare) (place_of self.old.place) (name_place_of dest)) result (state_of self.new) }
     {
         let owed = followers(&self.ops);
         let ops = std::mem::replace(&mut self.ops, ArrayVec::new());
@@ -378,12 +367,7 @@ impl<'a> Parser<'a> {
     }
 
     // In brackets, behind `/`.
-    fn take_spare(
-        &mut self,
-        op: Op,
-        dest: Pending<'a>,
-        token: &Meaning<'a>,
-    ) -> Result<(), SourceErrorKind>
+    fn take_spare(&mut self, op: Op, dest: Pending, token: &Meaning) -> Result<(), SourceErrorKind>
         requires position { self.old.position ≡ at.BehindSlash op dest }
         ensures { (place : model.Place) → Took (state_of self.old) (meaning_of token.now) place result (state_of self.new) }
     {
@@ -401,9 +385,9 @@ impl<'a> Parser<'a> {
     fn take_close(
         &mut self,
         op: Op,
-        dest: Pending<'a>,
+        dest: Pending,
         spare: u8,
-        token: &Meaning<'a>,
+        token: &Meaning,
     ) -> Result<(), SourceErrorKind>
         requires position { self.old.position ≡ at.BehindSpare op dest spare }
         requires code { part_of self.old.part ≡ Code 0 }
@@ -431,7 +415,7 @@ impl<'a> Parser<'a> {
     }
 
     // Behind `data`.
-    fn take_data(&mut self, token: &Meaning<'a>) -> Result<(), SourceErrorKind>
+    fn take_data(&mut self, token: &Meaning) -> Result<(), SourceErrorKind>
         requires position { self.old.position ≡ at.Between }
         ensures { Answered (machine.take_first Behind (inside_of self.old) (meaning_of token.now) (place_of self.old.place)) result (state_of self.new) }
     {
@@ -445,7 +429,7 @@ impl<'a> Parser<'a> {
     }
 
     // In the code part, where followers are owed.
-    fn take_owed(&mut self, token: &Meaning<'a>) -> Result<(), SourceErrorKind>
+    fn take_owed(&mut self, token: &Meaning) -> Result<(), SourceErrorKind>
         requires position { self.old.position ≡ at.Between }
         ensures { (owed : ℕ) → Answered (machine.take_first (Code (suc owed)) (inside_of self.old) (meaning_of token.now) (place_of self.old.place)) result (state_of self.new) }
     {
@@ -464,7 +448,7 @@ impl<'a> Parser<'a> {
     }
 
     // In the code part, where no follower is owed.
-    fn take_code(&mut self, token: &Meaning<'a>) -> Result<(), SourceErrorKind>
+    fn take_code(&mut self, token: &Meaning) -> Result<(), SourceErrorKind>
         requires position { self.old.position ≡ at.Between }
         ensures { Answered (machine.take_first (Code 0) (inside_of self.old) (meaning_of token.now) (place_of self.old.place)) result (state_of self.new) }
     {
@@ -483,7 +467,7 @@ impl<'a> Parser<'a> {
     }
 
     // What begins an item, but for a label.
-    fn take_item(&mut self, token: &Meaning<'a>) -> Result<(), SourceErrorKind>
+    fn take_item(&mut self, token: &Meaning) -> Result<(), SourceErrorKind>
         requires position { self.old.position ≡ at.Between }
         ensures { Answered (machine.take_first (part_of self.old.part) (inside_of self.old) (meaning_of token.now) (place_of self.old.place)) result (state_of self.new) }
     {
@@ -495,7 +479,7 @@ impl<'a> Parser<'a> {
     }
 
     // Where an item is whole.
-    fn take_between(&mut self, token: &Meaning<'a>, place: Place) -> Result<(), SourceErrorKind>
+    fn take_between(&mut self, token: &Meaning, place: Place) -> Result<(), SourceErrorKind>
         requires position { self.old.position ≡ at.Between }
         requires consistent { IsConsistent (state_of self.old) }
         ensures { Took (state_of self.old) (meaning_of token.now) (place_of place) result (state_of self.new) }
@@ -525,37 +509,38 @@ impl<'a> Parser<'a> {
         ensures names { OnOk result (names_of self.new ≡ names_of self.old ++ self.old.node ∷ []) }
         ensures err { IfErr result (λ kind. kind ≡ Memory) }
     {
-        let mut items = std::mem::replace(&mut self.items, Vec::new(self.alloc));
-        items.shrink_to_fit();
+        // The list is copied to one of its size, so that its room serves for the next section.
+        let mut items = Vec::with_capacity(self.alloc, self.items.len())?;
+        items.append(&mut self.items)?;
         let labels = std::mem::replace(&mut self.labels, IndexSet::new(self.alloc));
         self.sections.insert(self.node, Section { items, labels })?;
         Ok(())
     }
 
     // The open section has this label.
-    fn has_label(&self, name: &str) -> bool
-        ensures { result ≡ words.is_among name.now (labels_of self.now) }
+    fn has_label(&self, name: Name) -> bool
+        ensures { result ≡ words.is_among name.bytes (labels_of self.now) }
     {
-        self.labels.contains(name)
+        self.labels.contains(&name)
     }
 
     // The open section gets a label, which it has not.
-    fn add_label(&mut self, name: &str) -> Result<(), SourceErrorKind>
-        requires new { words.is_among name.now (labels_of self.old) ≡ false }
+    fn add_label(&mut self, name: Name) -> Result<(), SourceErrorKind>
+        requires new { words.is_among name.bytes (labels_of self.old) ≡ false }
         ensures ok { OnOk result (self.new ≡ record self.old { labels = self.new.labels }) }
-        ensures labels { OnOk result (labels_of self.new ≡ labels_of self.old ++ name.now ∷ []) }
+        ensures labels { OnOk result (labels_of self.new ≡ labels_of self.old ++ name.bytes ∷ []) }
         ensures err { IfErr result (λ kind. kind ≡ Memory) }
     {
-        self.labels.insert(String::from_str(self.alloc, name)?)?;
+        self.labels.insert(name)?;
         Ok(())
     }
 
     // A label, which may stand wherever an item may.
-    fn take_label(&mut self, name: &'a str) -> Result<(), SourceErrorKind>
+    fn take_label(&mut self, name: Name) -> Result<(), SourceErrorKind>
         requires position { self.old.position ≡ at.Between }
-        ensures { Answered (machine.take_label (inside_of self.old) name.now (place_of self.old.place)) result (state_of self.new) }
+        ensures { Answered (machine.take_label (inside_of self.old) name.bytes (place_of self.old.place)) result (state_of self.new) }
     {
-        if is_reserved(name) {
+        if is_reserved(name.as_str()) {
             return Err(SourceErrorKind::ReservedLabel);
         }
         if self.has_label(name) {
@@ -563,13 +548,13 @@ impl<'a> Parser<'a> {
         }
         self.add_label(name)?;
         let place = self.place;
-        let item = Item::Label(String::from_str(self.alloc, name)?);
+        let item = Item::Label(name);
         self.items.push(PlacedItem { item, place })?;
         Ok(())
     }
 
     /// Takes a token, or refuses it.
-    pub(crate) fn take(&mut self, token: &Meaning<'a>, place: Place) -> Result<(), SourceErrorKind>
+    pub(crate) fn take(&mut self, token: &Meaning, place: Place) -> Result<(), SourceErrorKind>
         requires good { Good (state_of self.old) }
         requires consistent { IsConsistent (state_of self.old) }
         ensures { Took (state_of self.old) (meaning_of token.now) (place_of place) result (state_of self.new) }
@@ -638,7 +623,7 @@ fn followers(ops: &[Op]) -> u32
 }
 
 // The fault of a token that may not stand in brackets.
-fn bracket_fault(token: &Meaning<'_>) -> SourceErrorKind
+fn bracket_fault(token: &Meaning) -> SourceErrorKind
     ensures { kind_of result ≡ Some (faults.bracket_fault (meaning_of token.now)) }
 {
     match *token {

@@ -14,7 +14,7 @@ use crate::error::{SourceError, SourceErrorKind};
 use crate::meaning::{Meaning, meaning_at};
 use crate::parser::Parser;
 use crate::section::Section;
-use crate::token::{Place, Runs, characters, end_place, is_comment};
+use crate::token::{Lines, Place, Runs, end_place, is_comment, is_plain, width};
 use ga_place::Node;
 use indexmap::IndexMap;
 use std::alloc::Global;
@@ -62,9 +62,10 @@ pub fn parse(alloc: Global, text: &str) -> Result<Program, SourceError>
     let mut parser = Parser::new(alloc);
     let mut is_behind_node = false;
     let mut line = 1;
-    for part in text.split('\n') {
+    for bytes in Lines::new(text) {
+        let is_plain = is_plain(bytes);
         let mut column = 1;
-        for run in Runs::new(part.as_bytes()) {
+        for run in Runs::new(bytes) {
             if is_comment(run) {
                 break;
             }
@@ -73,7 +74,7 @@ pub fn parse(alloc: Global, text: &str) -> Result<Program, SourceError>
                 take_at(&mut parser, &meaning, Place { line, column })?;
                 is_behind_node = is_node(&meaning);
             }
-            column += characters(run) + 1;
+            column += width(run, is_plain) + 1;
         }
         line += 1;
     }
@@ -86,11 +87,7 @@ pub fn parse(alloc: Global, text: &str) -> Result<Program, SourceError>
 }
 
 /// Takes a token, or refuses it at its place.
-fn take_at<'a>(
-    parser: &mut Parser<'a>,
-    meaning: &Meaning<'a>,
-    place: Place,
-) -> Result<(), SourceError>
+fn take_at(parser: &mut Parser, meaning: &Meaning, place: Place) -> Result<(), SourceError>
     requires good { Good (state_of parser.old) }
     requires consistent { IsConsistent (state_of parser.old) }
     ensures taken { OnOk result (take (state_of parser.old) (meaning_of meaning.now) (place_of place) ≡ Ok (state_of parser.new)) }
@@ -103,7 +100,7 @@ fn take_at<'a>(
     }
 }
 
-fn is_node(meaning: &Meaning<'_>) -> bool
+fn is_node(meaning: &Meaning) -> bool
     ensures { result ≡ token.is_node (meaning_of meaning.now) }
 {
     matches!(*meaning, Meaning::Node)

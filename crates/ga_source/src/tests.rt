@@ -1,6 +1,6 @@
 use crate::{
-    Item, Place, PlacedItem, PlacedName, SourceError, SourceErrorKind, Token, TransferWord, Value,
-    parse, tokens,
+    Item, Name, Place, PlacedItem, PlacedName, SourceError, SourceErrorKind, Token, TransferWord,
+    Value, parse, tokens,
 };
 use arrayvec::ArrayVec;
 use ga_place::Node;
@@ -29,7 +29,7 @@ fn number(value: u32) -> Result<Word18, Fail> {
 
 /// A name that is used as a value.
 fn using(alloc: Global, name: &str, line: usize, column: usize) -> Result<Value, Fail> {
-    let name = String::from_str(alloc, name)?;
+    let name = Name::from(name).map_err(|_| "more than 16 bytes")?;
     let place = Place { line, column };
     Ok(Value::Label(Box::new(alloc, PlacedName { name, place })?))
 }
@@ -177,7 +177,7 @@ fn bracketed_words(alloc: Global) -> Result<(PlacedItem, PlacedItem), Fail> {
 /// The items of the text below.
 fn expected_items(alloc: Global) -> Result<Vec<PlacedItem>, Fail> {
     let (one, five, ones) = (number(1)?, number(5)?, number(0x3FFFF)?);
-    let name = String::from_str(alloc, "loop")?;
+    let name = Name::from("loop").map_err(|_| "more than 16 bytes")?;
     let dest = using(alloc, "loop", 2, 18)?;
     let follower = using(alloc, "loop", 3, 14)?;
     let mut word = ArrayVec::new();
@@ -223,9 +223,9 @@ fn upper_case_is_a_name(rt: HostRuntime) -> Result<(), Fail> {
     let program = parse(alloc, "node 717 DUP: jump DUP")?;
     let node = Node::new(717).ok_or("no node")?;
     let section = program.sections().get(&node).ok_or("no section")?;
-    let name = || String::from_str(alloc, "DUP");
+    let name = Name::from("DUP").map_err(|_| "more than 16 bytes")?;
     let expected = vec![in alloc;
-        item(Item::Label(name()?), 1, 10),
+        item(Item::Label(name), 1, 10),
         item(
             Item::Transfer {
                 op: Op::Jump,

@@ -1,11 +1,12 @@
-ghost use Rattle.std.specs.Prelude.{◌≡◌, ◌+◌, ◌^◌, ◌<◌, ◌≤◌, ◌++◌, ◌∷◌, All, IfOk, codes, count_by, length, map, slice_range};
+ghost use Rattle.std.specs.Prelude.{◌≡◌, ◌+◌, ◌^◌, ◌<◌, ◌≤◌, ◌++◌, ◌∷◌, All, IfOk, codes, count_by, length, map, slice_range, true};
 ghost use Rattle.std.specs.Iterator.{YieldsFirstRef, item_count};
 ghost use Rattle.std.specs.List.{position, slice_split};
 ghost use Rattle.std.specs.Str.{bytes_eq};
 ghost use Rattle.ga_word.specs.Text.{is_blank};
-ghost use Rattle.ga_pack.specs.Model.Text.{begins_character, end_of, lexemes, line_lexemes, texts_of};
-ghost use Rattle.ga_source.specs.Token.{place_of, runs_left, runs_of, token_of};
+ghost use Rattle.ga_pack.specs.Model.Text.{begins_character, end_of, lexemes, line_lexemes, lines_of, texts_of};
+ghost use Rattle.ga_source.specs.Token.{lines_in, lines_left, place_of, runs_left, runs_of, token_of};
 
+use memchr::memchr;
 use std::alloc::{AllocError, Global};
 
 /// A line and a column of a text, each from 1. Columns count characters, the Unicode scalar values.
@@ -40,8 +41,7 @@ pub fn tokens(alloc: Global, text: &str) -> Result<Vec<Token>, AllocError>
     let mut tokens = Vec::new(alloc);
     let mut line = 1;
     let mut start = 0;
-    for part in text.split('\n') {
-        let bytes = part.as_bytes();
+    for bytes in Lines::new(text) {
         add_line(&mut tokens, line, start, bytes)?;
         line += 1;
         start += bytes.len() + 1;
@@ -100,6 +100,46 @@ pub(crate) fn end_place(text: &str) -> Place
     Place { line, column }
 }
 
+/// The lines of a text, from the front. Each ends by LF, and what stands behind the last LF is a line too.
+#[derive(Drop)]
+pub(crate) struct Lines<'a> {
+    rest: Option<&'a [u8]>,
+}
+
+impl<'a> Lines<'a> {
+    pub(crate) fn new(text: &'a str) -> Self
+        ensures { lines_left result ≡ lines_of text.now }
+    {
+        Lines {
+            rest: Some(text.as_bytes()),
+        }
+    }
+}
+
+impl<'a> Iterator for Lines<'a> {
+    type Item = &'a [u8];
+
+    ghost next_gives = { YieldsFirstRef lines_left };
+
+    ghost remaining = { item_count lines_left };
+
+    fn next(&mut self) -> Option<&'a [u8]> {
+        let (line, rest) = first_line(self.rest?);
+        self.rest = rest;
+        Some(line)
+    }
+}
+
+/// The first line of a text, and what stands behind the LF at its end.
+fn first_line(text: &[u8]) -> (&[u8], Option<&[u8]>)
+    ensures { lines_of text.now ≡ result.0.now ∷ lines_in result.1 }
+{
+    match memchr(b'\n', text) {
+        Some(end) => (&text[..end], Some(&text[end + 1..])),
+        None => (text, None),
+    }
+}
+
 /// The runs of a line, which stand one blank apart, from the front. A run may be empty.
 #[derive(Drop)]
 pub(crate) struct Runs<'a> {
@@ -154,6 +194,21 @@ pub(crate) fn characters(bytes: &[u8]) -> usize
         characters += usize::from(begins_character(*byte));
     }
     characters
+}
+
+/// Whether each byte of a line begins a character, as in most lines.
+pub(crate) fn is_plain(line: &[u8]) -> bool
+    ensures { result ≡ true → count_by begins_character line.now ≡ length line.now }
+{
+    line.is_ascii()
+}
+
+/// How many characters a run begins, which needs no count in a plain line.
+pub(crate) fn width(run: &[u8], is_plain: bool) -> usize
+    requires { is_plain ≡ true → count_by begins_character run.now ≡ length run.now }
+    ensures { result ≡ count_by begins_character run.now }
+{
+    if is_plain { run.len() } else { characters(run) }
 }
 
 /// Whether a byte ends a run: space, tab, LF and CR.

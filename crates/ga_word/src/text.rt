@@ -1,4 +1,4 @@
-ghost use Rattle.std.specs.Prelude.{◌≡◌, ℕ, ◌<◌, Ok, Err, Some, ◌++◌, IfOk, string_bytes};
+ghost use Rattle.std.specs.Prelude.{◌≡◌, ℕ, ◌<◌, Ok, Err, Some, ◌∷◌, [], ◌++◌, IfOk, string_bytes};
 ghost use Rattle.ga_word.specs.Hex.{hex_digits};
 ghost use Rattle.ga_word.specs.Text.{text_of_words, words_of_text};
 ghost use Rattle.ga_word.specs.declared.text.WordsError.TheVariants.{BadWord, Memory};
@@ -7,6 +7,7 @@ use crate::hex::{hex5, read_hex5};
 use crate::tokens::Tokens;
 use crate::word::Word18;
 use std::alloc::{AllocError, AllocFailed, Global};
+use std::str;
 use thiserror::Error;
 
 /// Why a text was refused by [`read_words`].
@@ -33,21 +34,32 @@ impl<T: Drop> From<AllocFailed<T>> for WordsError {
 pub fn words_text(alloc: Global, words: &[Word18]) -> Result<String, AllocError>
     ensures { IfOk result (λ text. string_bytes text ≡ text_of_words words.now) }
 {
-    let mut text = String::with_capacity(alloc, 6 * words.len())?;
-    for (place, word) in words.iter().enumerate() {
-        push_word(&mut text, *word)?;
-        let ends_line = place % 8 == 7 || place + 1 == words.len();
-        text.push(if ends_line { '\n' } else { ' ' })?;
-    }
+    let mut text = String::new(alloc);
+    push_words(&mut text, words)?;
     Ok(text)
 }
 
-fn push_word(text: &mut String, word: Word18) -> Result<(), AllocError>
-    ensures { IfOk result (λ done. string_bytes text.new ≡ string_bytes text.old ++ hex_digits 5 word) }
+/// Adds the text of words to a text, as [`words_text`] gives it. It fails only where memory is refused,
+/// and a part may be added then.
+pub fn push_words(text: &mut String, words: &[Word18]) -> Result<(), AllocError>
+    ensures { IfOk result (λ done. string_bytes text.new ≡ string_bytes text.old ++ text_of_words words.now) }
 {
-    for digit in hex5(word) {
-        text.push(char::from(digit))?;
+    text.reserve(6 * words.len())?;
+    for (place, word) in words.iter().enumerate() {
+        let ends_line = place % 8 == 7 || place + 1 == words.len();
+        push_word(text, *word, if ends_line { b'\n' } else { b' ' })?;
     }
+    Ok(())
+}
+
+/// Adds the digits of a word, and the ASCII byte behind them.
+fn push_word(text: &mut String, word: Word18, end: u8) -> Result<(), AllocError>
+    requires { end < 128 }
+    ensures { IfOk result (λ done. string_bytes text.new ≡ string_bytes text.old ++ hex_digits 5 word ++ end ∷ []) }
+{
+    let [first, second, third, fourth, fifth] = hex5(word);
+    let digits = [first, second, third, fourth, fifth, end];
+    text.push_str(unsafe { str::from_utf8_unchecked(&digits) })?;
     Ok(())
 }
 

@@ -1,4 +1,4 @@
-use Rattle.std.proofs.Common.{◌∙◌, ap, sym, subst, refl, take}
+use Rattle.std.proofs.Common.{◌∙◌, ap, sym, subst, take}
 use Rattle.ga_pack.specs.Model.Layout.{names_in}
 use Rattle.ga_pack.specs.Model.LayoutFault.{fault_at}
 use Rattle.ga_source.specs.Item.{item_of}

@@ -5,4 +5,4 @@ pub returns-then-last-ne58 : goal.returns-then-last-ne58
 returns-then-last-ne58 c = no_label c.args.text.now c.in_ok-last.name.now c.in_ok-last.last.now c.in_ok-last.ensures.cases.0 c.if-last-ne58.true
 
 pub returns : goal.returns
-returns c = label_read c.args.text.now c.in_ok-last.name.now c.in_ok-last.last.now c.name_in.result c.in_ok-last.ensures.cases.0 c.if-last-ne58.false c.name_in.ensures
+returns c = label_read (λ n. n.bytes) c.args.text.now c.in_ok-last.name.now c.in_ok-last.last.now c.name_in.result c.in_ok-last.ensures.cases.0 c.if-last-ne58.false c.name_in.ensures

@@ -1,12 +1,10 @@
-use Rattle.std.proofs.Common.{length, drop}
-use Rattle.ga_pack.specs.Model.Text.{lines_of}
 use Rattle.ga_source.specs.Parser.{state_of}
-use Rattle.ga_source.specs.Token.{runs_left}
+use Rattle.ga_source.specs.Token.{lines_left, runs_left}
 use Rattle.ga_source.proofs.Reading.{Lines, Scanning}
 use Rattle.ga_source.proofs.program.parse.Given as goal
 
-abbrev pub invariant-loop-part : goal.invariant-loop-part
-invariant-loop-part l = Lines l.text l.line (drop (length l.yielded) (lines_of l.text)) l.is_behind_node (state_of l.parser)
+abbrev pub invariant-loop-bytes : goal.invariant-loop-bytes
+invariant-loop-bytes l = Lines l.text l.line (lines_left l.bytes-iterator) l.is_behind_node (state_of l.parser)
 
 abbrev pub invariant-loop-run : goal.invariant-loop-run
 invariant-loop-run l =

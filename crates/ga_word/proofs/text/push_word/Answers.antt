@@ -1,7 +1,6 @@
-use Rattle.std.proofs.Common.{◌++◌, ◌<◌, All, ap, sym, subst, string_bytes}
-use Rattle.ga_word.proofs.HexDigits.{ascii-hex_digits}
+use Rattle.std.proofs.Common.{IsUtf8, subst, sym}
+use Rattle.ga_word.proofs.TextLists.{each_digit, utf8_word}
 use Rattle.ga_word.proofs.text.push_word.Goals as goal
 
-pub loop-digit-init : goal.loop-digit-init
-loop-digit-init c =
-    (ap (λ digits. string_bytes c.args.text.now ++ digits) c.hex5-digit-items.ensures.text, subst (All (λ digit. digit < 128)) (sym c.hex5-digit-items.ensures.text) (ascii-hex_digits 5 c.args.word))
+pub from_utf8_unchecked-requires : goal.from_utf8_unchecked-requires
+from_utf8_unchecked-requires c = subst IsUtf8 (sym (each_digit c.hex5.result c.args.word c.args.end c.hex5.ensures.text)) (utf8_word c.args.word c.args.end c.requires)

@@ -1,6 +1,5 @@
 use Rattle.std.proofs.Common.{◌≡◌, ◌∙◌, sym, ap, subst, true}
 use Rattle.std.proofs.lemmas.Bool.{not-true}
-use Rattle.std.specs.String.{string_bytes}
 use Rattle.ga_pack.specs.Model.Source.{is_among, is_new}
 use Rattle.ga_source.specs.Item.{item_of}
 use Rattle.ga_asm.specs.Image.{labels_of}
@@ -14,5 +13,5 @@ returns-in_ok-insert-in-Label-clause-labels c =
     let entries = c.args.self.now.labels.entries in
     let new = subst (λ t. is_new (item_of t) (names_of (labels_of entries)) ≡ true) c.in-Label.is c.requires in
     ap labels_of c.in_ok-insert-in-Label.ensures.entries
-    ∙ labels_more (string_bytes name) c.in_ok-clone-in-Label.field-0 c.args.self.now.address entries (c.in_ok-clone-in-Label.ensures.cases) (not-true (is_among (string_bytes name) (names_of (labels_of entries))) new)
+    ∙ labels_more name.bytes c.in_ok-name-in-Label.name c.args.self.now.address entries (c.in_ok-name-in-Label.ensures.ok ∙ c.as_str.ensures.value) (not-true (is_among name.bytes (names_of (labels_of entries))) new)
     ∙ ap (λ t. labels_with (labels_of entries) c.args.self.now.address (item_of t)) (sym c.in-Label.is)

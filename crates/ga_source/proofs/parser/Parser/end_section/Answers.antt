@@ -1,4 +1,4 @@
-use Rattle.std.proofs.Common.{◌∙◌, ap, refl, [], ◌∷◌, ◌++◌, map}
+use Rattle.std.proofs.Common.{rules, ◌∙◌, ap, refl, [], ◌∷◌, ◌++◌, map}
 use Rattle.std.proofs.lemmas.List.{map-append}
 use Rattle.std.specs.Map.{keys_of}
 use Rattle.ga_place.specs.contracts.node.NodePartialEq.TheImpl as node
@@ -12,7 +12,7 @@ returns-clause-done c =
     let self = c.args.self.now in
     ap (map section_of) (c.in_ok-insert.ensures.entries ∙ section_last node.eq-value.it (λ x y. refl) self.sections.entries self.node _ c.requires.new)
     ∙ map-append section_of self.sections.entries ((self.node, _) ∷ [])
-    ∙ ap (λ items. map section_of self.sections.entries ++ record { name = self.node; items = map placed_of items } ∷ []) (c.shrink_to_fit.ensures.items ∙ ap (λ v. v.items) c.replace-items.ensures.value)
+    ∙ ap (λ items. map section_of self.sections.entries ++ record { name = self.node; items = map placed_of items } ∷ []) (search rules)
 
 pub returns-clause-names : goal.returns-clause-names
 returns-clause-names c =
