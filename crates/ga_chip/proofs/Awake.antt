@@ -1,7 +1,7 @@
 -- Nodes that can't move stay so until a neighbour passes them a word, or takes theirs.
-use Rattle.std.proofs.Common.{◌≡◌, ◌≢◌, ℕ, ◌<◌, ◌==◌, ◌⊎◌, inl, inr, Bool, true, false, List, set, Option, Some, None, refl, sym, ap, ◌∙◌, subst}
+use Rattle.std.proofs.Common.{◌≡◌, ◌≢◌, ℕ, ◌<◌, ◌==◌, ◌⊎◌, inl, inr, Bool, true, false, List, set, slice_get, Option, Some, None, refl, sym, ap, ◌∙◌, subst}
 use Rattle.std.specs.Prelude.{if◌then◌else◌, option_map}
-use Rattle.std.proofs.lemmas.Bool.{eqb-true, eqb-false, false≢true}
+use Rattle.std.proofs.lemmas.Bool.{cases_eq, eqb-true, eqb-false, false≢true}
 use Rattle.std.proofs.lemmas.Option.{same_Some}
 use Rattle.ga_place.specs.Cell.{index_of, name_at}
 use Rattle.ga_place.specs.Node.{IsNodeName}
@@ -16,7 +16,7 @@ use Rattle.ga_chip.specs.Part.{Part, after, asks}
 use Rattle.ga_chip.specs.Chip.{Chip, cells_after, found_by, part_of, tried}
 use Rattle.ga_chip.specs.Legal.{IsLegal}
 use Rattle.ga_chip.proofs.Kept.{has_name}
-use Rattle.ga_chip.proofs.Lists.{get-set_else}
+use Rattle.ga_chip.proofs.Lists.{get-set_else, get-set_here}
 use Rattle.ga_chip.proofs.Parts.{Fits, asks_fits, moved_asks}
 use Rattle.ga_chip.proofs.Stays.{Ports, Stays, finds_same, ports_by}
 use Rattle.ga_chip.proofs.Tries.{legal_tried, place_back, tried_none, tried_still, tried_there}
@@ -76,6 +76,22 @@ asleep_or place other awake now e asleep = by (other == place) refl
 pub placed_knows : (chip : Chip) (awake now : NodeSet) (index : ℕ) (next : Part) → Knows chip awake → ((other : ℕ) → is_in other now ≡ (if other == index then true else is_in other awake)) → IsLegal (record chip { parts = set chip.parts index next }) → Knows (record chip { parts = set chip.parts index next }) now
 placed_knows chip awake now index next knows puts legal =
     part_knows chip awake now index next knows (λ other asleep. let else_ = asleep_else index other awake now (puts other) asleep in (λ e. else_.0 (sym e), else_.1)) legal
+
+-- a sleeping node's part was changed so that it stays where it stayed
+pub stays_knows : (chip : Chip) (awake : NodeSet) (index : ℕ) (part next : Part) → Knows chip awake → index < 144 → part_of chip (name_at index) ≡ Some part → ((side : Side) → Stays part chip.cells side → Stays next chip.cells side) → IsLegal (record chip { parts = set chip.parts index next }) → Knows (record chip { parts = set chip.parts index next }) awake
+stays_knows chip awake index part next knows within there stays legal = record { legal = legal; still = λ other side below asleep. by other side below asleep (cases_eq index other) }
+  where
+    changed : Chip
+    changed = record chip { parts = set chip.parts index next }
+
+    here : part_of changed (name_at index) ≡ Some next
+    here = ap (λ i. slice_get (set chip.parts i next) (index_of (name_at index))) (sym (place_back index within)) ∙ get-set_here chip.parts (index_of (name_at index)) next part there
+
+    by : (other : ℕ) (side : Side) → other < 144 → is_in other awake ≡ false → (index ≡ other) ⊎ (index ≡ other → ⊥) → (tried changed (name_at other) side).0 ≢ Moved
+    by other side below asleep (inl same) e =
+        stays side (λ moved. knows.still index side within (ap (λ i. is_in i awake) same ∙ asleep) (ap (λ r. r.0) (tried_there chip (name_at index) side part there) ∙ moved))
+        (sym (ap (λ r. r.0) (tried_there changed (name_at index) side next here)) ∙ ap (λ i. (tried changed (name_at i) side).0) same ∙ e)
+    by other side below asleep (inr apart) e = knows.still other side below asleep (sym (else_same chip index other side next chip.cells below apart (λ it at. refl)) ∙ e)
 
 -- a node's own work moves it at every side, so it was awake
 pub own_knows : (chip : Chip) (awake : NodeSet) (index : ℕ) (next : Part) → Knows chip awake → index < 144 → ((side : Side) → (tried chip (name_at index) side).0 ≡ Moved) → IsLegal (record chip { parts = set chip.parts index next }) → Knows (record chip { parts = set chip.parts index next }) awake

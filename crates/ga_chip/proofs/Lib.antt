@@ -15,9 +15,12 @@ pub mod Placed
 pub mod Within
 pub mod Plain
 pub mod Turns
+pub mod Bits
 pub mod Sharing
 pub mod Members
 pub mod Stays
 pub mod Awake
 pub mod Tries
+pub mod Uses
+pub mod Holds
 mod WorkedChip

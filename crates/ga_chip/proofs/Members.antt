@@ -2,41 +2,18 @@
 use Rattle.std.proofs.Common.{◌≡◌, ◌≢◌, ℕ, zero, suc, [], ◌∷◌, ◌+◌, ◌-◌, ◌*◌, ◌/◌, ◌%◌, ◌^◌, ◌<◌, ◌≤◌, ◌==◌, ◌⊎◌, inl, inr, true, false, List, length, set, get_or, refl, sym, ap, ap₂, ◌∙◌, arith}
 use Rattle.std.specs.Prelude.{if◌then◌else◌}
 use Rattle.std.specs.Int.{bit_at, trailing_zeros, w64}
-use Rattle.std.proofs.lemmas.Bool.{cases_eq, cases_lt, eq-eqb, ne_eqb}
-use Rattle.std.proofs.lemmas.List.{get_or-set_same, get_or-set_other}
+use Rattle.std.proofs.lemmas.Bool.{cases_lt}
 use Rattle.std.proofs.lemmas.Nat.Bits.{bit_at-zero, bit_at-trailing_zeros, bit_at_above, bit_at_ones}
 use Rattle.std.proofs.Math.Nat.{div-div-eq-div-mul, div-le_self}
 use Rattle.std.proofs.lemmas.Nat.{pow-add}
 use Rattle.ga_chip.specs.declared.node_set.NodeSet.{NodeSet}
 use Rattle.ga_chip.specs.Awake.{is_in}
-
-same_place : (a b : ℕ) → a / 64 ≡ b / 64 → a % 64 ≡ b % 64 → a ≡ b
-same_place a b e f = omega arith
-
-rem_below : (a : ℕ) → a % 64 < 64
-rem_below a = omega arith
+use Rattle.ga_chip.proofs.Bits.{bit_changed}
 
 -- a set whose word has one other bit
 pub changed : (words : List ℕ) (place other word bit : ℕ) → place / 64 < length words → bit_at word (place % 64) ≡ bit → ((i : ℕ) → i < 64 → i ≢ place % 64 → bit_at word i ≡ bit_at (get_or words (place / 64) 0) i) → is_in other (record { words = set words (place / 64) word }) ≡ (if other == place then bit == 1 else is_in other (record { words = words }))
 unfolding is_in
-changed words place other word bit within here others = by (cases_eq (other / 64) (place / 64)) (cases_eq (other % 64) (place % 64))
-  where
-    same_word : other / 64 ≡ place / 64 → get_or (set words (place / 64) word) (other / 64) 0 ≡ word
-    same_word e = ap (λ i. get_or (set words (place / 64) word) i 0) e ∙ get_or-set_same words (place / 64) word 0 within
-
-    rest : (other ≡ place → ⊥) → bit_at (get_or (set words (place / 64) word) (other / 64) 0) (other % 64) ≡ bit_at (get_or words (other / 64) 0) (other % 64) → (bit_at (get_or (set words (place / 64) word) (other / 64) 0) (other % 64) == 1) ≡ (if other == place then bit == 1 else bit_at (get_or words (other / 64) 0) (other % 64) == 1)
-    rest apart e = ap (λ n. n == 1) e ∙ sym (ap (λ b. if b then bit == 1 else bit_at (get_or words (other / 64) 0) (other % 64) == 1) (ne_eqb other place apart))
-
-    by : (other / 64 ≡ place / 64) ⊎ (other / 64 ≡ place / 64 → ⊥) → (other % 64 ≡ place % 64) ⊎ (other % 64 ≡ place % 64 → ⊥) → (bit_at (get_or (set words (place / 64) word) (other / 64) 0) (other % 64) == 1) ≡ (if other == place then bit == 1 else bit_at (get_or words (other / 64) 0) (other % 64) == 1)
-    by (inl e) (inl f) =
-        ap (λ n. n == 1) (ap (λ x. bit_at x (other % 64)) (same_word e) ∙ ap (bit_at word) f ∙ here)
-        ∙ sym (ap (λ b. if b then bit == 1 else bit_at (get_or words (other / 64) 0) (other % 64) == 1) (eq-eqb other place (same_place other place e f)))
-    by (inl e) (inr f) =
-        rest (λ same. f (ap (λ n. n % 64) same))
-        (ap (λ x. bit_at x (other % 64)) (same_word e) ∙ others (other % 64) (rem_below other) f ∙ ap (λ i. bit_at (get_or words i 0) (other % 64)) (sym e))
-    by (inr e) _ =
-        rest (λ same. e (ap (λ n. n / 64) same))
-        (ap (λ x. bit_at x (other % 64)) (get_or-set_other words (place / 64) (other / 64) word 0 e))
+changed words place other word bit within here others = bit_changed words place other word bit within here others
 
 -- the set of all
 pub all_in : (place : ℕ) → place < 144 → is_in place (record { words = 18446744073709551615 ∷ 18446744073709551615 ∷ 65535 ∷ [] }) ≡ true

@@ -72,12 +72,12 @@ unfolding asks
 asks_fits part side = fits_if (is_held part) part side
 
 -- A try that is Moved asks by the node's need.
-held_stays : (n : Need) (found : Option ℕ) (part : Part) → (after_asked (held_by n) found part).0 ≡ Moved → ⊥
-held_stays (need.Stopped stop) found part e = cc
-held_stays _ found part e = cc
+pub no_move_held : (n : Need) (found : Option ℕ) (part : Part) → (after_asked (held_by n) found part).0 ≡ Moved → ⊥
+no_move_held (need.Stopped stop) found part e = cc
+no_move_held _ found part e = cc
 
 moved_if : (held : Bool) (part : Part) (side : Side) (found : Option ℕ) → (after_asked (asks_if held part side) found part).0 ≡ Moved → asks_if held part side ≡ asks_by (need_of part.state) part.state.node part.stream side
-moved_if true part side found e = absurd (held_stays (need_of part.state) found part e)
+moved_if true part side found e = absurd (no_move_held (need_of part.state) found part e)
 moved_if false part side found e = refl
 
 pub moved_asks : (part : Part) (side : Side) (found : Option ℕ) → (after part side found).0 ≡ Moved → asks part side ≡ asks_by (need_of part.state) part.state.node part.stream side

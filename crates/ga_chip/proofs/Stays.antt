@@ -1,6 +1,6 @@
 -- A node that waits or is stopped stays so at each side, and until a neighbour passes it a word or takes its own.
-use Rattle.std.proofs.Common.{◌≡◌, ◌≢◌, ℕ, List, [], ◌∷◌, Bool, true, false, Option, Some, None, refl, sym, ap, ◌∙◌}
-use Rattle.std.specs.Prelude.{if◌then◌else◌, is_some, not, ◌||◌}
+use Rattle.std.proofs.Common.{◌≡◌, ◌≢◌, ℕ, zero, suc, ◌%◌, ◌^◌, List, [], ◌∷◌, Bool, true, false, Option, Some, None, get_or, set, refl, sym, ap, ◌∙◌}
+use Rattle.std.specs.Prelude.{if◌then◌else◌, is_some, not, ◌||◌, ◌&&◌}
 use Rattle.std.proofs.lemmas.Bool.{false≢true}
 use Rattle.std.specs.Option.{option_and_then}
 use Rattle.std.proofs.lemmas.Option.{none-some}
@@ -13,14 +13,16 @@ use Rattle.ga_place.specs.declared.side.Sides.{Sides}
 use Rattle.ga_place.proofs.Cells.{one_reader, one_writer, writer_there}
 use Rattle.ga_place.proofs.SideLemmas.{shared_port}
 use Rattle.ga_node.specs.Need.{need_of}
+use Rattle.ga_node.specs.State.{is_fetch}
 use Rattle.ga_node.specs.declared.need.Need.{Need}
 use Rattle.ga_node.specs.declared.need.Need.TheVariants as need
-use Rattle.ga_chip.specs.declared.outcome.Outcome.TheVariants.{Moved, Waits}
+use Rattle.ga_chip.specs.declared.outcome.Outcome.TheVariants.{Held, Moved, Waits}
 use Rattle.ga_chip.specs.Awake.{port_by}
 use Rattle.ga_chip.specs.Part.{Part, Asks, Nothing, Own, Feed, Post, Take, Check, after, after_asked, asks, asks_by, asks_if, check_of, held_by, input_of, is_held, looked_at, picked_by, picked_of, post_to, take_from, take_of}
 use Rattle.ga_chip.specs.Chip.{cells_after, found_by}
+use Rattle.ga_chip.specs.Run.{break_set}
 use Rattle.ga_chip.proofs.Commuting.{cell_at, set_finds}
-use Rattle.ga_chip.proofs.Parts.{Fits, same_asks, still_after}
+use Rattle.ga_chip.proofs.Parts.{Fits, no_move_held, same_asks, still_after}
 use Rattle.ga_chip.proofs.Tries.{still_at}
 use Rattle.ga_chip.specs.declared.outcome.Outcome.{Outcome}
 
@@ -35,6 +37,46 @@ stays_asked part side cells q e still = λ moved. still (ap (λ a. (after_asked 
 asked_stays : (part : Part) (side : Side) (cells : List (Option ℕ)) (q : Asks) → asks part side ≡ q → Stays part cells side → (after_asked q (found_by q cells) part).0 ≢ Moved
 unfolding after
 asked_stays part side cells q e still = λ moved. still (ap (λ a. (after_asked a (found_by a cells) part).0) e ∙ moved)
+
+-- a node that is held stays at each side
+pub held_stays : (part : Part) (cells : List (Option ℕ)) (side : Side) → asks part side ≡ Nothing Held → Stays part cells side
+held_stays part cells side e = stays_asked part side cells (Nothing Held) e (λ moved. cc)
+
+-- a breakpoint more holds a node, and lets none go on
+more_set : (breaks : List Bool) (at other : ℕ) → get_or (set breaks at true) other false ≡ false → get_or breaks other false ≡ false
+more_set [] at other e = e
+more_set (b ∷ breaks) zero zero e = absurd (false≢true (sym e))
+more_set (b ∷ breaks) zero (suc other) e = e
+more_set (b ∷ breaks) (suc at) zero e = e
+more_set (b ∷ breaks) (suc at) (suc other) e = more_set breaks at other e
+
+less_free : (fetch pass more set_ : Bool) → (more ≡ false → set_ ≡ false) → fetch && (not pass && more) ≡ false → fetch && (not pass && set_) ≡ false
+less_free true true more set_ less e = e
+less_free true false more set_ less e = less e
+less_free false pass more set_ less e = e
+
+free_before : (part : Part) (at : ℕ) → is_held (break_set at part) ≡ false → is_held part ≡ false
+free_before part at = less_free (is_fetch part.state.place) part.pass _ _ (more_set part.breaks at (part.state.p % 2 ^ 9))
+
+same_outcome : (q : Asks) (found : Option ℕ) (part other : Part) → (after_asked q found part).0 ≡ (after_asked q found other).0
+same_outcome (Nothing outcome) found part other = refl
+same_outcome Own found part other = refl
+same_outcome (Feed fed) found part other = refl
+same_outcome (Post side cell word) found part other = refl
+same_outcome (Check side cell) None part other = refl
+same_outcome (Check side cell) (Some word) part other = refl
+same_outcome (Take side cell) None part other = refl
+same_outcome (Take side cell) (Some word) part other = refl
+
+pub set_stays : (part : Part) (cells : List (Option ℕ)) (at : ℕ) (side : Side) → Stays part cells side → Stays (break_set at part) cells side
+unfolding asks
+set_stays part cells at side still = by (is_held (break_set at part)) refl
+  where
+    by : (held : Bool) → is_held (break_set at part) ≡ held → Stays (break_set at part) cells side
+    by true e = stays_asked (break_set at part) side cells (held_by (need_of part.state)) (ap (λ h. asks_if h (break_set at part) side) e) (no_move_held (need_of part.state) _ (break_set at part))
+    by false e =
+        stays_asked (break_set at part) side cells (asks_if false part side) (ap (λ h. asks_if h (break_set at part) side) e)
+        (λ moved. asked_stays part side cells (asks_if false part side) (ap (λ h. asks_if h part side) (free_before part at e)) still (same_outcome (asks_if false part side) _ part (break_set at part) ∙ moved))
 
 -- where no side is picked, tries that name different sides ask for the same
 asks_alike : (part : Part) (s t : Side) → picked_by (need_of part.state) s ≡ picked_by (need_of part.state) t → asks part s ≡ asks part t

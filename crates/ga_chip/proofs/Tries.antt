@@ -2,7 +2,7 @@
 use Rattle.std.proofs.Common.{◌≡◌, ℕ, ◌<◌, length, slice_get, subst, List, take, ◌++◌, set, get_or, Option, Some, None, refl, sym, ap, ap₂, ◌∙◌, arith}
 use Rattle.std.proofs.Math.Seq.{take-append_seam}
 use Rattle.std.proofs.lemmas.List.{set-get_or, get_or_read}
-use Rattle.std.proofs.lemmas.Option.{same_Some, slice_get_read}
+use Rattle.std.proofs.lemmas.Option.{slice_get_read}
 use Rattle.ga_place.specs.declared.side.Side.{Side}
 use Rattle.std.proofs.lemmas.Grind.{common_steps}
 use Rattle.ga_place.specs.Cell.{index_of, name_at}
@@ -14,7 +14,7 @@ use Rattle.ga_chip.specs.Run.{happened, Try}
 use Rattle.ga_chip.specs.Legal.{IsLegal}
 use Rattle.ga_chip.proofs.Kept.{cells_kept, legal_kept}
 use Rattle.ga_chip.proofs.Plain.{after_by, cells_by}
-use Rattle.ga_chip.proofs.Lists.{get-set_here, set-get}
+use Rattle.ga_chip.proofs.Lists.{set-get}
 use Rattle.ga_chip.proofs.Parts.{still_after}
 
 pub tried_there : (chip : Chip) (name : ℕ) (side : Side) (part : Part) → part_of chip name ≡ Some part → tried chip name side ≡ tried_by chip name (asks part side) (after part side (found_by (asks part side) chip.cells))
@@ -92,9 +92,3 @@ own_at chip name index side part next legal is below read own step =
     ∙ ap (λ r. (r.0, record chip { parts = set chip.parts (index_of name) r.1 })) (after_by part side chip.cells Own (Moved, stepped None part) own refl)
     ∙ ap (λ cs. ((after part side (found_by (asks part side) chip.cells)).0, record { parts = set chip.parts (index_of name) (after part side (found_by (asks part side) chip.cells)).1; cells = cs })) (cells_by part side chip.cells chip.cells Own own refl)
     ∙ sym (tried_there chip name side part there)
-
--- the part that is put back is there
-pub back_there : (chip : Chip) (name index : ℕ) (part next other : Part) → length chip.parts ≡ 144 → index ≡ index_of name → index < 144 → part ≡ get_or chip.parts index part → part_of (record chip { parts = set chip.parts index next }) name ≡ Some other → other ≡ next
-back_there chip name index part next other full is below read there =
-    let here : part_of chip name ≡ Some part = part_at chip name index part full is below read in
-    same_Some other next (sym there ∙ ap (λ i. slice_get (set chip.parts i next) (index_of name)) is ∙ get-set_here chip.parts (index_of name) next part here)

@@ -125,3 +125,8 @@ try_bound state next written read e bound = by (is_own (need_of state)) refl
     by : (b : Bool) → is_own (need_of state) ≡ b → StepsBound next.steps written read
     by true own = own_bound state next written read own e bound
     by false far = subst (λ s. StepsBound s.steps written read) (sym (own_still state next far e)) bound
+
+-- and of one that is left out, or not
+pub quick_bound : (state next : State) (quick : Bool) (written read : Counts) → next ≡ (if quick then step_if_own (need_of state) state else state) → StepsBound state.steps written read → StepsBound next.steps written read
+quick_bound state next true written read e bound = try_bound state next written read e bound
+quick_bound state next false written read e bound = subst (λ s. StepsBound s.steps written read) (sym e) bound

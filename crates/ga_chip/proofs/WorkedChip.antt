@@ -8,10 +8,11 @@ use Rattle.ga_node.specs.Slot.{row, step}
 use Rattle.ga_node.specs.State.{reset_state}
 use Rattle.ga_node.specs.declared.place.Place.TheVariants.{Slot0, Slot1}
 use Rattle.ga_place.specs.Cell.{cell_of, all_cells}
-use Rattle.ga_chip.specs.declared.outcome.Outcome.TheVariants.{Moved, Waits}
+use Rattle.ga_chip.specs.declared.outcome.Outcome.TheVariants.{Held, Moved, Stopped, Waits}
 use Rattle.ga_node.specs.declared.need.Need.TheVariants as need
 use Rattle.ga_chip.specs.declared.error.ChipError.TheVariants.{AlreadyGiven, NotEdge}
-use Rattle.ga_chip.specs.Part.{Part, Check, Feed, Post, Take, Nothing, asks, asks_by, after, is_held, rest_of}
+use Rattle.ga_chip.specs.Part.{Part, Check, Feed, Post, Take, Nothing, asks, asks_by, after, is_held, rest_of, stepped}
+use Rattle.ga_chip.specs.Run.{break_cleared, break_passed, break_set}
 use Rattle.ga_chip.specs.Chip.{cells_after, pending_in, refusal, reset_chip, reset_part, stream_refusal, streamed, tried}
 use Rattle.ga_chip.specs.Ledger.{ledger_of}
 
@@ -52,6 +53,44 @@ held = refl
 
 passed : is_held (record (reset_part 0) { breaks = replicate 512 true; pass = true }) ≡ false
 passed = refl
+
+-- it is held by the low nine bits of P: at 003, but neither at the mirror 043 nor before a slot
+abbrev at_3 : Part
+at_3 = break_set 3 (record (reset_part 0) { state = record (reset_state 0) { p = 3 } })
+
+held_at_3 : asks at_3 Right ≡ Nothing Held
+unfolding asks need_of
+held_at_3 = refl
+
+mirror : is_held (record at_3 { state = record at_3.state { p = 0x43 } }) ≡ false
+mirror = refl
+
+in_word : is_held (record at_3 { state = record at_3.state { place = Slot0 } }) ≡ false
+in_word = refl
+
+cleared : is_held (break_cleared 3 at_3) ≡ false
+cleared = refl
+
+-- a stop comes first
+stopped_at_203 : asks (record at_3 { state = record at_3.state { p = 0x203 } }) Right ≡ Nothing Stopped
+unfolding asks need_of
+stopped_at_203 = refl
+
+-- a pass is given to a node that is held, and to no other; the fetch ends it, and a slot leaves it
+gives : (break_passed at_3).pass ≡ true
+unfolding asks need_of
+gives = refl
+
+gives_none : (break_passed (reset_part 0)).pass ≡ false
+unfolding asks need_of cell_of all_cells
+gives_none = refl
+
+ends : (after (break_passed at_3) Right None).1.pass ≡ false
+unfolding after asks need_of
+ends = refl
+
+stays : (stepped None (record at_3 { pass = true; state = record at_3.state { place = Slot0 } })).pass ≡ true
+stays = refl
 
 -- A node that stands before `!b` with B at its right port posts T there, waits while the word is pending,
 -- and goes on where it was read.

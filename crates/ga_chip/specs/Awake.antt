@@ -1,6 +1,5 @@
 -- What a chip keeps of the nodes that can't move, so that a turn leaves them out.
-use Rattle.std.specs.Prelude.{◌≡◌, ◌≢◌, ℕ, ◌<◌, ◌/◌, ◌%◌, ◌==◌, Bool, false, get_or, Option, Some, None}
-use Rattle.std.specs.Int.{bit_at}
+use Rattle.std.specs.Prelude.{◌≡◌, ◌≢◌, ℕ, ◌<◌, Bool, false, Option, Some, None}
 use Rattle.std.specs.Option.{option_and_then}
 use Rattle.ga_place.specs.Cell.{name_at}
 use Rattle.ga_place.specs.Side.{neighbour_of, one_side}
@@ -9,13 +8,14 @@ use Rattle.ga_node.specs.declared.need.Need.{Need}
 use Rattle.ga_node.specs.declared.need.Need.TheVariants as need
 use Rattle.ga_chip.specs.declared.outcome.Outcome.TheVariants.{Moved}
 use Rattle.ga_chip.specs.declared.node_set.NodeSet.{NodeSet}
+use Rattle.ga_chip.specs.Bits.{is_bit}
 use Rattle.ga_chip.specs.Part.{looked_at}
 use Rattle.ga_chip.specs.Chip.{Chip, tried}
 use Rattle.ga_chip.specs.Legal.{IsLegal}
 
--- the node at a place in order of name is in a set: each word has the bits of 64 places
+-- the node at a place in order of name is in a set
 unfoldable pub is_in : ℕ → NodeSet → Bool
-is_in place set = bit_at (get_or set.words (place / 64) 0) (place % 64) == 1
+is_in place set = is_bit place set.words
 
 -- A legal chip, and its nodes that are awake. All others sleep: a try of one would move at no side.
 pub record Knows (chip : Chip) (awake : NodeSet) : Type 0 where

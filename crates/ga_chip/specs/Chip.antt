@@ -1,5 +1,5 @@
 -- The chip: the nodes' parts in order of name, and the word pending in each cell. A try of one node.
-use Rattle.std.specs.Prelude.{ℕ, ◌==◌, false, List, map, replicate, Option, Some, None, Result, Ok, Err, is_some, option_map, set, slice_get, slice_index_or, if◌then◌else◌}
+use Rattle.std.specs.Prelude.{◌≡◌, ℕ, ◌==◌, false, List, map, replicate, Option, Some, None, Result, Ok, Err, is_some, option_map, set, slice_get, slice_index_or, if◌then◌else◌}
 use Rattle.std.specs.Option.{option_and_then}
 use Rattle.std.specs.List.{range_with_len}
 use Rattle.ga_place.specs.Cell.{index_of, name_at}
@@ -8,10 +8,10 @@ use Rattle.ga_place.specs.declared.side.Side.{Side}
 use Rattle.ga_node.specs.State.{State, booting_state, loaded_state, reset_state}
 use Rattle.ga_chip.specs.declared.counts.Counts.{Counts}
 use Rattle.ga_chip.specs.declared.error.ChipError.{ChipError}
-use Rattle.ga_chip.specs.declared.error.ChipError.TheVariants.{AlreadyGiven, Begun, NotEdge}
+use Rattle.ga_chip.specs.declared.error.ChipError.TheVariants.{AlreadyGiven, Begun, NotEdge, NotHeld}
 use Rattle.ga_chip.specs.declared.outcome.Outcome.{Outcome}
-use Rattle.ga_chip.specs.declared.outcome.Outcome.TheVariants.{Waits}
-use Rattle.ga_chip.specs.Part.{Part, Asks, Nothing, Own, Feed, Post, Check, Take, asks, after}
+use Rattle.ga_chip.specs.declared.outcome.Outcome.TheVariants.{Held, Waits}
+use Rattle.ga_chip.specs.Part.{Part, Asks, Nothing, Own, Feed, Post, Check, Take, StandsAtBreak, asks, after}
 
 -- 144 parts and 524 cells; a cell holds its pending word, or none
 pub record Chip : Type 0 where
@@ -72,6 +72,10 @@ tried_at (Some part) chip name side = tried_by chip name (asks part side) (after
 unfoldable pub tried : Chip → ℕ → Side → Outcome × Chip
 tried chip name side = tried_at (part_of chip name) chip name side
 
+-- a node that a try finds held
+abbrev pub IsHeld : Chip → ℕ → Type 0
+IsHeld chip name = (part : Part) × (part_of chip name ≡ Some part) × StandsAtBreak part
+
 -- nothing at any side
 abbrev pub no_counts : Counts
 no_counts = record { right = 0; down = 0; left = 0; up = 0 }
@@ -94,6 +98,11 @@ refusal chip name = option_and_then part_refusal (part_of chip name)
 -- Why a node can't be given a stream: it stands at no edge of the chip, or for the reasons above.
 abbrev pub stream_refusal : Chip → ℕ → Option ChipError
 stream_refusal chip name = if is_edge name then refusal chip name else Some NotEdge
+
+-- why a node can't be given a pass, by what would come of a try of it: it isn't held
+abbrev pub unless_held : Outcome → Option ChipError
+unless_held Held = None
+unless_held _ = Some NotHeld
 
 -- the answer of a call that may be refused, and where what was moved in comes back
 abbrev pub answer_of : Option ChipError → Result (Unit {0}) ChipError

@@ -1,4 +1,6 @@
 pub mod Part
+pub mod Bits
+pub mod Watch
 pub mod Within
 pub mod Chip
 pub mod Ledger

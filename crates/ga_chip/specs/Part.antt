@@ -1,16 +1,15 @@
 -- What the chip has of one node, what a try of the node asks for, and what the node is afterwards.
-use Rattle.std.specs.Prelude.{ℕ, ◌+◌, ◌%◌, ◌^◌, Bool, true, false, ◌&&◌, not, if◌then◌else◌, List, [], ◌∷◌, get_or, Option, Some, None}
+use Rattle.std.specs.Prelude.{◌≡◌, ℕ, ◌+◌, ◌%◌, ◌^◌, Bool, true, false, ◌&&◌, not, if◌then◌else◌, List, [], ◌∷◌, get_or, Option, Some, None}
 use Rattle.ga_place.specs.Cell.{cell_of, read_cell}
 use Rattle.ga_place.specs.Side.{is_among, one_side}
 use Rattle.ga_place.specs.declared.side.Side.{Side}
 use Rattle.ga_place.specs.declared.side.Side.TheVariants.{Right, Down, Left, Up}
 use Rattle.ga_place.specs.declared.side.Sides.{Sides}
-use Rattle.ga_node.specs.State.{State}
-use Rattle.ga_node.specs.Need.{need_of}
+use Rattle.ga_node.specs.State.{State, is_fetch}
+use Rattle.ga_node.specs.Need.{need_of, stop_of}
 use Rattle.ga_node.specs.Slot.{step}
 use Rattle.ga_node.specs.declared.need.Need.{Need}
 use Rattle.ga_node.specs.declared.need.Need.TheVariants as need
-use Rattle.ga_node.specs.declared.place.Place.{Place}
 use Rattle.ga_node.specs.declared.place.Place.TheVariants.{Fetch}
 use Rattle.ga_chip.specs.declared.counts.Counts.{Counts}
 use Rattle.ga_chip.specs.declared.outcome.Outcome.{Outcome}
@@ -101,13 +100,18 @@ abbrev pub held_by : Need → Asks
 held_by (need.Stopped stop) = Nothing Stopped
 held_by _ = Nothing Held
 
-abbrev pub is_fetch : Place → Bool
-is_fetch Fetch = true
-is_fetch _ = false
-
--- the node is about to fetch, where the low nine bits of P are a breakpoint, and has no pass
+-- A breakpoint holds the node: it is about to fetch, where the low nine bits of P are a breakpoint, and has no pass.
+-- It may be stopped all the same.
 abbrev pub is_held : Part → Bool
 is_held part = (is_fetch part.state.place) && ((not part.pass) && (get_or part.breaks (part.state.p % 2 ^ 9) false))
+
+-- So a try is held just where its node isn't stopped, is about to fetch, the low nine bits of P are a breakpoint,
+-- and it has no pass.
+pub record StandsAtBreak (part : Part) : Type 0 where
+  pub runs : stop_of (need_of part.state) ≡ None
+  pub fetches : part.state.place ≡ Fetch
+  pub breaks : get_or part.breaks (part.state.p % 2 ^ 9) false ≡ true
+  pub unpassed : part.pass ≡ false
 
 abbrev pub asks_if : Bool → Part → Side → Asks
 asks_if true part side = held_by (need_of part.state)

@@ -1,12 +1,12 @@
-ghost use Rattle.std.specs.Prelude.{◌≡◌, ◌≢◌, ℕ, ◌+◌, ◌<◌, ◌≤◌, ◌^◌, IfOk, false, if◌then◌else◌, length};
+ghost use Rattle.std.specs.Prelude.{◌≡◌, ◌≢◌, ◌↔◌, ℕ, ◌+◌, ◌<◌, ◌≤◌, ◌^◌, Err, IfOk, false, if◌then◌else◌, length, true};
 ghost use Rattle.ga_place.specs.Cell.{name_at};
-ghost use Rattle.ga_chip.specs.Chip.{answer_of, part_of, placed, refusal, reset_chip, state_of, stream_refusal, streamed, tried, unless_refused, with_words};
-ghost use Rattle.ga_node.specs.Need.{is_own, need_of};
-ghost use Rattle.ga_chip.specs.Part.{Part};
+ghost use Rattle.ga_chip.specs.Chip.{IsHeld, answer_of, placed, refusal, reset_chip, state_of, stream_refusal, streamed, tried, unless_held, unless_refused, with_words};
+ghost use Rattle.ga_place.specs.declared.side.Side.{Side};
 ghost use Rattle.ga_chip.specs.Ledger.{ledger_of};
-ghost use Rattle.ga_chip.specs.declared.outcome.Outcome.TheVariants.{Moved};
+ghost use Rattle.ga_chip.specs.declared.error.ChipError.TheVariants.{NotHeld};
+ghost use Rattle.ga_chip.specs.declared.outcome.Outcome.TheVariants.{Held, Moved};
 ghost use Rattle.ga_chip.specs.Grow.{LedgersGrow};
-ghost use Rattle.ga_chip.specs.Run.{moved_by, moves, ran, tries_of, turn_of};
+ghost use Rattle.ga_chip.specs.Run.{ClearBreak, PassBreak, SetBreak, happened, moved_by, moves, ran, tries_of, turn_of};
 
 use crate::error::ChipError;
 use crate::ledger::Ledger;
@@ -113,10 +113,47 @@ impl Chip {
         Ok(())
     }
 
-    /// One try of one node. Only `Moved` changes anything, and it adds one to the node's steps.
+    /// Makes an address of nine bits a breakpoint of a node: a fetch is held there, where the low nine bits of P are
+    /// this address and the node has no pass. A pass that it has stays. (Breakpoints are this project's own: profile.)
+    pub fn set_break(&mut self, node: Node, address: u16)
+        requires { address < 2 ^ 9 }
+        ensures { self.new ≡ happened self.old (SetBreak node address) }
+    {
+        self.parts[index_of(node)].set_break(address);
+    }
+
+    /// Makes an address of nine bits no breakpoint of a node any more. A pass that the node has stays.
+    pub fn clear_break(&mut self, node: Node, address: u16)
+        requires { address < 2 ^ 9 }
+        ensures { self.new ≡ happened self.old (ClearBreak node address) }
+    {
+        let index = index_of(node);
+        self.parts[index].clear_break(address);
+        self.awake.insert(index);
+    }
+
+    /// Gives a node that is held at a breakpoint a pass: its next fetch goes on, and ends the pass. A node of which
+    /// a try wouldn't be `Held` is refused, `NotHeld`, so also one that has a pass; the chip is left as it was then.
+    pub fn pass_break(&mut self, node: Node) -> Result<(), ChipError>
+        ensures refused { (side : Side) → result ≡ answer_of (unless_held (tried self.old node side).0) }
+        ensures chip { self.new ≡ happened self.old (PassBreak node) }
+        ensures same { result ≡ Err NotHeld → self.new ≡ self.old }
+    {
+        let index = index_of(node);
+        if !self.parts[index].pass_break() {
+            return Err(ChipError::NotHeld);
+        }
+        self.awake.insert(index);
+        Ok(())
+    }
+
+    /// One try of one node. A node that has stopped is `Stopped`; else one that is about to fetch at a breakpoint,
+    /// without a pass, is `Held`; else it goes by the node's need. Only `Moved` changes anything, and it adds one
+    /// to the node's steps.
     #[inline(always)]
     pub fn attempt(&mut self, what: Try) -> Outcome
-        ensures { (result, self.new) ≡ tried self.old what.node what.side }
+        ensures chip { (result, self.new) ≡ tried self.old what.node what.side }
+        ensures held { result ≡ Held ↔ IsHeld self.old what.node }
     {
         self.attempt_at(index_of(what.node), what.side)
     }
@@ -144,6 +181,16 @@ impl Chip {
         } else {
             self.turn_of_awake(side)
         }
+    }
+
+    /// Whether all nodes are known to stand still: a turn then changes nothing, whatever its side. Where a node was
+    /// not tried since it could move, the answer is `false`.
+    #[inline]
+    pub fn is_still(&self) -> bool
+        ensures chip { (side : Side) → result ≡ true → ran self.now (turn_of side) ≡ self.now }
+        ensures moves { (side : Side) → result ≡ true → length (moves self.now (turn_of side)) ≡ 0 }
+    {
+        self.next_awake(0) >= 144
     }
 
     /// A node's state.
@@ -214,11 +261,10 @@ impl Chip {
         self.attempt_far(index, side)
     }
 
-    /// One try of the node at a place in order of name, whose need isn't its own.
+    /// One try of the node at a place in order of name, by all that it may need.
     #[inline(never)]
     fn attempt_far(&mut self, index: usize, side: Side) -> Outcome
-        requires index { index < 144 }
-        requires far { (part : Part) → part_of self.old (name_at index) ≡ Some part → is_own (need_of part.state) ≡ false }
+        requires { index < 144 }
         ensures { (result, self.new) ≡ tried self.old (name_at index) side }
     {
         let far = self.parts[index].attempt_far(&self.ports[index], &mut self.cells, side);

@@ -7,4 +7,6 @@ pub enum ChipError {
     AlreadyGiven,
     /// The node has made a step.
     Begun,
+    /// A try of the node wouldn't be held at a breakpoint, so it can't be given a pass.
+    NotHeld,
 }

@@ -1,6 +1,7 @@
 //! The whole chip in one thread: 144 nodes that pass words to one another over the cells between them.
 #![tactic(auto)]
 
+mod breaks;
 mod chip;
 mod counts;
 mod error;
@@ -12,6 +13,7 @@ mod outcome;
 mod part;
 mod port;
 mod stream;
+mod watch;
 
 pub use chip::Chip;
 pub use error::ChipError;

@@ -18,7 +18,7 @@ pub enum Outcome {
     Moved,
     /// The node waits: for a word, or for its own word to be read.
     Waits,
-    /// The node is about to fetch at a breakpoint.
+    /// The node is about to fetch at a breakpoint, without a pass.
     Held,
     /// The node makes no step any more.
     Stopped,

@@ -2,36 +2,39 @@ ghost use Rattle.std.specs.Prelude.{◌≡◌, ◌≢◌, ◌≤◌, ◌<◌, �
 ghost use Rattle.ga_place.specs.Cell.{cell_of, index_of, read_cell};
 ghost use Rattle.ga_place.specs.Side.{is_among, one_side};
 ghost use Rattle.ga_place.specs.declared.side.Side.{Side};
-ghost use Rattle.ga_node.specs.Need.{is_check, is_own, is_post, need_of, takes_at};
+ghost use Rattle.ga_node.specs.Need.{is_check, is_post, need_of, takes_at};
 ghost use Rattle.ga_node.specs.State.{loaded_state};
-ghost use Rattle.ga_node.specs.declared.need.Need.TheVariants.{Input};
-ghost use Rattle.ga_chip.specs.Part.{Own, after, after_asked, asks, asks_by, check_of, count_at, input_of, looked_at, post_to, stepped, take_of};
+ghost use Rattle.ga_node.specs.declared.need.Need.TheVariants as need;
+ghost use Rattle.ga_chip.specs.Part.{Nothing, Own, after, after_asked, asks, asks_by, check_of, count_at, input_of, looked_at, post_to, stepped, take_of};
 ghost use Rattle.ga_chip.specs.Chip.{cells_after, found_by, given, part_refusal, reset_part, streaming};
 ghost use Rattle.ga_chip.specs.Awake.{partner_of};
 ghost use Rattle.ga_chip.specs.Port.{FitsPorts};
-ghost use Rattle.ga_chip.specs.declared.outcome.Outcome.TheVariants.{Moved};
+ghost use Rattle.ga_chip.specs.Run.{break_cleared, break_passed, break_set, is_hold};
+ghost use Rattle.ga_chip.specs.declared.outcome.Outcome.TheVariants.{Held, Moved};
 
 use crate::counts::Counts;
 use crate::error::ChipError;
 use crate::outcome::Outcome;
 use crate::port::Ports;
 use crate::stream::Stream;
+use crate::watch::Watch;
 use ga_node::{Need, NodeState};
 use ga_place::{CellId, Node, Side, Sides};
 use ga_word::Word18;
 use std::marker::Model;
 
-/// What the chip has of one node: its state, how many words it has written and read at each side, and its
-/// stream, if it was given one. No node has a breakpoint.
+/// What the chip has of one node: its breakpoints and a pass, its state, how many words it has written and read
+/// at each side, and its stream, if it was given one.
 #[derive(Drop)]
 pub(crate) struct NodePart {
+    watch: Watch,
     state: NodeState,
     written: Counts,
     read: Counts,
     stream: Option<Stream>,
 }
 
-/// What came of a try of a node whose need isn't its own.
+/// What came of a try, but for a quick one of the node's own work.
 #[derive(Clone, Copy)]
 pub(crate) struct Far {
     pub outcome: Outcome,
@@ -43,7 +46,6 @@ pub(crate) struct Far {
 }
 
 impl Model for NodePart {
-    ghost use Rattle.std.specs.Prelude.{false, replicate, None};
     ghost use Rattle.ga_chip.specs.Part.{Part};
     ghost use Rattle.ga_chip.specs.Within.{StepsBound};
 
@@ -51,8 +53,8 @@ impl Model for NodePart {
 
     ghost view = { λ part. record {
       state = part.state;
-      breaks = replicate 512 false;
-      pass = false;
+      breaks = part.watch.breaks;
+      pass = part.watch.pass;
       stream = part.stream;
       written = part.written;
       read = part.read;
@@ -67,6 +69,7 @@ impl NodePart {
         ensures { result ≡ reset_part node }
     {
         NodePart {
+            watch: Watch::new(),
             state: NodeState::reset(node),
             written: Counts::new(),
             read: Counts::new(),
@@ -95,17 +98,17 @@ impl NodePart {
         self.read.at(side)
     }
 
-    /// A step where it is the node's own work, and else nothing. Answers whether the node made it.
+    /// A step where it is the node's own work, but for a fetch of a node that has a breakpoint or a pass; else
+    /// nothing. Answers whether the node made it.
     #[inline(always)]
     pub(crate) fn try_own(&mut self) -> bool
-        ensures own { result ≡ is_own (need_of self.old.state) }
         ensures asks { result ≡ true → (side : Side) → asks self.old side ≡ Own }
         ensures step { self.new ≡ (if result then stepped None self.old else self.old) }
     {
-        self.state.try_own()
+        self.state.try_step(!self.watch.is_on())
     }
 
-    /// A try of a node whose need isn't its own, over the chip's cells.
+    /// A try of a node, over the chip's cells.
     pub(crate) fn attempt_far(
         &mut self,
         ports: &Ports,
@@ -114,7 +117,6 @@ impl NodePart {
     ) -> Far
         requires ports { FitsPorts self.old.state.node ports.now }
         requires count { length cells.old ≡ 524 }
-        requires far { is_own (need_of self.old.state) ≡ false }
         ensures part { (result.outcome, self.new) ≡ after self.old side (found_by (asks self.old side) cells.old) }
         ensures cells { cells.new ≡ cells_after (asks self.old side) cells.old }
         ensures wakes { result.outcome ≡ Moved → result.wakes ≡ option_map index_of (partner_of self.old.state.node (need_of self.old.state) side) }
@@ -122,6 +124,13 @@ impl NodePart {
         ensures sleeps { result.sleeps ≡ true → (other : Side) → (after self.old other (found_by (asks self.old other) cells.old)).0 ≢ Moved }
     {
         let need = self.state.need();
+        if self.is_held(&need) {
+            return Far {
+                outcome: Outcome::Held,
+                wakes: None,
+                sleeps: true,
+            };
+        }
         let outcome = self.meet(&need, ports, cells, side);
         if let Outcome::Moved = outcome {
             let wakes = self.partner(&need, ports, side);
@@ -139,7 +148,20 @@ impl NodePart {
         }
     }
 
-    /// Meets a need where it can be met now.
+    /// Whether a try of the node would be held: it isn't stopped, and is about to fetch at a breakpoint without
+    /// a pass.
+    fn is_held(&self, need: &Need) -> bool
+        requires { need.now ≡ need_of self.now.state }
+        ensures held { result ≡ true → (side : Side) → asks self.now side ≡ Nothing Held }
+        ensures free { result ≡ false → (side : Side) → asks self.now side ≡ asks_by need.now self.now.state.node self.now.stream side }
+    {
+        match *need {
+            Need::Stopped(_) => false,
+            _ => self.watch.holds(self.state.place(), self.state.p()),
+        }
+    }
+
+    /// Meets a need of a node that isn't held, where it can be met now.
     fn meet(
         &mut self,
         need: &Need,
@@ -150,12 +172,12 @@ impl NodePart {
         requires ports { FitsPorts self.old.state.node ports.now }
         requires count { length cells.old ≡ 524 }
         requires need { need.now ≡ need_of self.old.state }
-        requires far { is_own (need_of self.old.state) ≡ false }
+        requires free { asks self.old side ≡ asks_by need.now self.old.state.node self.old.stream side }
         ensures part { (result, self.new) ≡ after self.old side (found_by (asks self.old side) cells.old) }
         ensures cells { cells.new ≡ cells_after (asks self.old side) cells.old }
     {
-        let _ = &self.state;
         match *need {
+            Need::Own => self.own(),
             Need::Take(sides) => match looked_at(sides, side) {
                 Some(at) => self.take(ports, cells, at),
                 None => Outcome::Waits,
@@ -164,7 +186,6 @@ impl NodePart {
             Need::Check(to) => self.check(ports, cells, to),
             Need::Input => self.input(),
             Need::Stopped(_) => Outcome::Stopped,
-            Need::Own => Outcome::Waits,
         }
     }
 
@@ -235,6 +256,16 @@ impl NodePart {
         Some(ports.at(side)?.writes)
     }
 
+    /// The node does its own work.
+    fn own(&mut self) -> Outcome
+        requires { need_of self.old.state ≡ need.Own }
+        ensures { (result, self.new) ≡ after_asked Own None self.old }
+    {
+        self.watch.step(self.state.place());
+        self.state.step_own();
+        Outcome::Moved
+    }
+
     /// The node takes a word at a side, where one is pending.
     fn take(&mut self, ports: &Ports, cells: &mut [Option<Word18>], side: Side) -> Outcome
         requires ports { FitsPorts self.old.state.node ports.now }
@@ -248,6 +279,7 @@ impl NodePart {
         };
         match cells[at.index()].take() {
             Some(word) => {
+                self.watch.step(self.state.place());
                 self.state.step_took(side, word);
                 self.read.count(side);
                 Outcome::Moved
@@ -274,6 +306,7 @@ impl NodePart {
             return Outcome::Waits;
         };
         cells[at.index()] = Some(word);
+        self.watch.step(self.state.place());
         self.state.step_posted();
         self.written.count(to);
         Outcome::Moved
@@ -288,6 +321,7 @@ impl NodePart {
     {
         match self.writes(ports, to) {
             Some(at) if cells[at.index()].is_none() => {
+                self.watch.step(self.state.place());
                 self.state.step_checked();
                 Outcome::Moved
             }
@@ -297,7 +331,7 @@ impl NodePart {
 
     /// The loader takes the next word of the node's stream, where one is left.
     fn input(&mut self) -> Outcome
-        requires { need_of self.old.state ≡ Input }
+        requires { need_of self.old.state ≡ need.Input }
         ensures { (result, self.new) ≡ after_asked (input_of self.old.stream) None self.old }
     {
         let Some(stream) = &mut self.stream else {
@@ -306,8 +340,38 @@ impl NodePart {
         let Some(word) = stream.next() else {
             return Outcome::Waits;
         };
+        self.watch.step(self.state.place());
         self.state.step_input(word);
         Outcome::Moved
+    }
+
+    /// Makes an address a breakpoint.
+    pub(crate) fn set_break(&mut self, address: u16)
+        requires { address < 2 ^ 9 }
+        ensures { self.new ≡ break_set address self.old }
+    {
+        self.watch.set(address);
+    }
+
+    /// Makes an address no breakpoint any more.
+    pub(crate) fn clear_break(&mut self, address: u16)
+        requires { address < 2 ^ 9 }
+        ensures { self.new ≡ break_cleared address self.old }
+    {
+        self.watch.clear(address);
+    }
+
+    /// Gives the node a pass, where it is held. Answers whether it was.
+    pub(crate) fn pass_break(&mut self) -> bool
+        ensures held { (side : Side) → result ≡ is_hold (asks self.old side) }
+        ensures part { self.new ≡ break_passed self.old }
+    {
+        let need = self.state.need();
+        let held = self.is_held(&need);
+        if held {
+            self.watch.pass();
+        }
+        held
     }
 
     /// Why the node can't be given words or a stream, if it can't.

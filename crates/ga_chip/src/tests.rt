@@ -5,6 +5,8 @@ use ga_word::Word18;
 use std::alloc::Global;
 use std::test::Fail;
 
+mod breaks;
+
 /// Writes 12 to the port on the right.
 const WRITE_12_RIGHT: [u32; 4] = [0x05DA2, 0x00012, 0x001D5, 0x089B2];
 
@@ -89,6 +91,22 @@ fn sleepers_are_woken(rt: HostRuntime) -> Result<(), Fail> {
     assert!(rt; chip.turn(Side::Down) == 1);
     assert!(rt; chip.state(node(708)?).steps() == 8);
     assert!(rt; chip.state(node(709)?).steps() == 1);
+    Ok(())
+}
+
+#[test]
+fn a_chip_stands_still(rt: HostRuntime) -> Result<(), Fail> {
+    let mut chip = reset(rt.alloc())?;
+    place(&mut chip, 708, &WRITE_12_RIGHT)?;
+    assert!(rt; !chip.is_still());
+    // seven steps of 708, and then one turn in which it waits
+    for _ in 0..8 {
+        let _moved = chip.turn(Side::Down);
+    }
+    assert!(rt; chip.is_still());
+    assert!(rt; (chip.turn(Side::Up), chip.turn(Side::Left)) == (0, 0));
+    place(&mut chip, 0, &WRITE_12_RIGHT)?;
+    assert!(rt; !chip.is_still());
     Ok(())
 }
 

@@ -431,3 +431,14 @@ fn readers(rt: HostRuntime) -> Result<(), Fail> {
     assert_eq!(rt; (ram[1].get(), ram[3].get()), (7, 0));
     Ok(())
 }
+
+#[test]
+fn a_fetch_is_left_out(rt: HostRuntime) -> Result<(), Fail> {
+    let mut state = run(&[0x2C9B2], 0)?;
+    assert!(rt; !state.try_step(false));
+    assert_eq!(rt; (state.place(), state.steps()), (Place::Fetch, 0));
+    assert!(rt; state.try_step(true));
+    assert!(rt; state.try_step(false));
+    assert_eq!(rt; (state.place(), state.steps()), (Place::Slot1, 2));
+    Ok(())
+}

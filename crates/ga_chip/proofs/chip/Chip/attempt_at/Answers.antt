@@ -1,12 +1,11 @@
 use Rattle.std.specs.Prelude.{if◌then◌else◌}
 use Rattle.std.proofs.Common.{ap, ◌∙◌, None, subst, sym}
 use Rattle.ga_place.specs.Cell.{name_at}
-use Rattle.ga_node.specs.Need.{is_own, need_of}
 use Rattle.ga_chip.specs.Chip.{tried}
 use Rattle.ga_chip.specs.Legal.{IsLegal}
 use Rattle.ga_chip.specs.Part.{stepped}
 use Rattle.ga_chip.proofs.Awake.{own_knows}
-use Rattle.ga_chip.proofs.Tries.{back_there, legal_tried, own_at, place_back}
+use Rattle.ga_chip.proofs.Tries.{legal_tried, own_at, place_back}
 use Rattle.ga_chip.proofs.chip.Chip.attempt_at.Goals as goal
 
 pub invariant_of-self : goal.invariant_of-self
@@ -21,9 +20,3 @@ pub returns-then-try_own : goal.returns-then-try_own
 returns-then-try_own c =
     (own_at (record { parts = c.self.inside.parts.items; cells = c.self.inside.cells.items }) (name_at c.args.index) c.args.index c.args.side c.index_mut.result.now c.try_own.new.self c.self.invariant.0.legal (sym (place_back c.args.index c.requires)) c.requires c.index_mut.ensures.value (c.try_own.ensures.asks c.if-try_own.true c.args.side) (c.try_own.ensures.step ∙ ap (λ b. if b then stepped None c.index_mut.result.now else c.index_mut.result.now) c.if-try_own.true))
     ∙ ap (λ z. tried z (name_at c.args.index) c.args.side) c.self.view_is
-
-pub attempt_far-requires-clause-far : goal.attempt_far-requires-clause-far
-attempt_far-requires-clause-far c = λ part there.
-    ap (λ p. is_own (need_of p.state)) (back_there (record { parts = c.self.inside.parts.items; cells = c.self.inside.cells.items }) (name_at c.args.index) c.args.index c.index_mut.result.now c.try_own.new.self part c.self.invariant.0.legal.parts (sym (place_back c.args.index c.requires)) c.requires c.index_mut.ensures.value there
-    ∙ c.try_own.ensures.step ∙ ap (λ b. if b then stepped None c.index_mut.result.now else c.index_mut.result.now) c.if-try_own.false)
-    ∙ sym c.try_own.ensures.own ∙ c.if-try_own.false

@@ -10,7 +10,7 @@ use Rattle.ga_chip.proofs.chip.Chip.run.Goals as goal
 pub loop-what-preserved : goal.loop-what-preserved
 loop-what-preserved c =
     sym (ran_next c.loop-what.self c.attempt-outcome.new.self c.what-item.result.node c.what-item.result.side c.attempt-outcome.result _ _
-    (tries_next c.args.tries.now c.loop-what.what-index c.what-item.result c.loop-what-test.true c.what-item.is) c.attempt-outcome.ensures)
+    (tries_next c.args.tries.now c.loop-what.what-index c.what-item.result c.loop-what-test.true c.what-item.is) c.attempt-outcome.ensures.chip)
     ∙ c.loop-what.invariant
 
 pub returns-clause-chip : goal.returns-clause-chip

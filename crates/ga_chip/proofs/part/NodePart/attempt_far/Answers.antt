@@ -1,14 +1,25 @@
-use Rattle.std.proofs.Common.{length, ap, ap₂, ◌∙◌, subst, sym}
+use Rattle.std.proofs.Common.{length, ap, ap₂, ◌∙◌, refl, subst, sym}
 use Rattle.ga_node.specs.Need.{need_of}
 use Rattle.ga_chip.specs.Awake.{partner_of}
 use Rattle.ga_place.specs.Cell.{index_of}
 use Rattle.std.specs.Prelude.{option_map}
 use Rattle.ga_chip.specs.Port.{FitsPorts}
-use Rattle.ga_chip.specs.Part.{asks}
+use Rattle.ga_chip.specs.Part.{Nothing, asks}
+use Rattle.ga_chip.specs.declared.outcome.Outcome.TheVariants.{Held}
 use Rattle.ga_chip.specs.Chip.{found_by}
 use Rattle.ga_chip.proofs.Parts.{name_after}
-use Rattle.ga_chip.proofs.Stays.{Stays, still_all}
+use Rattle.ga_chip.proofs.Plain.{after_by, cells_by}
+use Rattle.ga_chip.proofs.Stays.{Stays, held_stays, still_all}
 use Rattle.ga_chip.proofs.part.NodePart.attempt_far.Goals as goal
+
+pub returns-then-is_held-clause-part : goal.returns-then-is_held-clause-part
+returns-then-is_held-clause-part c = after_by c.args.self.now c.args.side c.args.cells.now (Nothing Held) (Held, c.args.self.now) (c.is_held.ensures.held c.if-is_held.true c.args.side) refl
+
+pub returns-then-is_held-clause-cells : goal.returns-then-is_held-clause-cells
+returns-then-is_held-clause-cells c = cells_by c.args.self.now c.args.side c.args.cells.now c.args.cells.now (Nothing Held) (c.is_held.ensures.held c.if-is_held.true c.args.side) refl
+
+pub returns-then-is_held-clause-sleeps : goal.returns-then-is_held-clause-sleeps
+returns-then-is_held-clause-sleeps c = λ yes other. held_stays c.args.self.now c.args.cells.now other (c.is_held.ensures.held c.if-is_held.true other)
 
 pub partner-wakes-requires : goal.partner-wakes-requires
 partner-wakes-requires c =

@@ -1,14 +1,23 @@
-use Rattle.std.proofs.Common.{◌∙◌, sym}
-use Rattle.ga_node.specs.declared.need.Need.TheVariants as need
-use Rattle.ga_chip.proofs.Plain.{own_part, plain_asks}
-use Rattle.ga_chip.proofs.Within.{own_is, try_bound}
+use Rattle.std.proofs.Common.{None, ap, ◌∙◌, sym, ◌||◌}
+use Rattle.std.specs.Prelude.{if◌then◌else◌, not}
+use Rattle.std.proofs.lemmas.Bool.{not-true}
+use Rattle.ga_node.specs.State.{is_fetch}
+use Rattle.ga_chip.specs.Part.{Part, asks, stepped}
+use Rattle.ga_chip.proofs.Plain.{own_asks, own_part}
+use Rattle.ga_chip.proofs.Within.{quick_bound}
 use Rattle.ga_chip.proofs.part.NodePart.try_own.Goals as goal
 
 pub invariant_of-self : goal.invariant_of-self
-invariant_of-self c = try_bound c.self.inside.state c.try_own.new.self c.self.inside.written c.self.inside.read c.try_own.ensures.step c.self.invariant
+invariant_of-self c = quick_bound c.self.inside.state c.try_step.new.self (not (is_fetch c.self.inside.state.place) || not c.is_on.result) c.self.inside.written c.self.inside.read c.try_step.ensures.step c.self.invariant
 
 pub returns-clause-asks : goal.returns-clause-asks
-returns-clause-asks c = λ yes side. plain_asks c.self.inside.stream c.self.inside.state c.self.inside.written c.self.inside.read c.args.self.now side need.Own c.self.view_is (sym (own_is _ (sym c.try_own.ensures.own ∙ yes)))
+returns-clause-asks c = λ yes side.
+    let part : Part = record { state = c.self.inside.state; breaks = c.self.inside.watch.breaks; pass = c.self.inside.watch.pass; stream = c.self.inside.stream; written = c.self.inside.written; read = c.self.inside.read } in
+    sym (ap (λ p. asks p side) c.self.view_is)
+    ∙ own_asks part (not c.is_on.result) side (sym c.try_step.ensures.own ∙ yes) (λ off. (c.is_on.ensures (not-true _ off)).0)
 
 pub returns-clause-step : goal.returns-clause-step
-returns-clause-step c = own_part c.self.inside.stream c.self.inside.state c.try_own.new.self c.self.inside.written c.self.inside.read c.args.self.now c.try_own.result c.self.view_is c.try_own.ensures.own c.try_own.ensures.step
+returns-clause-step c =
+    let part : Part = record { state = c.self.inside.state; breaks = c.self.inside.watch.breaks; pass = c.self.inside.watch.pass; stream = c.self.inside.stream; written = c.self.inside.written; read = c.self.inside.read } in
+    own_part part c.try_step.new.self c.try_step.result (not c.is_on.result) c.try_step.ensures.own c.try_step.ensures.step (λ off. (c.is_on.ensures (not-true _ off)).1)
+    ∙ ap (λ p. if c.try_step.result then stepped None p else p) c.self.view_is
