@@ -1,0 +1,7 @@
+pub mod Cutting
+pub mod Digits
+pub mod Turning
+pub mod Passing
+pub mod Room
+pub mod Sources
+pub mod Heads

@@ -1,0 +1,53 @@
+-- What an action answers, and the chip afterwards.
+use Rattle.std.specs.Prelude.{ℕ, ◌%◌, ◌++◌, List, codes, length, slice_index_or, Option, Some, None, Result, Ok, Err}
+use Rattle.std.specs.Fmt.{decimal}
+use Rattle.std.specs.List.{flat_map, range_with_len}
+use Rattle.ga_place.specs.Side.{SIDES}
+use Rattle.ga_place.specs.declared.side.Side.{Side}
+use Rattle.ga_place.specs.declared.side.Side.TheVariants.{Right}
+use Rattle.ga_chip.specs.declared.error.ChipError.{ChipError}
+use Rattle.ga_chip.specs.Chip.{Chip, tried, unless_held}
+use Rattle.ga_chip.specs.Run.{Event, happened, moves, ran, turn_of}
+use Rattle.ga_chip.specs.Run as event
+use Rattle.ga_debug.specs.declared.action.Action.{Action}
+use Rattle.ga_debug.specs.declared.action.Action.TheVariants.{Break, Clear, Pass, Try, Turn}
+use Rattle.ga_debug.specs.declared.action.Answer.{Answer}
+use Rattle.ga_debug.specs.declared.action.Answer.TheVariants.{Done, Tried, Moved}
+use Rattle.ga_debug.specs.declared.error.DebugError.{DebugError}
+use Rattle.ga_debug.specs.declared.error.DebugError.TheVariants.{NotHeld}
+use Rattle.ga_debug.specs.Words.{outcome_text}
+
+-- the side of the j-th turn of a command: right, down, left, up, and again
+abbrev pub side_at : ℕ → Side
+side_at turn = slice_index_or SIDES (turn % 4) Right
+
+-- the tries of so many turns
+unfoldable pub turns : ℕ → List Event
+turns count = flat_map (λ turn. turn_of (side_at turn)) (range_with_len 0 count)
+
+-- a pass is refused where a try wouldn't be held
+abbrev pub passed : Option ChipError → Result Answer DebugError
+passed None = Ok Done
+passed (Some fault) = Err NotHeld
+
+-- what an action answers
+abbrev pub answer_to : Action → Chip → Result Answer DebugError
+answer_to (Break node at) chip = Ok Done
+answer_to (Clear node at) chip = Ok Done
+answer_to (Pass node) chip = passed (unless_held (tried chip node Right).0)
+answer_to (Try node side) chip = Ok (Tried (tried chip node side).0)
+answer_to (Turn count) chip = Ok (Moved (length (moves chip (turns count))))
+
+-- the chip afterwards; a pass that is refused changes nothing
+abbrev pub after_action : Action → Chip → Chip
+after_action (Break node at) chip = happened chip (event.SetBreak node at)
+after_action (Clear node at) chip = happened chip (event.ClearBreak node at)
+after_action (Pass node) chip = happened chip (event.PassBreak node)
+after_action (Try node side) chip = (tried chip node side).1
+after_action (Turn count) chip = ran chip (turns count)
+
+-- an answer as text
+abbrev pub answer_text : Answer → List ℕ
+answer_text Done = codes "ok"
+answer_text (Tried outcome) = outcome_text outcome
+answer_text (Moved steps) = codes "moved " ++ decimal steps

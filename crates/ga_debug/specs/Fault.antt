@@ -1,0 +1,49 @@
+-- The faults of a replay text, by the faults of its parts.
+use Rattle.std.specs.Prelude.{◌≡◌, Result, Ok, Err}
+use Rattle.ga_source.specs.declared.error.SourceError.{SourceError}
+use Rattle.ga_source.specs.declared.error.SourceErrorKind.{SourceErrorKind}
+use Rattle.ga_source.specs.declared.error.SourceErrorKind.TheVariants as source
+use Rattle.ga_asm.specs.declared.error.AsmError.{AsmError}
+use Rattle.ga_asm.specs.declared.error.AsmErrorKind.{AsmErrorKind}
+use Rattle.ga_asm.specs.declared.error.AsmErrorKind.TheVariants as assembly
+use Rattle.ga_path.specs.declared.error.BootError.{BootError}
+use Rattle.ga_path.specs.declared.error.BootError.TheVariants as boot
+use Rattle.ga_path.specs.declared.error.NamesError.{NamesError}
+use Rattle.ga_path.specs.declared.error.NamesError.TheVariants as names
+use Rattle.ga_path.specs.declared.error.RouteError.{RouteError}
+use Rattle.ga_path.specs.declared.error.RouteError.TheVariants as route
+use Rattle.ga_debug.specs.declared.replay_error.ReplayError.{ReplayError}
+use Rattle.ga_debug.specs.declared.replay_error.ReplayError.TheVariants.{Asm, BadRoute, Boot, Memory, Route, Source}
+
+abbrev pub fault_of_source : SourceErrorKind → SourceError → ReplayError
+fault_of_source source.Memory error = Memory
+fault_of_source kind error = Source error
+
+abbrev pub fault_of_asm : AsmErrorKind → AsmError → ReplayError
+fault_of_asm assembly.Memory error = Memory
+fault_of_asm kind error = Asm error
+
+abbrev pub fault_of_names : NamesError → ReplayError
+fault_of_names names.BadNames = BadRoute
+fault_of_names names.Memory = Memory
+
+abbrev pub fault_of_route : RouteError → ReplayError
+fault_of_route route.Memory = Memory
+fault_of_route error = Route error
+
+abbrev pub fault_of_boot : BootError → ReplayError
+fault_of_boot boot.Memory = Memory
+fault_of_boot error = Boot error
+
+-- What a function answers is right, a value seen through a view, unless memory ran out.
+abbrev pub FailsRightly : {B : Type 0} → (Result B ReplayError → Type 0) → ReplayError → Type 0
+FailsRightly IsRight Memory = Unit {0}
+FailsRightly IsRight fault = IsRight (Err fault)
+
+abbrev pub Answers : {A B : Type 0} → (A → B) → (Result B ReplayError → Type 0) → Result A ReplayError → Type 0
+Answers view IsRight (Ok value) = IsRight (Ok (view value))
+Answers view IsRight (Err fault) = FailsRightly IsRight fault
+
+-- the same, where one answer is right
+abbrev pub Gives : {A B : Type 0} → (A → B) → Result A ReplayError → Result B ReplayError → Type 0
+Gives view answer expected = Answers view (λ right. expected ≡ right) answer

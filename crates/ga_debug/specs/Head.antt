@@ -1,0 +1,61 @@
+-- What stands in front of the commands of a replay text.
+use Rattle.std.specs.Prelude.{ℕ, ◌+◌, List, [], ◌∷◌, ◌++◌, codes, Option, Some, None, option_map, Result, Ok, Err, if◌then◌else◌}
+use Rattle.std.specs.Str.{bytes_eq}
+use Rattle.ga_path.specs.Names.{nodes_in}
+use Rattle.ga_debug.specs.declared.replay_error.ReplayError.{ReplayError}
+use Rattle.ga_debug.specs.declared.replay_error.ReplayError.TheVariants.{BadProfile, BadRoute, NoGo}
+use Rattle.ga_debug.specs.Command.{words_of}
+use Rattle.ga_debug.specs.Pieces.{pieces}
+
+-- the lines of a text: an LF stands between two
+abbrev pub lines_of : List ℕ → List (List ℕ)
+lines_of text = pieces 10 text
+
+-- how the chip is loaded: None where each image is placed, or the nodes along which a stream goes
+abbrev pub Loading : Type 0
+Loading = Option (List ℕ)
+
+-- `place` alone, or `route` and node names with commas between them
+abbrev pub loading_by : List (List ℕ) → Option Loading
+loading_by (word ∷ []) = if bytes_eq word (codes "place") then Some None else None
+loading_by (word ∷ names ∷ []) = if bytes_eq word (codes "route") then option_map Some (nodes_in names) else None
+loading_by words = None
+
+abbrev pub loading_in : List ℕ → Option Loading
+loading_in line = loading_by (words_of line)
+
+pub record Head : Type 0 where
+  pub loading : Loading
+  -- the source lines, each ended by LF
+  pub source : List ℕ
+  -- the number of the line `go`, counted from 1, and the lines behind it
+  pub line : ℕ
+  pub commands : List (List ℕ)
+
+-- a source line in front of others
+abbrev pub with_line : List ℕ → Result Head ReplayError → Result Head ReplayError
+with_line line (Ok head) = Ok (record head { source = line ++ 10 ∷ head.source })
+with_line line (Err fault) = Err fault
+
+-- the source lines up to `go`, of which the first has a number
+abbrev pub up_to_go : Loading → ℕ → List (List ℕ) → Result Head ReplayError
+up_to_go loading number [] = Err NoGo
+up_to_go loading number (line ∷ lines) =
+    if bytes_eq line (codes "go") then Ok (record { loading = loading; source = []; line = number; commands = lines })
+    else with_line line (up_to_go loading (number + 1) lines)
+
+abbrev pub loaded_by : Option Loading → List (List ℕ) → Result Head ReplayError
+loaded_by None lines = Err BadRoute
+loaded_by (Some loading) lines = up_to_go loading 3 lines
+
+abbrev pub behind_profile : List (List ℕ) → Result Head ReplayError
+behind_profile [] = Err BadRoute
+behind_profile (line ∷ lines) = loaded_by (loading_in line) lines
+
+abbrev pub head_by : List (List ℕ) → Result Head ReplayError
+head_by [] = Err BadProfile
+head_by (line ∷ lines) = if bytes_eq line (codes "profile 1") then behind_profile lines else Err BadProfile
+
+-- The head of a text, or its first fault: the line `profile 1`, how the chip is loaded, source lines, and `go`.
+unfoldable pub head_in : List ℕ → Result Head ReplayError
+head_in text = head_by (lines_of text)

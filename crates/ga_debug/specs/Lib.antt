@@ -1,0 +1,11 @@
+pub mod Pieces
+pub mod Words
+pub mod Command
+pub mod Action
+pub mod Session
+pub mod Fault
+pub mod Head
+pub mod HeadView
+pub mod Begin
+pub mod Line
+pub mod Replay

@@ -1,0 +1,118 @@
+ghost use Rattle.std.specs.Prelude.{◌≡◌, ◌∷◌, ◌≤◌, [], OnErr, string_bytes, length};
+ghost use Rattle.std.specs.String.{string_capacity, string_len};
+ghost use Rattle.ga_chip.specs.Run.{moves, ran};
+ghost use Rattle.ga_debug.specs.Action.{after_action, answer_text, answer_to, side_at, turns};
+ghost use Rattle.ga_debug.specs.Words.{outcome_text};
+
+use crate::address::Address;
+use crate::error::DebugError;
+use ga_chip::{Chip, Outcome, Try};
+use ga_place::{Node, Side};
+use itoa::Buffer;
+
+/// What is done to a chip.
+#[derive(Clone, Copy, Debug, PartialEq, Eq)]
+pub enum Action {
+    /// An address becomes a breakpoint of a node.
+    Break { node: Node, address: Address },
+    /// An address is no breakpoint of a node any more.
+    Clear { node: Node, address: Address },
+    /// A node that is held gets a pass.
+    Pass { node: Node },
+    /// One try of a node.
+    Try { node: Node, side: Side },
+    /// So many turns of all nodes.
+    Turn { count: u32 },
+}
+
+/// What an action answers.
+#[derive(Clone, Copy, Debug, PartialEq, Eq)]
+pub enum Answer {
+    /// It was done.
+    Done,
+    /// What came of a try.
+    Tried(Outcome),
+    /// How many steps the turns made.
+    Moved(u64),
+}
+
+/// The sides of turns, in order.
+const SIDES: [Side; 4] = [Side::Right, Side::Down, Side::Left, Side::Up];
+
+/// Room for every answer as text.
+pub const ANSWER_LENGTH: usize = 32;
+
+/// Does an action. One that is refused leaves the chip as it was.
+pub fn perform(chip: &mut Chip, action: Action) -> Result<Answer, DebugError>
+    ensures answer { result ≡ answer_to action chip.old }
+    ensures chip { chip.new ≡ after_action action chip.old }
+    ensures same { OnErr result (chip.new ≡ chip.old) }
+{
+    match action {
+        Action::Break { node, address } => {
+            chip.set_break(node, address.get());
+            Ok(Answer::Done)
+        }
+        Action::Clear { node, address } => {
+            chip.clear_break(node, address.get());
+            Ok(Answer::Done)
+        }
+        Action::Pass { node } => match chip.pass_break(node) {
+            Ok(()) => Ok(Answer::Done),
+            Err(_) => Err(DebugError::NotHeld),
+        },
+        Action::Try { node, side } => Ok(Answer::Tried(chip.attempt(Try { node, side }))),
+        Action::Turn { count } => Ok(Answer::Moved(turn_on(chip, count))),
+    }
+}
+
+/// So many turns, with the sides right, down, left, up and again. Answers how many steps they made.
+fn turn_on(chip: &mut Chip, count: u32) -> u64
+    ensures chip { chip.new ≡ ran chip.old (turns count) }
+    ensures moved { result ≡ length (moves chip.old (turns count)) }
+{
+    let mut moved = 0;
+    for turn in 0..count {
+        if chip.is_still() {
+            return moved;
+        }
+        moved += u64::from(chip.turn(side_at(turn)));
+    }
+    moved
+}
+
+fn side_at(turn: u32) -> Side
+    ensures { result ≡ side_at turn }
+{
+    SIDES[turn as usize % 4]
+}
+
+/// An answer as text, in an empty text that has room for it.
+pub fn answer_in(mut text: String, answer: Answer) -> String
+    requires empty { string_bytes text ≡ [] }
+    requires room { 32 ≤ string_capacity text }
+    ensures { string_bytes result ≡ answer_text answer }
+{
+    match answer {
+        Answer::Done => text.push_str("ok").unwrap(),
+        Answer::Tried(outcome) => text.push_str(outcome_name(outcome)).unwrap(),
+        Answer::Moved(steps) => {
+            text.push_str("moved ").unwrap();
+            let mut buffer = Buffer::new();
+            text.push_str(buffer.format(steps)).unwrap();
+        }
+    }
+    text
+}
+
+fn outcome_name(outcome: Outcome) -> &'static str
+    ensures text { result.now ≡ outcome_text outcome }
+    ensures short { length result.now ≤ 7 }
+{
+    match outcome {
+        Outcome::Moved => "moved",
+        Outcome::Waits => "waits",
+        Outcome::Held => "held",
+        Outcome::Stopped => "stopped",
+    }
+}

@@ -1,0 +1,71 @@
+ghost use Rattle.std.specs.Prelude.{◌≡◌, ℕ, None, Some};
+ghost use Rattle.ga_debug.specs.Begin.{IsBeginning, IsChipOf, IsImagesOf, chip_of};
+ghost use Rattle.ga_debug.specs.Fault.{Answers, Gives};
+ghost use Rattle.ga_debug.specs.HeadView.{head_view};
+
+use crate::head::{Head, head_of};
+use crate::replay_error::ReplayError;
+use crate::session::Session;
+use ga_asm::{Images, assemble};
+use ga_chip::Chip;
+use ga_path::{Route, boot};
+use ga_place::Node;
+use ga_source::parse;
+use std::alloc::Global;
+
+/// A session over the chip that the head of a replay text leads to, and the number of its line `go`, counted
+/// from 1; or the first fault. What stands behind the line `go` isn't looked at. It fails as
+/// [`ReplayError::Memory`] only where memory is refused. (The texts are this project's own: profile.)
+pub fn begin(alloc: Global, text: &str) -> Result<(Session, u64), ReplayError>
+    ensures { Answers (λ begun. begun) (IsBeginning text.now) result }
+{
+    let head = head_of(alloc, text)?;
+    let chip = chip_after(alloc, &head)?;
+    Ok((Session::new(chip), head.line))
+}
+
+/// The chip that a head leads to.
+pub fn chip_after(alloc: Global, head: &Head<'_>) -> Result<Chip, ReplayError>
+    ensures { Answers (λ chip. chip) (IsChipOf (head_view head.now)) result }
+{
+    let images = images_of(alloc, head.source.as_str())?;
+    match &head.nodes {
+        None => all_placed(alloc, &images),
+        Some(nodes) => routed(alloc, nodes, &images),
+    }
+}
+
+/// The images of a source text.
+fn images_of(alloc: Global, source: &str) -> Result<Images, ReplayError>
+    ensures { Answers (λ images. images) (IsImagesOf source.now) result }
+{
+    let program = parse(alloc, source)?;
+    let images = assemble(alloc, &program)?;
+    Ok(images)
+}
+
+/// A chip with each image in its node.
+fn all_placed(alloc: Global, images: &Images) -> Result<Chip, ReplayError>
+    ensures { Gives (λ chip. chip) result (chip_of None images.now) }
+{
+    let mut chip = Chip::reset(alloc)?;
+    for (node, image) in images.images() {
+        let _placed = chip.place(*node, image.words(), u16::from(image.entry()));
+    }
+    Ok(chip)
+}
+
+/// A chip that boots along a route.
+fn routed(alloc: Global, nodes: &[Node], images: &Images) -> Result<Chip, ReplayError>
+    ensures { Gives (λ chip. chip) result (chip_of (Some nodes.now) images.now) }
+{
+    let route = Route::new(alloc, nodes)?;
+    let parts = boot(alloc, &route, images)?;
+    let mut stream = parts.load;
+    stream.extend_from_slice(&parts.start)?;
+    let mut chip = Chip::reset(alloc)?;
+    if let Some(first) = route.nodes().first() {
+        let _given = chip.give_stream(*first, stream);
+    }
+    Ok(chip)
+}

@@ -1,0 +1,84 @@
+ghost use Rattle.std.specs.Prelude.{◌≡◌, ◌+◌, ◌<◌, ◌^◌, IfOk, length, ok_or, option_map};
+ghost use Rattle.ga_debug.specs.Fault.{Gives};
+ghost use Rattle.ga_debug.specs.Head.{Loading, head_in, loading_in, up_to_go};
+ghost use Rattle.ga_debug.specs.HeadView.{head_view, head_with};
+ghost use Rattle.ga_debug.specs.Pieces.{pieces_left};
+ghost use Rattle.ga_debug.specs.declared.replay_error.ReplayError.TheVariants.{BadRoute};
+
+use crate::pieces::Pieces;
+use crate::replay_error::ReplayError;
+use ga_path::read_nodes;
+use ga_place::Node;
+use std::alloc::Global;
+
+/// What stands in front of the commands of a replay text.
+#[derive(Drop)]
+pub struct Head<'a> {
+    /// The nodes along which the chip boots, or `None` where each image is placed.
+    pub nodes: Option<Vec<Node>>,
+    /// The source lines, each ended by LF.
+    pub source: String,
+    /// The number of the line `go`, counted from 1.
+    pub line: u64,
+    /// The lines behind it.
+    pub lines: Pieces<'a>,
+}
+
+/// The head of a text, or its first fault.
+#[tactic(auto, unfolding(crate::specs::Head::head_in))]
+pub fn head_of<'a>(alloc: Global, text: &'a str) -> Result<Head<'a>, ReplayError>
+    ensures head { Gives head_view result (head_in text.now) }
+    ensures room { IfOk result (λ head. head.line + 1 + length (pieces_left head.lines) < 2 ^ 64) }
+{
+    // From the text's length the proof has that its lines can be counted.
+    let _length = text.len();
+    let mut lines = Pieces::new(text, '\n');
+    let Some(profile) = lines.next() else {
+        return Err(ReplayError::BadProfile);
+    };
+    if profile != "profile 1" {
+        return Err(ReplayError::BadProfile);
+    }
+    let Some(line) = lines.next() else {
+        return Err(ReplayError::BadRoute);
+    };
+    let nodes = loading_of(alloc, line)?;
+    let (source, line) = source_of(alloc, &mut lines)?;
+    Ok(Head {
+        nodes,
+        source,
+        line,
+        lines,
+    })
+}
+
+/// The source lines up to the line `go`, and its number, where the first line has the number 3.
+fn source_of(alloc: Global, lines: &mut Pieces<'_>) -> Result<(String, u64), ReplayError>
+    requires { 4 + length (pieces_left lines.old) < 2 ^ 64 }
+    ensures head { (loading : Loading) → Gives (λ found. head_with loading found (pieces_left lines.new)) result (up_to_go loading 3 (pieces_left lines.old)) }
+    ensures room { IfOk result (λ found. found.1 + 1 + length (pieces_left lines.new) < 2 ^ 64) }
+{
+    let mut source = String::new(alloc);
+    let mut number = 3;
+    while let Some(line) = lines.next() {
+        if line == "go" {
+            return Ok((source, number));
+        }
+        source.push_str(line)?;
+        source.push('\n')?;
+        number += 1;
+    }
+    Err(ReplayError::NoGo)
+}
+
+/// How the chip is loaded, by the words of the second line.
+fn loading_of(alloc: Global, line: &str) -> Result<Option<Vec<Node>>, ReplayError>
+    ensures { Gives (λ nodes. option_map (λ list. list.items) nodes) result (ok_or (loading_in line.now) BadRoute) }
+{
+    let mut words = Pieces::new(line, ' ');
+    match (words.next(), words.next(), words.next()) {
+        (Some(word), None, None) if word == "place" => Ok(None),
+        (Some(word), Some(names), None) if word == "route" => Ok(Some(read_nodes(alloc, names)?)),
+        _ => Err(ReplayError::BadRoute),
+    }
+}

@@ -1,0 +1,117 @@
+ghost use Rattle.std.specs.Prelude.{◌≡◌};
+ghost use Rattle.ga_debug.specs.Fault.{fault_of_asm, fault_of_boot, fault_of_names, fault_of_route, fault_of_source};
+ghost use Rattle.ga_debug.specs.declared.replay_error.ReplayError.TheVariants.{Memory};
+
+use crate::error::DebugError;
+use ga_asm::{AsmError, AsmErrorKind};
+use ga_path::{BootError, NamesError, RouteError};
+use ga_source::{SourceError, SourceErrorKind};
+use std::alloc::{AllocError, AllocFailed};
+use thiserror::Error;
+
+/// Why a replay text is refused. Lines are counted from 1, from the text's first line; inside `Source` and `Asm`
+/// from the first source line. (The texts are this project's own: profile.)
+#[derive(Clone, Copy, Debug, PartialEq, Eq, Error)]
+pub enum ReplayError {
+    /// The first line isn't `profile 1`.
+    #[error("BadProfile")]
+    BadProfile,
+    /// The second line is missing, or is neither `place` nor `route` and node names.
+    #[error("BadRoute")]
+    BadRoute,
+    /// No line is `go`.
+    #[error("NoGo")]
+    NoGo,
+    /// The source lines have a fault.
+    #[error("Source")]
+    Source(SourceError),
+    /// The program of the source lines has a fault.
+    #[error("Asm")]
+    Asm(AsmError),
+    /// The nodes are no route.
+    #[error("Route")]
+    Route(RouteError),
+    /// A node of the program isn't on the route.
+    #[error("Boot")]
+    Boot(BootError),
+    /// The command of this line is refused.
+    #[error("line {0} {1}")]
+    Bad(u64, DebugError),
+    /// What this line states doesn't hold.
+    #[error("differs {0}")]
+    Differs(u64),
+    /// Memory ran out.
+    #[error("Memory")]
+    Memory,
+}
+
+impl From<SourceError> for ReplayError {
+    ghost from_gives = { λ error fault. fault ≡ fault_of_source error.kind error };
+
+    fn from(error: SourceError) -> ReplayError {
+        match error.kind {
+            SourceErrorKind::Memory => ReplayError::Memory,
+            _ => ReplayError::Source(error),
+        }
+    }
+}
+
+impl From<AsmError> for ReplayError {
+    ghost from_gives = { λ error fault. fault ≡ fault_of_asm error.kind error };
+
+    fn from(error: AsmError) -> ReplayError {
+        match error.kind {
+            AsmErrorKind::Memory => ReplayError::Memory,
+            _ => ReplayError::Asm(error),
+        }
+    }
+}
+
+impl From<NamesError> for ReplayError {
+    ghost from_gives = { λ error fault. fault ≡ fault_of_names error };
+
+    fn from(error: NamesError) -> ReplayError {
+        match error {
+            NamesError::BadNames => ReplayError::BadRoute,
+            NamesError::Memory => ReplayError::Memory,
+        }
+    }
+}
+
+impl From<RouteError> for ReplayError {
+    ghost from_gives = { λ error fault. fault ≡ fault_of_route error };
+
+    fn from(error: RouteError) -> ReplayError {
+        match error {
+            RouteError::Memory => ReplayError::Memory,
+            _ => ReplayError::Route(error),
+        }
+    }
+}
+
+impl From<BootError> for ReplayError {
+    ghost from_gives = { λ error fault. fault ≡ fault_of_boot error };
+
+    fn from(error: BootError) -> ReplayError {
+        match error {
+            BootError::Memory => ReplayError::Memory,
+            BootError::Unreached(_) => ReplayError::Boot(error),
+        }
+    }
+}
+
+impl From<AllocError> for ReplayError {
+    ghost from_gives = { λ _ fault. fault ≡ Memory };
+
+    fn from(_refused: AllocError) -> ReplayError {
+        ReplayError::Memory
+    }
+}
+
+impl<T: Drop> From<AllocFailed<T>> for ReplayError {
+    ghost from_gives = { λ _ fault. fault ≡ Memory };
+
+    fn from(_failed: AllocFailed<T>) -> ReplayError {
+        ReplayError::Memory
+    }
+}

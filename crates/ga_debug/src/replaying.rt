@@ -1,0 +1,167 @@
+ghost use Rattle.std.specs.Prelude.{◌≡◌, ◌+◌, ◌<◌, ◌≤◌, ◌^◌, IfErr, IfOk, Err, Ok, length};
+ghost use Rattle.ga_debug.specs.Fault.{Answers};
+ghost use Rattle.ga_debug.specs.Line.{fault_of_line};
+ghost use Rattle.ga_debug.specs.Pieces.{pieces_left};
+ghost use Rattle.ga_debug.specs.Replay.{IsReplayed, compared, is_same, line_on, lines_on, same_outcome, stated, word_behind_sign};
+
+use crate::action::{Action, Answer, perform};
+use crate::beginning::chip_after;
+use crate::command::action_first;
+use crate::error::DebugError;
+use crate::head::head_of;
+use crate::pieces::Pieces;
+use crate::replay_error::ReplayError;
+use crate::word::{number_of, outcome_of};
+use ga_chip::{Chip, Outcome};
+use std::alloc::Global;
+
+/// What is wrong with a line of commands, with its number.
+#[derive(Clone, Copy, Debug, PartialEq, Eq)]
+pub enum LineError {
+    /// The command is refused.
+    Bad(u64, DebugError),
+    /// What the line states doesn't hold.
+    Differs(u64),
+}
+
+impl From<LineError> for ReplayError {
+    ghost from_gives = { λ error fault. fault ≡ fault_of_line error };
+
+    fn from(error: LineError) -> ReplayError {
+        match error {
+            LineError::Bad(line, fault) => ReplayError::Bad(line, fault),
+            LineError::Differs(line) => ReplayError::Differs(line),
+        }
+    }
+}
+
+/// Does the commands of a replay text on the chip that its head leads to, and compares what comes of each with
+/// what its line states. Answers how many stated outcomes were compared, or the first fault: of the head, or
+/// line by line [`ReplayError::Bad`] where the command is refused and [`ReplayError::Differs`] where something
+/// else came of it. It fails as [`ReplayError::Memory`] only where memory is refused, and takes time in
+/// proportion to the text, the tries and the turns. (The texts are this project's own: profile.)
+pub fn replay(alloc: Global, text: &str) -> Result<u64, ReplayError>
+    ensures { Answers (λ count. count) (IsReplayed text.now) result }
+{
+    let head = head_of(alloc, text)?;
+    let chip = chip_after(alloc, &head)?;
+    let count = follow(chip, head.line + 1, head.lines)?;
+    Ok(count)
+}
+
+/// Goes along lines, of which the first has a number.
+fn follow(mut chip: Chip, first: u64, lines: Pieces<'_>) -> Result<u64, LineError>
+    requires { first + length (pieces_left lines) < 2 ^ 64 }
+    ensures { result ≡ lines_on first 0 chip (pieces_left lines.entry) }
+{
+    let mut line = first;
+    let mut count = 0;
+    for text in lines {
+        count += line_on(&mut chip, line, text)?;
+        line += 1;
+    }
+    Ok(count)
+}
+
+/// One line, with its number. Answers how many outcomes were compared, one at most.
+#[tactic(auto, unfolding(crate::specs::Replay::line_on, crate::specs::Replay::statement_in))]
+fn line_on(chip: &mut Chip, line: u64, text: &str) -> Result<u64, LineError>
+    ensures holds { IfOk result (λ more. line_on line chip.old text.now ≡ Ok (more, chip.new)) }
+    ensures one { IfOk result (λ more. more ≤ 1) }
+    ensures fault { IfErr result (λ fault. line_on line chip.old text.now ≡ Err fault) }
+{
+    if text.is_empty() {
+        return Ok(0);
+    }
+    let mut words = Pieces::new(text, ' ');
+    let action = match action_first(&mut words) {
+        Ok(action) => action,
+        Err(fault) => return Err(LineError::Bad(line, fault)),
+    };
+    let stated = match stated(&action, &mut words) {
+        Ok(stated) => stated,
+        Err(fault) => return Err(LineError::Bad(line, fault)),
+    };
+    match perform(chip, action) {
+        Ok(answer) => {
+            if !is_same(answer, stated) {
+                return Err(LineError::Differs(line));
+            }
+            Ok(compared(answer))
+        }
+        Err(fault) => Err(LineError::Bad(line, fault)),
+    }
+}
+
+/// What is stated behind an action.
+#[tactic(auto, unfolding(crate::specs::Replay::stated))]
+fn stated(action: &Action, words: &mut Pieces<'_>) -> Result<Answer, DebugError>
+    ensures { result ≡ stated action.now (pieces_left words.old) }
+{
+    match action {
+        Action::Try { .. } => {
+            let word = word_behind_sign(words)?;
+            match outcome_of(word.as_bytes()) {
+                Some(outcome) => Ok(Answer::Tried(outcome)),
+                None => Err(DebugError::BadCommand),
+            }
+        }
+        Action::Turn { .. } => {
+            let word = word_behind_sign(words)?;
+            match number_of(word.as_bytes(), 9) {
+                Some(steps) => Ok(Answer::Moved(u64::from(steps))),
+                None => Err(DebugError::BadCommand),
+            }
+        }
+        Action::Break { .. } | Action::Clear { .. } | Action::Pass { .. } => match words.next() {
+            None => Ok(Answer::Done),
+            Some(_) => Err(DebugError::BadCommand),
+        },
+    }
+}
+
+/// The word behind `=`, with nothing behind it.
+fn word_behind_sign<'a>(words: &mut Pieces<'a>) -> Result<&'a str, DebugError>
+    ensures word { IfOk result (λ word. word_behind_sign (pieces_left words.old) ≡ Ok word.now) }
+    ensures bad { IfErr result (λ fault. word_behind_sign (pieces_left words.old) ≡ Err fault) }
+{
+    match (words.next(), words.next(), words.next()) {
+        (Some(sign), Some(word), None) if sign == "=" => Ok(word),
+        _ => Err(DebugError::BadCommand),
+    }
+}
+
+/// Whether an answer is the stated one.
+fn is_same(answer: Answer, stated: Answer) -> bool
+    ensures { result ≡ is_same answer stated }
+{
+    match (answer, stated) {
+        (Answer::Done, Answer::Done) => true,
+        (Answer::Tried(one), Answer::Tried(other)) => same_outcome(one, other),
+        (Answer::Moved(one), Answer::Moved(other)) => one == other,
+        _ => false,
+    }
+}
+
+fn same_outcome(one: Outcome, other: Outcome) -> bool
+    ensures { result ≡ same_outcome one other }
+{
+    matches!(
+        (one, other),
+        (Outcome::Moved, Outcome::Moved)
+            | (Outcome::Waits, Outcome::Waits)
+            | (Outcome::Held, Outcome::Held)
+            | (Outcome::Stopped, Outcome::Stopped)
+    )
+}
+
+/// How many stated outcomes an answer is compared with.
+fn compared(answer: Answer) -> u64
+    ensures value { result ≡ compared answer }
+    ensures one { result ≤ 1 }
+{
+    match answer {
+        Answer::Done => 0,
+        Answer::Tried(_) | Answer::Moved(_) => 1,
+    }
+}

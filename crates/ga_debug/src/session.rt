@@ -1,0 +1,74 @@
+ghost use Rattle.std.specs.Prelude.{◌≡◌, ◌⊎◌, IfErr, IfOk, OnErr, OnOk, Err, Ok, string_bytes};
+ghost use Rattle.ga_debug.specs.Session.{after_line, reply_to, shown, unended};
+ghost use Rattle.ga_debug.specs.declared.error.DebugError.TheVariants.{Memory};
+
+use crate::action::{ANSWER_LENGTH, answer_in, perform};
+use crate::command::{Command, command_in};
+use crate::error::DebugError;
+use crate::word::View;
+use ga_chip::Chip;
+use ga_dump::{ledger_text, memory_text};
+use ga_place::Node;
+use std::alloc::{AllocError, Global};
+use std::marker::Model;
+
+/// A chip that is looked into, stopped and gone on with by commands. A contract sees the chip.
+#[derive(Drop)]
+pub struct Session {
+    chip: Chip,
+}
+
+impl Model for Session {
+    ghost use Rattle.ga_chip.specs.Chip as model;
+    ghost use Rattle.std.specs.Prelude.{⊤};
+
+    ghost Value = { model.Chip };
+
+    ghost view = { λ session. session.chip };
+
+    ghost invariant = { λ session. ⊤ };
+}
+
+impl Session {
+    /// A session over a chip. It takes no memory.
+    pub fn new(chip: Chip) -> Self
+        ensures { result ≡ chip }
+    {
+        Session { chip }
+    }
+
+    /// The reply to a command, without an LF at its end.
+    pub fn command(&mut self, alloc: Global, line: &str) -> Result<String, DebugError>
+        ensures reply { IfOk result (λ text. reply_to line.now self.old ≡ Ok (string_bytes text)) }
+        ensures refused { IfErr result (λ error. (error ≡ Memory) ⊎ (reply_to line.now self.old ≡ Err error)) }
+        ensures chip { OnOk result (self.new ≡ after_line line.now self.old) }
+        ensures same { OnErr result (self.new ≡ self.old) }
+    {
+        match command_in(line)? {
+            Command::Act(action) => {
+                let text = String::with_capacity(alloc, ANSWER_LENGTH)?;
+                let answer = perform(&mut self.chip, action)?;
+                Ok(answer_in(text, answer))
+            }
+            Command::Show(view, node) => {
+                let text = shown(alloc, &self.chip, view, node)?;
+                Ok(text)
+            }
+        }
+    }
+}
+
+/// What a view shows of a node, without the last LF.
+fn shown(alloc: Global, chip: &Chip, view: View, node: Node) -> Result<String, AllocError>
+    ensures { IfOk result (λ text. string_bytes text ≡ unended (shown view node chip.now)) }
+{
+    let mut text = match view {
+        View::Regs => chip.state(node).line(alloc)?,
+        View::Mem => memory_text(alloc, chip.state(node))?,
+        View::Ports => ledger_text(alloc, chip, node)?,
+    };
+    if text.as_bytes().last() == Some(&b'\n') {
+        text.truncate(text.len() - 1);
+    }
+    Ok(text)
+}

@@ -1,0 +1,139 @@
+ghost use Rattle.std.specs.Prelude.{◌≡◌, ◌<◌, ℕ};
+ghost use Rattle.ga_debug.specs.Words.{address_of, count_of, node_of, number_of, outcome_of, side_of, verb_of, view_of};
+
+use crate::address::Address;
+use ga_chip::Outcome;
+use ga_place::{Node, Side};
+
+/// A command that does something to the chip.
+#[derive(Clone, Copy, Debug, PartialEq, Eq)]
+pub enum Verb {
+    Break,
+    Clear,
+    Pass,
+    Try,
+    Turn,
+}
+
+/// A command that shows something of a node.
+#[derive(Clone, Copy, Debug, PartialEq, Eq)]
+pub enum View {
+    Regs,
+    Mem,
+    Ports,
+}
+
+/// The action that a word names.
+pub fn verb_of(word: &[u8]) -> Option<Verb>
+    ensures { result ≡ verb_of word.now }
+{
+    let verb = match word {
+        b"break" => Verb::Break,
+        b"clear" => Verb::Clear,
+        b"pass" => Verb::Pass,
+        b"try" => Verb::Try,
+        b"turn" => Verb::Turn,
+        _ => return None,
+    };
+    Some(verb)
+}
+
+/// The view that a word names.
+pub fn view_of(word: &[u8]) -> Option<View>
+    ensures { result ≡ view_of word.now }
+{
+    let view = match word {
+        b"regs" => View::Regs,
+        b"mem" => View::Mem,
+        b"ports" => View::Ports,
+        _ => return None,
+    };
+    Some(view)
+}
+
+/// The node whose name a word is, in three digits.
+pub fn node_of(word: &[u8]) -> Option<Node>
+    ensures { result ≡ node_of word.now }
+{
+    let [a, b, c] = word else {
+        return None;
+    };
+    if !(a.is_ascii_digit() && b.is_ascii_digit() && c.is_ascii_digit()) {
+        return None;
+    }
+    let name = u16::from(*a - b'0') * 100 + u16::from(*b - b'0') * 10 + u16::from(*c - b'0');
+    Node::new(name)
+}
+
+/// The address that a word is, in three hex digits of either case.
+pub fn address_of(word: &[u8]) -> Option<Address>
+    ensures { result ≡ address_of word.now }
+{
+    let [a, b, c] = word else {
+        return None;
+    };
+    let a = char::from(*a).to_digit(16)?;
+    let b = char::from(*b).to_digit(16)?;
+    let c = char::from(*c).to_digit(16)?;
+    let number = (a * 16 + b) * 16 + c;
+    Address::new(number as u16)
+}
+
+/// The side whose first letter a word is.
+pub fn side_of(word: &[u8]) -> Option<Side>
+    ensures { result ≡ side_of word.now }
+{
+    let side = match word {
+        b"r" => Side::Right,
+        b"d" => Side::Down,
+        b"l" => Side::Left,
+        b"u" => Side::Up,
+        _ => return None,
+    };
+    Some(side)
+}
+
+/// The number that a word is, in one to so many decimal digits.
+#[tactic(auto, unfolding(crate::specs::Words::number_of))]
+pub fn number_of(word: &[u8], most: usize) -> Option<u32>
+    requires { most < 10 }
+    ensures { result ≡ number_of most word.now }
+{
+    if word.is_empty() || word.len() > most {
+        return None;
+    }
+    let mut number = 0;
+    for digit in word {
+        if !digit.is_ascii_digit() {
+            return None;
+        }
+        number = number * 10 + u32::from(*digit - b'0');
+    }
+    Some(number)
+}
+
+/// The count of turns that a word is, in one to seven decimal digits, up to 1000000.
+pub fn count_of(word: &[u8]) -> Option<u32>
+    ensures { result ≡ count_of word.now }
+{
+    let number = number_of(word, 7)?;
+    if number <= 1_000_000 {
+        Some(number)
+    } else {
+        None
+    }
+}
+
+/// What came of a try, as a word says it.
+pub fn outcome_of(word: &[u8]) -> Option<Outcome>
+    ensures { result ≡ outcome_of word.now }
+{
+    let outcome = match word {
+        b"moved" => Outcome::Moved,
+        b"waits" => Outcome::Waits,
+        b"held" => Outcome::Held,
+        b"stopped" => Outcome::Stopped,
+        _ => return None,
+    };
+    Some(outcome)
+}

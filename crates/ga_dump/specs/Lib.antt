@@ -1,0 +1,4 @@
+pub mod Row
+pub mod Node
+pub mod Memory
+pub mod Ledger

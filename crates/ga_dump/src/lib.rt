@@ -1,0 +1,14 @@
+//! The state of a node, its memory, and the numbers of its cells, as text.
+#![tactic(auto)]
+
+mod ledger;
+mod memory;
+mod node;
+mod row;
+
+pub use ledger::ledger_text;
+pub use memory::memory_text;
+pub use node::node_text;
+
+#[cfg(test)]
+mod tests;
