@@ -1,4 +1,5 @@
 mod Entered
+mod Replies
 mod Again
 mod WorkedLines
 mod WorkedOutputs

@@ -17,11 +17,15 @@ asm_command = new_app (codes "asm")
 abbrev pub AsksForAsm : Text × List Row → Type 0
 AsksForAsm entered = entered.0 ≡ codes "asm"
 
--- a line with the node, its entry, and how many words are code and are there; and the words
-unfoldable pub image_text : ℕ → ImageView → List ℕ
-image_text node image =
+-- the node, its entry, and how many of its words are code and how many there are
+unfoldable pub image_line : ℕ → ImageView → List ℕ
+image_line node image =
     codes "node " ++ node_text node ++ codes " entry " ++ hex_digits 3 image.entry ++ codes " code " ++ decimal image.code_len
-    ++ codes " words " ++ decimal (length image.words) ++ 10 ∷ text_of_words image.words
+    ++ codes " words " ++ decimal (length image.words) ++ 10 ∷ []
+
+-- that line, and the words
+abbrev pub image_text : ℕ → ImageView → List ℕ
+image_text node image = image_line node image ++ text_of_words image.words
 
 -- the images in order
 abbrev pub images_text : List (ℕ × ImageView) → List ℕ

@@ -4,11 +4,13 @@ use Rattle.clap.specs.Words.{App, Row, Text, app_of, new_app, subcommand_of, tak
 use Rattle.clap.specs.declared.builder.command.Command.{Command}
 use Rattle.clap.specs.declared.builder.command.Command.TheViews.{out-Command}
 use Rattle.ga_bench.specs.declared.request.Job.{Job}
-use Rattle.ga_bench.specs.declared.request.Job.TheVariants.{One, Asm, Dis, Boot}
+use Rattle.ga_bench.specs.declared.request.Job.TheVariants.{One, Asm, Dis, Boot, Debug, Replay}
 use Rattle.ga_bench.specs.Asm.{AsksForAsm, asm_command}
 use Rattle.ga_bench.specs.Boot.{AsksForBoot, boot_command}
+use Rattle.ga_bench.specs.Debug.{AsksForDebug, debug_command}
 use Rattle.ga_bench.specs.Dis.{AsksForDis, IsDisInRange, dis_command}
 use Rattle.ga_bench.specs.One.{AsksForOne, IsOneInRange, one_command}
+use Rattle.ga_bench.specs.Replay.{AsksForReplay, replay_command}
 
 -- an argument of the command is one of its subcommands' too
 abbrev pub has_globals : Command → Bool
@@ -27,7 +29,9 @@ bare_command = record named_command { top = record named_command.top { has_versi
 
 -- the whole command
 abbrev pub bench_command : App
-bench_command = with_subcommand (with_subcommand (with_subcommand (with_subcommand bare_command one_command.top) asm_command.top) dis_command.top) boot_command.top
+bench_command =
+    with_subcommand (with_subcommand (with_subcommand (with_subcommand (with_subcommand (with_subcommand bare_command one_command.top) asm_command.top) dis_command.top) boot_command.top)
+    debug_command.top) replay_command.top
 
 -- the numbers of a job lie in their ranges
 abbrev pub InRange : Job → Type 0
@@ -35,6 +39,8 @@ InRange (One tries) = IsOneInRange tries
 InRange Asm = Unit {0}
 InRange (Dis code) = IsDisInRange code
 InRange (Boot route) = Unit {0}
+InRange Debug = Unit {0}
+InRange Replay = Unit {0}
 
 -- the job that a subcommand and its arguments name
 abbrev pub AsksFor : Text × List Row → Job → Type 0
@@ -42,6 +48,8 @@ AsksFor entered (One tries) = AsksForOne entered tries
 AsksFor entered Asm = AsksForAsm entered
 AsksFor entered (Dis code) = AsksForDis entered code
 AsksFor entered (Boot route) = AsksForBoot entered (string_bytes route)
+AsksFor entered Debug = AsksForDebug entered
+AsksFor entered Replay = AsksForReplay entered
 
 -- the job that the words of a command line name, of which the first is the program's name
 abbrev pub IsJobOf : List Text → Job → Type 0

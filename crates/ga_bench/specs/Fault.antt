@@ -8,6 +8,8 @@ use Rattle.ga_source.specs.declared.error.SourceErrorKind.TheVariants as source
 use Rattle.ga_asm.specs.declared.error.AsmError.{AsmError}
 use Rattle.ga_asm.specs.declared.error.AsmErrorKind.{AsmErrorKind}
 use Rattle.ga_asm.specs.declared.error.AsmErrorKind.TheVariants as assembly
+use Rattle.ga_debug.specs.declared.replay_error.ReplayError.{ReplayError}
+use Rattle.ga_debug.specs.declared.replay_error.ReplayError.TheVariants as replay
 use Rattle.ga_path.specs.declared.error.BootError.{BootError}
 use Rattle.ga_path.specs.declared.error.BootError.TheVariants as boot
 use Rattle.ga_path.specs.declared.error.NamesError.{NamesError}
@@ -15,7 +17,7 @@ use Rattle.ga_path.specs.declared.error.NamesError.TheVariants as names
 use Rattle.ga_path.specs.declared.error.RouteError.{RouteError}
 use Rattle.ga_path.specs.declared.error.RouteError.TheVariants as route
 use Rattle.ga_bench.specs.declared.fault.ServeError.{ServeError}
-use Rattle.ga_bench.specs.declared.fault.ServeError.TheVariants.{Words, Source, Asm, Route, Boot, Read, Write, Memory}
+use Rattle.ga_bench.specs.declared.fault.ServeError.TheVariants.{Words, Source, Asm, Route, Boot, Replay, Read, Write, Memory}
 use Rattle.ga_bench.specs.declared.fault.RouteFault.TheVariants.{BadRoute, Nodes}
 use Rattle.ga_bench.specs.declared.fault.WordsFault.TheVariants.{BadWord}
 
@@ -45,6 +47,11 @@ fault_of_route error = Route (Nodes error)
 abbrev pub fault_of_boot : BootError → ServeError
 fault_of_boot boot.Memory = Memory
 fault_of_boot error = Boot error
+
+-- the fault of a replay text
+abbrev pub fault_of_replay : ReplayError → ServeError
+fault_of_replay replay.Memory = Memory
+fault_of_replay error = Replay error
 
 -- 3 for want of memory, 1 for every other fault
 abbrev pub status_of_fault : ServeError → ℕ

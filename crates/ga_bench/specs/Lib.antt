@@ -7,6 +7,8 @@ pub mod Asm
 pub mod Dis
 pub mod Route
 pub mod Boot
+pub mod Replay
+pub mod Debug
 pub mod CommandLine
 pub mod Answer
 pub mod Reading

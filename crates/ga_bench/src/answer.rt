@@ -4,9 +4,11 @@ ghost use Rattle.ga_bench.specs.Fault.{Answers};
 
 use crate::asm::asm;
 use crate::boot::boot;
+use crate::debug::debug;
 use crate::dis::dis;
 use crate::fault::ServeError;
 use crate::one::one;
+use crate::replay::replay;
 use crate::request::Job;
 
 /// What a job writes for an input.
@@ -18,5 +20,7 @@ pub fn output<Rt: AllocGlobal>(rt: &Rt, job: &Job, input: &[u8]) -> Result<Strin
         Job::Asm => asm(rt.alloc(), input),
         Job::Dis { code } => dis(rt.alloc(), *code, input),
         Job::Boot { route } => boot(rt.alloc(), route, input),
+        Job::Debug => debug(rt.alloc(), input),
+        Job::Replay => replay(rt.alloc(), input),
     }
 }

@@ -1,6 +1,6 @@
-ghost use Rattle.std.specs.Prelude.{◌≡◌, ◌^◌, ◌<◌, IfOk, Some, string_bytes};
+ghost use Rattle.std.specs.Prelude.{◌≡◌, ◌++◌, ◌^◌, ◌<◌, IfOk, Some, string_bytes};
 ghost use Rattle.ga_word.specs.Hex.{hex_digits};
-ghost use Rattle.ga_bench.specs.Asm.{IsAsmOutput, asm_command, image_text, images_text};
+ghost use Rattle.ga_bench.specs.Asm.{IsAsmOutput, asm_command, image_line, image_text, images_text};
 ghost use Rattle.ga_bench.specs.CommandLine.{IsCommandOf};
 ghost use Rattle.ga_bench.specs.Fault.{Answers};
 
@@ -9,7 +9,7 @@ use crate::source::images_of;
 use clap::Command;
 use ga_asm::{Image, Images};
 use ga_place::Node;
-use ga_word::words_text;
+use ga_word::push_words;
 use std::alloc::{AllocError, Global};
 use std::fmt;
 use std::fmt::Write;
@@ -21,8 +21,8 @@ eight on a line.
 
 Example: echo 'node 709 main: $5 $7 + @b' | ga-bench asm";
 
-/// The most bytes that the line in front of a node's words has.
-const HEAD_LENGTH: usize = 36;
+/// The most bytes that the text of an image has: a line of 36 bytes, and 64 words.
+const IMAGE_LENGTH: usize = 36 + 64 * 6;
 
 /// The subcommand `asm`.
 pub fn command<'a>(alloc: Global) -> Result<Command<'a>, AllocError>
@@ -47,27 +47,38 @@ pub fn asm(alloc: Global, input: &[u8]) -> Result<String, ServeError>
 fn text_of_images(alloc: Global, images: &Images) -> Result<String, AllocError>
     ensures { IfOk result (λ text. string_bytes text ≡ images_text images.now) }
 {
-    let mut text = String::new(alloc);
-    for (node, image) in images.images() {
-        text.push_str(&text_of_image(alloc, *node, image)?)?;
+    let images = images.images();
+    let mut text = String::with_capacity(alloc, images.len().saturating_mul(IMAGE_LENGTH))?;
+    for (node, image) in images {
+        push_image(&mut text, *node, image)?;
     }
     Ok(text)
 }
 
-/// A line with the node, its entry and the numbers of its words, and the words, eight on a line.
-#[tactic(auto, unfolding(crate::specs::Asm::image_text))]
-fn text_of_image(alloc: Global, node: Node, image: &Image) -> Result<String, AllocError>
-    ensures { IfOk result (λ text. string_bytes text ≡ image_text node image.now) }
+/// Adds a line, and the words, eight on a line.
+fn push_image(text: &mut String, node: Node, image: &Image) -> Result<(), AllocError>
+    ensures { IfOk result (λ done. string_bytes text.new ≡ string_bytes text.old ++ image_text node image.now) }
+{
+    push_line(text, node, image)?;
+    push_words(text, image.words())?;
+    Ok(())
+}
+
+/// Adds the line with the node, its entry and the numbers of its words.
+#[tactic(auto, unfolding(crate::specs::Asm::image_line))]
+fn push_line(text: &mut String, node: Node, image: &Image) -> Result<(), AllocError>
+    ensures { IfOk result (λ done. string_bytes text.new ≡ string_bytes text.old ++ image_line node image.now) }
 {
     let entry = Address {
         number: u16::from(image.entry()),
     };
-    let words = image.words();
-    let mut text = String::with_capacity(alloc, HEAD_LENGTH + 6 * words.len())?;
-    write!(text, "node {node} entry {entry} code {}", image.code_len())?;
-    writeln!(text, " words {}", words.len())?;
-    text.push_str(&words_text(alloc, words)?)?;
-    Ok(text)
+    let code_len = image.code_len();
+    let words = image.words().len();
+    writeln!(
+        text,
+        "node {node} entry {entry} code {code_len} words {words}"
+    )?;
+    Ok(())
 }
 
 /// An address of at most twelve bits, which prints as three hex digits.

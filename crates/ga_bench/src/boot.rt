@@ -1,4 +1,4 @@
-ghost use Rattle.std.specs.Prelude.{◌≡◌, ℕ, IfErr, IfOk, List, codes, string_bytes};
+ghost use Rattle.std.specs.Prelude.{◌≡◌, ◌++◌, ℕ, IfErr, IfOk, List, codes, string_bytes};
 ghost use Rattle.clap.specs.Words.{found_of, rows_of};
 ghost use Rattle.ga_word.specs.Text.{text_of_words};
 ghost use Rattle.ga_bench.specs.Boot.{IsBootOutput, boot_command, part_text};
@@ -9,7 +9,7 @@ use crate::fault::ServeError;
 use crate::route::route_of;
 use crate::source::images_of;
 use clap::{Arg, Command};
-use ga_word::{Word18, words_text};
+use ga_word::{Word18, push_words};
 use std::alloc::{AllocError, Global};
 use std::fmt::Write;
 
@@ -41,18 +41,17 @@ pub fn boot(alloc: Global, route: &str, input: &[u8]) -> Result<String, ServeErr
     let route = route_of(alloc, route)?;
     let boot = ga_path::boot(alloc, &route, &images)?;
     let mut text = String::new(alloc);
-    text.push_str(&part_text(alloc, "load", &boot.load)?)?;
-    text.push_str(&part_text(alloc, "start", &boot.start)?)?;
+    push_part(&mut text, "load", &boot.load)?;
+    push_part(&mut text, "start", &boot.start)?;
     Ok(text)
 }
 
-/// A line with the name of a part and the number of its words, and the words, eight on a line.
+/// Adds a line with the name of a part and the number of its words, and the words, eight on a line.
 #[tactic(auto, unfolding(crate::specs::Boot::part_text))]
-fn part_text(alloc: Global, name: &str, words: &[Word18]) -> Result<String, AllocError>
-    ensures { IfOk result (λ text. string_bytes text ≡ part_text name.now words.now) }
+fn push_part(text: &mut String, name: &str, words: &[Word18]) -> Result<(), AllocError>
+    ensures { IfOk result (λ done. string_bytes text.new ≡ string_bytes text.old ++ part_text name.now words.now) }
 {
-    let mut text = String::new(alloc);
     writeln!(text, "{name} {}", words.len())?;
-    text.push_str(&words_text(alloc, words)?)?;
-    Ok(text)
+    push_words(text, words)?;
+    Ok(())
 }

@@ -1,8 +1,9 @@
 ghost use Rattle.std.specs.Prelude.{◌≡◌};
-ghost use Rattle.ga_bench.specs.Fault.{fault_of_asm, fault_of_boot, fault_of_names, fault_of_route, fault_of_source, fault_of_words, status_of};
+ghost use Rattle.ga_bench.specs.Fault.{fault_of_asm, fault_of_boot, fault_of_names, fault_of_replay, fault_of_route, fault_of_source, fault_of_words, status_of};
 ghost use Rattle.ga_bench.specs.declared.fault.ServeError.TheVariants.{Memory};
 
 use ga_asm::{AsmError, AsmErrorKind};
+use ga_debug::ReplayError;
 use ga_path::{BootError, NamesError, RouteError};
 use ga_source::{SourceError, SourceErrorKind};
 use ga_word::WordsError;
@@ -63,6 +64,8 @@ pub enum ServeError {
     Route(RouteFault),
     #[error("boot {0}")]
     Boot(BootError),
+    #[error("replay {0}")]
+    Replay(ReplayError),
     /// A read failed, or the input came in too many pieces.
     #[error("read")]
     Read,
@@ -135,6 +138,17 @@ impl From<BootError> for ServeError {
         match error {
             BootError::Memory => ServeError::Memory,
             BootError::Unreached(_) => ServeError::Boot(error),
+        }
+    }
+}
+
+impl From<ReplayError> for ServeError {
+    ghost from_gives = { λ error fault. fault ≡ fault_of_replay error };
+
+    fn from(error: ReplayError) -> ServeError {
+        match error {
+            ReplayError::Memory => ServeError::Memory,
+            _ => ServeError::Replay(error),
         }
     }
 }

@@ -9,4 +9,8 @@ pub enum Job {
     Dis { code: Option<u32> },
     /// The boot stream of a route through the nodes of a source text.
     Boot { route: String },
+    /// The replies to the commands of a replay text.
+    Debug,
+    /// How many stated outcomes of a replay text hold.
+    Replay,
 }

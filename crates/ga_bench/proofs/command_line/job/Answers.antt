@@ -6,7 +6,7 @@ use Rattle.clap.specs.declared.error.kind.ErrorKind.TheVariants.{OutOfMemory}
 use Rattle.ga_bench.specs.declared.command_line.LineError.{LineError}
 use Rattle.ga_bench.specs.declared.command_line.LineError.TheVariants.{Memory}
 use Rattle.ga_bench.specs.declared.request.Job.{Job}
-use Rattle.ga_bench.specs.declared.request.Job.TheVariants.{One, Asm, Dis, Boot}
+use Rattle.ga_bench.specs.declared.request.Job.TheVariants.{One, Asm, Dis, Boot, Debug, Replay}
 use Rattle.ga_bench.specs.CommandLine.{AsksFor, InRange}
 use Rattle.ga_bench.specs.Dis.{IsDisInRange}
 use Rattle.ga_bench.specs.Number.{IsNumberAt, IsNumberIfAt}
@@ -32,6 +32,8 @@ one_refused name rows error is refused (One tries) asks = refused tries asks.1 a
 one_refused name rows error is refused Asm asks = absurd (two_names name (codes "one") (codes "asm") is asks.0 refl refl)
 one_refused name rows error is refused (Dis code) asks = absurd (two_names name (codes "one") (codes "dis") is asks.0.0 refl refl)
 one_refused name rows error is refused (Boot route) asks = absurd (two_names name (codes "one") (codes "boot") is asks.0.0 refl refl)
+one_refused name rows error is refused Debug asks = absurd (two_names name (codes "one") (codes "debug") is asks.0 refl refl)
+one_refused name rows error is refused Replay asks = absurd (two_names name (codes "one") (codes "replay") is asks.0 refl refl)
 
 pub returns-in_err-tries_of-in-Some-one-default-clause-right : goal.returns-in_err-tries_of-in-Some-one-default-clause-right
 returns-in_err-tries_of-in-Some-one-default-clause-right c =
@@ -48,6 +50,8 @@ dis_refused name rows error is refused (One tries) asks = absurd (two_names name
 dis_refused name rows error is refused Asm asks = absurd (two_names name (codes "dis") (codes "asm") is asks.0 refl refl)
 dis_refused name rows error is refused (Dis code) asks = refused code asks.1 asks.0.1
 dis_refused name rows error is refused (Boot route) asks = absurd (two_names name (codes "dis") (codes "boot") is asks.0.0 refl refl)
+dis_refused name rows error is refused Debug asks = absurd (two_names name (codes "dis") (codes "debug") is asks.0 refl refl)
+dis_refused name rows error is refused Replay asks = absurd (two_names name (codes "dis") (codes "replay") is asks.0 refl refl)
 
 pub returns-in_err-code_of-in-Some-dis-default-clause-right : goal.returns-in_err-code_of-in-Some-dis-default-clause-right
 returns-in_err-code_of-in-Some-dis-default-clause-right c =
@@ -64,6 +68,8 @@ boot_refused name rows error is refused (One tries) asks = absurd (two_names nam
 boot_refused name rows error is refused Asm asks = absurd (two_names name (codes "boot") (codes "asm") is asks.0 refl refl)
 boot_refused name rows error is refused (Dis code) asks = absurd (two_names name (codes "boot") (codes "dis") is asks.0.0 refl refl)
 boot_refused name rows error is refused (Boot route) asks = refused (string_bytes route) asks.0.1
+boot_refused name rows error is refused Debug asks = absurd (two_names name (codes "boot") (codes "debug") is asks.0 refl refl)
+boot_refused name rows error is refused Replay asks = absurd (two_names name (codes "boot") (codes "replay") is asks.0 refl refl)
 
 pub returns-in_err-route_at-in-Some-boot-default-clause-right : goal.returns-in_err-route_at-in-Some-boot-default-clause-right
 returns-in_err-route_at-in-Some-boot-default-clause-right c =
