@@ -12,6 +12,8 @@ import tempfile
 
 FOLDER = os.path.dirname(os.path.abspath(__file__))
 WORDS = b"04A12 00005 00003 2C9B2"
+HEAD = b"profile 1\nplace\nnode 000 . align 5 x: jump x\ngo\n"
+ROUTE = b"profile 1\nroute 708,709\nnode 709 5 .\ngo\n"
 RUNS = [
     (["one", "5"], WORDS),
     (["one", "5"], b"3FFFF " * 64),
@@ -28,6 +30,16 @@ RUNS = [
     (["dis"], b"3FFFF " * 64),
     (["dis", "--code", "4"], b"05872 2C9B2 00001"),
     (["dis", "--code", "65"], b""),
+    (["debug"], HEAD + b"break 000 001\nturn 9\nregs 000\nmem 000\nports 000\npass 000\npass 000\nstep\n"),
+    (["debug"], ROUTE + b"turn 40\ntry 709 r\n"),
+    (["debug"], b"profile 1\nplace\n"),
+    (["replay"], HEAD + b"break 000 001\nturn 9 = 5\ntry 000 r = held\n"),
+    (["replay"], ROUTE + b"turn 1 = 1\n"),
+    (["replay"], HEAD + b"turn 1 = 2\n"),
+    (["replay"], HEAD + b"regs 000\n"),
+    (["replay"], b"profile 1\nroute 708\nnode 709 .\ngo\n"),
+    (["replay"], b"profile 1\nroute 710,708\nnode 709 .\ngo\n"),
+    (["replay"], b"profile 1\nplace\nnode 000 jump x\ngo\n"),
     (["one"], b""),
     (["one", "--help"], b""),
 ]
