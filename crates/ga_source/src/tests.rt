@@ -213,7 +213,8 @@ fn items_and_places(rt: HostRuntime) -> Result<(), Fail> {
     let expected = expected_items(alloc)?;
     assert!(rt; section.items == expected);
     assert_eq!(rt; section.labels.len(), 1);
-    assert!(rt; section.labels.contains("loop"));
+    let name = Name::from("loop").map_err(|_| "more than 16 bytes")?;
+    assert!(rt; section.labels.contains(&name));
     Ok(())
 }
 
