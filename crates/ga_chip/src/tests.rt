@@ -99,9 +99,9 @@ fn a_chip_stands_still(rt: HostRuntime) -> Result<(), Fail> {
     let mut chip = reset(rt.alloc())?;
     place(&mut chip, 708, &WRITE_12_RIGHT)?;
     assert!(rt; !chip.is_still());
-    // seven steps of 708, and then one turn in which it waits
-    for _ in 0..8 {
-        let _moved = chip.turn(Side::Down);
+    // 709 takes the word of 708, and both go on until they stop
+    for _ in 0..32 {
+        let _moved = chip.turn(Side::Right);
     }
     assert!(rt; chip.is_still());
     assert!(rt; (chip.turn(Side::Up), chip.turn(Side::Left)) == (0, 0));
