@@ -2,11 +2,9 @@ ghost use Rattle.std.specs.Prelude.{◌≡◌, ◌++◌, IfOk, OnOk, string_byte
 ghost use Rattle.ga_dump.specs.Ledger.{ledger_dump, side_line, side_text};
 
 use ga_chip::Chip;
-use ga_place::{Node, Side, neighbour};
+use ga_place::{Node, SIDES, Side, neighbour};
 use std::alloc::{AllocError, Global};
 use std::fmt::Write;
-
-const SIDES: [Side; 4] = [Side::Right, Side::Down, Side::Left, Side::Up];
 
 /// The numbers of the cells that a node writes as text: for each side at which it has a neighbour, in the
 /// order right, down, left, up, a line of its name, the side, and how many words were written, were read and are

@@ -1,21 +1,15 @@
 -- What nodes without a fault are: each is a neighbour of the one before it, and they are 144 at most.
-use Rattle.std.proofs.Common.{◌≡◌, ◌∙◌, ℕ, ◌==◌, ◌+◌, ◌<◌, ◌≤◌, Bool, true, false, ◌||◌, List, [], ◌∷◌, length, map, Option, Some, None, is_none, IsSome, get_or, zero-add, refl, sym, ap, subst, arith}
+use Rattle.std.proofs.Common.{◌≡◌, ◌∙◌, ℕ, ◌==◌, ◌+◌, ◌≤◌, Bool, true, false, List, [], ◌∷◌, length, Option, Some, None, is_none, IsSome, get_or, refl, sym, ap, subst, arith}
 use Rattle.std.specs.Prelude.{if◌then◌else◌}
-use Rattle.std.specs.List.{AllByRecursion, IsDistinct, find, range_with_len}
+use Rattle.std.specs.List.{AllByRecursion, IsDistinct, find}
 use Rattle.std.specs.Option.{option_or}
-use Rattle.std.specs.Set.{is_member}
 use Rattle.std.proofs.lemmas.Bool.{true≢false, eqb-true}
-use Rattle.std.proofs.lemmas.Cmp.{nat_eq_equiv}
-use Rattle.std.proofs.lemmas.List.FromFn.{get_or-map-range_with_len}
-use Rattle.std.proofs.lemmas.List.Folds.{list_any_at}
-use Rattle.std.proofs.lemmas.Map.Made.{length-le_from_is_member}
-use Rattle.ga_place.specs.Cell.{index_of, name_at}
-use Rattle.ga_place.specs.Node.{IsNodeName, is_edge}
+use Rattle.ga_place.specs.Node.{IsNodeName, is_among, is_edge}
 use Rattle.ga_place.specs.Side.{SIDES, is_the_node, neighbour_of, side_to}
 use Rattle.ga_place.specs.declared.side.Side.{Side}
-use Rattle.ga_place.proofs.Cells.{index_below, name_back}
+use Rattle.ga_place.proofs.Names.{apart, few_names}
 use Rattle.ga_place.proofs.SideLemmas.{neighbour_of-IsNodeName}
-use Rattle.ga_path.specs.Route.{AreHops, hop_fault, hops_fault, is_among, route_fault}
+use Rattle.ga_path.specs.Route.{AreHops, hop_fault, hops_fault, route_fault}
 use Rattle.ga_path.specs.declared.error.RouteError.{RouteError}
 use Rattle.ga_path.specs.declared.error.RouteError.TheVariants.{NotEdge, NotNeighbour, Repeated}
 
@@ -56,20 +50,6 @@ route_hops first names e = by (is_edge first) e
 
 -- ---- a route has 144 nodes at most
 
-all_nodes : List ℕ
-all_nodes = map name_at (range_with_len 0 144)
-
-how_many : length all_nodes ≡ 144
-unfolding all_nodes
-how_many = refl
-
-at_index : (name : ℕ) → IsNodeName name → get_or all_nodes (index_of name) 0 ≡ name
-unfolding all_nodes
-at_index name named = get_or-map-range_with_len name_at 0 144 (index_of name) (index_of name) 0 (index_below name named) (zero-add (index_of name)) ∙ name_back name (index_below name named)
-
-among_all : (name : ℕ) → IsNodeName name → is_member ◌==◌ all_nodes name ≡ true
-among_all name named = list_any_at (λ other. name == other) all_nodes (index_of name) 0 (subst (λ n. index_of name < n) (sym how_many) (index_below name named)) (ap (λ n. name == n) (at_index name named) ∙ nat_eq_equiv.refl name)
-
 found : {X : Type 0} (p : X → Bool) (xs : List X) (x : X) → find p xs ≡ Some x → p x ≡ true
 found p [] x e = absurd cc
 found p (y ∷ ys) x e = by (p y) refl (found p ys x) e
@@ -88,29 +68,11 @@ near_node last name named None e some = absurd (true≢false (sym some))
 near_node last name named (Some side) e some =
     neighbour_of-IsNodeName last name side named (leads (neighbour_of last side) name (found (λ s. is_the_node name (neighbour_of last s)) SIDES side e))
 
-apart : (name : ℕ) (names : List ℕ) → is_among name names ≡ false → AllByRecursion (λ y. (name == y) ≡ false) names
-apart name [] e = tt
-apart name (other ∷ names) e = by (other == name) refl (apart name names) e
-  where
-    by : (b : Bool) → (other == name) ≡ b → (is_among name names ≡ false → AllByRecursion (λ y. (name == y) ≡ false) names)
-        → (b || is_among name names) ≡ false → AllByRecursion (λ y. (name == y) ≡ false) (other ∷ names)
-    by true t behind e = absurd (true≢false e)
-    by false t behind e = (nat_eq_equiv.symm name other ∙ t, behind e)
-
-each : (names : List ℕ) → AllByRecursion IsNodeName names → (q : ℕ) → is_member ◌==◌ names q ≡ true → is_member ◌==◌ all_nodes q ≡ true
-each [] named q e = absurd (true≢false (sym e))
-each (name ∷ names) named q e = by (q == name) refl (each names named.1 q) e
-  where
-    by : (b : Bool) → (q == name) ≡ b → (is_member ◌==◌ names q ≡ true → is_member ◌==◌ all_nodes q ≡ true)
-        → (b || is_member ◌==◌ names q) ≡ true → is_member ◌==◌ all_nodes q ≡ true
-    by true t behind e = subst (λ n. is_member ◌==◌ all_nodes n ≡ true) (sym (eqb-true q name t)) (among_all name named.0)
-    by false t behind e = behind e
-
 few_behind : (last : ℕ) (before names : List ℕ) → hops_fault (last ∷ before) names ≡ None → IsDistinct ◌==◌ (last ∷ before) → AllByRecursion IsNodeName (last ∷ before) → length (last ∷ before) + length names ≤ 144
 unfolding IsDistinct
 few_behind last before [] e distinct named =
-    let most = length-le_from_is_member nat_eq_equiv (last ∷ before) all_nodes distinct (each (last ∷ before) named) in
-    omega (arith, most, how_many)
+    let most = few_names (last ∷ before) distinct named in
+    omega (arith, most)
 few_behind last before (name ∷ names) e distinct named =
     let is = hop last before name names e in
     let rest = few_behind name (last ∷ before) names (behind last before name names e) (apart name (last ∷ before) is.new, distinct) (near_node last name named.0 (side_to last name) refl is.near, named) in

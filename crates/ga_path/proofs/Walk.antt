@@ -6,7 +6,8 @@ use Rattle.std.specs.Option.{option_or}
 use Rattle.std.proofs.lemmas.List.{length-reverse, length-take-le, reverse-append, take_more}
 use Rattle.std.proofs.Math.Seq.{drop-cons}
 use Rattle.ga_place.specs.Side.{side_to}
-use Rattle.ga_path.specs.Route.{hop_fault, hops_fault, is_among}
+use Rattle.ga_place.specs.Node.{is_among}
+use Rattle.ga_path.specs.Route.{hop_fault, hops_fault}
 use Rattle.ga_path.specs.declared.error.RouteError.TheVariants.{Repeated}
 
 or_join : (a b c : Bool) → (a || (b || c)) ≡ ((a || b) || c)

@@ -1,15 +1,10 @@
 -- Which nodes are a route, and what is wrong with others.
-use Rattle.std.specs.Prelude.{◌≡◌, ℕ, ◌==◌, Bool, List, [], ◌∷◌, length, Option, Some, None, is_none, IsSome, if◌then◌else◌}
-use Rattle.std.specs.List.{list_any}
+use Rattle.std.specs.Prelude.{◌≡◌, ℕ, List, [], ◌∷◌, length, Option, Some, None, is_none, IsSome, if◌then◌else◌}
 use Rattle.std.specs.Option.{option_or}
-use Rattle.ga_place.specs.Node.{is_edge}
+use Rattle.ga_place.specs.Node.{is_among, is_edge}
 use Rattle.ga_place.specs.Side.{side_to}
 use Rattle.ga_path.specs.declared.error.RouteError.{RouteError}
 use Rattle.ga_path.specs.declared.error.RouteError.TheVariants.{Empty, Memory, NotEdge, NotNeighbour, Repeated}
-
--- a name stands among names
-abbrev pub is_among : ℕ → List ℕ → Bool
-is_among name names = list_any (λ other. other == name) names
 
 -- What is wrong with a node behind others, the last of them first: it is no neighbour of that one, or it stands
 -- among them.

@@ -5,7 +5,7 @@ use Rattle.std.specs.Map.{lookup}
 use Rattle.ga_place.specs.Side.{side_to}
 use Rattle.ga_place.specs.declared.side.Side.TheVariants.{Right}
 use Rattle.ga_asm.specs.Image.{ImageView}
-use Rattle.ga_path.specs.Route.{is_among}
+use Rattle.ga_place.specs.Node.{is_among}
 use Rattle.ga_path.specs.Sequences.{Grove, Bare, Tree, part_words}
 use Rattle.ga_path.specs.declared.error.BootError.{BootError}
 use Rattle.ga_path.specs.declared.error.BootError.TheVariants.{Memory, Unreached}

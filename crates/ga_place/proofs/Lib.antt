@@ -1,6 +1,7 @@
 pub mod AddressLemmas
 pub mod CellNumbers
 pub mod Cells
+pub mod Names
 pub mod NodeText
 pub mod SideLemmas
 pub mod WorkedPlaces

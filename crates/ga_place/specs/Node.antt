@@ -1,5 +1,6 @@
 -- The 144 nodes, in 8 rows by 18 columns. A node is seen as its name, the number row * 100 + column.
 use Rattle.std.specs.Prelude.{◌≡◌, ℕ, ◌+◌, ◌/◌, ◌%◌, ◌<◌, ◌==◌, Bool, ◌||◌, List, [], ◌∷◌, ◌⊎◌}
+use Rattle.std.specs.List.{list_any}
 
 -- the row of a node, counted from the south: the hundreds of its name
 abbrev pub row_of : ℕ → ℕ
@@ -24,3 +25,7 @@ is_edge name = (row_of name == 0) || ((row_of name == 7) || ((column_of name == 
 -- the text of a node: the three decimal digits of its name
 abbrev pub node_text : ℕ → List ℕ
 node_text name = (48 + name / 100) ∷ (48 + name / 10 % 10) ∷ (48 + name % 10) ∷ []
+
+-- a name stands among names
+abbrev pub is_among : ℕ → List ℕ → Bool
+is_among name names = list_any (λ other. other == name) names

@@ -20,6 +20,9 @@ pub enum Side {
     Up,
 }
 
+/// The four sides, in the order in which they are named and numbered.
+pub const SIDES: [Side; 4] = [Side::Right, Side::Down, Side::Left, Side::Up];
+
 /// The neighbour of a node at a side, or `None` where the grid ends there (chip reference DB002).
 pub fn neighbour(node: Node, side: Side) -> Option<Node>
     ensures value { result ≡ neighbour_of node side }

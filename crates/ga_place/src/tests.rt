@@ -1,5 +1,6 @@
 use crate::{
-    Node, Side, Sides, Where, advance, cell, idle_address, locate, neighbour, port_address, side_to,
+    Node, SIDES, Side, Sides, Where, advance, cell, idle_address, locate, neighbour, port_address,
+    side_to,
 };
 use bitflags::Flags;
 use std::test::Fail;
@@ -65,8 +66,6 @@ fn addresses(rt: HostRuntime) -> Result<(), Fail> {
     }
     Ok(())
 }
-
-const SIDES: [Side; 4] = [Side::Right, Side::Down, Side::Left, Side::Up];
 
 #[test]
 fn neighbours(rt: HostRuntime) -> Result<(), Fail> {
