@@ -2,7 +2,6 @@
 use Rattle.std.proofs.Common.{◌≡◌, ◌≤◌, ℕ, Bool, true, false, List, [], ◌∷◌, ◌++◌, Option, Some, None, refl, ap, arith, map}
 use Rattle.std.proofs.lemmas.Bool.{and_parts, leb-true}
 use Rattle.std.specs.Prelude.{String, codes, ◌||◌, nat_le, if◌then◌else◌}
-use Rattle.std.specs.List.{list_any}
 use Rattle.std.specs.Map.{lookup}
 use Rattle.std.specs.Option.{unwrap_or}
 use Rattle.std.specs.Str.{bytes_eq}
@@ -16,11 +15,6 @@ use Rattle.ga_source.specs.declared.item.Item.TheVariants as item
 use Rattle.ga_source.specs.Item.{item_of, label_before, labels_in, placed_of}
 use Rattle.ga_asm.specs.Image.{all_near, entry_of, labels_of}
 use Rattle.ga_asm.specs.Layout.{names_of, plain}
-
--- a test of mapped elements
-pub list_any_map : {X Y : Type 0} (p : Y → Bool) (f : X → Y) (xs : List X) → list_any p (map f xs) ≡ list_any (λ x. p (f x)) xs
-list_any_map p f [] = refl
-list_any_map p f (x ∷ xs) = ap (λ r. p (f x) || r) (list_any_map p f xs)
 
 pub lookup_labels : {A : Type 0} (name : List ℕ) (entries : List (String A × ℕ)) → lookup (λ k. bytes_eq name (string_bytes k)) entries ≡ address_of (labels_of entries) name
 lookup_labels name [] = refl

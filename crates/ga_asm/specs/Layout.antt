@@ -23,7 +23,7 @@ open_if true word ops = Some (word, ops)
 open_if false word ops = None
 
 abbrev pub open_of : the.Layout → Open
-open_of l = open_if l.is_open l.word l.ops.items
+open_of l = open_if l.is_open l.word l.slots.ops.items
 
 -- with these labels the item joins that word
 abbrev pub joins_open : Labels → Open → Item → Bool

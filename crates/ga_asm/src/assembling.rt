@@ -47,7 +47,7 @@ fn image_of(alloc: Global, section: &Section) -> Result<Image, Refusal>
     ensures at { IfErr result (λ refusal. refusal.at < length section.now.items.items) }
 {
     let items = section.items.as_slice();
-    let layout = first_pass(alloc, &section.labels, items)?;
+    let layout = first_pass(alloc, section.labels.as_slice(), items)?;
     let words = second_pass(alloc, items, &layout)?;
     let code_len = usize::from(layout.data_start.unwrap_or(layout.address));
     let entry = address_of(&layout.labels, "main").unwrap_or(0);
@@ -99,7 +99,8 @@ fn error_at(node: Node, items: &[PlacedItem], refusal: Refusal) -> AsmError
 /// Items outside brackets are packed in order, each in the next slot of the last word where it fits, and else
 /// in slot 0 of a word of its own. A node has 64 words at most, and a fault is that of the first node in the
 /// text's order that has one. It fails as `Memory` only where memory is refused. It takes time in proportion
-/// to the program, if hashing spreads the names of its labels.
+/// to the program, if hashing spreads the names of its labels. Whether a name is a label of its node is told by
+/// going along the node's labels, and a node uses 64 names at most.
 pub fn assemble(alloc: Global, program: &Program) -> Result<Images, AsmError>
     ensures images { IfOk result (λ images. IsAssembled program.now images) }
     // they are the only images of the program

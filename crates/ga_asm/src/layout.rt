@@ -1,12 +1,10 @@
 //! The first pass over the items of a node: where each one comes to stand, or the first fault.
 ghost use Rattle.std.specs.Prelude.{◌≡◌, ◌+◌, ◌<◌, ◌≤◌, ◌++◌, ◌∷◌, [], IfErr, IfOk, None, OnOk, Some, false, length, map, true};
-ghost use Rattle.std.specs.List.{list_any};
 ghost use Rattle.ga_pack.specs.Model.Layout as laid;
 ghost use Rattle.ga_pack.specs.Model.Layout.{names_in};
 ghost use Rattle.ga_pack.specs.Model.LayoutFault as faults;
 ghost use Rattle.ga_pack.specs.Model.Source.{Items, start};
 ghost use Rattle.ga_pack.specs.Model.Source as words;
-ghost use Rattle.ga_word.specs.Op.{ends_word};
 ghost use Rattle.ga_pack.specs.Followers as counted;
 ghost use Rattle.ga_source.specs.Item.{item_of, value_of, word_of};
 ghost use Rattle.ga_asm.specs.Error.{kind_in, kind_of};
@@ -15,10 +13,10 @@ ghost use Rattle.ga_asm.specs.Layout.{IsBlank, IsFirstPassFault, counts_after, d
 ghost use Rattle.ga_asm.specs.declared.error.AsmErrorKind.TheVariants.{Memory};
 
 use crate::error::AsmErrorKind;
-use arrayvec::ArrayVec;
+use crate::slots::Slots;
 use ga_source::{Item, Name, PlacedItem, Section, TransferWord, Value};
 use ga_word::{Op, Word18};
-use indexmap::{IndexMap, IndexSet};
+use indexmap::IndexMap;
 use std::alloc::{AllocError, Global};
 
 // What is kept of the items that are laid.
@@ -32,7 +30,7 @@ pub(crate) struct Layout {
     // Whether the next item may join the last word, and the address and the opcodes of that word.
     is_open: bool,
     word: u8,
-    ops: ArrayVec<Op, 4>,
+    slots: Slots,
     // How many items each group has: the items of a word outside brackets are one, and any other item is
     // one by itself. The word that is open comes when it is closed.
     pub(crate) counts: Vec<usize>,
@@ -47,18 +45,30 @@ pub(crate) struct Refusal {
     pub(crate) kind: AsmErrorKind,
 }
 
-fn is_value(names: &IndexSet<Name>, value: &Value) -> bool
-    ensures { result ≡ laid.is_value (map (λ name. name.bytes) names.now.keys) (value_of value.now) }
+// A name is one of these. The 64 words of a node use few names, so each is looked for from the first on.
+fn is_among(name: &Name, names: &[Name]) -> bool
+    ensures { result ≡ words.is_among name.now.bytes (map (λ name. name.bytes) names.now) }
+{
+    for other in names {
+        if name == other {
+            return true;
+        }
+    }
+    false
+}
+
+fn is_value(names: &[Name], value: &Value) -> bool
+    ensures { result ≡ laid.is_value (map (λ name. name.bytes) names.now) (value_of value.now) }
 {
     match value {
         Value::Number(_) => true,
-        Value::Label(label) => names.contains(&label.name),
+        Value::Label(label) => is_among(&label.name, names),
     }
 }
 
 // The name that the item uses is a label of the node.
-fn is_defined(names: &IndexSet<Name>, item: &Item) -> bool
-    ensures { result ≡ laid.is_defined (map (λ name. name.bytes) names.now.keys) (item_of item.now) }
+fn is_defined(names: &[Name], item: &Item) -> bool
+    ensures { result ≡ laid.is_defined (map (λ name. name.bytes) names.now) (item_of item.now) }
 {
     match item {
         Item::Transfer { dest, .. } => is_value(names, dest),
@@ -221,14 +231,14 @@ impl Layout {
     #[tactic(auto, unfolding(ga_pack::specs::Model::Layout::fits))]
     fn fits(&self, item: &Item) -> bool
         requires { self.now.word ≤ 64 }
-        ensures room { result ≡ true → length self.now.ops.items < 4 }
-        ensures test { result ≡ laid.fits (labels_of self.now.labels.entries) self.now.word self.now.ops.items (item_of item.now) }
+        ensures room { result ≡ true → length self.now.slots.ops.items < 4 }
+        ensures test { result ≡ laid.fits (labels_of self.now.labels.entries) self.now.word self.now.slots.ops.items (item_of item.now) }
     {
-        let slot = self.ops.len();
+        let slot = self.slots.as_slice().len();
         match item {
             Item::Instruction(op) => op_fits(slot, *op) && (!is_unext(*op) || 0 < slot),
             Item::Transfer { dest, .. } => {
-                let p = p_behind(self.word, self.ops.as_slice());
+                let p = p_behind(self.word, self.slots.as_slice());
                 may_reach(slot, p, value_among(&self.labels, dest))
             }
             Item::Literal(_) => op_fits(slot, Op::FetchP),
@@ -236,28 +246,21 @@ impl Layout {
         }
     }
 
-    // No item stands behind an opcode of the open word.
-    fn is_ended(&self) -> bool
-        ensures { result ≡ list_any ends_word self.now.ops.items }
-    {
-        self.ops.as_slice().iter().any(|op| op.ends_word())
-    }
-
     // The item joins the open word.
     fn joins(&self, item: &Item) -> bool
         requires { self.now.word ≤ 64 }
-        ensures room { result ≡ true → length self.now.ops.items < 4 }
+        ensures room { result ≡ true → length self.now.slots.ops.items < 4 }
         ensures test { result ≡ joins_word self.now (item_of item.now) }
     {
-        self.is_open && !self.is_ended() && self.fits(item)
+        self.is_open && !self.slots.is_ended() && self.fits(item)
     }
 
     // The first fault of the item, which joins the open word or not, in a node with these labels.
-    fn fault_of(&self, names: &IndexSet<Name>, item: &Item, joined: bool) -> Option<AsmErrorKind>
+    fn fault_of(&self, names: &[Name], item: &Item, joined: bool) -> Option<AsmErrorKind>
         requires joined { joined ≡ joins_word self.now (item_of item.now) }
         requires near { self.now.word ≤ 64 }
         requires few { self.now.address ≤ 64 }
-        ensures { kind_in result ≡ faults.fault_at (map (λ name. name.bytes) names.now.keys) (labels_of self.now.labels.entries) self.now.address (joins_word self.now (item_of item.now)) (item_of item.now) }
+        ensures { kind_in result ≡ faults.fault_at (map (λ name. name.bytes) names.now) (labels_of self.now.labels.entries) self.now.address (joins_word self.now (item_of item.now)) (item_of item.now) }
     {
         if !is_defined(names, item) {
             return Some(AsmErrorKind::UndefinedLabel);
@@ -286,7 +289,7 @@ impl Layout {
             address: 0,
             is_open: false,
             word: 0,
-            ops: ArrayVec::new(),
+            slots: Slots::new(),
             counts: Vec::with_capacity(alloc, counts)?,
             data_start: None,
         })
@@ -299,7 +302,7 @@ impl Layout {
         ensures err { IfErr result (λ kind. kind ≡ Memory) }
     {
         if self.is_open {
-            self.counts.push(self.ops.len())?;
+            self.counts.push(self.slots.as_slice().len())?;
             self.is_open = false;
         }
         Ok(())
@@ -307,24 +310,24 @@ impl Layout {
 
     // Places the item: it joins the open word, begins a word, or is a group by itself.
     fn place(&mut self, item: &Item, joined: bool) -> Result<(), AsmErrorKind>
-        requires joined { joined ≡ true → length self.old.ops.items < 4 }
+        requires joined { joined ≡ true → length self.old.slots.ops.items < 4 }
         requires open { joined ≡ true → self.old.is_open ≡ true }
-        ensures ok { OnOk result (self.new ≡ record self.old { is_open = self.new.is_open; word = self.new.word; ops = self.new.ops; counts = self.new.counts }) }
+        ensures ok { OnOk result (self.new ≡ record self.old { is_open = self.new.is_open; word = self.new.word; slots = self.new.slots; counts = self.new.counts }) }
         ensures near { OnOk result (self.old.word ≤ 64 → self.old.address ≤ 64 → self.new.word ≤ 64) }
         ensures word { OnOk result (open_of self.new ≡ open_after joined (open_of self.old) self.old.address (item_of item.now)) }
         ensures counts { OnOk result (self.new.counts.items ≡ counts_after joined (open_of self.old) self.old.counts.items (item_of item.now)) }
         ensures err { IfErr result (λ kind. kind ≡ Memory) }
     {
         if joined {
-            self.ops.push(op_of(item));
+            self.slots.push(op_of(item));
             return Ok(());
         }
         self.close()?;
         if is_loose(item) {
             self.is_open = true;
             self.word = self.address;
-            self.ops = ArrayVec::new();
-            self.ops.push(op_of(item));
+            self.slots = Slots::new();
+            self.slots.push(op_of(item));
         } else {
             self.counts.push(1)?;
         }
@@ -357,7 +360,7 @@ impl Layout {
     // Lays one item more, which joins the open word or not.
     fn add(&mut self, item: &Item, joined: bool) -> Result<(), AsmErrorKind>
         requires joined { joined ≡ joins_word self.old (item_of item.now) }
-        requires room { joined ≡ true → length self.old.ops.items < 4 }
+        requires room { joined ≡ true → length self.old.slots.ops.items < 4 }
         requires near { self.old.word ≤ 64 }
         requires few { self.old.address ≤ 64 }
         requires new { words.is_new (item_of item.now) (names_of (labels_of self.old.labels.entries)) ≡ true }
@@ -380,11 +383,11 @@ impl Layout {
 /// all labels of the node.
 pub(crate) fn first_pass(
     alloc: Global,
-    names: &IndexSet<Name>,
+    names: &[Name],
     items: &[PlacedItem],
 ) -> Result<Layout, Refusal>
     requires right { Items start (plain items.now) }
-    requires names { map (λ name. name.bytes) names.now.keys ≡ names_in (plain items.now) }
+    requires names { map (λ name. name.bytes) names.now ≡ names_in (plain items.now) }
     ensures ok { IfOk result (λ layout. Placing (plain items.now) layout) }
     ensures err { IfErr result (λ refusal. IsFirstPassFault (plain items.now) refusal.at (kind_of refusal.kind)) }
     ensures at { IfErr result (λ refusal. refusal.at < length items.now) }

@@ -6,6 +6,7 @@ mod error;
 mod image;
 mod layout;
 mod making;
+mod slots;
 
 pub use assembling::{Images, assemble};
 pub use error::{AsmError, AsmErrorKind};

@@ -91,28 +91,17 @@ fn plain_meaning(text: &[u8]) -> Meaning
 fn number_named(text: &[u8]) -> Option<Word18>
     ensures value { result ≡ model.number_named text.now }
 {
-    if b"right".as_slice() == text {
-        return Word18::new(0x1D5);
-    }
-    if b"down".as_slice() == text {
-        return Word18::new(0x115);
-    }
-    if b"left".as_slice() == text {
-        return Word18::new(0x175);
-    }
-    if b"up".as_slice() == text {
-        return Word18::new(0x145);
-    }
-    if b"io".as_slice() == text {
-        return Word18::new(0x15D);
-    }
-    if b"rdlu".as_slice() == text {
-        return Word18::new(0x1A5);
-    }
-    if b"warm".as_slice() == text {
-        return Word18::new(0x0A9);
-    }
-    None
+    let number = match text {
+        b"right" => 0x1D5,
+        b"down" => 0x115,
+        b"left" => 0x175,
+        b"up" => 0x145,
+        b"io" => 0x15D,
+        b"rdlu" => 0x1A5,
+        b"warm" => 0x0A9,
+        _ => return None,
+    };
+    Word18::new(number)
 }
 
 /// A word or a mark with a meaning of its own.
@@ -198,10 +187,8 @@ fn name_in(text: &[u8]) -> Option<Name>
     if !is_name(text) {
         return None;
     }
-    match str::from_utf8(text) {
-        Ok(text) => Name::from(text).ok(),
-        Err(_) => None,
-    }
+    // A name is ASCII.
+    Name::from(unsafe { str::from_utf8_unchecked(text) }).ok()
 }
 
 /// One to sixteen letters and digits, the first no digit.

@@ -1,5 +1,5 @@
 //! The parser: it takes one token at a time, and refuses the first with which no text goes on.
-ghost use Rattle.std.specs.Prelude.{◌≡◌, ◌+◌, ◌<◌, ◌≤◌, ◌++◌, ◌∷◌, [], length, map, false, IfOk, IfErr, OnOk, None, Some, List, ℕ, suc};
+ghost use Rattle.std.specs.Prelude.{◌≡◌, ◌+◌, ◌<◌, ◌≤◌, ◌++◌, ◌∷◌, [], length, map, false, not, IfOk, IfErr, OnOk, None, Some, List, ℕ, suc};
 ghost use Rattle.ga_pack.specs.Followers as counted;
 ghost use Rattle.ga_pack.specs.Model.Source as words;
 ghost use Rattle.ga_pack.specs.Model.Source.{Behind, Code, Label, Plain, Transfer, Word, WordTo, labels_with};
@@ -197,7 +197,7 @@ impl Parser {
                 }
                 self.node = node;
                 self.items.clear();
-                self.labels = IndexSet::new(self.alloc);
+                self.labels.truncate(0);
                 self.part = Part::Code(0);
                 self.has_word = false;
                 self.position = Position::Between;
@@ -509,30 +509,23 @@ impl Parser {
         ensures names { OnOk result (names_of self.new ≡ names_of self.old ++ self.old.node ∷ []) }
         ensures err { IfErr result (λ kind. kind ≡ Memory) }
     {
-        // The list is copied to one of its size, so that its room serves for the next section.
+        // The lists are copied to ones of their size, so that their room serves for the next section.
         let mut items = Vec::with_capacity(self.alloc, self.items.len())?;
         items.append(&mut self.items)?;
-        let labels = std::mem::replace(&mut self.labels, IndexSet::new(self.alloc));
+        let mut labels = Vec::with_capacity(self.alloc, self.labels.len())?;
+        labels.extend_from_slice(self.labels.as_slice())?;
         self.sections.insert(self.node, Section { items, labels })?;
         Ok(())
     }
 
-    // The open section has this label.
-    fn has_label(&self, name: Name) -> bool
-        ensures { result ≡ words.is_among name.bytes (labels_of self.now) }
-    {
-        self.labels.contains(&name)
-    }
-
-    // The open section gets a label, which it has not.
-    fn add_label(&mut self, name: Name) -> Result<(), SourceErrorKind>
-        requires new { words.is_among name.bytes (labels_of self.old) ≡ false }
+    // The open section gets a label, and tells whether it had it not.
+    fn add_label(&mut self, name: Name) -> Result<bool, SourceErrorKind>
+        ensures new { IfOk result (λ is_new. is_new ≡ not (words.is_among name.bytes (labels_of self.old))) }
         ensures ok { OnOk result (self.new ≡ record self.old { labels = self.new.labels }) }
-        ensures labels { OnOk result (labels_of self.new ≡ labels_of self.old ++ name.bytes ∷ []) }
+        ensures labels { words.is_among name.bytes (labels_of self.old) ≡ false → OnOk result (labels_of self.new ≡ labels_of self.old ++ name.bytes ∷ []) }
         ensures err { IfErr result (λ kind. kind ≡ Memory) }
     {
-        self.labels.insert(name)?;
-        Ok(())
+        Ok(self.labels.insert(name)?)
     }
 
     // A label, which may stand wherever an item may.
@@ -543,10 +536,9 @@ impl Parser {
         if is_reserved(name.as_str()) {
             return Err(SourceErrorKind::ReservedLabel);
         }
-        if self.has_label(name) {
+        if !self.add_label(name)? {
             return Err(SourceErrorKind::DuplicateLabel);
         }
-        self.add_label(name)?;
         let place = self.place;
         let item = Item::Label(name);
         self.items.push(PlacedItem { item, place })?;

@@ -212,9 +212,8 @@ fn items_and_places(rt: HostRuntime) -> Result<(), Fail> {
     let section = sections.get(&node).ok_or("no section")?;
     let expected = expected_items(alloc)?;
     assert!(rt; section.items == expected);
-    assert_eq!(rt; section.labels.len(), 1);
     let name = Name::from("loop").map_err(|_| "more than 16 bytes")?;
-    assert!(rt; section.labels.contains(&name));
+    assert!(rt; section.labels.as_slice() == [name].as_slice());
     Ok(())
 }
 

@@ -1,4 +1,4 @@
-use Rattle.std.proofs.Common.{◌∙◌, ◌<◌, length, sym, ap, subst}
+use Rattle.std.proofs.Common.{◌∙◌, ◌<◌, length, map, sym, ap, subst}
 use Rattle.std.specs.List.{list_all}
 use Rattle.std.specs.Option.{unwrap_or}
 use Rattle.ga_pack.specs.Model.Layout.{names_in}
@@ -12,7 +12,7 @@ use Rattle.ga_asm.proofs.assembling.image_of.Goals as goal
 
 pub first_pass-requires-clause-names : goal.first_pass-requires-clause-names
 first_pass-requires-clause-names c =
-    c.args.section.now.labels_of_items ∙ names_are c.args.section.now.items.items ∙ ap (λ t. names_in (plain t)) (sym c.as_slice-items.ensures.value)
+    ap (map (λ name. name.bytes)) c.as_slice.ensures.value ∙ c.args.section.now.labels_of_items ∙ names_are c.args.section.now.items.items ∙ ap (λ t. names_in (plain t)) (sym c.as_slice-items.ensures.value)
 
 pub second_pass-requires-clause-right : goal.second_pass-requires-clause-right
 second_pass-requires-clause-right c =
