@@ -1,8 +1,9 @@
 -- A try is held just where its node stands at a breakpoint.
-use Rattle.std.proofs.Common.{◌≡◌, ℕ, ◌%◌, ◌^◌, Bool, true, false, get_or, Option, Some, None, refl, sym, ap, ◌∙◌, subst}
+use Rattle.std.proofs.Common.{◌≡◌, ℕ, ◌%◌, ◌^◌, ◌==◌, Bool, true, false, List, [], ◌∷◌, get_or, slice_get, Option, Some, None, refl, sym, ap, ◌∙◌, subst}
 use Rattle.std.specs.Prelude.{◌↔◌, ◌&&◌, not}
-use Rattle.std.proofs.lemmas.Bool.{false≢true}
+use Rattle.std.proofs.lemmas.Bool.{eqb-false, eqb-true, false≢true}
 use Rattle.std.proofs.lemmas.Option.{none-some, same_Some}
+use Rattle.ga_place.specs.Cell.{index_of}
 use Rattle.ga_place.specs.declared.side.Side.{Side}
 use Rattle.ga_node.specs.Need.{need_of, stop_of}
 use Rattle.ga_node.specs.State.{is_fetch}
@@ -10,14 +11,17 @@ use Rattle.ga_node.specs.declared.need.Need.{Need}
 use Rattle.ga_node.specs.declared.need.Need.TheVariants as need
 use Rattle.ga_node.specs.declared.place.Place.{Place}
 use Rattle.ga_node.specs.declared.place.Place.TheVariants as place
+use Rattle.ga_chip.specs.declared.outcome.Try as asked
 use Rattle.ga_chip.specs.declared.outcome.Outcome.{Outcome}
 use Rattle.ga_chip.specs.declared.outcome.Outcome.TheVariants.{Held, Moved, Stopped, Waits}
 use Rattle.ga_chip.specs.declared.error.ChipError.TheVariants.{NotHeld}
 use Rattle.ga_chip.specs.Part.{Part, StandsAtBreak, after, asks, asks_if, held_by, is_held}
 use Rattle.ga_chip.specs.Chip.{Chip, IsHeld, found_by, part_of, tried, unless_held}
-use Rattle.ga_chip.specs.Run.{is_hold}
+use Rattle.ga_chip.specs.Run.{Try, happened, is_hold, ran, tries_of}
 use Rattle.ga_chip.proofs.Plain.{held_asks, need_free}
-use Rattle.ga_chip.proofs.Tries.{tried_none, tried_there}
+use Rattle.ga_chip.proofs.Lists.{get-set_else}
+use Rattle.ga_chip.proofs.Tries.{tried_none, tried_still, tried_there}
+use Rattle.ga_chip.proofs.Turns.{happened_try}
 use Rattle.ga_chip.proofs.Uses.{held_after, unless}
 
 -- the three tests of a node at a breakpoint
@@ -90,3 +94,28 @@ exactly chip name side = by (part_of chip name) refl
           λ h. (part, e, here.0 (sym is ∙ h)),
           λ (other, there, at). is ∙ here.1 (subst StandsAtBreak (same_Some other part (sym there ∙ e)) at),
         )
+
+-- what a try of some node leaves of a node that is held
+held_after_try : (chip : Chip) (other name : ℕ) (side : Side) → IsHeld chip name → part_of (tried chip other side).1 name ≡ part_of chip name
+held_after_try chip other name side held = by (index_of other == index_of name) refl
+  where
+    by : (b : Bool) → (index_of other == index_of name) ≡ b → part_of (tried chip other side).1 name ≡ part_of chip name
+    by true same =
+        let at : index_of other ≡ index_of name = eqb-true (index_of other) (index_of name) same in
+        let stays : (tried chip other side).0 ≡ Held = (exactly chip other side).1 (held.0, ap (slice_get chip.parts) at ∙ held.1, held.2) in
+        ap (λ c. part_of c name) (tried_still chip other side (λ moves. let is : Held ≡ Moved = sym stays ∙ moves in cc))
+    by false apart = elsewhere (part_of chip other) refl
+      where
+        elsewhere : (o : Option Part) → part_of chip other ≡ o → part_of (tried chip other side).1 name ≡ part_of chip name
+        elsewhere None e = ap (λ r. part_of r.1 name) (tried_none chip other side e)
+        elsewhere (Some part) e =
+            ap (λ r. part_of r.1 name) (tried_there chip other side part e)
+            ∙ get-set_else chip.parts (index_of other) (index_of name) _ (eqb-false (index_of other) (index_of name) apart)
+
+-- a node that is held stays as it is while any nodes are tried
+pub held_stays : (chip : Chip) (tries : List asked.Try) (name : ℕ) → IsHeld chip name → part_of (ran chip (tries_of tries)) name ≡ part_of chip name
+held_stays chip [] name held = refl
+held_stays chip (one ∷ tries) name held =
+    let next : Chip = happened chip (Try one.node one.side) in
+    let first : part_of next name ≡ part_of chip name = ap (λ c. part_of c name) (happened_try chip one.node one.side) ∙ held_after_try chip one.node name one.side held in
+    held_stays next tries name (held.0, first ∙ held.1, held.2) ∙ first

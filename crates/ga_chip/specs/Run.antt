@@ -1,6 +1,7 @@
 -- Runs of the chip along a list of events, and the words written and taken in them.
-use Rattle.std.specs.Prelude.{ℕ, zero, suc, ◌==◌, Bool, true, false, ◌||◌, set, if◌then◌else◌, List, [], ◌∷◌, ◌++◌, map, Option, Some, None}
+use Rattle.std.specs.Prelude.{ℕ, zero, suc, ◌%◌, ◌==◌, Bool, true, false, ◌||◌, set, slice_index_or, if◌then◌else◌, List, [], ◌∷◌, ◌++◌, map, Option, Some, None}
 use Rattle.std.specs.List.{filter, flat_map, range_with_len}
+use Rattle.ga_place.specs.Side.{SIDES}
 use Rattle.ga_place.specs.declared.side.Side.{Side}
 use Rattle.ga_place.specs.declared.side.Side.TheVariants.{Right}
 use Rattle.ga_node.specs.State.{State}
@@ -27,6 +28,10 @@ pub data Event : Type 0 where
 -- a list of tries
 abbrev pub tries_of : List asked.Try → List Event
 tries_of tries = map (λ one. Try one.node one.side) tries
+
+-- the side of the j-th of some turns, from 0: right, down, left, up, and again
+abbrev pub side_of_turn : ℕ → Side
+side_of_turn turn = slice_index_or SIDES (turn % 4) Right
 
 -- one try of each node in order of name, all with one side
 unfoldable pub turn_of : Side → List Event

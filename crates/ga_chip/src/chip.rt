@@ -6,6 +6,7 @@ ghost use Rattle.ga_chip.specs.Ledger.{ledger_of};
 ghost use Rattle.ga_chip.specs.declared.error.ChipError.TheVariants.{NotHeld};
 ghost use Rattle.ga_chip.specs.declared.outcome.Outcome.TheVariants.{Held, Moved};
 ghost use Rattle.ga_chip.specs.Grow.{LedgersGrow};
+ghost use Rattle.ga_chip.specs.Legal.{IsLegal};
 ghost use Rattle.ga_chip.specs.Run.{ClearBreak, PassBreak, SetBreak, happened, moved_by, moves, ran, tries_of, turn_of};
 
 use crate::error::ChipError;
@@ -55,7 +56,7 @@ impl Chip {
     pub fn reset(alloc: Global) -> Result<Self, AllocError>
         ensures { IfOk result (λ chip. chip ≡ reset_chip) }
     {
-        let mut parts = Vec::new(alloc);
+        let mut parts = Vec::with_capacity(alloc, 144)?;
         for index in 0..144 {
             parts.push(NodePart::reset(node_at(index)))?;
         }
@@ -191,6 +192,14 @@ impl Chip {
         ensures moves { (side : Side) → result ≡ true → length (moves self.now (turn_of side)) ≡ 0 }
     {
         self.next_awake(0) >= 144
+    }
+
+    /// Each chip is legal: the numbers of its cells agree with what is pending in them. This call does nothing; a proof
+    /// has the fact from it, as a premise of the laws.
+    pub fn legal(&self)
+        ensures { IsLegal self.now }
+    {
+        let _ = &self.parts;
     }
 
     /// A node's state.

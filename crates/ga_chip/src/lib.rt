@@ -18,7 +18,7 @@ mod watch;
 pub use chip::Chip;
 pub use error::ChipError;
 pub use ledger::Ledger;
-pub use outcome::{Outcome, Try};
+pub use outcome::{Outcome, Try, side_of_turn};
 
 #[cfg(test)]
 mod tests;

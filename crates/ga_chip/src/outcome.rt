@@ -1,7 +1,7 @@
 ghost use Rattle.std.specs.Prelude.{◌≡◌};
-ghost use Rattle.ga_chip.specs.Run.{moved_by};
+ghost use Rattle.ga_chip.specs.Run.{moved_by, side_of_turn};
 
-use ga_place::{Node, Side};
+use ga_place::{Node, SIDES, Side};
 
 /// One try of one node. The side counts where the node takes a word from one of several sides: it looks at
 /// this side alone.
@@ -34,4 +34,12 @@ impl Outcome {
             _ => 0,
         }
     }
+}
+
+/// The side that the tries of a turn name, by the turn's number, counted from 0: right, down, left, up, and again.
+/// (The order is this project's own: profile.)
+pub fn side_of_turn(turn: u64) -> Side
+    ensures { result ≡ side_of_turn turn }
+{
+    SIDES[(turn % 4) as usize]
 }

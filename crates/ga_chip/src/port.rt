@@ -43,7 +43,7 @@ impl Ports {
 pub(crate) fn all_ports(alloc: Global) -> Result<Vec<Ports>, AllocError>
     ensures { IfOk result (λ ports. ports.items ≡ all_ports) }
 {
-    let mut ports = Vec::new(alloc);
+    let mut ports = Vec::with_capacity(alloc, 144)?;
     for index in 0..144 {
         let node = node_at(index);
         ports.push(Ports {
