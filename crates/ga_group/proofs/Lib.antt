@@ -1,0 +1,5 @@
+pub mod Plans
+pub mod Walk
+pub mod Tries
+pub mod Counts
+pub mod Agreeing

@@ -1,0 +1,79 @@
+-- Loops over groups and over the nodes of a group, by an index.
+use Rattle.std.proofs.Common.{◌≡◌, ◌∙◌, ℕ, ◌==◌, ◌+◌, ◌<◌, suc, Bool, ◌||◌, List, [], ◌∷◌, ◌++◌, length, take, drop, slice_index_or, Vec, Option, Some, option_map, refl, sym, ap, ap₂, arith, append-nil, append_assoc, subst}
+use Rattle.std.specs.Prelude.{if◌then◌else◌}
+use Rattle.std.specs.List.{AllByRecursion, concat}
+use Rattle.std.specs.Option.{option_or}
+use Rattle.std.proofs.Math.Seq.{drop-cons}
+use Rattle.std.proofs.lemmas.List.{map-append, take_more}
+use Rattle.std.proofs.lemmas.List.Folds.{concat-append, list_any-append}
+use Rattle.ga_place.specs.Node.{IsNodeName, is_among}
+use Rattle.ga_place.specs.declared.side.Side.{Side}
+use Rattle.ga_group.specs.Plan.{Groups, first_repeated, group_fault, groups_fault, groups_in, plan_fault}
+use Rattle.ga_group.specs.Tries.{group_tries}
+use Rattle.ga_group.specs.declared.error.PlanError.{PlanError}
+use Rattle.ga_group.specs.declared.error.PlanError.TheVariants.{Repeated}
+
+-- an item in front of those behind it
+left : {X : Type 0} (xs : List X) (at : ℕ) (x : X) → at < length xs → x ≡ slice_index_or xs at x → drop at xs ≡ x ∷ drop (at + 1) xs
+left xs at x below is =
+    let next : suc at ≡ at + 1 = omega arith in
+    drop-cons xs at x below ∙ ap₂ (λ y n. y ∷ drop n xs) (sym is) next
+
+done : {X : Type 0} (xs : List X) (at : ℕ) (x : X) → at < length xs → x ≡ slice_index_or xs at x → take (at + 1) xs ≡ take at xs ++ x ∷ []
+done xs at x below is = take_more xs at x below ∙ ap (λ y. take at xs ++ y ∷ []) (sym is)
+
+all_more : (names more : List ℕ) → AllByRecursion IsNodeName names → AllByRecursion IsNodeName more → AllByRecursion IsNodeName (names ++ more)
+all_more [] more named here = here
+all_more (name ∷ names) more named here = (named.0, all_more names more named.1 here)
+
+module _ {A : Type 0} where
+  pub groups_left : (groups : List (Vec ℕ A)) (at : ℕ) (group : Vec ℕ A) → at < length groups → group ≡ slice_index_or groups at group → groups_in (drop at groups) ≡ group.items ∷ groups_in (drop (at + 1) groups)
+  groups_left groups at group below is = ap groups_in (left groups at group below is)
+
+  pub groups_done : (groups : List (Vec ℕ A)) (at : ℕ) (group : Vec ℕ A) → at < length groups → group ≡ slice_index_or groups at group → concat (groups_in (take (at + 1) groups)) ≡ concat (groups_in (take at groups)) ++ group.items
+  groups_done groups at group below is =
+      ap (λ l. concat (groups_in l)) (done groups at group below is)
+      ∙ ap concat (map-append _ (take at groups) (group ∷ []))
+      ∙ concat-append (groups_in (take at groups)) (group.items ∷ [])
+      ∙ ap (λ l. concat (groups_in (take at groups)) ++ l) (append-nil group.items)
+
+  -- whether a node stands in the groups that are left
+  pub among_next : (groups : List (Vec ℕ A)) (at : ℕ) (group : Vec ℕ A) (front : List ℕ) (node : ℕ) (b : Bool) → at < length groups → group ≡ slice_index_or groups at group → is_among node group.items ≡ b → is_among node (concat (groups_in (drop at groups)) ++ front) ≡ (b || is_among node (concat (groups_in (drop (at + 1) groups)) ++ front))
+  among_next groups at group front node b below is among =
+      let rest = concat (groups_in (drop (at + 1) groups)) in
+      ap (λ l. is_among node (concat l ++ front)) (groups_left groups at group below is)
+      ∙ ap (is_among node) (append_assoc group.items rest front)
+      ∙ list_any-append (λ other. other == node) group.items (rest ++ front)
+      ∙ ap (λ c. c || is_among node (rest ++ front)) among
+
+  -- the fault of the groups that are left, by that of the next
+  pub fault_next : (groups : List (Vec ℕ A)) (at : ℕ) (group : Vec ℕ A) (fault : Option PlanError) → at < length groups → group ≡ slice_index_or groups at group → group_fault at (concat (groups_in (take at groups))) group.items ≡ fault
+      → groups_fault at (concat (groups_in (take at groups))) (groups_in (drop at groups)) ≡ option_or fault (groups_fault (at + 1) (concat (groups_in (take (at + 1) groups))) (groups_in (drop (at + 1) groups)))
+  fault_next groups at group fault below is told =
+      ap (groups_fault at (concat (groups_in (take at groups)))) (groups_left groups at group below is)
+      ∙ ap₂ (λ f l. option_or f (groups_fault (at + 1) l (groups_in (drop (at + 1) groups)))) told (sym (groups_done groups at group below is))
+
+  pub more_named : (groups : List (Vec ℕ A)) (at : ℕ) (group : Vec ℕ A) → at < length groups → group ≡ slice_index_or groups at group → AllByRecursion IsNodeName (concat (groups_in (take at groups))) → AllByRecursion IsNodeName group.items → AllByRecursion IsNodeName (concat (groups_in (take (at + 1) groups)))
+  more_named groups at group below is named here = subst (AllByRecursion IsNodeName) (sym (groups_done groups at group below is)) (all_more (concat (groups_in (take at groups))) group.items named here)
+
+pub some_groups : (groups : Groups) → 0 < length groups → plan_fault groups ≡ groups_fault 0 [] groups
+some_groups [] some = absurd (omega (arith, some))
+some_groups (group ∷ groups) some = refl
+
+pub some_group : (worker : ℕ) (before names : List ℕ) → 0 < length names → group_fault worker before names ≡ option_map Repeated (first_repeated before names)
+some_group worker before [] some = absurd (omega (arith, some))
+some_group worker before (name ∷ names) some = refl
+
+-- the next node of a group stands before, or it doesn't
+pub repeated_next : (before group : List ℕ) (at node : ℕ) (b : Bool) → at < length group → node ≡ slice_index_or group at node → is_among node (before ++ take at group) ≡ b
+    → first_repeated (before ++ take at group) (drop at group) ≡ (if b then Some node else first_repeated (before ++ take (at + 1) group) (drop (at + 1) group))
+repeated_next before group at node b below is among =
+    ap (first_repeated (before ++ take at group)) (left group at node below is)
+    ∙ ap₂ (λ c l. if c then Some node else first_repeated l (drop (at + 1) group)) among (append_assoc before (take at group) (node ∷ []) ∙ ap (λ l. before ++ l) (sym (done group at node below is)))
+
+pub named_next : (group : List ℕ) (at node : ℕ) → at < length group → node ≡ slice_index_or group at node → AllByRecursion IsNodeName (take at group) → IsNodeName node → AllByRecursion IsNodeName (take (at + 1) group)
+named_next group at node below is named here = subst (AllByRecursion IsNodeName) (sym (done group at node below is)) (all_more (take at group) (node ∷ []) named (here, tt))
+
+-- the tries of the nodes that are left
+pub tries_left : (side : Side) (group : List ℕ) (at node : ℕ) → at < length group → node ≡ slice_index_or group at node → group_tries side (drop at group) ≡ record { node = node; side = side } ∷ group_tries side (drop (at + 1) group)
+tries_left side group at node below is = ap (group_tries side) (left group at node below is)

@@ -1,0 +1,26 @@
+-- Runs of workers: each worker tries the nodes of its group, in whatever order the workers come.
+use Rattle.std.specs.Prelude.{◌≡◌, ℕ, ◌==◌, true, false, List, [], map}
+use Rattle.std.specs.List.{concat, filter, range_with_len}
+use Rattle.ga_place.specs.Node.{is_among}
+use Rattle.ga_place.specs.declared.side.Side.{Side}
+use Rattle.ga_chip.specs.declared.outcome.Try.{Try}
+use Rattle.ga_chip.specs.Chip.{Chip}
+use Rattle.ga_chip.specs.Run.{ran, side_of_turn, tries_of}
+use Rattle.ga_group.specs.Plan.{Groups}
+
+-- the sides that the tries of a node name, in order
+abbrev pub sides_tried : ℕ → List Try → List Side
+sides_tried name tries = map (λ one. one.side) (filter (λ one. one.node == name) tries)
+
+-- the sides of so many turns
+abbrev pub sides_of_turns : ℕ → List Side
+sides_of_turns turns = map side_of_turn (range_with_len 0 turns)
+
+-- A run of workers by a plan over so many turns leads from one chip to another: along tries in which each node of
+-- the plan is tried once in each turn, with the side of that turn, and no other node is tried. The order between
+-- nodes is free.
+pub record IsWorkersRun (chip : Chip) (plan : Groups) (turns : ℕ) (next : Chip) : Type 0 where
+  pub tries : List Try
+  pub planned : (name : ℕ) → is_among name (concat plan) ≡ true → sides_tried name tries ≡ sides_of_turns turns
+  pub others : (name : ℕ) → is_among name (concat plan) ≡ false → sides_tried name tries ≡ []
+  pub leads : next ≡ ran chip (tries_of tries)
