@@ -1,13 +1,11 @@
 -- What an action answers, and the chip afterwards.
-use Rattle.std.specs.Prelude.{ℕ, ◌%◌, ◌++◌, List, codes, length, slice_index_or, Option, Some, None, Result, Ok, Err}
+use Rattle.std.specs.Prelude.{ℕ, ◌++◌, List, codes, length, Option, Some, None, Result, Ok, Err}
 use Rattle.std.specs.Fmt.{decimal}
 use Rattle.std.specs.List.{flat_map, range_with_len}
-use Rattle.ga_place.specs.Side.{SIDES}
-use Rattle.ga_place.specs.declared.side.Side.{Side}
 use Rattle.ga_place.specs.declared.side.Side.TheVariants.{Right}
 use Rattle.ga_chip.specs.declared.error.ChipError.{ChipError}
 use Rattle.ga_chip.specs.Chip.{Chip, tried, unless_held}
-use Rattle.ga_chip.specs.Run.{Event, happened, moves, ran, turn_of}
+use Rattle.ga_chip.specs.Run.{Event, happened, moves, ran, side_of_turn, turn_of}
 use Rattle.ga_chip.specs.Run as event
 use Rattle.ga_debug.specs.declared.action.Action.{Action}
 use Rattle.ga_debug.specs.declared.action.Action.TheVariants.{Break, Clear, Pass, Try, Turn}
@@ -17,13 +15,9 @@ use Rattle.ga_debug.specs.declared.error.DebugError.{DebugError}
 use Rattle.ga_debug.specs.declared.error.DebugError.TheVariants.{NotHeld}
 use Rattle.ga_debug.specs.Words.{outcome_text}
 
--- the side of the j-th turn of a command: right, down, left, up, and again
-abbrev pub side_at : ℕ → Side
-side_at turn = slice_index_or SIDES (turn % 4) Right
-
 -- the tries of so many turns
 unfoldable pub turns : ℕ → List Event
-turns count = flat_map (λ turn. turn_of (side_at turn)) (range_with_len 0 count)
+turns count = flat_map (λ turn. turn_of (side_of_turn turn)) (range_with_len 0 count)
 
 -- a pass is refused where a try wouldn't be held
 abbrev pub passed : Option ChipError → Result Answer DebugError

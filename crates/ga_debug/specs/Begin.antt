@@ -28,9 +28,13 @@ all_placed (image ∷ images) chip =
 abbrev pub given : ℕ → List ℕ → Chip
 given node words = unless_refused (stream_refusal reset_chip node) (streamed reset_chip node words) reset_chip
 
--- both parts of the boot stream go to the first node of a route, as one stream
+-- a chip after reset that boots along a route: its first node was given both parts of the boot stream, as one stream
+abbrev pub booted : Images → List ℕ → Chip
+booted images route = given (get_or route 0 0) (load_of images route ++ start_of images route)
+
+-- where each node with an image is on the route
 abbrev pub reached : Option ℕ → List ℕ → Images → Result Chip ReplayError
-reached None route images = Ok (given (get_or route 0 0) (load_of images route ++ start_of images route))
+reached None route images = Ok (booted images route)
 reached (Some node) route images = Err (Boot (Unreached node))
 
 abbrev pub routed : Option RouteError → List ℕ → Images → Result Chip ReplayError

@@ -1,12 +1,12 @@
 ghost use Rattle.std.specs.Prelude.{◌≡◌, ◌∷◌, ◌≤◌, [], OnErr, string_bytes, length};
 ghost use Rattle.std.specs.String.{string_capacity, string_len};
 ghost use Rattle.ga_chip.specs.Run.{moves, ran};
-ghost use Rattle.ga_debug.specs.Action.{after_action, answer_text, answer_to, side_at, turns};
+ghost use Rattle.ga_debug.specs.Action.{after_action, answer_text, answer_to, turns};
 ghost use Rattle.ga_debug.specs.Words.{outcome_text};
 
 use crate::address::Address;
 use crate::error::DebugError;
-use ga_chip::{Chip, Outcome, Try};
+use ga_chip::{Chip, Outcome, Try, side_of_turn};
 use ga_place::{Node, Side};
 use itoa::Buffer;
 
@@ -35,9 +35,6 @@ pub enum Answer {
     /// How many steps the turns made.
     Moved(u64),
 }
-
-/// The sides of turns, in order.
-const SIDES: [Side; 4] = [Side::Right, Side::Down, Side::Left, Side::Up];
 
 /// Room for every answer as text.
 pub const ANSWER_LENGTH: usize = 32;
@@ -72,19 +69,13 @@ fn turn_on(chip: &mut Chip, count: u32) -> u64
     ensures moved { result ≡ length (moves chip.old (turns count)) }
 {
     let mut moved = 0;
-    for turn in 0..count {
+    for turn in 0..u64::from(count) {
         if chip.is_still() {
             return moved;
         }
-        moved += u64::from(chip.turn(side_at(turn)));
+        moved += u64::from(chip.turn(side_of_turn(turn)));
     }
     moved
-}
-
-fn side_at(turn: u32) -> Side
-    ensures { result ≡ side_at turn }
-{
-    SIDES[turn as usize % 4]
 }
 
 /// An answer as text, in an empty text that has room for it.

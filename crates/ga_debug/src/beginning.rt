@@ -1,5 +1,6 @@
-ghost use Rattle.std.specs.Prelude.{◌≡◌, ℕ, None, Some};
-ghost use Rattle.ga_debug.specs.Begin.{IsBeginning, IsChipOf, IsImagesOf, chip_of};
+ghost use Rattle.std.specs.Prelude.{◌≡◌, ℕ, IfErr, IfOk, None, Some};
+ghost use Rattle.ga_path.specs.Stream.{IsBootFault, unreached};
+ghost use Rattle.ga_debug.specs.Begin.{IsBeginning, IsChipOf, IsImagesOf, booted, chip_of};
 ghost use Rattle.ga_debug.specs.Fault.{Answers, Gives};
 ghost use Rattle.ga_debug.specs.HeadView.{head_view};
 
@@ -8,7 +9,7 @@ use crate::replay_error::ReplayError;
 use crate::session::Session;
 use ga_asm::{Images, assemble};
 use ga_chip::Chip;
-use ga_path::{Route, boot};
+use ga_path::{BootError, Route, boot};
 use ga_place::Node;
 use ga_source::parse;
 use std::alloc::Global;
@@ -60,7 +61,19 @@ fn routed(alloc: Global, nodes: &[Node], images: &Images) -> Result<Chip, Replay
     ensures { Gives (λ chip. chip) result (chip_of (Some nodes.now) images.now) }
 {
     let route = Route::new(alloc, nodes)?;
-    let parts = boot(alloc, &route, images)?;
+    let chip = booted(alloc, &route, images)?;
+    Ok(chip)
+}
+
+/// A chip after reset that boots along a route: its first node was given both parts of the boot stream, load and
+/// start, as one stream. A node that has an image and isn't on the route is refused as [`BootError::Unreached`], the
+/// first in the images' order. It fails as [`BootError::Memory`] only where memory is refused.
+pub fn booted(alloc: Global, route: &Route, images: &Images) -> Result<Chip, BootError>
+    ensures chip { IfOk result (λ chip. chip ≡ booted images.now route.now) }
+    ensures reached { IfOk result (λ _. unreached images.now route.now ≡ None) }
+    ensures fault { IfErr result (λ error. IsBootFault images.now route.now error) }
+{
+    let parts = boot(alloc, route, images)?;
     let mut stream = parts.load;
     stream.extend_from_slice(&parts.start)?;
     let mut chip = Chip::reset(alloc)?;

@@ -13,7 +13,7 @@ mod replaying;
 mod session;
 mod word;
 
-pub use beginning::begin;
+pub use beginning::{begin, booted};
 pub use error::DebugError;
 pub use replay_error::ReplayError;
 pub use replaying::replay;

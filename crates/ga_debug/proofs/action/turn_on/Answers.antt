@@ -11,7 +11,7 @@ loop-turn-init c = (refl, refl, omega arith)
 pub loop-turn-preserved : goal.loop-turn-preserved
 loop-turn-preserved c =
     let so_far = c.loop-turn.invariant in
-    (one_turn c.args.chip.now c.loop-turn.chip _ c.loop-turn.turn so_far.0 (c.turn.ensures.chip ∙ ap (λ side. ran c.loop-turn.chip (turn_of side)) c.side_at.ensures), one_more_count c.args.chip.now c.loop-turn.chip c.loop-turn.turn c.loop-turn.moved _ so_far.0 so_far.1 (c.from-moved.ensures ∙ c.turn.ensures.moved ∙ ap (λ side. length (moves c.loop-turn.chip (turn_of side))) c.side_at.ensures), omega arith)
+    (one_turn c.args.chip.now c.loop-turn.chip _ c.loop-turn.turn so_far.0 (c.turn.ensures.chip ∙ ap (λ side. ran c.loop-turn.chip (turn_of side)) c.side_of_turn.ensures), one_more_count c.args.chip.now c.loop-turn.chip c.loop-turn.turn c.loop-turn.moved _ so_far.0 so_far.1 (c.from-moved.ensures ∙ c.turn.ensures.moved ∙ ap (λ side. length (moves c.loop-turn.chip (turn_of side))) c.side_of_turn.ensures), omega arith)
 
 pub returns-then-is_still-clause-chip : goal.returns-then-is_still-clause-chip
 returns-then-is_still-clause-chip c =
