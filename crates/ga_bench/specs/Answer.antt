@@ -1,7 +1,7 @@
 -- What a job may answer to the bytes that it reads: a text, or the first fault.
 use Rattle.std.specs.Prelude.{◌≡◌, ℕ, List, length, nat_lt, MatchBool, Result, Err, string_bytes}
 use Rattle.ga_bench.specs.declared.request.Job.{Job}
-use Rattle.ga_bench.specs.declared.request.Job.TheVariants.{One, Asm, Dis, Boot, Debug, Replay}
+use Rattle.ga_bench.specs.declared.request.Job.TheVariants.{One, Asm, Dis, Boot, Run, Debug, Replay}
 use Rattle.ga_bench.specs.declared.fault.ServeError.{ServeError}
 use Rattle.ga_bench.specs.declared.fault.ServeError.TheVariants.{Input}
 use Rattle.ga_bench.specs.declared.fault.InputFault.TheVariants.{TooLong}
@@ -11,6 +11,7 @@ use Rattle.ga_bench.specs.Debug.{IsDebugOutput}
 use Rattle.ga_bench.specs.Dis.{dis_output}
 use Rattle.ga_bench.specs.One.{one_output}
 use Rattle.ga_bench.specs.Replay.{IsReplayOutput}
+use Rattle.ga_bench.specs.Run.{IsRunOutput}
 
 -- what a job may answer to an input that is not too long
 abbrev pub IsJobOutput : Job → List ℕ → Result (List ℕ) ServeError → Type 0
@@ -18,6 +19,7 @@ IsJobOutput (One tries) input answer = answer ≡ one_output tries input
 IsJobOutput Asm input answer = IsAsmOutput input answer
 IsJobOutput (Dis code) input answer = answer ≡ dis_output code input
 IsJobOutput (Boot route) input answer = IsBootOutput (string_bytes route) input answer
+IsJobOutput (Run route workers turns) input answer = IsRunOutput (string_bytes route) workers turns input answer
 IsJobOutput Debug input answer = IsDebugOutput input answer
 IsJobOutput Replay input answer = IsReplayOutput input answer
 

@@ -4,13 +4,14 @@ use Rattle.clap.specs.Words.{App, Row, Text, app_of, new_app, subcommand_of, tak
 use Rattle.clap.specs.declared.builder.command.Command.{Command}
 use Rattle.clap.specs.declared.builder.command.Command.TheViews.{out-Command}
 use Rattle.ga_bench.specs.declared.request.Job.{Job}
-use Rattle.ga_bench.specs.declared.request.Job.TheVariants.{One, Asm, Dis, Boot, Debug, Replay}
+use Rattle.ga_bench.specs.declared.request.Job.TheVariants.{One, Asm, Dis, Boot, Run, Debug, Replay}
 use Rattle.ga_bench.specs.Asm.{AsksForAsm, asm_command}
 use Rattle.ga_bench.specs.Boot.{AsksForBoot, boot_command}
 use Rattle.ga_bench.specs.Debug.{AsksForDebug, debug_command}
 use Rattle.ga_bench.specs.Dis.{AsksForDis, IsDisInRange, dis_command}
 use Rattle.ga_bench.specs.One.{AsksForOne, IsOneInRange, one_command}
 use Rattle.ga_bench.specs.Replay.{AsksForReplay, replay_command}
+use Rattle.ga_bench.specs.Run.{AsksForRun, IsRunInRange, run_command}
 
 -- an argument of the command is one of its subcommands' too
 abbrev pub has_globals : Command → Bool
@@ -30,8 +31,8 @@ bare_command = record named_command { top = record named_command.top { has_versi
 -- the whole command
 abbrev pub bench_command : App
 bench_command =
-    with_subcommand (with_subcommand (with_subcommand (with_subcommand (with_subcommand (with_subcommand bare_command one_command.top) asm_command.top) dis_command.top) boot_command.top)
-    debug_command.top) replay_command.top
+    with_subcommand (with_subcommand (with_subcommand (with_subcommand (with_subcommand (with_subcommand (with_subcommand bare_command one_command.top) asm_command.top) dis_command.top) boot_command.top)
+    run_command.top) debug_command.top) replay_command.top
 
 -- the numbers of a job lie in their ranges
 abbrev pub InRange : Job → Type 0
@@ -39,6 +40,7 @@ InRange (One tries) = IsOneInRange tries
 InRange Asm = Unit {0}
 InRange (Dis code) = IsDisInRange code
 InRange (Boot route) = Unit {0}
+InRange (Run route workers turns) = IsRunInRange workers turns
 InRange Debug = Unit {0}
 InRange Replay = Unit {0}
 
@@ -48,6 +50,7 @@ AsksFor entered (One tries) = AsksForOne entered tries
 AsksFor entered Asm = AsksForAsm entered
 AsksFor entered (Dis code) = AsksForDis entered code
 AsksFor entered (Boot route) = AsksForBoot entered (string_bytes route)
+AsksFor entered (Run route workers turns) = AsksForRun entered (string_bytes route) workers turns
 AsksFor entered Debug = AsksForDebug entered
 AsksFor entered Replay = AsksForReplay entered
 

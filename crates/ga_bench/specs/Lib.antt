@@ -7,6 +7,7 @@ pub mod Asm
 pub mod Dis
 pub mod Route
 pub mod Boot
+pub mod Run
 pub mod Replay
 pub mod Debug
 pub mod CommandLine

@@ -10,9 +10,15 @@ use crate::fault::ServeError;
 use crate::one::one;
 use crate::replay::replay;
 use crate::request::Job;
+use crate::run::run;
+use std::thread::Threads;
 
 /// What a job writes for an input.
-pub fn output<Rt: AllocGlobal>(rt: &Rt, job: &Job, input: &[u8]) -> Result<String, ServeError>
+pub fn output<Rt: AllocGlobal + Threads>(
+    rt: &Rt,
+    job: &Job,
+    input: &[u8],
+) -> Result<String, ServeError>
     ensures { Answers string_bytes (IsJobOutput job.now input.now) result }
 {
     match job {
@@ -20,6 +26,11 @@ pub fn output<Rt: AllocGlobal>(rt: &Rt, job: &Job, input: &[u8]) -> Result<Strin
         Job::Asm => asm(rt.alloc(), input),
         Job::Dis { code } => dis(rt.alloc(), *code, input),
         Job::Boot { route } => boot(rt.alloc(), route, input),
+        Job::Run {
+            route,
+            workers,
+            turns,
+        } => run(rt, route, *workers, *turns, input),
         Job::Debug => debug(rt.alloc(), input),
         Job::Replay => replay(rt.alloc(), input),
     }

@@ -1,14 +1,16 @@
 ghost use Rattle.std.specs.Prelude.{◌≡◌, ◌++◌, ℕ, IfErr, IfOk, List, codes, string_bytes};
 ghost use Rattle.clap.specs.Words.{found_of, rows_of};
 ghost use Rattle.ga_word.specs.Text.{text_of_words};
-ghost use Rattle.ga_bench.specs.Boot.{IsBootOutput, boot_command, part_text};
+ghost use Rattle.ga_bench.specs.Boot.{IsBootOutput, boot_command, part_text, text_by};
 ghost use Rattle.ga_bench.specs.CommandLine.{IsCommandOf};
-ghost use Rattle.ga_bench.specs.Fault.{Answers};
+ghost use Rattle.ga_bench.specs.Fault.{Answers, Gives};
+ghost use Rattle.ga_bench.specs.Route.{route_in};
 
 use crate::fault::ServeError;
 use crate::route::route_of;
 use crate::source::images_of;
 use clap::{Arg, Command};
+use ga_asm::Images;
 use ga_word::{Word18, push_words};
 use std::alloc::{AllocError, Global};
 use std::fmt::Write;
@@ -38,8 +40,15 @@ pub fn boot(alloc: Global, route: &str, input: &[u8]) -> Result<String, ServeErr
     ensures { Answers string_bytes (IsBootOutput route.now input.now) result }
 {
     let images = images_of(alloc, input)?;
+    boot_text(alloc, route, &images)
+}
+
+/// Both parts of the boot stream of a route and of images, as text.
+fn boot_text(alloc: Global, route: &str, images: &Images) -> Result<String, ServeError>
+    ensures { Gives string_bytes result (text_by images.now (route_in route.now)) }
+{
     let route = route_of(alloc, route)?;
-    let boot = ga_path::boot(alloc, &route, &images)?;
+    let boot = ga_path::boot(alloc, &route, images)?;
     let mut text = String::new(alloc);
     push_part(&mut text, "load", &boot.load)?;
     push_part(&mut text, "start", &boot.start)?;

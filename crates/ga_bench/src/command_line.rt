@@ -6,7 +6,7 @@ ghost use Rattle.ga_bench.specs.CommandLine.{InRange, IsCommandOf, IsJobOf, IsRi
 
 use crate::request::Job;
 use crate::route::route_at;
-use crate::{asm, boot, debug, dis, one, replay};
+use crate::{asm, boot, debug, dis, one, replay, run};
 use clap::Command;
 use clap::error::ErrorKind;
 use std::alloc::{AllocError, Global};
@@ -62,6 +62,7 @@ pub fn job(alloc: Global, words: &[&str]) -> Result<Job, LineError>
         Some(("boot", found)) => Ok(Job::Boot {
             route: route_at(alloc, found)?,
         }),
+        Some(("run", found)) => Ok(run::job_of(alloc, found)?),
         Some(("debug", _)) => Ok(Job::Debug),
         Some(("replay", _)) => Ok(Job::Replay),
         _ => Err(refusal(
@@ -93,6 +94,7 @@ fn command<'a>(alloc: Global) -> Result<Command<'a>, AllocError>
     let command = link(command, asm::command(alloc)?)?;
     let command = link(command, dis::command(alloc)?)?;
     let command = link(command, boot::command(alloc)?)?;
+    let command = link(command, run::command(alloc)?)?;
     let command = link(command, debug::command(alloc)?)?;
     link(command, replay::command(alloc)?)
 }

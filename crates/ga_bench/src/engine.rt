@@ -9,6 +9,7 @@ use crate::reading::read_input;
 use crate::request::Job;
 use crate::writing::write_output;
 use std::io::{Read, Write};
+use std::thread::Threads;
 
 /// Serves a job, the engine under every subcommand: reads the whole input, makes the whole output, and
 /// then writes it. An input has at most 1,048,576 bytes, and comes in at most 2,097,152 reads.
@@ -16,7 +17,7 @@ use std::io::{Read, Write};
 /// The first fault is answered. `Read` and `Input(TooLong)` come while the input is read, the faults of
 /// the input in the order of the job's output, and `Write` last; a front of the output may then have
 /// been written. `Memory` comes where memory was refused, before anything is written.
-pub fn serve<Rt: AllocGlobal, R: Read, W: Write>(
+pub fn serve<Rt: AllocGlobal + Threads, R: Read, W: Write>(
     rt: &Rt,
     reader: &mut R,
     writer: &mut W,

@@ -1,10 +1,12 @@
 ghost use Rattle.std.specs.Prelude.{◌≡◌};
 ghost use Rattle.ga_bench.specs.Fault.{fault_of_asm, fault_of_boot, fault_of_names, fault_of_replay, fault_of_route, fault_of_source, fault_of_words, status_of};
-ghost use Rattle.ga_bench.specs.declared.fault.ServeError.TheVariants.{Memory};
+ghost use Rattle.ga_bench.specs.declared.fault.ServeError.TheVariants.{Memory, Plan};
 
 use ga_asm::{AsmError, AsmErrorKind};
 use ga_debug::ReplayError;
+use ga_group::PlanError;
 use ga_path::{BootError, NamesError, RouteError};
+use ga_place::Node;
 use ga_source::{SourceError, SourceErrorKind};
 use ga_word::WordsError;
 use std::alloc::{AllocError, AllocFailed};
@@ -64,6 +66,8 @@ pub enum ServeError {
     Route(RouteFault),
     #[error("boot {0}")]
     Boot(BootError),
+    #[error("plan {0}")]
+    Plan(PlanError),
     #[error("replay {0}")]
     Replay(ReplayError),
     /// A read failed, or the input came in too many pieces.
@@ -139,6 +143,14 @@ impl From<BootError> for ServeError {
             BootError::Memory => ServeError::Memory,
             BootError::Unreached(_) => ServeError::Boot(error),
         }
+    }
+}
+
+impl From<(PlanError, Vec<Vec<Node>>)> for ServeError {
+    ghost from_gives = { λ refused fault. fault ≡ Plan refused.0 };
+
+    fn from(refused: (PlanError, Vec<Vec<Node>>)) -> ServeError {
+        ServeError::Plan(refused.0)
     }
 }
 

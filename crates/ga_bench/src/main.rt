@@ -15,6 +15,7 @@ mod reading;
 mod replay;
 mod request;
 mod route;
+mod run;
 mod source;
 mod text;
 mod writing;
@@ -27,14 +28,15 @@ use clap::error::ErrorKind::InvalidValue;
 use std::io::ErrorKind::OutOfMemory;
 use std::process::ExitCode;
 use std::rt::Env;
+use std::thread::Threads;
 use std::{env, io};
 
 fn main(rt: HostRuntime) -> ExitCode {
-    ExitCode::from(run(&rt))
+    ExitCode::from(serve_arguments(&rt))
 }
 
 /// Runs the job that the arguments name, on standard input and output. Answers the exit status.
-fn run<R: Env + AllocGlobal + Input + Print + Eprint>(rt: &R) -> u8 {
+fn serve_arguments<R: Env + AllocGlobal + Input + Print + Eprint + Threads>(rt: &R) -> u8 {
     let outcome = match job_of_arguments(rt) {
         Ok(job) => serve(rt, &mut rt.reader(), &mut io::writer(rt), &job),
         Err(LineError::Memory) => Err(ServeError::Memory),

@@ -2,13 +2,25 @@
 #[derive(Debug, PartialEq, Eq, Drop)]
 pub enum Job {
     /// One node runs the words of the input, for as many tries.
-    One { tries: u32 },
+    One {
+        tries: u32,
+    },
     /// The words of the nodes of a source text.
     Asm,
     /// The source text of the words of the input, of which so many are code, or all.
-    Dis { code: Option<u32> },
+    Dis {
+        code: Option<u32>,
+    },
     /// The boot stream of a route through the nodes of a source text.
-    Boot { route: String },
+    Boot {
+        route: String,
+    },
+    /// The nodes of a route after so many turns of so many workers, where the route boots from a source text.
+    Run {
+        route: String,
+        workers: u32,
+        turns: u32,
+    },
     /// The replies to the commands of a replay text.
     Debug,
     /// How many stated outcomes of a replay text hold.

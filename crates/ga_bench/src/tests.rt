@@ -3,6 +3,7 @@ ghost use Rattle.ga_bench.specs.Answer.{IsOutput};
 
 mod boots;
 mod round_trips;
+mod runs;
 
 use crate::command_line::{LineError, job};
 use crate::engine::serve;
@@ -476,6 +477,25 @@ fn reads_command_lines(rt: HostRuntime) -> Result<(), Fail> {
             Err(_) => return Err("a refused line".into()),
         }
     }
+    for (words, workers, turns) in [
+        (&["ga-bench", "run", "708", "1", "0"], 1, 0),
+        (
+            &["ga-bench", "run", "708", "144", "1000000"],
+            144,
+            1_000_000,
+        ),
+    ] {
+        let route = String::from_str(alloc, "708")?;
+        let run = Job::Run {
+            route,
+            workers,
+            turns,
+        };
+        match job(alloc, words) {
+            Ok(job) => assert_eq!(rt; job, run),
+            Err(_) => return Err("a refused line".into()),
+        }
+    }
     let table = [
         (["ga-bench"].as_slice(), LineKind::MissingSubcommand),
         (&["ga-bench", "two"], LineKind::InvalidSubcommand),
@@ -495,6 +515,22 @@ fn reads_command_lines(rt: HostRuntime) -> Result<(), Fail> {
         (
             &["ga-bench", "boot", "708", "709"],
             LineKind::UnknownArgument,
+        ),
+        (
+            &["ga-bench", "run", "708", "1"],
+            LineKind::MissingRequiredArgument,
+        ),
+        (
+            &["ga-bench", "run", "708", "0", "5"],
+            LineKind::ValueValidation,
+        ),
+        (
+            &["ga-bench", "run", "708", "145", "5"],
+            LineKind::ValueValidation,
+        ),
+        (
+            &["ga-bench", "run", "708", "1", "1000001"],
+            LineKind::ValueValidation,
         ),
         (&["ga-bench", "--help"], LineKind::DisplayHelp),
         (&["ga-bench", "one", "--help"], LineKind::DisplayHelp),

@@ -6,12 +6,13 @@ use Rattle.clap.specs.declared.error.kind.ErrorKind.TheVariants.{OutOfMemory}
 use Rattle.ga_bench.specs.declared.command_line.LineError.{LineError}
 use Rattle.ga_bench.specs.declared.command_line.LineError.TheVariants.{Memory}
 use Rattle.ga_bench.specs.declared.request.Job.{Job}
-use Rattle.ga_bench.specs.declared.request.Job.TheVariants.{One, Asm, Dis, Boot, Debug, Replay}
+use Rattle.ga_bench.specs.declared.request.Job.TheVariants.{One, Asm, Dis, Boot, Run, Debug, Replay}
 use Rattle.ga_bench.specs.CommandLine.{AsksFor, InRange}
 use Rattle.ga_bench.specs.Dis.{IsDisInRange}
 use Rattle.ga_bench.specs.Number.{IsNumberAt, IsNumberIfAt}
 use Rattle.ga_bench.specs.One.{IsOneInRange}
 use Rattle.ga_bench.specs.Route.{IsRouteAt}
+use Rattle.ga_bench.specs.Run.{IsRunInRange}
 use Rattle.ga_bench.proofs.Entered.{asked, each_error}
 use Rattle.ga_bench.proofs.command_line.job.Goals as goal
 
@@ -32,6 +33,7 @@ one_refused name rows error is refused (One tries) asks = refused tries asks.1 a
 one_refused name rows error is refused Asm asks = absurd (two_names name (codes "one") (codes "asm") is asks.0 refl refl)
 one_refused name rows error is refused (Dis code) asks = absurd (two_names name (codes "one") (codes "dis") is asks.0.0 refl refl)
 one_refused name rows error is refused (Boot route) asks = absurd (two_names name (codes "one") (codes "boot") is asks.0.0 refl refl)
+one_refused name rows error is refused (Run route workers turns) asks = absurd (two_names name (codes "one") (codes "run") is asks.0.0 refl refl)
 one_refused name rows error is refused Debug asks = absurd (two_names name (codes "one") (codes "debug") is asks.0 refl refl)
 one_refused name rows error is refused Replay asks = absurd (two_names name (codes "one") (codes "replay") is asks.0 refl refl)
 
@@ -50,6 +52,7 @@ dis_refused name rows error is refused (One tries) asks = absurd (two_names name
 dis_refused name rows error is refused Asm asks = absurd (two_names name (codes "dis") (codes "asm") is asks.0 refl refl)
 dis_refused name rows error is refused (Dis code) asks = refused code asks.1 asks.0.1
 dis_refused name rows error is refused (Boot route) asks = absurd (two_names name (codes "dis") (codes "boot") is asks.0.0 refl refl)
+dis_refused name rows error is refused (Run route workers turns) asks = absurd (two_names name (codes "dis") (codes "run") is asks.0.0 refl refl)
 dis_refused name rows error is refused Debug asks = absurd (two_names name (codes "dis") (codes "debug") is asks.0 refl refl)
 dis_refused name rows error is refused Replay asks = absurd (two_names name (codes "dis") (codes "replay") is asks.0 refl refl)
 
@@ -68,6 +71,7 @@ boot_refused name rows error is refused (One tries) asks = absurd (two_names nam
 boot_refused name rows error is refused Asm asks = absurd (two_names name (codes "boot") (codes "asm") is asks.0 refl refl)
 boot_refused name rows error is refused (Dis code) asks = absurd (two_names name (codes "boot") (codes "dis") is asks.0.0 refl refl)
 boot_refused name rows error is refused (Boot route) asks = refused (string_bytes route) asks.0.1
+boot_refused name rows error is refused (Run route workers turns) asks = absurd (two_names name (codes "boot") (codes "run") is asks.0.0 refl refl)
 boot_refused name rows error is refused Debug asks = absurd (two_names name (codes "boot") (codes "debug") is asks.0 refl refl)
 boot_refused name rows error is refused Replay asks = absurd (two_names name (codes "boot") (codes "replay") is asks.0 refl refl)
 
@@ -78,3 +82,23 @@ returns-in_err-route_at-in-Some-boot-default-clause-right c =
     let refused = c.in_err-route_at-in-Some-boot-default in
     let asks = asked c.in_ok-command.field-0 words c.in_ok-matches.matches met.field-0-0.now (rows_of (found_of met.found.now)) c.in_ok-command.ensures c.in_ok-matches.ensures.matches met.ensures.name met.ensures.rows in
     each_error c.from_residual-in_err-route_at-in-Some-boot-default.result words (λ fault. fault ≡ refused.field-0.0) c.from_residual-in_err-route_at-in-Some-boot-default.ensures.1 (λ error same job right. same ∙ boot_refused met.field-0-0.now (rows_of (found_of met.found.now)) refused.field-0.0 met.is-boot refused.ensures.right job (asks job right))
+
+-- the same of `run`
+run_refused : (name : Text) (rows : List Row) (error : LineError) → name ≡ codes "run"
+    → ((route : Text) (workers turns : ℕ) → IsRunInRange workers turns → IsRouteAt rows route → IsNumberAt (codes "WORKERS") rows workers → IsNumberAt (codes "TURNS") rows turns → error ≡ Memory)
+    → (job : Job) → AsksFor (name, rows) job × InRange job → error ≡ Memory
+run_refused name rows error is refused (One tries) asks = absurd (two_names name (codes "run") (codes "one") is asks.0.0 refl refl)
+run_refused name rows error is refused Asm asks = absurd (two_names name (codes "run") (codes "asm") is asks.0 refl refl)
+run_refused name rows error is refused (Dis code) asks = absurd (two_names name (codes "run") (codes "dis") is asks.0.0 refl refl)
+run_refused name rows error is refused (Boot route) asks = absurd (two_names name (codes "run") (codes "boot") is asks.0.0 refl refl)
+run_refused name rows error is refused (Run route workers turns) asks = refused (string_bytes route) workers turns asks.1 asks.0.1 asks.0.2 asks.0.3
+run_refused name rows error is refused Debug asks = absurd (two_names name (codes "run") (codes "debug") is asks.0 refl refl)
+run_refused name rows error is refused Replay asks = absurd (two_names name (codes "run") (codes "replay") is asks.0 refl refl)
+
+pub returns-in_err-job_of-in-Some-run-default-clause-right : goal.returns-in_err-job_of-in-Some-run-default-clause-right
+returns-in_err-job_of-in-Some-run-default-clause-right c =
+    let words = map (λ word. word.now) c.args.words.now in
+    let met = c.in-Some-run-default in
+    let refused = c.in_err-job_of-in-Some-run-default in
+    let asks = asked c.in_ok-command.field-0 words c.in_ok-matches.matches met.field-0-0.now (rows_of (found_of met.found.now)) c.in_ok-command.ensures c.in_ok-matches.ensures.matches met.ensures.name met.ensures.rows in
+    each_error c.from_residual-in_err-job_of-in-Some-run-default.result words (λ fault. fault ≡ refused.field-0.0) c.from_residual-in_err-job_of-in-Some-run-default.ensures.1 (λ error same job right. same ∙ run_refused met.field-0-0.now (rows_of (found_of met.found.now)) refused.field-0.0 met.is-run refused.ensures.right job (asks job right))

@@ -1,10 +1,8 @@
-use Rattle.std.proofs.Common.{lit<, ◌≡◌, ◌∙◌, ◌++◌, [], ap, append-nil, arith, drop, length, string_bytes, sym}
+use Rattle.std.proofs.Common.{lit<, ◌∙◌, arith, length, string_bytes, sym}
 use Rattle.std.proofs.lemmas.Bool.{eqb-false, eqb-true}
 use Rattle.std.proofs.lemmas.List.{length_push}
 use Rattle.std.proofs.lemmas.Iterator.Consumers.{YieldsList-end, YieldsList-turn}
 use Rattle.std.proofs.lemmas.Iterator.Splits.{YieldsList-from_str_split}
-use Rattle.ga_debug.specs.Head.{lines_of}
-use Rattle.ga_bench.specs.Debug.{replies_to}
 use Rattle.ga_bench.proofs.Replies.{answered, finished, next_line, no_line, skipped}
 use Rattle.ga_bench.proofs.debug.replies_to.Goals as goal
 

@@ -1,0 +1,11 @@
+use Rattle.std.proofs.Common.{string_bytes, subst, sym}
+use Rattle.ga_bench.specs.Answer.{IsJobOutput}
+use Rattle.ga_bench.specs.Fault.{Answers}
+use Rattle.ga_bench.specs.Run.{IsRunOutput}
+use Rattle.ga_bench.proofs.answer.output.Goals as goal
+
+pub returns-in-Run : goal.returns-in-Run
+returns-in-Run g c =
+    let run = c.in-Run in
+    subst (λ job. Answers string_bytes (IsJobOutput job c.args.input.now) c.run.result) (sym run.is)
+    (subst (λ route. Answers string_bytes (IsRunOutput route run.workers run.turns c.args.input.now) c.run.result) c.deref-in-Run.ensures c.run.ensures)
