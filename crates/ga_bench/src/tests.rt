@@ -14,6 +14,7 @@ use std::alloc::{AllocError, Global};
 use std::io;
 use std::io::{ErrorKind, Read, Write};
 use std::test::Fail;
+use std::thread::Threads;
 
 /// Gives its bytes, at most so many at a call, and fails at one call, counted from 0.
 #[derive(Drop)]
@@ -398,7 +399,7 @@ fn reads_each_length(rt: HostRuntime) -> Result<(), Fail> {
 /// Serves a job over bytes in memory. What its clause says is the composition: the bytes written are
 /// an output of the job for the bytes read.
 fn served(
-    rt: &impl AllocGlobal,
+    rt: &(impl AllocGlobal + Threads),
     job: &Job,
     input: &[u8],
     output: &mut Vec<u8>,
