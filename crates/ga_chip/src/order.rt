@@ -5,15 +5,17 @@ ghost use Rattle.ga_place.specs.Cell.{index_of, name_at};
 use ga_place::Node;
 
 /// The place of a node in order of name.
+#[inline(always)]
 pub(crate) fn index_of(node: Node) -> usize
     ensures value { result ≡ index_of node }
     ensures bound { result < 144 }
     ensures back { name_at result ≡ node }
 {
-    usize::from(node.row()) * 18 + usize::from(node.column())
+    usize::from(node.place())
 }
 
 /// The node at a place in order of name.
+#[inline(always)]
 pub(crate) fn node_at(index: u16) -> Node
     requires { index < 144 }
     ensures { result ≡ name_at index }

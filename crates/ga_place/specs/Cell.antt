@@ -1,6 +1,7 @@
 -- The places of the nodes in order of name, and the one-way cells between neighbours. A shared port is two cells:
 -- each of its two nodes writes one, which the other reads.
-use Rattle.std.specs.Prelude.{ℕ, ◌+◌, ◌*◌, ◌/◌, ◌%◌, ◌==◌, nat_lt, Bool, ◌&&◌, if◌then◌else◌, List, map, Option}
+use Rattle.std.specs.Prelude.{◌≡◌, ℕ, ◌<◌, ◌+◌, ◌*◌, ◌/◌, ◌%◌, ◌==◌, nat_lt, Bool, ◌&&◌, if◌then◌else◌, List, map, Option}
+use Rattle.std.proofs.Common.{arith}
 use Rattle.std.specs.List.{filter, flat_map, position, range_with_len}
 use Rattle.std.specs.Option.{option_and_then}
 use Rattle.ga_place.specs.Node.{row_of, column_of}
@@ -14,6 +15,10 @@ index_of name = if (nat_lt (row_of name) 8) && (nat_lt (column_of name) 18) then
 -- the name of the node at a place
 abbrev pub name_at : ℕ → ℕ
 name_at index = index / 18 * 100 + index % 18
+
+-- the name at a place has that place
+pub place_back : (place : ℕ) → place < 144 → index_of (name_at place) ≡ place
+place_back place below = grind arith
 
 -- A cell is told by its writer's name and the side at which it is written. A node writes one at each
 -- side that it has.

@@ -1,64 +1,91 @@
-ghost use Rattle.std.specs.Prelude.{◌≡◌, ℕ, ◌<◌, ◌↔◌, IsTrue, Some};
+ghost use Rattle.std.specs.Prelude.{◌≡◌, ◌==◌, ℕ, ◌<◌, ◌↔◌, IsTrue, Some};
+ghost use Rattle.std.specs.Cmp.{partial_order_from_own_ties};
+ghost use Rattle.std.specs.Cmp.Rules.{comparing, hashing};
+ghost use Rattle.std.specs.Hash as fed;
 ghost use Rattle.std.specs.Option.{SomeIff};
+ghost use Rattle.std.specs.Ordering.{as_partial_cmp, nat_cmp};
+ghost use Rattle.std.proofs.Common.{rules};
+ghost use Rattle.ga_place.specs.Cell.{index_of, name_at, place_back};
 ghost use Rattle.ga_place.specs.Node.{IsNodeName, IsOnEdge, column_of, node_text, row_of};
 ghost use Rattle.ga_place.specs.Side.{LacksSide};
 
+use std::cmp::Ordering;
 use std::fmt;
+use std::hash::{Hash, Hasher};
 use std::marker::Model;
 
 /// One of the 144 computers of the GA144, in 8 rows by 18 columns (chip reference DB002).
 ///
 /// Its name is the number `row * 100 + column`: 708 is row 7, column 8. A contract sees a node as its
-/// name.
-#[derive(Clone, Copy, Debug, PartialEq, Eq, PartialOrd, Ord, Hash)]
+/// name, and nodes compare and hash as their names. What is kept is the node's place in order of name.
+#[derive(Clone, Copy, Debug)]
 pub struct Node {
-    name: u16,
+    place: u8,
 }
 
 impl Model for Node {
     ghost Value = { ℕ };
 
-    ghost view = { λ node. node.name };
+    ghost view = { λ node. name_at node.place };
 
-    ghost invariant = { λ node. IsNodeName node.name };
+    ghost invariant = { λ node. node.place < 144 };
 
-    ghost inverse = { λ n. record { name = n } };
+    ghost inverse = { λ n. record { place = index_of n } };
+
+    ghost inverse_ok = { λ node below i. record { place = place_back node.place below i } };
 }
 
 impl Node {
     /// The node with this name, or `None` where no node has it, as at 718, 800 or 820.
+    #[inline]
     pub fn new(name: u16) -> Option<Self>
         ensures { SomeIff result (IsNodeName name) name }
     {
-        if name / 100 < 8 && name % 100 < 18 {
-            Some(Node { name })
+        let row = name / 100;
+        let column = name % 100;
+        if row < 8 && column < 18 {
+            let place = (row * 18 + column) as u8;
+            Some(Node { place })
         } else {
             None
         }
     }
 
     /// The name of the node, `row * 100 + column`.
+    #[inline]
     pub fn name(self) -> u16
         ensures value { result ≡ self }
         ensures bound { IsNodeName result }
     {
-        self.name
+        u16::from(self.row()) * 100 + u16::from(self.column())
+    }
+
+    /// The place of the node in order of name, from 0 to 143.
+    #[inline(always)]
+    pub fn place(self) -> u8
+        ensures value { result ≡ index_of self }
+        ensures bound { result < 144 }
+        ensures back { name_at result ≡ self }
+    {
+        self.place
     }
 
     /// The row of the node, from 0 in the south to 7.
+    #[inline(always)]
     pub fn row(self) -> u8
         ensures value { result ≡ row_of self }
         ensures bound { result < 8 }
     {
-        (self.name / 100) as u8
+        self.place / 18
     }
 
     /// The column of the node, from 0 in the west to 17.
+    #[inline(always)]
     pub fn column(self) -> u8
         ensures value { result ≡ column_of self }
         ensures bound { result < 18 }
     {
-        (self.name % 100) as u8
+        self.place % 18
     }
 
     /// Whether the node stands in row 0 or 7, or in column 0 or 17, and so lacks a side.
@@ -72,12 +99,65 @@ impl Node {
     }
 }
 
+impl PartialEq for Node {
+    ghost eq = { ◌==◌ };
+
+    ghost laws = { Prim.search (comparing, rules) };
+
+    #[inline(always)]
+    fn eq(&self, other: &Node) -> bool {
+        self.place == other.place
+    }
+}
+
+impl Eq for Node {
+    ghost laws = { Prim.search (comparing, rules) };
+}
+
+impl PartialOrd for Node {
+    ghost partial_cmp = { as_partial_cmp nat_cmp };
+
+    ghost laws = { partial_order_from_own_ties (Prim.search (comparing, rules))
+        (Prim.search (comparing, rules)) };
+
+    #[inline]
+    fn partial_cmp(&self, other: &Node) -> Option<Ordering> {
+        Some(self.cmp(other))
+    }
+}
+
+impl Ord for Node {
+    ghost cmp = { nat_cmp };
+
+    ghost total = { Prim.search (comparing, rules) };
+
+    ghost matches_partial_cmp = { Prim.search (comparing, rules) };
+
+    ghost matches_eq = { Prim.search (comparing, rules) };
+
+    // Places stand as their names do.
+    #[inline]
+    fn cmp(&self, other: &Node) -> Ordering {
+        self.place.cmp(&other.place)
+    }
+}
+
+impl Hash for Node {
+    ghost hash_input = { fed.u16 };
+
+    ghost respects_eq = { Prim.search (hashing, rules) };
+
+    fn hash<H: Hasher>(&self, state: &mut H) {
+        self.name().hash(state);
+    }
+}
+
 /// Writes the name as three decimal digits, as 008.
 impl fmt::Display for Node {
     ghost output = { λ node. Some (node_text node) };
 
     fn fmt<W: fmt::Write>(&self, f: &mut fmt::Formatter<W>) -> fmt::Result {
-        let name = self.name;
+        let name = self.name();
         write!(f, "{name:03}")
     }
 }

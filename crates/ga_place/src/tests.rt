@@ -28,6 +28,18 @@ fn nodes(rt: HostRuntime) -> Result<(), Fail> {
 }
 
 #[test]
+fn places(rt: HostRuntime) -> Result<(), Fail> {
+    for (name, place) in [(0, 0), (8, 8), (100, 18), (717, 143)] {
+        let node = Node::new(name).ok_or("no such node")?;
+        assert_eq!(rt; node.place(), place, "at {name}");
+        assert_eq!(rt; node.name(), name);
+    }
+    let (first, second) = (Node::new(17), Node::new(100));
+    assert!(rt; first < second && first != second);
+    Ok(())
+}
+
+#[test]
 fn addresses(rt: HostRuntime) -> Result<(), Fail> {
     for (side, sides, bits, name, address) in [
         (Side::Right, Sides::RIGHT, 0x80, "RIGHT", 0x1D5),
