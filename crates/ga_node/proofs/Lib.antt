@@ -1,5 +1,6 @@
 pub mod Rows
 pub mod Loading
+mod Works
 mod StackRing
 mod WorkedNodes
 mod WorkedLoader

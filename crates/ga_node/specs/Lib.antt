@@ -1,4 +1,5 @@
 pub mod State
+pub mod Work
 pub mod Need
 pub mod Fetch
 pub mod Loader

@@ -12,6 +12,7 @@ mod slot;
 mod stack;
 mod state;
 mod step;
+mod work;
 
 pub use need::{Need, Stop};
 pub use place::Place;

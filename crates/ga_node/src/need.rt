@@ -82,6 +82,7 @@ impl NodeState {
     ///
     /// The stops, which are this project's profile, come in the order `Counted`, then `Extended`, then
     /// the others.
+    #[inline(always)]
     #[tactic(auto, unfolding(crate::specs::Need::need_of))]
     pub fn need(&self) -> Need
         ensures { result ≡ need_of self.now }

@@ -1,5 +1,6 @@
-ghost use Rattle.std.specs.Prelude.{Some};
+ghost use Rattle.std.specs.Prelude.{◌≡◌, ◌<◌, Some};
 ghost use Rattle.ga_node.specs.Line.{place_text};
+ghost use Rattle.ga_node.specs.Work.{number_of};
 
 use std::fmt;
 
@@ -17,6 +18,17 @@ pub enum Place {
     Transfer,
     Count,
     Body,
+}
+
+impl Place {
+    /// The number of the place in this order, counted from 0.
+    #[inline(always)]
+    pub(crate) fn index(self) -> usize
+        ensures value { result ≡ number_of self }
+        ensures bound { result < 9 }
+    {
+        self as usize
+    }
 }
 
 impl fmt::Display for Place {

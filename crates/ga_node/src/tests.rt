@@ -412,6 +412,17 @@ fn posts(rt: HostRuntime) -> Result<(), Fail> {
 }
 
 #[test]
+fn posts_what_the_caller_names(rt: HostRuntime) -> Result<(), Fail> {
+    let mut state = before(Op::Store, Place::Slot0, 0, [5, 9, 0x155, 2, 0x1D5])?;
+    let post = word(0x155)?;
+    assert_eq!(rt; state.need(), Need::Post(Side::Right, post));
+    state.step_post(Side::Right, post);
+    assert_eq!(rt; registers(&state), [5, 9, 2, 0x11, 0x1D5]);
+    assert_eq!(rt; state.need(), Need::Check(Side::Right));
+    Ok(())
+}
+
+#[test]
 fn readers(rt: HostRuntime) -> Result<(), Fail> {
     let reset = NodeState::reset(node_000()?);
     assert_eq!(rt; reset.node().name(), 0);
