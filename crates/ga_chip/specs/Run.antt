@@ -116,6 +116,11 @@ abbrev pub moved_by : Outcome → ℕ
 moved_by Moved = 1
 moved_by _ = 0
 
+-- a try was Moved
+abbrev pub is_moved : Outcome → Bool
+is_moved Moved = true
+is_moved _ = false
+
 -- the moves of a run in order
 abbrev pub moves : Chip → List Event → List Move
 moves chip [] = []

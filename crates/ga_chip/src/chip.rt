@@ -7,7 +7,7 @@ ghost use Rattle.ga_chip.specs.declared.error.ChipError.TheVariants.{NotHeld};
 ghost use Rattle.ga_chip.specs.declared.outcome.Outcome.TheVariants.{Held, Moved};
 ghost use Rattle.ga_chip.specs.Grow.{LedgersGrow};
 ghost use Rattle.ga_chip.specs.Legal.{IsLegal};
-ghost use Rattle.ga_chip.specs.Run.{ClearBreak, PassBreak, SetBreak, happened, moved_by, moves, ran, tries_of, turn_of};
+ghost use Rattle.ga_chip.specs.Run.{ClearBreak, PassBreak, SetBreak, happened, is_moved, moved_by, moves, ran, tries_of, turn_of};
 
 use crate::error::ChipError;
 use crate::ledger::Ledger;
@@ -21,10 +21,6 @@ use ga_place::{Node, Side, cell, neighbour};
 use ga_word::Word18;
 use std::alloc::{AllocError, Global};
 use std::marker::Model;
-
-/// Where more nodes than this are awake, a turn tries each node: as long as few of them sleep, that is faster
-/// than to go from one awake node to the next.
-const MANY: u32 = 140;
 
 /// The chip: 144 nodes, and the 524 one-way cells over which they pass words.
 #[derive(Drop)]
@@ -159,6 +155,23 @@ impl Chip {
         self.attempt_at(index_of(what.node), what.side)
     }
 
+    /// One try of one node, as by `attempt`, of which only whether it was `Moved` is asked: a node that is known to
+    /// stand still is left alone.
+    #[inline(always)]
+    pub fn attempt_moves(&mut self, what: Try) -> bool
+        ensures chip { self.new ≡ (tried self.old what.node what.side).1 }
+        ensures moved { result ≡ is_moved (tried self.old what.node what.side).0 }
+    {
+        let index = index_of(what.node);
+        if self.try_own_at(index) {
+            return true;
+        }
+        if self.sleeps(index) {
+            return false;
+        }
+        self.attempt_far(index, what.side) == Outcome::Moved
+    }
+
     /// Tries in order.
     pub fn run(&mut self, tries: &[Try])
         ensures chip { self.new ≡ ran self.old (tries_of tries.now) }
@@ -177,7 +190,7 @@ impl Chip {
         ensures moved { result ≡ length (moves self.old (turn_of side)) }
         ensures ledgers { LedgersGrow self.old self.new (turn_of side) }
     {
-        if self.awake.len() > MANY {
+        if self.awake.is_crowded() {
             self.turn_of_all(side)
         } else {
             self.turn_of_awake(side)
@@ -229,7 +242,8 @@ impl Chip {
         }
     }
 
-    /// A turn that tries each node.
+    /// A turn that tries each node. As long as few of them sleep, that is faster than to go from one awake node to
+    /// the next.
     #[inline(never)]
     fn turn_of_all(&mut self, side: Side) -> u8
         ensures chip { self.new ≡ ran self.old (turn_of side) }
@@ -264,10 +278,24 @@ impl Chip {
         requires { index < 144 }
         ensures { (result, self.new) ≡ tried self.old (name_at index) side }
     {
-        if self.parts[index].try_own() {
+        if self.try_own_at(index) {
             return Outcome::Moved;
         }
         self.attempt_far(index, side)
+    }
+
+    /// A quick step of the node at a place in order of name, where it is the node's own work, and else nothing. Answers
+    /// whether the node made it.
+    #[inline(always)]
+    fn try_own_at(&mut self, index: usize) -> bool
+        requires { index < 144 }
+        ensures moved { result ≡ true → (side : Side) → (Moved, self.new) ≡ tried self.old (name_at index) side }
+        ensures same { result ≡ false → self.new ≡ self.old }
+    {
+        if self.parts[index].try_own() {
+            return true;
+        }
+        false
     }
 
     /// One try of the node at a place in order of name, by all that it may need.
@@ -285,6 +313,15 @@ impl Chip {
             self.awake.insert(other);
         }
         far.outcome
+    }
+
+    /// Whether the node at a place in order of name is known to stand still.
+    #[inline(always)]
+    fn sleeps(&self, index: usize) -> bool
+        requires { index < 144 }
+        ensures { result ≡ true → (side : Side) → (tried self.now (name_at index) side).0 ≢ Moved }
+    {
+        !self.awake.has(index)
     }
 
     /// The place of the first awake node from a place on, or more than 143 where there is none.

@@ -18,10 +18,19 @@ impl NodeSet {
         }
     }
 
-    /// How many nodes are in the set.
+    /// Whether most nodes may be in the set: all of the first 128 are.
     #[inline(always)]
-    pub(crate) fn len(&self) -> u32 {
-        self.words[0].count_ones() + self.words[1].count_ones() + self.words[2].count_ones()
+    pub(crate) fn is_crowded(&self) -> bool {
+        self.words[0] & self.words[1] == u64::MAX
+    }
+
+    /// Whether the node at a place is in the set.
+    #[inline(always)]
+    pub(crate) fn has(&self, place: usize) -> bool
+        requires { place < 144 }
+        ensures { result ≡ is_in place self.now }
+    {
+        self.words[place / 64] >> (place % 64) & 1 == 1
     }
 
     /// Puts the node at a place into the set.

@@ -2,7 +2,7 @@ ghost use Rattle.std.specs.Prelude.{◌≡◌, ◌≢◌, ◌≤◌, ◌<◌, �
 ghost use Rattle.ga_place.specs.Cell.{cell_of, index_of, read_cell};
 ghost use Rattle.ga_place.specs.Side.{is_among, one_side};
 ghost use Rattle.ga_place.specs.declared.side.Side.{Side};
-ghost use Rattle.ga_node.specs.Need.{is_check, is_post, need_of, takes_at};
+ghost use Rattle.ga_node.specs.Need.{is_check, need_of, takes_at};
 ghost use Rattle.ga_node.specs.State.{loaded_state};
 ghost use Rattle.ga_node.specs.declared.need.Need.TheVariants as need;
 ghost use Rattle.ga_chip.specs.Part.{Nothing, Own, after, after_asked, asks, asks_by, check_of, count_at, input_of, looked_at, post_to, stepped, take_of};
@@ -298,7 +298,7 @@ impl NodePart {
     ) -> Outcome
         requires ports { FitsPorts self.old.state.node ports.now }
         requires count { length cells.old ≡ 524 }
-        requires post { is_post (need_of self.old.state) ≡ true }
+        requires post { need_of self.old.state ≡ need.Post to word }
         ensures part { let asked = post_to to word (cell_of self.old.state.node to) in (result, self.new) ≡ after_asked asked (found_by asked cells.old) self.old }
         ensures cells { cells.new ≡ cells_after (post_to to word (cell_of self.old.state.node to)) cells.old }
     {
@@ -307,7 +307,7 @@ impl NodePart {
         };
         cells[at.index()] = Some(word);
         self.watch.step(self.state.place());
-        self.state.step_posted();
+        self.state.step_post(to, word);
         self.written.count(to);
         Outcome::Moved
     }

@@ -95,6 +95,33 @@ fn sleepers_are_woken(rt: HostRuntime) -> Result<(), Fail> {
 }
 
 #[test]
+fn sleepers_are_left_alone(rt: HostRuntime) -> Result<(), Fail> {
+    let mut chip = reset(rt.alloc())?;
+    place(&mut chip, 708, &WRITE_12_RIGHT)?;
+    let writer = Try {
+        node: node(708)?,
+        side: Side::Down,
+    };
+    let reader = Try {
+        node: node(709)?,
+        side: Side::Right,
+    };
+    // 709 looks in vain, and is left alone until 708 has posted its word with the seventh step.
+    for _ in 0..6 {
+        assert!(rt; !chip.attempt_moves(reader));
+        assert!(rt; chip.attempt_moves(writer));
+    }
+    assert!(rt; !chip.attempt_moves(reader));
+    assert!(rt; chip.attempt_moves(writer));
+    assert!(rt; !chip.attempt_moves(writer));
+    assert!(rt; chip.attempt_moves(reader));
+    assert!(rt; chip.attempt_moves(writer));
+    assert!(rt; chip.state(writer.node).steps() == 8);
+    assert!(rt; chip.state(reader.node).steps() == 1);
+    Ok(())
+}
+
+#[test]
 fn a_chip_stands_still(rt: HostRuntime) -> Result<(), Fail> {
     let mut chip = reset(rt.alloc())?;
     place(&mut chip, 708, &WRITE_12_RIGHT)?;

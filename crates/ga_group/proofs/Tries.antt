@@ -81,9 +81,12 @@ workers_run chip next plan turns faultless is =
 
 -- ---- one step of each loop
 
-pub try_next : (chip next : Chip) (side : Side) (group : List ℕ) (at node : ℕ) (outcome : Outcome) → at < length group → node ≡ slice_index_or group at node → ◌≡◌ {A = Outcome × Chip} (outcome, next) (tried chip node side)
+pub try_next : (chip next : Chip) (side : Side) (group : List ℕ) (at node : ℕ) → at < length group → node ≡ slice_index_or group at node → next ≡ (tried chip node side).1
     → ran chip (tries_of (group_tries side (drop at group))) ≡ ran next (tries_of (group_tries side (drop (at + 1) group)))
-try_next chip next side group at node outcome below is made = ran_next chip next node side outcome _ _ (ap tries_of (tries_left side group at node below is)) made
+try_next chip next side group at node below is made =
+    let outcome = (tried chip node side).0 in
+    let both : ◌≡◌ {A = Outcome × Chip} (outcome, next) (tried chip node side) = ap (λ c. (outcome, c)) made in
+    ran_next chip next node side outcome _ _ (ap tries_of (tries_left side group at node below is)) both
 
 module _ {A : Type 0} where
   pub group_next : (chip next : Chip) (side : Side) (groups : List (Vec ℕ A)) (at : ℕ) (group : Vec ℕ A) → at < length groups → group ≡ slice_index_or groups at group → next ≡ ran chip (tries_of (group_tries side group.items))

@@ -11,7 +11,7 @@ ghost use Rattle.ga_group.specs.Tries.{group_tries, turn_tries};
 use crate::error::RunError;
 use crate::gate::Gate;
 use crate::plan::Plan;
-use ga_chip::{Chip, Outcome, Try, side_of_turn};
+use ga_chip::{Chip, Try, side_of_turn};
 use ga_place::{Node, Side};
 use std::thread::Threads;
 
@@ -83,7 +83,7 @@ fn tries_of_group(chip: &mut Chip, group: &[Node], side: Side) -> u64
     let mut moved = 0;
     for node in group {
         let what = Try { node: *node, side };
-        moved += u64::from(chip.attempt(what) == Outcome::Moved);
+        moved += u64::from(chip.attempt_moves(what));
     }
     moved
 }

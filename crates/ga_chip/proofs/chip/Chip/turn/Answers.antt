@@ -5,10 +5,10 @@ use Rattle.ga_chip.specs.Legal.{IsLegal}
 use Rattle.ga_chip.proofs.Grow.{ledgers_grow}
 use Rattle.ga_chip.proofs.chip.Chip.turn.Goals as goal
 
-pub returns-then-len-gt-MANY-clause-ledgers : goal.returns-then-len-gt-MANY-clause-ledgers
-returns-then-len-gt-MANY-clause-ledgers c =
+pub returns-then-is_crowded-clause-ledgers : goal.returns-then-is_crowded-clause-ledgers
+returns-then-is_crowded-clause-ledgers c =
     subst (λ z. LedgersGrow c.args.self.now z (turn_of c.args.side)) (sym c.turn_of_all.ensures.chip) (ledgers_grow c.args.self.now (turn_of c.args.side) (subst IsLegal c.self.view_is c.self.invariant.0.legal))
 
-pub returns-else-len-gt-MANY-clause-ledgers : goal.returns-else-len-gt-MANY-clause-ledgers
-returns-else-len-gt-MANY-clause-ledgers c =
+pub returns-else-is_crowded-clause-ledgers : goal.returns-else-is_crowded-clause-ledgers
+returns-else-is_crowded-clause-ledgers c =
     subst (λ z. LedgersGrow c.args.self.now z (turn_of c.args.side)) (sym c.turn_of_awake.ensures.chip) (ledgers_grow c.args.self.now (turn_of c.args.side) (subst IsLegal c.self.view_is c.self.invariant.0.legal))

@@ -6,9 +6,9 @@ use Rattle.ga_chip.proofs.part.NodePart.post.Goals as goal
 
 pub count-requires : goal.count-requires
 count-requires c =
-    room c.args.to c.self.inside.written c.self.inside.state (post_runs _ (ap (λ p. is_post (need_of p.state)) c.self.view_is ∙ c.requires.post)) c.self.invariant.fits c.self.invariant.writes
+    room c.args.to c.self.inside.written c.self.inside.state (post_runs _ (ap (λ p. is_post (need_of p.state)) c.self.view_is ∙ ap is_post c.requires.post)) c.self.invariant.fits c.self.invariant.writes
 
 pub invariant_of-self : goal.invariant_of-self
 invariant_of-self c =
-    subst (λ written. StepsBound c.step_posted.new.self.steps written c.self.inside.read) (sym c.count.ensures)
-    (post_bound c.args.to c.self.inside.state c.step_posted.new.self.steps c.self.inside.written c.self.inside.read (post_runs _ (ap (λ p. is_post (need_of p.state)) c.self.view_is ∙ c.requires.post)) c.step_posted.ensures.counted c.self.invariant)
+    subst (λ written. StepsBound c.step_post.new.self.steps written c.self.inside.read) (sym c.count.ensures)
+    (post_bound c.args.to c.self.inside.state c.step_post.new.self.steps c.self.inside.written c.self.inside.read (post_runs _ (ap (λ p. is_post (need_of p.state)) c.self.view_is ∙ ap is_post c.requires.post)) c.step_post.ensures.counted c.self.invariant)
