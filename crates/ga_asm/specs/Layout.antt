@@ -4,7 +4,7 @@ use Rattle.std.specs.Option.{option_or}
 use Rattle.ga_word.specs.declared.op.Op.{Op}
 use Rattle.ga_pack.specs.Model.Layout.{Labels, Group, Shared, Alone, StandIn, address_after, is_loose, joins, labels_after, names_in, op_of, ops_of, size}
 use Rattle.ga_pack.specs.Model.LayoutFault.{AsmKind, FirstPassFault, Passed}
-use Rattle.ga_pack.specs.Model.Source.{Item, Here, Data}
+use Rattle.ga_pack.specs.Model.Source.{Item, Here, Data, is_among}
 use Rattle.ga_source.specs.declared.item.PlacedItem as placed
 use Rattle.ga_source.specs.Item.{item_of}
 use Rattle.ga_asm.specs.Image.{all_near, labels_of}
@@ -91,6 +91,10 @@ data_at address (Alone i ∷ groups) = if is_data i then Some address else data_
 -- the names of labels
 abbrev pub names_of : Labels → List (List ℕ)
 names_of labels = map (λ label. label.0) labels
+
+-- the same names are among both
+abbrev pub AreSameNames : List (List ℕ) → List (List ℕ) → Type 0
+AreSameNames names others = (name : List ℕ) → is_among name names ≡ is_among name others
 
 -- Nothing is laid.
 pub record IsBlank (l : the.Layout) : Type 0 where

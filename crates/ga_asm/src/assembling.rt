@@ -9,11 +9,11 @@ ghost use Rattle.ga_asm.specs.declared.error.AsmErrorKind.TheVariants.{Memory};
 
 use crate::error::{AsmError, AsmErrorKind};
 use crate::image::Image;
-use crate::layout::{Refusal, address_of, first_pass};
+use crate::layout::{Refusal, address_of, first_pass, set_names};
 use crate::making::second_pass;
 use ga_place::Node;
-use ga_source::{PlacedItem, Program, Section};
-use indexmap::IndexMap;
+use ga_source::{Name, PlacedItem, Program, Section};
+use indexmap::{IndexMap, IndexSet};
 use std::alloc::Global;
 use std::marker::Model;
 
@@ -39,15 +39,18 @@ impl Images {
     }
 }
 
-// The image of a section, or the first fault of its items.
-fn image_of(alloc: Global, section: &Section) -> Result<Image, Refusal>
+// The image of a section, or the first fault of its items. The set is one for names, and its room serves again.
+fn image_of(alloc: Global, section: &Section, names: &mut IndexSet<Name>) -> Result<Image, Refusal>
     requires { Items start (plain section.now.items.items) }
     ensures ok { IfOk result (λ image. IsFaultless (plain section.now.items.items) image) }
     ensures err { IfErr result (λ refusal. IsNodeFault (plain section.now.items.items) refusal.at (kind_of refusal.kind)) }
     ensures at { IfErr result (λ refusal. refusal.at < length section.now.items.items) }
 {
     let items = section.items.as_slice();
-    let layout = first_pass(alloc, section.labels.as_slice(), items)?;
+    if let Err(kind) = set_names(names, section.labels.as_slice()) {
+        return Err(Refusal { at: 0, kind });
+    }
+    let layout = first_pass(alloc, names, items)?;
     let words = second_pass(alloc, items, &layout)?;
     let code_len = usize::from(layout.data_start.unwrap_or(layout.address));
     let entry = address_of(&layout.labels, "main").unwrap_or(0);
@@ -99,8 +102,7 @@ fn error_at(node: Node, items: &[PlacedItem], refusal: Refusal) -> AsmError
 /// Items outside brackets are packed in order, each in the next slot of the last word where it fits, and else
 /// in slot 0 of a word of its own. A node has 64 words at most, and a fault is that of the first node in the
 /// text's order that has one. It fails as `Memory` only where memory is refused. It takes time in proportion
-/// to the program, if hashing spreads the names of its labels. Whether a name is a label of its node is told by
-/// going along the node's labels, and a node uses 64 names at most.
+/// to the program, if hashing spreads the names of its labels.
 pub fn assemble(alloc: Global, program: &Program) -> Result<Images, AsmError>
     ensures images { IfOk result (λ images. IsAssembled program.now images) }
     // they are the only images of the program
@@ -111,8 +113,9 @@ pub fn assemble(alloc: Global, program: &Program) -> Result<Images, AsmError>
     ensures fault { IfErr result (λ error. IsFirstFault program.now error.node (error_place error) (kind_of error.kind)) }
 {
     let mut images = IndexMap::new(alloc);
+    let mut names = IndexSet::new(alloc);
     for (node, section) in program.sections() {
-        let image = match image_of(alloc, section) {
+        let image = match image_of(alloc, section, &mut names) {
             Ok(image) => image,
             Err(refusal) => return Err(error_at(*node, section.items.as_slice(), refusal)),
         };

@@ -9,14 +9,14 @@ ghost use Rattle.ga_pack.specs.Followers as counted;
 ghost use Rattle.ga_source.specs.Item.{item_of, value_of, word_of};
 ghost use Rattle.ga_asm.specs.Error.{kind_in, kind_of};
 ghost use Rattle.ga_asm.specs.Image.{labels_of};
-ghost use Rattle.ga_asm.specs.Layout.{IsBlank, IsFirstPassFault, counts_after, data_after, joins_word, Placing, labels_with, names_of, open_after, open_count, open_of, plain};
+ghost use Rattle.ga_asm.specs.Layout.{AreSameNames, IsBlank, IsFirstPassFault, counts_after, data_after, joins_word, Placing, labels_with, names_of, open_after, open_count, open_of, plain};
 ghost use Rattle.ga_asm.specs.declared.error.AsmErrorKind.TheVariants.{Memory};
 
 use crate::error::AsmErrorKind;
 use crate::slots::Slots;
 use ga_source::{Item, Name, PlacedItem, Section, TransferWord, Value};
 use ga_word::{Op, Word18};
-use indexmap::IndexMap;
+use indexmap::{IndexMap, IndexSet};
 use std::alloc::{AllocError, Global};
 
 // What is kept of the items that are laid.
@@ -45,30 +45,18 @@ pub(crate) struct Refusal {
     pub(crate) kind: AsmErrorKind,
 }
 
-// A name is one of these. The 64 words of a node use few names, so each is looked for from the first on.
-fn is_among(name: &Name, names: &[Name]) -> bool
-    ensures { result ≡ words.is_among name.now.bytes (map (λ name. name.bytes) names.now) }
-{
-    for other in names {
-        if name == other {
-            return true;
-        }
-    }
-    false
-}
-
-fn is_value(names: &[Name], value: &Value) -> bool
-    ensures { result ≡ laid.is_value (map (λ name. name.bytes) names.now) (value_of value.now) }
+fn is_value(names: &IndexSet<Name>, value: &Value) -> bool
+    ensures { result ≡ laid.is_value (map (λ name. name.bytes) names.now.keys) (value_of value.now) }
 {
     match value {
         Value::Number(_) => true,
-        Value::Label(label) => is_among(&label.name, names),
+        Value::Label(label) => names.contains(&label.name),
     }
 }
 
 // The name that the item uses is a label of the node.
-fn is_defined(names: &[Name], item: &Item) -> bool
-    ensures { result ≡ laid.is_defined (map (λ name. name.bytes) names.now) (item_of item.now) }
+fn is_defined(names: &IndexSet<Name>, item: &Item) -> bool
+    ensures { result ≡ laid.is_defined (map (λ name. name.bytes) names.now.keys) (item_of item.now) }
 {
     match item {
         Item::Transfer { dest, .. } => is_value(names, dest),
@@ -256,11 +244,11 @@ impl Layout {
     }
 
     // The first fault of the item, which joins the open word or not, in a node with these labels.
-    fn fault_of(&self, names: &[Name], item: &Item, joined: bool) -> Option<AsmErrorKind>
+    fn fault_of(&self, names: &IndexSet<Name>, item: &Item, joined: bool) -> Option<AsmErrorKind>
         requires joined { joined ≡ joins_word self.now (item_of item.now) }
         requires near { self.now.word ≤ 64 }
         requires few { self.now.address ≤ 64 }
-        ensures { kind_in result ≡ faults.fault_at (map (λ name. name.bytes) names.now) (labels_of self.now.labels.entries) self.now.address (joins_word self.now (item_of item.now)) (item_of item.now) }
+        ensures { kind_in result ≡ faults.fault_at (map (λ name. name.bytes) names.now.keys) (labels_of self.now.labels.entries) self.now.address (joins_word self.now (item_of item.now)) (item_of item.now) }
     {
         if !is_defined(names, item) {
             return Some(AsmErrorKind::UndefinedLabel);
@@ -379,15 +367,27 @@ impl Layout {
     }
 }
 
+/// The names become those of these labels, so that each is looked up.
+pub(crate) fn set_names(names: &mut IndexSet<Name>, labels: &[Name]) -> Result<(), AsmErrorKind>
+    ensures ok { OnOk result (AreSameNames (map (λ name. name.bytes) names.new.keys) (map (λ name. name.bytes) labels.now)) }
+    ensures err { IfErr result (λ kind. kind ≡ Memory) }
+{
+    names.clear();
+    for label in labels {
+        names.insert(*label)?;
+    }
+    Ok(())
+}
+
 /// Where the items of a node come to stand, or the first fault of the first pass. The names are those of
 /// all labels of the node.
 pub(crate) fn first_pass(
     alloc: Global,
-    names: &[Name],
+    names: &IndexSet<Name>,
     items: &[PlacedItem],
 ) -> Result<Layout, Refusal>
     requires right { Items start (plain items.now) }
-    requires names { map (λ name. name.bytes) names.now ≡ names_in (plain items.now) }
+    requires names { AreSameNames (map (λ name. name.bytes) names.now.keys) (names_in (plain items.now)) }
     ensures ok { IfOk result (λ layout. Placing (plain items.now) layout) }
     ensures err { IfErr result (λ refusal. IsFirstPassFault (plain items.now) refusal.at (kind_of refusal.kind)) }
     ensures at { IfErr result (λ refusal. refusal.at < length items.now) }

@@ -112,9 +112,9 @@ finished_as (position.BehindOp o) p q e = absurd (cc)
 finished_as position.BehindComma p q e = absurd (cc)
 finished_as position.InWord p q e = absurd (cc)
 finished_as (position.BehindDestOp o) p q e = absurd (cc)
-finished_as (position.BehindDest o v) p q e = absurd (cc)
-finished_as (position.BehindSlash o v) p q e = absurd (cc)
-finished_as (position.BehindSpare o v k) p q e = absurd (cc)
+finished_as (position.BehindDest o) p q e = absurd (cc)
+finished_as (position.BehindSlash o) p q e = absurd (cc)
+finished_as (position.BehindSpare o k) p q e = absurd (cc)
 
 -- the text's program, which is the only one
 pub record Whole (text : List ℕ) (program : List PlacedSection) : Type 0 where

@@ -51,9 +51,9 @@ at_position (position.BehindOp o) p = inside (inside_of p) (behind_op (place_of 
 at_position position.BehindComma p = inside (inside_of p) (behind_comma (place_of p.place))
 at_position position.InWord p = inside (inside_of p) (in_word (place_of p.place) p.ops.items)
 at_position (position.BehindDestOp o) p = inside (inside_of p) (behind_dest_op (place_of p.place) p.ops.items o)
-at_position (position.BehindDest o v) p = inside (inside_of p) (behind_dest (place_of p.place) p.ops.items o (pending_of v) (name_place_of v))
-at_position (position.BehindSlash o v) p = inside (inside_of p) (behind_slash (place_of p.place) p.ops.items o (pending_of v) (name_place_of v))
-at_position (position.BehindSpare o v k) p = inside (inside_of p) (behind_spare (place_of p.place) p.ops.items o (pending_of v) (name_place_of v) k)
+at_position (position.BehindDest o) p = inside (inside_of p) (behind_dest (place_of p.place) p.ops.items o (pending_of p.dest) (name_place_of p.dest))
+at_position (position.BehindSlash o) p = inside (inside_of p) (behind_slash (place_of p.place) p.ops.items o (pending_of p.dest) (name_place_of p.dest))
+at_position (position.BehindSpare o k) p = inside (inside_of p) (behind_spare (place_of p.place) p.ops.items o (pending_of p.dest) (name_place_of p.dest) k)
 at_position position.Finished p = finished (done_of p)
 
 abbrev pub state_of : written.Parser → State

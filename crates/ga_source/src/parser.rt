@@ -60,9 +60,9 @@ enum Position {
     InWord,
     // In brackets, behind an opcode that takes a destination; and behind its destination, `/` and spare bits.
     BehindDestOp(Op),
-    BehindDest(Op, Pending),
-    BehindSlash(Op, Pending),
-    BehindSpare(Op, Pending, u8),
+    BehindDest(Op),
+    BehindSlash(Op),
+    BehindSpare(Op, u8),
     // The text's end was taken.
     Finished,
 }
@@ -80,8 +80,9 @@ pub(crate) struct Parser {
     position: Position,
     // The place of the item's first token.
     place: Place,
-    // The opcodes of a bracketed word, but for one that takes a destination.
+    // The opcodes of a bracketed word, but for one that takes a destination; and its destination.
     ops: ArrayVec<Op, 4>,
+    dest: Pending,
 }
 
 impl Pending {
@@ -142,18 +143,18 @@ impl Parser {
             position: Position::Nothing,
             place: Place { line: 1, column: 1 },
             ops: ArrayVec::new(),
+            dest: Pending::Number(0),
         }
     }
 
-    // The item is whole; the next one stands in this part.
+    // The item that begins at a place is whole; the next one stands in this part.
     #[inline(always)]
-    fn add(&mut self, item: Item, part: Part) -> Result<(), SourceErrorKind>
+    fn add(&mut self, item: Item, place: Place, part: Part) -> Result<(), SourceErrorKind>
         requires no_label { (labels : List (List ℕ)) → labels_with (item_of item) labels ≡ labels }
-        ensures ok { OnOk result (state_of self.new ≡ added (inside_of self.old) (item_of item) (place_of self.old.place) (name_place_in item) (part_of part)) }
+        ensures ok { OnOk result (state_of self.new ≡ added (inside_of self.old) (item_of item) (place_of place) (name_place_in item) (part_of part)) }
         ensures err { IfErr result (λ kind. kind ≡ Memory) }
     {
         let makes_word = item.makes_word();
-        let place = self.place;
         self.items.push(PlacedItem { item, place })?;
         self.has_word = self.has_word || makes_word;
         self.part = part;
@@ -215,7 +216,7 @@ impl Parser {
         ensures err { IfErr result (λ kind. kind ≡ Memory) }
     {
         let dest = value.value(self.alloc)?;
-        self.add(Item::Transfer { op, dest }, Part::Code(0))
+        self.add(Item::Transfer { op, dest }, self.place, Part::Code(0))
     }
 
     // Behind an opcode that takes a destination, outside brackets.
@@ -243,7 +244,7 @@ impl Parser {
             Part::Code(owed) => Part::Code(owed - 1),
             Part::Data => Part::Data,
         };
-        self.add(Item::Plain(value), part)
+        self.add(Item::Plain(value), self.place, part)
     }
 
     // Behind a comma.
@@ -310,11 +311,13 @@ impl Parser {
                 if number.get() >= bound {
                     return Err(SourceErrorKind::BadWord);
                 }
-                self.position = Position::BehindDest(op, Pending::Number(number.get() as u16));
+                self.dest = Pending::Number(number.get() as u16);
+                self.position = Position::BehindDest(op);
                 Ok(())
             }
             Meaning::Name(name) => {
-                self.position = Position::BehindDest(op, Pending::Name(name, place));
+                self.dest = Pending::Name(name, place);
+                self.position = Position::BehindDest(op);
                 Ok(())
             }
             _ => Err(bracket_fault(token)),
@@ -322,13 +325,8 @@ impl Parser {
     }
 
     // In brackets, behind a destination.
-    fn take_behind_dest(
-        &mut self,
-        op: Op,
-        dest: Pending,
-        token: &Meaning,
-    ) -> Result<(), SourceErrorKind>
-        requires position { self.old.position ≡ at.BehindDest op dest }
+    fn take_behind_dest(&mut self, op: Op, token: &Meaning) -> Result<(), SourceErrorKind>
+        requires position { self.old.position ≡ at.BehindDest op }
         requires code { part_of self.old.part ≡ Code 0 }
         ensures { (place : model.Place) → Took (state_of self.old) (meaning_of token.now) place result (state_of self.new) }
     {
@@ -337,10 +335,10 @@ impl Parser {
                 if !self.ops.is_empty() {
                     return Err(SourceErrorKind::BadWord);
                 }
-                self.position = Position::BehindSlash(op, dest);
+                self.position = Position::BehindSlash(op);
                 Ok(())
             }
-            Meaning::CloseMark => self.close(op, dest, None),
+            Meaning::CloseMark => self.close(op, None),
             _ => Err(bracket_fault(token)),
         }
     }
@@ -352,28 +350,28 @@ impl Parser {
     {
         let owed = followers(&self.ops);
         let ops = std::mem::replace(&mut self.ops, ArrayVec::new());
-        self.add(Item::Word(ops), Part::Code(owed))
+        self.add(Item::Word(ops), self.place, Part::Code(owed))
     }
 
     // A bracketed word with a destination is whole.
-    fn close(&mut self, op: Op, dest: Pending, spare: Option<u8>) -> Result<(), SourceErrorKind>
+    fn close(&mut self, op: Op, spare: Option<u8>) -> Result<(), SourceErrorKind>
         requires code { part_of self.old.part ≡ Code 0 }
-        ensures { Answered (machine.with_part (inside_of self.old) (WordTo self.old.ops.items op (pending_of dest) spare) (place_of self.old.place) (name_place_of dest)) result (state_of self.new) }
+        ensures { Answered (machine.with_part (inside_of self.old) (WordTo self.old.ops.items op (pending_of self.old.dest) spare) (place_of self.old.place) (name_place_of self.old.dest)) result (state_of self.new) }
     {
         let owed = followers(&self.ops);
         let ops = std::mem::replace(&mut self.ops, ArrayVec::new());
-        let item = word_to(self.alloc, ops, op, dest, spare)?;
-        self.add(item, Part::Code(owed))
+        let item = word_to(self.alloc, ops, op, self.dest, spare)?;
+        self.add(item, self.place, Part::Code(owed))
     }
 
     // In brackets, behind `/`.
-    fn take_spare(&mut self, op: Op, dest: Pending, token: &Meaning) -> Result<(), SourceErrorKind>
-        requires position { self.old.position ≡ at.BehindSlash op dest }
+    fn take_spare(&mut self, op: Op, token: &Meaning) -> Result<(), SourceErrorKind>
+        requires position { self.old.position ≡ at.BehindSlash op }
         ensures { (place : model.Place) → Took (state_of self.old) (meaning_of token.now) place result (state_of self.new) }
     {
         match *token {
             Meaning::Number(spare) if spare.get() < 8 => {
-                self.position = Position::BehindSpare(op, dest, spare.get() as u8);
+                self.position = Position::BehindSpare(op, spare.get() as u8);
                 Ok(())
             }
             Meaning::Number(_) => Err(SourceErrorKind::BadWord),
@@ -382,45 +380,41 @@ impl Parser {
     }
 
     // In brackets, behind spare bits.
-    fn take_close(
-        &mut self,
-        op: Op,
-        dest: Pending,
-        spare: u8,
-        token: &Meaning,
-    ) -> Result<(), SourceErrorKind>
-        requires position { self.old.position ≡ at.BehindSpare op dest spare }
+    fn take_close(&mut self, op: Op, spare: u8, token: &Meaning) -> Result<(), SourceErrorKind>
+        requires position { self.old.position ≡ at.BehindSpare op spare }
         requires code { part_of self.old.part ≡ Code 0 }
         ensures { (place : model.Place) → Took (state_of self.old) (meaning_of token.now) place result (state_of self.new) }
     {
         match *token {
-            Meaning::CloseMark => self.close(op, dest, Some(spare)),
+            Meaning::CloseMark => self.close(op, Some(spare)),
             _ => Err(bracket_fault(token)),
         }
     }
 
     // An opcode outside brackets, where no follower is owed.
-    fn take_op(&mut self, op: Op) -> Result<(), SourceErrorKind>
+    fn take_op(&mut self, op: Op, place: Place) -> Result<(), SourceErrorKind>
         requires position { self.old.position ≡ at.Between }
-        ensures { Answered (machine.take_op (inside_of self.old) op (place_of self.old.place)) result (state_of self.new) }
+        ensures { Answered (machine.take_op (inside_of self.old) op (place_of place)) result (state_of self.new) }
     {
         if op.takes_dest() {
+            self.place = place;
             self.position = Position::BehindOp(op);
             return Ok(());
         }
         if is_followed(op) {
             return Err(SourceErrorKind::BadToken);
         }
-        self.add(Item::Instruction(op), Part::Code(0))
+        self.add(Item::Instruction(op), place, Part::Code(0))
     }
 
     // Behind `data`.
-    fn take_data(&mut self, token: &Meaning) -> Result<(), SourceErrorKind>
+    fn take_data(&mut self, token: &Meaning, place: Place) -> Result<(), SourceErrorKind>
         requires position { self.old.position ≡ at.Between }
-        ensures { Answered (machine.take_first Behind (inside_of self.old) (meaning_of token.now) (place_of self.old.place)) result (state_of self.new) }
+        ensures { Answered (machine.take_first Behind (inside_of self.old) (meaning_of token.now) (place_of place)) result (state_of self.new) }
     {
         match *token {
             Meaning::Comma => {
+                self.place = place;
                 self.position = Position::BehindComma;
                 Ok(())
             }
@@ -429,16 +423,17 @@ impl Parser {
     }
 
     // In the code part, where followers are owed.
-    fn take_owed(&mut self, token: &Meaning) -> Result<(), SourceErrorKind>
+    fn take_owed(&mut self, token: &Meaning, place: Place) -> Result<(), SourceErrorKind>
         requires position { self.old.position ≡ at.Between }
-        ensures { (owed : ℕ) → Answered (machine.take_first (Code (suc owed)) (inside_of self.old) (meaning_of token.now) (place_of self.old.place)) result (state_of self.new) }
+        ensures { (owed : ℕ) → Answered (machine.take_first (Code (suc owed)) (inside_of self.old) (meaning_of token.now) (place_of place)) result (state_of self.new) }
     {
         match *token {
             Meaning::Comma => {
+                self.place = place;
                 self.position = Position::BehindComma;
                 Ok(())
             }
-            Meaning::Data => self.add(Item::Data, Part::Data),
+            Meaning::Data => self.add(Item::Data, place, Part::Data),
             Meaning::Op(op) if !is_followed(op) => Err(SourceErrorKind::BadWord),
             Meaning::Number(_) | Meaning::Align | Meaning::OpenMark => Err(
                 SourceErrorKind::BadWord,
@@ -448,16 +443,17 @@ impl Parser {
     }
 
     // In the code part, where no follower is owed.
-    fn take_code(&mut self, token: &Meaning) -> Result<(), SourceErrorKind>
+    fn take_code(&mut self, token: &Meaning, place: Place) -> Result<(), SourceErrorKind>
         requires position { self.old.position ≡ at.Between }
-        ensures { Answered (machine.take_first (Code 0) (inside_of self.old) (meaning_of token.now) (place_of self.old.place)) result (state_of self.new) }
+        ensures { Answered (machine.take_first (Code 0) (inside_of self.old) (meaning_of token.now) (place_of place)) result (state_of self.new) }
     {
         match *token {
-            Meaning::Op(op) => self.take_op(op),
-            Meaning::Number(number) => self.add(Item::Literal(number), Part::Code(0)),
-            Meaning::Align => self.add(Item::Align, Part::Code(0)),
-            Meaning::Data => self.add(Item::Data, Part::Data),
+            Meaning::Op(op) => self.take_op(op, place),
+            Meaning::Number(number) => self.add(Item::Literal(number), place, Part::Code(0)),
+            Meaning::Align => self.add(Item::Align, place, Part::Code(0)),
+            Meaning::Data => self.add(Item::Data, place, Part::Data),
             Meaning::OpenMark => {
+                self.place = place;
                 self.ops = ArrayVec::new();
                 self.position = Position::InWord;
                 Ok(())
@@ -467,14 +463,14 @@ impl Parser {
     }
 
     // What begins an item, but for a label.
-    fn take_item(&mut self, token: &Meaning) -> Result<(), SourceErrorKind>
+    fn take_item(&mut self, token: &Meaning, place: Place) -> Result<(), SourceErrorKind>
         requires position { self.old.position ≡ at.Between }
-        ensures { Answered (machine.take_first (part_of self.old.part) (inside_of self.old) (meaning_of token.now) (place_of self.old.place)) result (state_of self.new) }
+        ensures { Answered (machine.take_first (part_of self.old.part) (inside_of self.old) (meaning_of token.now) (place_of place)) result (state_of self.new) }
     {
         match self.part {
-            Part::Data => self.take_data(token),
-            Part::Code(0) => self.take_code(token),
-            Part::Code(_) => self.take_owed(token),
+            Part::Data => self.take_data(token, place),
+            Part::Code(0) => self.take_code(token, place),
+            Part::Code(_) => self.take_owed(token, place),
         }
     }
 
@@ -484,7 +480,6 @@ impl Parser {
         requires consistent { IsConsistent (state_of self.old) }
         ensures { Took (state_of self.old) (meaning_of token.now) (place_of place) result (state_of self.new) }
     {
-        self.place = place;
         match *token {
             Meaning::BadToken => Err(SourceErrorKind::BadToken),
             Meaning::NumberRange => Err(SourceErrorKind::NumberRange),
@@ -496,8 +491,8 @@ impl Parser {
                 self.position = Position::Naming;
                 Ok(())
             }
-            Meaning::Label(name) => self.take_label(name),
-            _ => self.take_item(token),
+            Meaning::Label(name) => self.take_label(name, place),
+            _ => self.take_item(token, place),
         }
     }
 
@@ -529,9 +524,9 @@ impl Parser {
     }
 
     // A label, which may stand wherever an item may.
-    fn take_label(&mut self, name: Name) -> Result<(), SourceErrorKind>
+    fn take_label(&mut self, name: Name, place: Place) -> Result<(), SourceErrorKind>
         requires position { self.old.position ≡ at.Between }
-        ensures { Answered (machine.take_label (inside_of self.old) name.bytes (place_of self.old.place)) result (state_of self.new) }
+        ensures { Answered (machine.take_label (inside_of self.old) name.bytes (place_of place)) result (state_of self.new) }
     {
         if is_reserved(name.as_str()) {
             return Err(SourceErrorKind::ReservedLabel);
@@ -539,7 +534,6 @@ impl Parser {
         if !self.add_label(name)? {
             return Err(SourceErrorKind::DuplicateLabel);
         }
-        let place = self.place;
         let item = Item::Label(name);
         self.items.push(PlacedItem { item, place })?;
         Ok(())
@@ -559,9 +553,9 @@ impl Parser {
             Position::BehindComma => self.take_plain(token, place),
             Position::InWord => self.take_slot(token),
             Position::BehindDestOp(op) => self.take_field(op, token, place),
-            Position::BehindDest(op, dest) => self.take_behind_dest(op, dest, token),
-            Position::BehindSlash(op, dest) => self.take_spare(op, dest, token),
-            Position::BehindSpare(op, dest, spare) => self.take_close(op, dest, spare, token),
+            Position::BehindDest(op) => self.take_behind_dest(op, token),
+            Position::BehindSlash(op) => self.take_spare(op, token),
+            Position::BehindSpare(op, spare) => self.take_close(op, spare, token),
             Position::Finished => Err(SourceErrorKind::BadToken),
         }
     }
