@@ -70,10 +70,11 @@ fn turn_on(chip: &mut Chip, count: u32) -> u64
 {
     let mut moved = 0;
     for turn in 0..u64::from(count) {
-        if chip.is_still() {
+        let steps = chip.turn(side_of_turn(turn));
+        moved += u64::from(steps);
+        if steps == 0 && chip.is_still() {
             return moved;
         }
-        moved += u64::from(chip.turn(side_of_turn(turn)));
     }
     moved
 }
