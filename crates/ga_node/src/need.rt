@@ -1,13 +1,14 @@
 ghost use Rattle.std.specs.Prelude.{◌≡◌, None, Some};
 ghost use Rattle.ga_node.specs.Line.{need_text, stop_text};
-ghost use Rattle.ga_node.specs.Need.{body_need, fetch_need, held_need, input_need, need_of, op_need, read_need, slot_need, write_need};
-ghost use Rattle.ga_node.specs.State.{op_of};
+ghost use Rattle.ga_node.specs.Need.{body_need, fetch_need, held_need, input_need, need_of, read_need, write_need};
+ghost use Rattle.ga_node.specs.Work.{load_need, wants_by_work};
 ghost use Rattle.ga_place.specs.Address.{where_is};
 
 use crate::place::Place;
 use crate::state::NodeState;
+use crate::work::Work;
 use ga_place::{Side, Sides, Where, locate};
-use ga_word::{Op, Word18};
+use ga_word::Word18;
 use std::fmt;
 
 /// Why a node stops. A stop is a fact of the state: nothing changes from then on.
@@ -83,28 +84,45 @@ impl NodeState {
     /// The stops, which are this project's profile, come in the order `Counted`, then `Extended`, then
     /// the others.
     #[inline(always)]
-    #[tactic(auto, unfolding(crate::specs::Need::need_of))]
+    #[tactic(auto, using(crate::proofs::Works::posted_wants, crate::proofs::Works::unposted_wants), unfolding(crate::specs::Need::need_of))]
     pub fn need(&self) -> Need
         ensures { result ≡ need_of self.now }
     {
         if self.steps == u64::MAX {
             return Need::Stopped(Stop::Counted);
         }
-        match self.place {
-            Place::Fetch => fetch_need(self.p),
-            Place::Completion | Place::Transfer | Place::Count => Need::Input,
-            Place::Body => self.body_need(),
-            _ => self.slot_need(),
+        match self.posted {
+            Some((side, _)) => Need::Check(side),
+            None => self.work_need(),
         }
     }
 
-    /// What a node needs in a slot: the check of a post, or what the opcode needs.
-    fn slot_need(&self) -> Need
-        ensures { result ≡ slot_need self.now.posted (op_of self.now) self.now }
+    /// What a node that has posted nothing needs, by the work at its place.
+    #[inline(always)]
+    fn work_need(&self) -> Need
+        requires { self.now.posted ≡ None }
+        ensures { result ≡ wants_by_work self.now }
     {
-        match self.posted {
-            Some((side, _)) => Need::Check(side),
-            None => self.op_need(),
+        match self.work() {
+            Work::FetchP => read_need(locate(self.p)),
+            Work::FetchB => read_need(locate(self.b)),
+            Work::FetchPlus | Work::Fetch => read_need(locate(address_in(self.a))),
+            Work::StoreP => write_need(locate(self.p), self.t),
+            Work::StoreB => write_need(locate(self.b), self.t),
+            Work::StorePlus | Work::Store => write_need(locate(address_in(self.a)), self.t),
+            Work::Refetch => fetch_need(self.p),
+            Work::Load => self.load_need(),
+            _ => Need::Own,
+        }
+    }
+
+    /// What the loader needs: the next word of the stream, but in the body of a frame.
+    fn load_need(&self) -> Need
+        ensures { result ≡ load_need self.now.place self.now }
+    {
+        match self.place {
+            Place::Body => self.body_need(),
+            _ => Need::Input,
         }
     }
 
@@ -120,21 +138,6 @@ impl NodeState {
         match self.loader.held {
             Some(word) => held_need(at, word),
             None => input_need(at),
-        }
-    }
-
-    /// What the opcode in the slot needs: where it reads or writes.
-    fn op_need(&self) -> Need
-        ensures { result ≡ op_need (op_of self.now) self.now }
-    {
-        match self.op() {
-            Op::FetchP => read_need(locate(self.p)),
-            Op::FetchB => read_need(locate(self.b)),
-            Op::FetchPlus | Op::Fetch => read_need(locate(address_in(self.a))),
-            Op::StoreP => write_need(locate(self.p), self.t),
-            Op::StoreB => write_need(locate(self.b), self.t),
-            Op::StorePlus | Op::Store => write_need(locate(address_in(self.a)), self.t),
-            _ => Need::Own,
         }
     }
 }
