@@ -1,5 +1,5 @@
 -- The ports of a node are what it shares with its neighbours.
-use Rattle.std.proofs.Common.{◌≡◌, ℕ, ◌⊎◌, inl, inr, ◌<◌, List, length, get_or, zero-add, Option, Some, None, option_map, is_some, refl, sym, ap, ap₂, ◌∙◌, subst}
+use Rattle.std.proofs.Common.{◌≡◌, ℕ, ◌⊎◌, inl, inr, ◌<◌, List, [], ◌∷◌, length, get_or, zero-add, Option, Some, None, option_map, is_some, refl, sym, ap, ap₂, ◌∙◌, subst}
 use Rattle.std.proofs.lemmas.List.FromFn.{get_or-map-range_with_len}
 use Rattle.std.proofs.lemmas.Option.{none-some, same_Some}
 use Rattle.std.specs.Option.{option_and_then}
@@ -87,8 +87,8 @@ unfolding all_ports
 how_many = refl
 
 -- the ports of a node, as the code makes them
-pub ports_made : (name : ℕ) (right down left up : Option Port) → right ≡ port_of name Right → down ≡ port_of name Down → left ≡ port_of name Left → up ≡ port_of name Up → record { right = right; down = down; left = left; up = up } ≡ ports_of name
+pub ports_made : (name : ℕ) (right down left up : Option Port) → right ≡ port_of name Right → down ≡ port_of name Down → left ≡ port_of name Left → up ≡ port_of name Up → record { by_side = right ∷ down ∷ left ∷ up ∷ [] } ≡ ports_of name
 unfolding ports_of
 ports_made name right down left up e f g h =
-    ap₂ (λ r d. record { right = r; down = d; left = left; up = up }) e f
-    ∙ ap₂ (λ l u. record { right = port_of name Right; down = port_of name Down; left = l; up = u }) g h
+    ap₂ (λ r d. record { by_side = r ∷ d ∷ left ∷ up ∷ [] }) e f
+    ∙ ap₂ (λ l u. record { by_side = port_of name Right ∷ port_of name Down ∷ l ∷ u ∷ [] }) g h

@@ -1,5 +1,5 @@
 -- The ports of a node: what it shares with its neighbour at each side.
-use Rattle.std.specs.Prelude.{◌≡◌, ◌<◌, ℕ, List, map, Option, Some, None, option_map}
+use Rattle.std.specs.Prelude.{◌≡◌, ◌<◌, ℕ, List, [], ◌∷◌, get_or, map, Option, Some, None, option_map}
 use Rattle.std.specs.List.{range_with_len}
 use Rattle.ga_place.specs.Cell.{cell_of, index_of, name_at, read_cell}
 use Rattle.ga_place.specs.Side.{neighbour_of}
@@ -21,13 +21,17 @@ port_of name side = port_with (neighbour_of name side) (read_cell name side) (ce
 
 -- the ports of a node
 unfoldable pub ports_of : ℕ → Ports
-ports_of name = record { right = port_of name Right; down = port_of name Down; left = port_of name Left; up = port_of name Up }
+ports_of name = record { by_side = port_of name Right ∷ port_of name Down ∷ port_of name Left ∷ port_of name Up ∷ [] }
+
+-- the number of a side, in the order in which a node keeps its ports
+abbrev pub number_of : Side → ℕ
+number_of Right = 0
+number_of Down = 1
+number_of Left = 2
+number_of Up = 3
 
 abbrev pub port_at : Side → Ports → Option Port
-port_at Right ports = ports.right
-port_at Down ports = ports.down
-port_at Left ports = ports.left
-port_at Up ports = ports.up
+port_at side ports = get_or ports.by_side (number_of side) None
 
 -- they are what the node shares with its neighbours
 pub record FitsPorts (name : ℕ) (ports : Ports) : Type 0 where

@@ -258,7 +258,7 @@ impl Chip {
     }
 
     /// A turn that leaves out the nodes that sleep.
-    #[inline(never)]
+    #[inline(always)]
     fn turn_of_awake(&mut self, side: Side) -> u8
         ensures chip { self.new ≡ ran self.old (turn_of side) }
         ensures moved { result ≡ length (moves self.old (turn_of side)) }

@@ -19,23 +19,17 @@ pub(crate) struct Port {
 /// The ports of a node, one for each side at which it has a neighbour.
 #[derive(Clone, Copy, Debug, PartialEq, Eq)]
 pub(crate) struct Ports {
-    right: Option<Port>,
-    down: Option<Port>,
-    left: Option<Port>,
-    up: Option<Port>,
+    // In the order of the sides.
+    by_side: [Option<Port>; 4],
 }
 
 impl Ports {
     /// The port at a side.
+    #[inline(always)]
     pub(crate) fn at(&self, side: Side) -> Option<Port>
         ensures { result ≡ port_at side self.now }
     {
-        match side {
-            Side::Right => self.right,
-            Side::Down => self.down,
-            Side::Left => self.left,
-            Side::Up => self.up,
-        }
+        self.by_side[side as usize]
     }
 }
 
@@ -47,10 +41,12 @@ pub(crate) fn all_ports(alloc: Global) -> Result<Vec<Ports>, AllocError>
     for index in 0..144 {
         let node = node_at(index);
         ports.push(Ports {
-            right: port_of(node, Side::Right),
-            down: port_of(node, Side::Down),
-            left: port_of(node, Side::Left),
-            up: port_of(node, Side::Up),
+            by_side: [
+                port_of(node, Side::Right),
+                port_of(node, Side::Down),
+                port_of(node, Side::Left),
+                port_of(node, Side::Up),
+            ],
         })?;
     }
     Ok(ports)
