@@ -199,6 +199,7 @@ fn after_run<Rt: Threads>(rt: &Rt, chip: Chip, plan: &Plan, turns: u32) -> Chip
 }
 
 /// The registers and stacks of nodes, and behind those of each node the numbers of its cells.
+#[inline(never)]
 fn nodes_text(alloc: Global, chip: &Chip, nodes: &[Node]) -> Result<String, AllocError>
     ensures { IfOk result (λ text. string_bytes text ≡ nodes_text chip.now nodes.now) }
 {

@@ -76,6 +76,7 @@ fn turn_of_workers<G: Gate>(
 }
 
 /// One try of each node of a group, all with one side. Answers how many were `Moved`.
+#[inline(never)]
 fn tries_of_group(chip: &mut Chip, group: &[Node], side: Side) -> u64
     ensures chip { chip.new ≡ ran chip.old (tries_of (group_tries side group.now)) }
     ensures moved { result ≤ length group.now }
@@ -83,7 +84,9 @@ fn tries_of_group(chip: &mut Chip, group: &[Node], side: Side) -> u64
     let mut moved = 0;
     for node in group {
         let what = Try { node: *node, side };
-        moved += u64::from(chip.attempt_moves(what));
+        if chip.attempt_moves(what) {
+            moved += 1;
+        }
     }
     moved
 }
