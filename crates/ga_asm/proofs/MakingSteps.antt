@@ -1,8 +1,10 @@
 -- The words of the groups, one group at a time.
-use Rattle.std.proofs.Common.{◌≡◌, ◌∙◌, ◌<◌, ◌≤◌, ℕ, zero, suc, ◌+◌, true, false, List, [], ◌∷◌, ◌++◌, length, get_or, Option, Result, Ok, Err, OnOk, refl, sym, ap, subst, append_assoc, append-nil, arith}
+use Rattle.std.proofs.Common.{◌≡◌, ◌∙◌, ◌<◌, ◌≤◌, ℕ, suc, ◌+◌, true, false, List, [], ◌∷◌, ◌++◌, length, get_or, Option, Result, Ok, Err, OnOk, refl, sym, ap, subst, append_assoc, append-nil, arith}
 use Rattle.ga_word.specs.declared.op.Op.{Op}
 use Rattle.ga_word.specs.declared.op.Op.TheVariants.{Nop}
 use Rattle.ga_pack.specs.Model.Layout.{Labels, Shared, Alone, GroupWords, IsWord, filled, is_loose, last_dest, literals, ops_of}
+use Rattle.std.specs.List.{slice_get}
+use Rattle.std.specs.Option.{unwrap_or}
 use Rattle.std.specs.Prelude.{◌&&◌, nat_lt, if◌then◌else◌}
 use Rattle.ga_pack.specs.Model.Source.{Item, Literal, Transfer, Value, WordTo, dest_bound, is_below, is_item, is_spare, stand_from}
 use Rattle.ga_word.specs.Op.{takes_dest}
@@ -14,16 +16,13 @@ use Rattle.ga_asm.specs.Making.{IsGroup, IsGroupBy, IsPackable, MoreWords, item_
 
 -- ---- a word
 
-pub filled_more : (room : ℕ) (ops : List Op) → length ops < room → filled room (ops ++ Nop ∷ []) ≡ filled room ops
-filled_more zero ops h = absurd (omega arith)
-filled_more (suc room) [] h = refl
-filled_more (suc room) (o ∷ ops) h = ap (λ r. o ∷ r) (filled_more room ops (omega arith))
-
-pub filled_all : (room : ℕ) (ops : List Op) → length ops ≡ room → filled room ops ≡ ops
-filled_all zero [] h = refl
-filled_all zero (o ∷ ops) h = absurd (omega arith)
-filled_all (suc room) [] h = absurd (omega arith)
-filled_all (suc room) (o ∷ ops) h = ap (λ r. o ∷ r) (filled_all room ops (omega arith))
+pub filled_four : (ops : List Op) → length ops ≤ 4 → unwrap_or (slice_get ops 0) Nop ∷ unwrap_or (slice_get ops 1) Nop ∷ unwrap_or (slice_get ops 2) Nop ∷ unwrap_or (slice_get ops 3) Nop ∷ [] ≡ filled 4 ops
+filled_four [] h = refl
+filled_four (a ∷ []) h = refl
+filled_four (a ∷ b ∷ []) h = refl
+filled_four (a ∷ b ∷ c ∷ []) h = refl
+filled_four (a ∷ b ∷ c ∷ d ∷ []) h = refl
+filled_four (a ∷ b ∷ c ∷ d ∷ e ∷ ops) h = absurd (omega arith)
 
 one_dest : (labels : Labels) (slot n : ℕ) (x : Item) → n ≡ slot → last_dest labels slot (x ∷ []) ≡ item_dest labels n x
 one_dest labels slot n x e = rw e (by x)

@@ -45,24 +45,21 @@ pub(crate) struct Refusal {
     pub(crate) kind: AsmErrorKind,
 }
 
+// The name is one of these.
+#[inline(never)]
+fn is_among(names: &IndexSet<Name>, name: &Name) -> bool
+    ensures { result ≡ words.is_among name.now.bytes (map (λ name. name.bytes) names.now.keys) }
+{
+    names.contains(name)
+}
+
+#[inline]
 fn is_value(names: &IndexSet<Name>, value: &Value) -> bool
     ensures { result ≡ laid.is_value (map (λ name. name.bytes) names.now.keys) (value_of value.now) }
 {
     match value {
         Value::Number(_) => true,
-        Value::Label(label) => names.contains(&label.name),
-    }
-}
-
-// The name that the item uses is a label of the node.
-fn is_defined(names: &IndexSet<Name>, item: &Item) -> bool
-    ensures { result ≡ laid.is_defined (map (λ name. name.bytes) names.now.keys) (item_of item.now) }
-{
-    match item {
-        Item::Transfer { dest, .. } => is_value(names, dest),
-        Item::WordTo(word) => is_value(names, &word.dest),
-        Item::Plain(value) => is_value(names, value),
-        _ => true,
+        Value::Label(label) => is_among(names, &label.name),
     }
 }
 
@@ -70,15 +67,6 @@ fn is_unext(op: Op) -> bool
     ensures { result ≡ laid.is_unext op }
 {
     matches!(op, Op::Micronext)
-}
-
-fn is_lone_unext(joined: bool, item: &Item) -> bool
-    ensures { result ≡ faults.is_lone_unext joined (item_of item.now) }
-{
-    match item {
-        Item::Instruction(op) => !joined && is_unext(*op),
-        _ => false,
-    }
 }
 
 // An item outside brackets is one opcode.
@@ -250,14 +238,20 @@ impl Layout {
         requires few { self.now.address ≤ 64 }
         ensures { kind_in result ≡ faults.fault_at (map (λ name. name.bytes) names.now.keys) (labels_of self.now.labels.entries) self.now.address (joins_word self.now (item_of item.now)) (item_of item.now) }
     {
-        if !is_defined(names, item) {
-            return Some(AsmErrorKind::UndefinedLabel);
-        }
-        if !is_in_reach(&self.labels, self.address, item) {
-            return Some(AsmErrorKind::OutOfReach);
-        }
-        if is_lone_unext(joined, item) {
-            return Some(AsmErrorKind::UnextAlone);
+        match item {
+            Item::Instruction(op) if !joined && is_unext(*op) => {
+                return Some(AsmErrorKind::UnextAlone);
+            }
+            Item::Transfer { dest, .. } | Item::Plain(dest) if !is_value(names, dest) => {
+                return Some(AsmErrorKind::UndefinedLabel);
+            }
+            Item::WordTo(word) if !is_value(names, &word.dest) => {
+                return Some(AsmErrorKind::UndefinedLabel);
+            }
+            Item::WordTo(word) if !word_reaches(&self.labels, self.address, word) => {
+                return Some(AsmErrorKind::OutOfReach);
+            }
+            _ => {}
         }
         if self.address + words_added(joined, item) > 64 {
             return Some(AsmErrorKind::TooLong);
@@ -296,30 +290,15 @@ impl Layout {
         Ok(())
     }
 
-    // Places the item: it joins the open word, begins a word, or is a group by itself.
-    fn place(&mut self, item: &Item, joined: bool) -> Result<(), AsmErrorKind>
-        requires joined { joined ≡ true → length self.old.slots.ops.items < 4 }
-        requires open { joined ≡ true → self.old.is_open ≡ true }
-        ensures ok { OnOk result (self.new ≡ record self.old { is_open = self.new.is_open; word = self.new.word; slots = self.new.slots; counts = self.new.counts }) }
-        ensures near { OnOk result (self.old.word ≤ 64 → self.old.address ≤ 64 → self.new.word ≤ 64) }
-        ensures word { OnOk result (open_of self.new ≡ open_after joined (open_of self.old) self.old.address (item_of item.now)) }
-        ensures counts { OnOk result (self.new.counts.items ≡ counts_after joined (open_of self.old) self.old.counts.items (item_of item.now)) }
-        ensures err { IfErr result (λ kind. kind ≡ Memory) }
+    // A word begins with an opcode.
+    fn open(&mut self, op: Op)
+        ensures open { self.new ≡ record self.old { is_open = true; word = self.old.address; slots = self.new.slots } }
+        ensures slots { self.new.slots.ops.items ≡ op ∷ [] }
     {
-        if joined {
-            self.slots.push(op_of(item));
-            return Ok(());
-        }
-        self.close()?;
-        if is_loose(item) {
-            self.is_open = true;
-            self.word = self.address;
-            self.slots = Slots::new();
-            self.slots.push(op_of(item));
-        } else {
-            self.counts.push(1)?;
-        }
-        Ok(())
+        self.is_open = true;
+        self.word = self.address;
+        self.slots = Slots::new();
+        self.slots.push(op);
     }
 
     // A label gets the next address, and the first `data` begins there.
@@ -346,6 +325,7 @@ impl Layout {
     }
 
     // Lays one item more, which joins the open word or not.
+    #[tactic(auto, using(crate::proofs::Loose::joins_loose, crate::proofs::Loose::loose_labels, crate::proofs::Loose::loose_data))]
     fn add(&mut self, item: &Item, joined: bool) -> Result<(), AsmErrorKind>
         requires joined { joined ≡ joins_word self.old (item_of item.now) }
         requires room { joined ≡ true → length self.old.slots.ops.items < 4 }
@@ -360,9 +340,21 @@ impl Layout {
         ensures data { OnOk result (self.new.data_start ≡ data_after self.old.data_start self.old.address (item_of item.now)) }
         ensures err { IfErr result (λ kind. kind ≡ Memory) }
     {
-        self.place(item, joined)?;
+        let added = words_added(joined, item);
+        if joined {
+            self.slots.push(op_of(item));
+            self.address += added;
+            return Ok(());
+        }
+        self.close()?;
+        if is_loose(item) {
+            self.open(op_of(item));
+            self.address += added;
+            return Ok(());
+        }
+        self.counts.push(1)?;
         self.note(item)?;
-        self.address += words_added(joined, item);
+        self.address += added;
         Ok(())
     }
 }

@@ -1,6 +1,7 @@
 //! The second pass: the words of the groups of a node, with the labels of the whole node.
 ghost use Rattle.std.specs.Prelude.{◌≡◌, ◌+◌, ◌<◌, ◌^◌, ◌≤◌, ◌++◌, ◌∷◌, [], IfErr, IfOk, List, None, OnOk, Some, false, length, map, true, ℕ};
-ghost use Rattle.std.specs.List.{list_all};
+ghost use Rattle.std.specs.List.{list_all, slice_get};
+ghost use Rattle.ga_word.specs.declared.op.Op.TheVariants.{Nop};
 ghost use Rattle.std.specs.Option.{unwrap_or};
 ghost use Rattle.ga_word.specs.Word.{bits};
 ghost use Rattle.ga_pack.specs.Encoding.{pack_fault};
@@ -65,15 +66,25 @@ fn slots_of(ops: &[Op]) -> ArrayVec<Op, 4>
     slots
 }
 
-// Fillers stand in the slots that are left.
-fn with_fillers(ops: ArrayVec<Op, 4>) -> ArrayVec<Op, 4>
-    ensures { result.items ≡ laid.filled 4 ops.items }
+// The opcode in a slot, or a filler behind these opcodes.
+fn op_or_filler(ops: &[Op], slot: usize) -> Op
+    ensures { result ≡ unwrap_or (slice_get ops.now slot) Nop }
 {
-    let mut slots = ops;
-    for _ in slots.len()..4 {
-        slots.push(Op::Nop);
-    }
-    slots
+    ops.get(slot).copied().unwrap_or(Op::Nop)
+}
+
+// Fillers stand in the slots that are left.
+#[tactic(auto, using(crate::proofs::MakingSteps::filled_four))]
+fn with_fillers(ops: &[Op]) -> ArrayVec<Op, 4>
+    requires { length ops.now ≤ 4 }
+    ensures { result.items ≡ laid.filled 4 ops.now }
+{
+    ArrayVec::from([
+        op_or_filler(ops, 0),
+        op_or_filler(ops, 1),
+        op_or_filler(ops, 2),
+        op_or_filler(ops, 3),
+    ])
 }
 
 fn encoded(packed: &Packed) -> Word18
@@ -94,7 +105,7 @@ fn word(ops: ArrayVec<Op, 4>, dest: Option<u16>, spare: u8) -> Word18
 {
     let ops = match dest {
         Some(_) => ops,
-        None => with_fillers(ops),
+        None => with_fillers(ops.as_slice()),
     };
     encoded(&Packed { ops, dest, spare })
 }

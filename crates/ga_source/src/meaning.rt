@@ -62,6 +62,10 @@ pub(crate) fn is_reserved(name: &str) -> bool
 fn plain_meaning(text: &[u8]) -> Meaning
     ensures { meaning_of result ≡ model.meaning_of text.now }
 {
+    // A comma stands in front of each word of data.
+    if text == b",".as_slice() {
+        return Meaning::Comma;
+    }
     // Most numbers are hex, and nothing else begins with `$`.
     if let Some(number) = hex_numeral(text) {
         return ranged(number);
