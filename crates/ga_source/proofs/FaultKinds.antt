@@ -8,7 +8,7 @@ use Rattle.ga_pack.specs.Model.Token.{SourceKind, Token, op, number, name, label
 use Rattle.ga_pack.specs.Model.Meaning.{is_reserved}
 use Rattle.ga_pack.specs.Model.Source.{Value, Number, Label, Item, Instruction, Transfer, Literal, Here, Align, Word, WordTo, Plain, Data, Section, Part, Code, Behind, start, part_after, dest_bound, is_among, is_named}
 use Rattle.ga_pack.specs.Model.SourceFault.{in_brackets, in_data, wants_value, kind_at, name_fault, bracket_fault, value_fault, item_fault}
-use Rattle.ga_source.proofs.PlainMachine.{At, between, behind_op, behind_comma, in_word, behind_dest_op, behind_dest, behind_slash, behind_spare, Inside, State, nothing, naming, inside, finished, closed, added, take, take_between, take_first, take_label, with_part, owed_fault, Good}
+use Rattle.ga_source.specs.Machine.{At, between, behind_op, behind_comma, in_word, behind_dest_op, behind_dest, behind_slash, behind_spare, Inside, State, nothing, naming, inside, finished, closed, added, take, take_between, take_first, take_label, with_part, owed_fault, Good}
 use Rattle.ga_source.proofs.Steps.{on_test}
 
 abbrev is_behind : Part → Bool

@@ -1,13 +1,12 @@
-mod PlainMachine
 mod Completes
 mod Steps
 mod Exact
 mod FaultKinds
 mod Hex
 mod Whole
-mod Erasure
+mod Consistent
 mod ParserSteps
-mod Placing
+mod ItemPlaces
 mod Reading
 mod Lines
 mod Slices

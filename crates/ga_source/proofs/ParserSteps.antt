@@ -8,7 +8,6 @@ use Rattle.std.specs.Str.{bytes_eq}
 use Rattle.indexmap.specs.IndexMap.{insert_entry}
 use Rattle.ga_word.specs.declared.op.Op.{Op}
 use Rattle.ga_pack.specs.Followers.{followers}
-use Rattle.ga_pack.specs.Model.Text.{Place}
 use Rattle.ga_pack.specs.Model.Token as token
 use Rattle.ga_pack.specs.Model.Source.{Value, Number, Plain, Word, WordTo, Item, Part, Code, part_after}
 use Rattle.ga_source.specs.declared.error.SourceErrorKind.{SourceErrorKind}
@@ -20,10 +19,10 @@ use Rattle.ga_source.specs.Machine.{State, Inside, take_first, with_part, added}
 use Rattle.ga_source.specs.Parser.{Answered, RefusedAs, part_of}
 
 -- an item was added, as the parser's machine adds it
-pub answered_added : {A : Type 0} (c : Inside) (i : Item) (place : Place) (at : Option Place) (q : Part) (r : Result A SourceErrorKind) (s' : State)
-    → part_after c.before.part i ≡ Some q → OnOk r (s' ≡ added c i place at q) → IfErr r (λ kind. kind ≡ Memory) → Answered (with_part c i place at) r s'
-answered_added c i place at q (Ok x) s' f ok err = ap (λ o. elim o [ None ↦ Err token.BadToken | Some p ↦ Ok (added c i place at p) ]) f ∙ ap Ok (sym ok)
-answered_added c i place at q (Err x) s' f ok err = subst (λ y. RefusedAs (with_part c i place at) (kind_of y)) (sym err) tt
+pub answered_added : {A : Type 0} (c : Inside) (i : Item) (q : Part) (r : Result A SourceErrorKind) (s' : State)
+    → part_after c.before.part i ≡ Some q → OnOk r (s' ≡ added c i q) → IfErr r (λ kind. kind ≡ Memory) → Answered (with_part c i) r s'
+answered_added c i q (Ok x) s' f ok err = ap (λ o. elim o [ None ↦ Err token.BadToken | Some p ↦ Ok (added c i p) ]) f ∙ ap Ok (sym ok)
+answered_added c i q (Err x) s' f ok err = subst (λ y. RefusedAs (with_part c i) (kind_of y)) (sym err) tt
 
 -- behind a bracketed word its followers are owed
 pub word_after : (part : Part) (ops : List Op) → part ≡ Code 0 → part_after part (Word ops) ≡ Some (Code (followers ops))
@@ -97,7 +96,7 @@ module _ {V : Type 0} (same : ℕ → ℕ → Bool) (is_same : (x y : ℕ) → s
       by false true e ih = absurd (cc)
 
 -- followers are owed
-pub some_owed : {A : Type 0} (c : Inside) (t : token.Token) (place : Place) (r : Result A SourceErrorKind) (s' : State) (p : standing.Part) (owed : ℕ)
-    → p ≡ part.Code owed → (owed ≡ 0 → ⊥) → ((n : ℕ) → Answered (take_first (Code (suc n)) c t place) r s') → Answered (take_first (part_of p) c t place) r s'
-some_owed c t place r s' p zero e n h = absurd (n refl)
-some_owed c t place r s' p (suc owed) e n h = subst (λ x. Answered (take_first (part_of x) c t place) r s') (sym e) (h owed)
+pub some_owed : {A : Type 0} (c : Inside) (t : token.Token) (r : Result A SourceErrorKind) (s' : State) (p : standing.Part) (owed : ℕ)
+    → p ≡ part.Code owed → (owed ≡ 0 → ⊥) → ((n : ℕ) → Answered (take_first (Code (suc n)) c t) r s') → Answered (take_first (part_of p) c t) r s'
+some_owed c t r s' p zero e n h = absurd (n refl)
+some_owed c t r s' p (suc owed) e n h = subst (λ x. Answered (take_first (part_of x) c t) r s') (sym e) (h owed)

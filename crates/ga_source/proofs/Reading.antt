@@ -1,5 +1,5 @@
 -- The loops over the lines of a text and the runs of a line.
-use Rattle.std.proofs.Common.{◌≡◌, ℕ, suc, ◌+◌, ◌<◌, ◌≤◌, Bool, true, false, List, [], ◌∷◌, ◌++◌, length, drop, get_or, map, Option, Some, None, Result, Ok, Err, refl, sym, ap, ◌∙◌, subst, arith}
+use Rattle.std.proofs.Common.{◌≡◌, ℕ, suc, ◌+◌, ◌<◌, ◌≤◌, Bool, true, false, List, [], ◌∷◌, ◌++◌, length, drop, get_or, map, Option, Some, None, Ok, Err, refl, sym, ap, ◌∙◌, subst, arith}
 use Rattle.std.specs.Prelude.{count_by}
 use Rattle.std.specs.List.{slice_split}
 use Rattle.std.proofs.lemmas.List.Sums.{count_by-le-length}
@@ -15,15 +15,13 @@ use Rattle.ga_source.specs.declared.meaning.Meaning.TheVariants as means
 use Rattle.ga_source.specs.declared.parser.Parser as the
 use Rattle.ga_source.specs.declared.parser.Position.{Position}
 use Rattle.ga_source.specs.declared.parser.Position.TheVariants as position
-use Rattle.ga_source.specs.Machine.{State, Good, IsConsistent, nothing, finished, take}
+use Rattle.ga_source.specs.Machine.{State, IsConsistent, nothing, finished, take}
 use Rattle.ga_source.specs.Meaning.{meaning_of}
 use Rattle.ga_source.specs.Parser.{RefusedAs, at_position, done_of, state_of}
-use Rattle.ga_source.specs.Program.{HasNoProgram, IsFirstFault, IsRight, sections_in}
-use Rattle.ga_source.proofs.Erasure.{answer_in, good_in, state_in, take_in}
+use Rattle.ga_source.specs.Program.{HasNoProgram, IsFirstFault}
 use Rattle.ga_source.proofs.Exact.{length_snoc, regroup}
-use Rattle.ga_source.proofs.Placing.{Kept, KeptBy, kept_consistent, take_kept}
+use Rattle.ga_source.proofs.Consistent.{ConsistentBy, take_consistent}
 use Rattle.ga_source.proofs.Lines.{Read, Scanned, all_read, at_end as at_line_end, at_mark, behind_empty, behind_line, behind_token, is_mark, lexeme_at, next_part, nothing_read, nothing_scanned, one_more, plain_part}
-use Rattle.ga_source.proofs.PlainMachine as plain
 use Rattle.ga_source.proofs.Steps.{Right, take_right}
 use Rattle.ga_source.proofs.Whole.{ReadSoFar, at_end, at_fault, at_first, at_next, is_end}
 
@@ -32,21 +30,12 @@ pub record Reading (text : List ℕ) (i : ℕ) (behind : Bool) (s : State) : Typ
   pub front : List Token
   pub cut : tokens_of text ≡ front ++ meanings behind (drop i (texts_of text))
   pub count : length front ≡ i
-  pub reads : ReadSoFar front (state_in s)
-  pub kept : Kept (places_of text) i s
+  pub reads : ReadSoFar front s
+  pub consistent : IsConsistent s
 
 pub reading_first : (text : List ℕ) → Reading text 0 false nothing
 unfolding tokens_of
-reading_first text = record { front = []; cut = refl; count = refl; reads = at_first; kept = refl }
-
-pub reading_good : (text : List ℕ) (i : ℕ) (behind : Bool) (s : State) → Reading text i behind s → Good s
-reading_good text i behind s r = good_in s r.reads.stands.good
-
-pub reading_consistent : (text : List ℕ) (i : ℕ) (behind : Bool) (s : State) → Reading text i behind s → IsConsistent s
-reading_consistent text i behind s r = kept_consistent (places_of text) i s r.kept
-
-plain_step : (s : State) (t : Token) (place : Place) (r : Result State SourceKind) → take s t place ≡ r → plain.take (state_in s) t ≡ answer_in r
-plain_step s t place r e = sym (take_in s t place) ∙ ap answer_in e
+reading_first text = record { front = []; cut = refl; count = refl; reads = at_first; consistent = tt }
 
 cut_more : (text : List ℕ) (i : ℕ) (behind : Bool) (front : List Token) (t : List ℕ) (rest : List (List ℕ)) → tokens_of text ≡ front ++ meanings behind (drop i (texts_of text)) → drop i (texts_of text) ≡ t ∷ rest
     → tokens_of text ≡ front ++ meaning_at behind t ∷ meanings (is_node (meaning_at behind t)) rest
@@ -55,40 +44,39 @@ cut_more text i behind front t rest e f = e ∙ ap (λ ts. front ++ meanings beh
 
 -- a token is taken
 pub reading_next : (text : List ℕ) (i : ℕ) (behind : Bool) (s s' : State) (t : List ℕ) → Reading text i behind s → drop i (texts_of text) ≡ t ∷ drop (suc i) (texts_of text)
-    → is_end (meaning_at behind t) ≡ false → take s (meaning_at behind t) (place_at (places_of text) i) ≡ Ok s' → Reading text (suc i) (is_node (meaning_at behind t)) s'
+    → is_end (meaning_at behind t) ≡ false → take s (meaning_at behind t) ≡ Ok s' → Reading text (suc i) (is_node (meaning_at behind t)) s'
 reading_next text i behind s s' t r f n e =
     let m = meaning_at behind t in
-    let kept : KeptBy (places_of text) i (Ok s') = subst (KeptBy (places_of text) i) e (take_kept (places_of text) i s m r.kept) in
     let count : length (r.front ++ m ∷ []) ≡ suc i = length_snoc r.front m ∙ ap suc r.count in
     record {
       front = r.front ++ m ∷ [];
       cut = cut_more text i behind r.front t (drop (suc i) (texts_of text)) r.cut f ∙ sym (regroup r.front m (meanings (is_node m) (drop (suc i) (texts_of text))));
       count = count;
-      reads = at_next r.front (state_in s) (state_in s') m r.reads n (plain_step s m (place_at (places_of text) i) (Ok s') e);
-      kept = kept;
+      reads = at_next r.front s s' m r.reads n e;
+      consistent = subst ConsistentBy e (take_consistent s m r.consistent);
     }
 
-fault_is : (text : List ℕ) (i : ℕ) (front rest : List Token) (s : State) (t : Token) (k : SourceKind) (place : Place) → tokens_of text ≡ front ++ t ∷ rest → length front ≡ i → ReadSoFar front (state_in s)
-    → take s t place ≡ Err k → place ≡ place_at (places_of text) i → IsFault text k place
+fault_is : (text : List ℕ) (i : ℕ) (front rest : List Token) (s : State) (t : Token) (k : SourceKind) (place : Place) → tokens_of text ≡ front ++ t ∷ rest → length front ≡ i → ReadSoFar front s
+    → take s t ≡ Err k → place ≡ place_at (places_of text) i → IsFault text k place
 unfolding IsFault
 fault_is text i front rest s t k place e c r f p =
-    (i, subst (λ n. SourceFault (tokens_of text) n k) c (subst (λ ts. SourceFault ts (length front) k) (sym e) (at_fault front rest (state_in s) t k r (plain_step s t place (Err k) f))), p)
+    (i, subst (λ n. SourceFault (tokens_of text) n k) c (subst (λ ts. SourceFault ts (length front) k) (sym e) (at_fault front rest s t k r f)), p)
 
-no_program : (text : List ℕ) (front rest : List Token) (s : State) (t : Token) (k : SourceKind) (place : Place) → tokens_of text ≡ front ++ t ∷ rest → ReadSoFar front (state_in s) → take s t place ≡ Err k
+no_program : (text : List ℕ) (front rest : List Token) (s : State) (t : Token) (k : SourceKind) → tokens_of text ≡ front ++ t ∷ rest → ReadSoFar front s → take s t ≡ Err k
     → (program : List PlacedSection) → IsProgram text program → ⊥
 unfolding IsProgram
-no_program text front rest s t k place e r f program (sections, src, at) =
-    let right : Right (state_in s) t (Err k) = subst (Right (state_in s) t) (plain_step s t place (Err k) f) (take_right (state_in s) t r.stands.good) in
+no_program text front rest s t k e r f program (sections, src, at) =
+    let right : Right s t (Err k) = subst (Right s t) f (take_right s t r.stands.good) in
     right rest sections (r.stands.to (t ∷ rest) sections (subst (λ ts. Source ts sections) e src))
 
 -- a token is refused
 pub reading_fault : (text : List ℕ) (i : ℕ) (behind : Bool) (s : State) (t : List ℕ) (o : Option SourceKind) (place : Place) → Reading text i behind s → drop i (texts_of text) ≡ t ∷ drop (suc i) (texts_of text)
-    → place ≡ place_at (places_of text) i → RefusedAs (take s (meaning_at behind t) place) o → IsFirstFault text o place × HasNoProgram text o
+    → place ≡ place_at (places_of text) i → RefusedAs (take s (meaning_at behind t)) o → IsFirstFault text o place × HasNoProgram text o
 reading_fault text i behind s t None place r f p e = (tt, tt)
 reading_fault text i behind s t (Some k) place r f p e =
     let rest = meanings (is_node (meaning_at behind t)) (drop (suc i) (texts_of text)) in
     let cut = cut_more text i behind r.front t (drop (suc i) (texts_of text)) r.cut f in
-    (fault_is text i r.front rest s (meaning_at behind t) k place cut r.count r.reads e p, no_program text r.front rest s (meaning_at behind t) k place cut r.reads e)
+    (fault_is text i r.front rest s (meaning_at behind t) k place cut r.count r.reads e p, no_program text r.front rest s (meaning_at behind t) k cut r.reads e)
 
 cut_end : (text : List ℕ) (i : ℕ) (behind : Bool) (front : List Token) → tokens_of text ≡ front ++ meanings behind (drop i (texts_of text)) → drop i (texts_of text) ≡ [] → tokens_of text ≡ front ++ end ∷ []
 unfolding meanings
@@ -96,15 +84,15 @@ cut_end text i behind front e f = e ∙ ap (λ ts. front ++ meanings behind ts) 
 
 -- the text's end is refused
 pub reading_fault_end : (text : List ℕ) (i : ℕ) (behind : Bool) (s : State) (o : Option SourceKind) (place : Place) → Reading text i behind s → drop i (texts_of text) ≡ []
-    → place ≡ place_at (places_of text) i → RefusedAs (take s end place) o → IsFirstFault text o place × HasNoProgram text o
+    → place ≡ place_at (places_of text) i → RefusedAs (take s end) o → IsFirstFault text o place × HasNoProgram text o
 reading_fault_end text i behind s None place r f p e = (tt, tt)
 reading_fault_end text i behind s (Some k) place r f p e =
     let cut = cut_end text i behind r.front r.cut f in
-    (fault_is text i r.front [] s end k place cut r.count r.reads e p, no_program text r.front [] s end k place cut r.reads e)
+    (fault_is text i r.front [] s end k place cut r.count r.reads e p, no_program text r.front [] s end k cut r.reads e)
 
 -- the text's end is taken
-finished_as : (at : Position) (p : the.Parser) (q : List Section) → state_in (at_position at p) ≡ plain.finished q → (q ≡ sections_in (done_of p)) × (at_position at p ≡ finished (done_of p))
-finished_as position.Finished p q e = (cc, refl)
+finished_as : (at : Position) (p : the.Parser) (q : List Section) → at_position at p ≡ finished q → q ≡ done_of p
+finished_as position.Finished p q e = cc
 finished_as position.Nothing p q e = absurd (cc)
 finished_as position.Naming p q e = absurd (cc)
 finished_as position.Between p q e = absurd (cc)
@@ -116,11 +104,11 @@ finished_as (position.BehindDest o) p q e = absurd (cc)
 finished_as (position.BehindSlash o) p q e = absurd (cc)
 finished_as (position.BehindSpare o k) p q e = absurd (cc)
 
--- the text's program, which is the only one
-pub record Whole (text : List ℕ) (program : List PlacedSection) : Type 0 where
-  pub is : IsProgram text program
-  pub only : (other : List PlacedSection) → IsProgram text other → other ≡ program
-  pub right : IsRight program
+-- the text's program, which is the only one, by its sections
+pub record Whole (text : List ℕ) (sections : List Section) : Type 0 where
+  pub is : IsProgram text (placed_sections (places_of text) sections)
+  pub only : (other : List PlacedSection) → IsProgram text other → other ≡ placed_sections (places_of text) sections
+  pub right : Sections [] sections
 
 source_right : (ts : List Token) (sections : List Section) → Source ts sections → Sections [] sections
 unfolding Source
@@ -128,19 +116,17 @@ source_right ts [] h = absurd h
 source_right ts (s ∷ ss) h = h.1
 
 pub reading_end : (text : List ℕ) (i : ℕ) (behind : Bool) (s : State) (p : the.Parser) → Reading text i behind s → drop i (texts_of text) ≡ []
-    → ((place : Place) → take s end place ≡ Ok (state_of p)) → Whole text (done_of p)
-unfolding IsProgram IsRight
+    → take s end ≡ Ok (state_of p) → Whole text (done_of p)
+unfolding IsProgram
 reading_end text i behind s p r f e =
-    let place = place_at (places_of text) i in
-    let (q, fin, src, only) = at_end r.front (state_in s) (state_in (state_of p)) r.reads (plain_step s end place (Ok (state_of p)) (e place)) in
-    let (g, h) = finished_as p.position p q fin in
+    let (q, fin, src, only) = at_end r.front s (state_of p) r.reads e in
+    let g = finished_as p.position p q fin in
     let tokens : tokens_of text ≡ r.front ++ end ∷ [] = cut_end text i behind r.front r.cut f in
-    let source : Source (tokens_of text) (sections_in (done_of p)) = subst (λ ts. Source ts (sections_in (done_of p))) (sym tokens) (subst (Source (r.front ++ end ∷ [])) g src) in
-    let placed : KeptBy (places_of text) i (Ok (finished (done_of p))) = subst (KeptBy (places_of text) i) (e place ∙ ap Ok h) (take_kept (places_of text) i s end r.kept) in
+    let source : Source (tokens_of text) (done_of p) = subst (λ ts. Source ts (done_of p)) (sym tokens) (subst (Source (r.front ++ end ∷ [])) g src) in
     record {
-      is = (sections_in (done_of p), source, placed);
-      only = λ other (sections, src', at). at ∙ ap (placed_sections (places_of text)) (only sections (subst (λ ts. Source ts sections) tokens src') ∙ g) ∙ sym placed;
-      right = source_right (tokens_of text) (sections_in (done_of p)) source;
+      is = (done_of p, source, refl);
+      only = λ other (sections, src', at). at ∙ ap (placed_sections (places_of text)) (only sections (subst (λ ts. Source ts sections) tokens src') ∙ g);
+      right = source_right (tokens_of text) (done_of p) source;
     }
 
 -- ---- the tokens of a text
@@ -276,14 +262,13 @@ module _ (text : List ℕ) (line offset : ℕ) (bytes : List ℕ) (lines : List 
 
   -- a token is taken
   pub scan_token : (run : List ℕ) (runs : List (List ℕ)) (behind behind' : Bool) (s s' : State) → Scan text line offset bytes lines before column (run ∷ runs) behind s → is_mark run ≡ false → 0 < length run
-      → is_end (meaning_at behind run) ≡ false → take s (meaning_at behind run) (record { line = line; column = column }) ≡ Ok s' → behind' ≡ is_node (meaning_at behind run)
+      → is_end (meaning_at behind run) ≡ false → take s (meaning_at behind run) ≡ Ok s' → behind' ≡ is_node (meaning_at behind run)
       → Scan text line offset bytes lines before (column + (count_by begins_character run + 1)) runs behind' s'
   scan_token run runs behind behind' s s' scan mark some n e b =
       let x = lexeme_at line column scan.start run in
       let (more, found) = one_more itself text line offset bytes lines scan.start column run runs before scan.seen scan.read scan.scanned mark some in
       let there : lexemes text ≡ scan.seen ++ x ∷ more = sym (all_same (lexemes text)) ∙ found in
-      let f : take s (meaning_at behind run) (place_at (places_of text) (length scan.seen)) ≡ Ok s' = ap (take s (meaning_at behind run)) (sym (token_place text scan.seen more x there)) ∙ e in
-      let next = reading_next text (length scan.seen) behind s s' run scan.reading (token_text text scan.seen more x there) n f in
+      let next = reading_next text (length scan.seen) behind s s' run scan.reading (token_text text scan.seen more x there) n e in
       record {
         start = scan.start + length run + 1;
         seen = scan.seen ++ x ∷ [];
@@ -298,13 +283,12 @@ module _ (text : List ℕ) (line offset : ℕ) (bytes : List ℕ) (lines : List 
 
   -- a token is refused
   pub scan_fault : (run : List ℕ) (runs : List (List ℕ)) (behind : Bool) (s : State) (o : Option SourceKind) (place : Place) → Scan text line offset bytes lines before column (run ∷ runs) behind s → is_mark run ≡ false → 0 < length run
-      → place ≡ record { line = line; column = column } → RefusedAs (take s (meaning_at behind run) (record { line = line; column = column })) o → IsFirstFault text o place × HasNoProgram text o
+      → place ≡ record { line = line; column = column } → RefusedAs (take s (meaning_at behind run)) o → IsFirstFault text o place × HasNoProgram text o
   scan_fault run runs behind s o place scan mark some p e =
       let x = lexeme_at line column scan.start run in
       let (more, found) = one_more itself text line offset bytes lines scan.start column run runs before scan.seen scan.read scan.scanned mark some in
       let there : lexemes text ≡ scan.seen ++ x ∷ more = sym (all_same (lexemes text)) ∙ found in
-      reading_fault text (length scan.seen) behind s run o place scan.reading (token_text text scan.seen more x there) (p ∙ token_place text scan.seen more x there)
-      (subst (λ q. RefusedAs (take s (meaning_at behind run) q) o) (sym p) e)
+      reading_fault text (length scan.seen) behind s run o place scan.reading (token_text text scan.seen more x there) (p ∙ token_place text scan.seen more x there) e
 
   line_behind : (runs : List (List ℕ)) (behind : Bool) (s : State) → (scan : Scan text line offset bytes lines before column runs behind s) → scan.seen ≡ before ++ map itself (line_lexemes line offset bytes) → Lines text (line + 1) lines behind s
   line_behind runs behind s scan e = record {
@@ -328,10 +312,10 @@ all_seen : (text : List ℕ) (line : ℕ) (left : List (List ℕ)) (behind : Boo
 all_seen text line left behind s l none = all_read itself text line l.start left l.seen l.read none ∙ all_same (lexemes text)
 
 pub lines_fault : (text : List ℕ) (line : ℕ) (left : List (List ℕ)) (behind : Bool) (s : State) (o : Option SourceKind) (place : Place) → Lines text line left behind s → left ≡ [] → place ≡ end_of text
-    → RefusedAs (take s end place) o → IsFirstFault text o place × HasNoProgram text o
+    → RefusedAs (take s end) o → IsFirstFault text o place × HasNoProgram text o
 lines_fault text line left behind s o place l none e f =
     let all = all_seen text line left behind s l none in
     reading_fault_end text (length l.seen) behind s o place l.reading (no_text text l.seen all) (e ∙ end_place text l.seen all) f
 
-pub lines_taken : (text : List ℕ) (line : ℕ) (left : List (List ℕ)) (behind : Bool) (s : State) (p : the.Parser) → Lines text line left behind s → left ≡ [] → ((place : Place) → take s end place ≡ Ok (state_of p)) → Whole text (done_of p)
+pub lines_taken : (text : List ℕ) (line : ℕ) (left : List (List ℕ)) (behind : Bool) (s : State) (p : the.Parser) → Lines text line left behind s → left ≡ [] → take s end ≡ Ok (state_of p) → Whole text (done_of p)
 lines_taken text line left behind s p l none f = reading_end text (length l.seen) behind s p l.reading (no_text text l.seen (all_seen text line left behind s l none)) f

@@ -8,7 +8,7 @@ use Rattle.ga_pack.specs.Followers.{followers, is_followed}
 use Rattle.ga_pack.specs.Model.Token.{SourceKind, Token, op, number, name, label, node, node_name, align, data_part, open_mark, close_mark, comma, slash, bad, end}
 use Rattle.ga_pack.specs.Model.Meaning.{is_reserved}
 use Rattle.ga_pack.specs.Model.Source.{Value, Number, Label, Item, Instruction, Transfer, Literal, Here, Align, Word, WordTo, Plain, Data, Section, Part, Code, Behind, start, part_after, is_item, is_new, Sections, Source, text_tokens, items_tokens, op_tokens, value_token, spare_tokens, stand_from, is_below, is_spare, dest_bound, is_among, is_named}
-use Rattle.ga_source.proofs.PlainMachine.{between, behind_op, behind_comma, in_word, behind_dest_op, behind_dest, behind_slash, behind_spare, Inside, State, nothing, naming, inside, finished, closed, added, take, take_between, take_first, take_op, take_label, take_slot, with_part, Good}
+use Rattle.ga_source.specs.Machine.{between, behind_op, behind_comma, in_word, behind_dest_op, behind_dest, behind_slash, behind_spare, Inside, State, nothing, naming, inside, finished, closed, added, take, take_between, take_first, take_op, take_label, take_slot, with_part, Good}
 use Rattle.ga_source.proofs.Completes.{Follows, Adds, Completes, Led, led, led_back, with_item, nothing_more}
 
 -- the answer to a token is right

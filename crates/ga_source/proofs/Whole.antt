@@ -7,7 +7,7 @@ use Rattle.ga_pack.specs.Model.Token.{SourceKind, Token, op, number, name, label
 use Rattle.ga_pack.specs.Model.Meaning.{is_reserved}
 use Rattle.ga_pack.specs.Model.Source.{Number, Label, Item, Word, WordTo, Plain, Section, Part, Code, Behind, part_after, Source, dest_bound, is_among, is_named}
 use Rattle.ga_pack.specs.Model.SourceFault.{SourceFault}
-use Rattle.ga_source.proofs.PlainMachine.{between, behind_op, behind_comma, in_word, behind_dest_op, behind_dest, behind_slash, behind_spare, Inside, State, nothing, naming, inside, finished, closed, take, take_first, added}
+use Rattle.ga_source.specs.Machine.{between, behind_op, behind_comma, in_word, behind_dest_op, behind_dest, behind_slash, behind_spare, Inside, State, nothing, naming, inside, finished, closed, take, take_first, added}
 use Rattle.ga_source.proofs.Steps.{on_test}
 use Rattle.std.proofs.lemmas.List.{reverse-append}
 use Rattle.ga_source.proofs.Exact.{Stands, stands_first, stands_next, refused, accepted}

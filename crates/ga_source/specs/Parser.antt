@@ -10,14 +10,11 @@ use Rattle.ga_source.specs.declared.parser.Pending.TheVariants as pending
 use Rattle.ga_source.specs.declared.parser.Position.{Position}
 use Rattle.ga_source.specs.declared.parser.Position.TheVariants as position
 use Rattle.ga_source.specs.Error.{kind_of}
-use Rattle.ga_source.specs.Item.{placed_of}
+use Rattle.ga_source.specs.Item.{item_of}
 use Rattle.ga_source.specs.Section.{section_of}
 use Rattle.ga_source.specs.Machine.{Inside, State, nothing, naming, inside, finished, between, behind_op, behind_comma, in_word, behind_dest_op, behind_dest, behind_slash, behind_spare, take}
-use Rattle.ga_source.specs.Token.{place_of}
-use Rattle.ga_pack.specs.Model.Text.{Place}
 use Rattle.ga_pack.specs.Model.Token.{SourceKind, Token}
-use Rattle.ga_pack.specs.Model.Source.{Value, Number, Label, Part, Code, Behind}
-use Rattle.ga_pack.specs.Model.Program.{PlacedSection}
+use Rattle.ga_pack.specs.Model.Source.{Section, Value, Number, Label, Part, Code, Behind}
 
 abbrev pub part_of : standing.Part → Part
 part_of (part.Code owed) = Code owed
@@ -25,13 +22,9 @@ part_of part.Data = Behind
 
 abbrev pub pending_of : Pending → Value
 pending_of (pending.Number n) = Number n
-pending_of (pending.Name s at) = Label s.bytes
+pending_of (pending.Name s) = Label s.bytes
 
-abbrev pub name_place_of : Pending → Option Place
-name_place_of (pending.Number n) = None
-name_place_of (pending.Name s at) = Some (place_of at)
-
-abbrev pub done_of : written.Parser → List PlacedSection
+abbrev pub done_of : written.Parser → List Section
 done_of p = map section_of p.sections.entries
 
 abbrev pub names_of : written.Parser → List ℕ
@@ -41,19 +34,19 @@ abbrev pub labels_of : written.Parser → List (List ℕ)
 labels_of p = map (λ name. name.bytes) p.labels.keys
 
 abbrev pub inside_of : written.Parser → Inside
-inside_of p = record { done = done_of p; seen = names_of p; name = p.node; items = map placed_of p.items.items; before = record { part = part_of p.part; labels = labels_of p; has_word = p.has_word } }
+inside_of p = record { done = done_of p; seen = names_of p; name = p.node; items = map item_of p.items.items; before = record { part = part_of p.part; labels = labels_of p; has_word = p.has_word } }
 
 abbrev pub at_position : Position → written.Parser → State
 at_position position.Nothing p = nothing
 at_position position.Naming p = naming (done_of p) (names_of p)
 at_position position.Between p = inside (inside_of p) between
-at_position (position.BehindOp o) p = inside (inside_of p) (behind_op (place_of p.place) o)
-at_position position.BehindComma p = inside (inside_of p) (behind_comma (place_of p.place))
-at_position position.InWord p = inside (inside_of p) (in_word (place_of p.place) p.ops.items)
-at_position (position.BehindDestOp o) p = inside (inside_of p) (behind_dest_op (place_of p.place) p.ops.items o)
-at_position (position.BehindDest o) p = inside (inside_of p) (behind_dest (place_of p.place) p.ops.items o (pending_of p.dest) (name_place_of p.dest))
-at_position (position.BehindSlash o) p = inside (inside_of p) (behind_slash (place_of p.place) p.ops.items o (pending_of p.dest) (name_place_of p.dest))
-at_position (position.BehindSpare o k) p = inside (inside_of p) (behind_spare (place_of p.place) p.ops.items o (pending_of p.dest) (name_place_of p.dest) k)
+at_position (position.BehindOp o) p = inside (inside_of p) (behind_op o)
+at_position position.BehindComma p = inside (inside_of p) behind_comma
+at_position position.InWord p = inside (inside_of p) (in_word p.ops.items)
+at_position (position.BehindDestOp o) p = inside (inside_of p) (behind_dest_op p.ops.items o)
+at_position (position.BehindDest o) p = inside (inside_of p) (behind_dest p.ops.items o (pending_of p.dest))
+at_position (position.BehindSlash o) p = inside (inside_of p) (behind_slash p.ops.items o (pending_of p.dest))
+at_position (position.BehindSpare o k) p = inside (inside_of p) (behind_spare p.ops.items o (pending_of p.dest) k)
 at_position position.Finished p = finished (done_of p)
 
 abbrev pub state_of : written.Parser → State
@@ -70,6 +63,5 @@ Answered r (Ok x) s' = r ≡ Ok s'
 Answered r (Err e) s' = RefusedAs r (kind_of e)
 
 -- the answer of the parser's machine to a token, unless memory was refused
-abbrev pub Took : {A : Type 0} → State → Token → Place → Result A SourceErrorKind → State → Type 0
-Took s t place (Ok x) s' = take s t place ≡ Ok s'
-Took s t place (Err e) s' = RefusedAs (take s t place) (kind_of e)
+abbrev pub Took : {A : Type 0} → State → Token → Result A SourceErrorKind → State → Type 0
+Took s t r s' = Answered (take s t) r s'

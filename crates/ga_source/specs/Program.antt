@@ -1,18 +1,18 @@
 -- Programs, and the faults of texts, as the contracts have them.
 use Rattle.std.specs.Prelude.{ℕ, List, [], ◌∷◌, Option, Some, None}
+use Rattle.std.specs.List.{slice_get}
+use Rattle.std.specs.Option.{option_map, option_map_or}
 use Rattle.ga_pack.specs.Model.Text.{Place}
 use Rattle.ga_pack.specs.Model.Token.{SourceKind}
-use Rattle.ga_pack.specs.Model.Source.{Item, Section, Sections}
+use Rattle.ga_pack.specs.Model.LayoutFault.{plain_items}
+use Rattle.ga_pack.specs.Model.Source.{Section, Sections}
 use Rattle.ga_pack.specs.Model.Program.{IsFault, IsProgram, PlacedItem, PlacedSection}
-
--- items without their places
-abbrev pub items_in : List PlacedItem → List Item
-items_in [] = []
-items_in (i ∷ is) = i.item ∷ items_in is
+use Rattle.ga_source.specs.declared.places.ItemPlace as written
+use Rattle.ga_source.specs.Token.{place_of}
 
 -- a section without its places
 abbrev pub section_in : PlacedSection → Section
-section_in s = record { name = s.name; items = items_in s.items }
+section_in s = record { name = s.name; items = plain_items s }
 
 -- sections without their places
 abbrev pub sections_in : List PlacedSection → List Section
@@ -32,3 +32,14 @@ IsFirstFault text (Some kind) place = IsFault text kind place
 abbrev pub HasNoProgram : List ℕ → Option SourceKind → Type 0
 HasNoProgram text None = Unit {0}
 HasNoProgram text (Some kind) = (program : List PlacedSection) → IsProgram text program → ⊥
+
+-- the place of the first token of an item, and that of the name that it uses, if it uses one
+abbrev pub item_place : PlacedItem → Place × Option Place
+item_place i = (i.place, i.name_place)
+
+abbrev pub item_place_of : written.ItemPlace → Place × Option Place
+item_place_of p = (place_of p.place, option_map place_of p.name)
+
+-- the items of a section, by its number from 0
+abbrev pub items_at : List PlacedSection → ℕ → List PlacedItem
+items_at program at = option_map_or (λ s. s.items) (slice_get program at) []

@@ -5,12 +5,14 @@ mod error;
 mod item;
 mod meaning;
 mod parser;
+mod places;
 mod program;
 mod section;
 mod token;
 
 pub use error::{SourceError, SourceErrorKind};
-pub use item::{Item, Name, PlacedItem, PlacedName, TransferWord, Value};
+pub use item::{Item, Name, TransferWord, Value};
+pub use places::ItemPlace;
 pub use program::{Program, parse};
 pub use section::Section;
 pub use token::{Place, Token, tokens};

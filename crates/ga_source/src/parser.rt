@@ -1,27 +1,25 @@
 //! The parser: it takes one token at a time, and refuses the first with which no text goes on.
 ghost use Rattle.std.specs.Prelude.{◌≡◌, ◌+◌, ◌<◌, ◌≤◌, ◌++◌, ◌∷◌, [], length, map, false, not, IfOk, IfErr, OnOk, None, Some, List, ℕ, suc};
 ghost use Rattle.ga_pack.specs.Followers as counted;
+ghost use Rattle.ga_pack.specs.Model.Layout.{names_in};
 ghost use Rattle.ga_pack.specs.Model.Source as words;
 ghost use Rattle.ga_pack.specs.Model.Source.{Behind, Code, Label, Plain, Transfer, Word, WordTo, labels_with};
-ghost use Rattle.ga_pack.specs.Model.Text as model;
 ghost use Rattle.ga_pack.specs.Model.SourceFault as faults;
 ghost use Rattle.ga_pack.specs.Model.Token.{end};
 ghost use Rattle.ga_source.specs.Error.{kind_of};
-ghost use Rattle.ga_source.specs.Item.{item_of, labels_in, name_place_in, placed_of, value_of, value_place};
+ghost use Rattle.ga_source.specs.Item.{item_of, value_of};
 ghost use Rattle.ga_source.specs.Machine as machine;
 ghost use Rattle.ga_source.specs.Machine.{Good, IsConsistent, added, closed, nothing};
 ghost use Rattle.ga_source.specs.Meaning.{meaning_of};
-ghost use Rattle.ga_source.specs.Parser.{Answered, Took, done_of, inside_of, labels_of, name_place_of, names_of, part_of, pending_of, state_of};
-ghost use Rattle.ga_source.specs.Token.{place_of};
+ghost use Rattle.ga_source.specs.Parser.{Answered, Took, done_of, inside_of, labels_of, names_of, part_of, pending_of, state_of};
 ghost use Rattle.ga_source.specs.declared.error.SourceErrorKind.TheVariants.{Memory};
 ghost use Rattle.ga_source.specs.declared.parser.Part.TheVariants as part;
 ghost use Rattle.ga_source.specs.declared.parser.Position.TheVariants as at;
 
 use crate::error::SourceErrorKind;
-use crate::item::{Item, Name, PlacedItem, PlacedName, TransferWord, Value};
+use crate::item::{Item, Name, TransferWord, Value};
 use crate::meaning::{Meaning, is_reserved};
 use crate::section::Section;
-use crate::token::Place;
 use arrayvec::ArrayVec;
 use ga_place::Node;
 use ga_word::{Op, Word18};
@@ -37,11 +35,11 @@ enum Part {
     Data,
 }
 
-// A destination. A name has its place.
+// A destination.
 #[derive(Clone, Copy)]
 enum Pending {
     Number(u16),
-    Name(Name, Place),
+    Name(Name),
 }
 
 // Where the parser stands.
@@ -73,13 +71,11 @@ pub(crate) struct Parser {
     alloc: Global,
     pub(crate) sections: IndexMap<Node, Section>,
     node: Node,
-    items: Vec<PlacedItem>,
+    items: Vec<Item>,
     labels: IndexSet<Name>,
     part: Part,
     has_word: bool,
     position: Position,
-    // The place of the item's first token.
-    place: Place,
     // The opcodes of a bracketed word, but for one that takes a destination; and its destination.
     ops: ArrayVec<Op, 4>,
     dest: Pending,
@@ -88,22 +84,20 @@ pub(crate) struct Parser {
 impl Pending {
     // The value, which owns its name.
     fn value(self, alloc: Global) -> Result<Value, AllocError>
-        ensures value { IfOk result (λ value. value_of value ≡ pending_of self) }
-        ensures place { IfOk result (λ value. value_place value ≡ name_place_of self) }
+        ensures { IfOk result (λ value. value_of value ≡ pending_of self) }
     {
         match self {
             Pending::Number(number) => Ok(Value::Number(Word18::new(u32::from(number)).unwrap())),
-            Pending::Name(name, place) => label_at(alloc, name, place),
+            Pending::Name(name) => label(alloc, name),
         }
     }
 }
 
-// A name that is used at a place.
-fn label_at(alloc: Global, name: Name, place: Place) -> Result<Value, AllocError>
-    ensures value { IfOk result (λ value. value_of value ≡ Label name.bytes) }
-    ensures place { IfOk result (λ value. value_place value ≡ Some (place_of place)) }
+// The name of a label as a value.
+fn label(alloc: Global, name: Name) -> Result<Value, AllocError>
+    ensures { IfOk result (λ value. value_of value ≡ Label name.bytes) }
 {
-    Ok(Value::Label(Box::new(alloc, PlacedName { name, place })?))
+    Ok(Value::Label(Box::new(alloc, name)?))
 }
 
 // A bracketed word with a destination.
@@ -114,8 +108,7 @@ fn word_to(
     dest: Pending,
     spare: Option<u8>,
 ) -> Result<Item, AllocError>
-    ensures item { IfOk result (λ item. item_of item ≡ WordTo ops.items op (pending_of dest) spare) }
-    ensures place { IfOk result (λ item. name_place_in item ≡ name_place_of dest) }
+    ensures { IfOk result (λ item. item_of item ≡ WordTo ops.items op (pending_of dest) spare) }
 {
     let dest = dest.value(alloc)?;
     let word = TransferWord {
@@ -141,21 +134,20 @@ impl Parser {
             part: Part::Code(0),
             has_word: false,
             position: Position::Nothing,
-            place: Place { line: 1, column: 1 },
             ops: ArrayVec::new(),
             dest: Pending::Number(0),
         }
     }
 
-    // The item that begins at a place is whole; the next one stands in this part.
+    // The item is whole; the next one stands in this part.
     #[inline(always)]
-    fn add(&mut self, item: Item, place: Place, part: Part) -> Result<(), SourceErrorKind>
+    fn add(&mut self, item: Item, part: Part) -> Result<(), SourceErrorKind>
         requires no_label { (labels : List (List ℕ)) → labels_with (item_of item) labels ≡ labels }
-        ensures ok { OnOk result (state_of self.new ≡ added (inside_of self.old) (item_of item) (place_of place) (name_place_in item) (part_of part)) }
+        ensures ok { OnOk result (state_of self.new ≡ added (inside_of self.old) (item_of item) (part_of part)) }
         ensures err { IfErr result (λ kind. kind ≡ Memory) }
     {
         let makes_word = item.makes_word();
-        self.items.push(PlacedItem { item, place })?;
+        self.items.push(item)?;
         self.has_word = self.has_word || makes_word;
         self.part = part;
         self.position = Position::Between;
@@ -165,7 +157,7 @@ impl Parser {
     // Before the first `node`.
     fn take_nothing(&mut self, token: &Meaning) -> Result<(), SourceErrorKind>
         requires position { self.old.position ≡ at.Nothing }
-        ensures { (place : model.Place) → Took (state_of self.old) (meaning_of token.now) place result (state_of self.new) }
+        ensures { Took (state_of self.old) (meaning_of token.now) result (state_of self.new) }
     {
         match *token {
             Meaning::Node => {
@@ -189,7 +181,7 @@ impl Parser {
     // Behind `node`.
     fn take_name(&mut self, token: &Meaning) -> Result<(), SourceErrorKind>
         requires position { self.old.position ≡ at.Naming }
-        ensures { (place : model.Place) → Took (state_of self.old) (meaning_of token.now) place result (state_of self.new) }
+        ensures { Took (state_of self.old) (meaning_of token.now) result (state_of self.new) }
     {
         match *token {
             Meaning::NodeName(node) => {
@@ -212,24 +204,24 @@ impl Parser {
 
     // An opcode outside brackets and its destination are whole.
     fn add_transfer(&mut self, op: Op, value: Pending) -> Result<(), SourceErrorKind>
-        ensures ok { OnOk result (state_of self.new ≡ added (inside_of self.old) (Transfer op (pending_of value)) (place_of self.old.place) (name_place_of value) (Code 0)) }
+        ensures ok { OnOk result (state_of self.new ≡ added (inside_of self.old) (Transfer op (pending_of value)) (Code 0)) }
         ensures err { IfErr result (λ kind. kind ≡ Memory) }
     {
         let dest = value.value(self.alloc)?;
-        self.add(Item::Transfer { op, dest }, self.place, Part::Code(0))
+        self.add(Item::Transfer { op, dest }, Part::Code(0))
     }
 
     // Behind an opcode that takes a destination, outside brackets.
-    fn take_dest(&mut self, op: Op, token: &Meaning, place: Place) -> Result<(), SourceErrorKind>
+    fn take_dest(&mut self, op: Op, token: &Meaning) -> Result<(), SourceErrorKind>
         requires position { self.old.position ≡ at.BehindOp op }
-        ensures { Took (state_of self.old) (meaning_of token.now) (place_of place) result (state_of self.new) }
+        ensures { Took (state_of self.old) (meaning_of token.now) result (state_of self.new) }
     {
         match *token {
             Meaning::Number(number) if number.get() < 0x400 => {
                 self.add_transfer(op, Pending::Number(number.get() as u16))
             }
             Meaning::Number(_) => Err(SourceErrorKind::NumberRange),
-            Meaning::Name(name) => self.add_transfer(op, Pending::Name(name, place)),
+            Meaning::Name(name) => self.add_transfer(op, Pending::Name(name)),
             Meaning::NumberRange => Err(SourceErrorKind::NumberRange),
             _ => Err(SourceErrorKind::BadToken),
         }
@@ -238,25 +230,25 @@ impl Parser {
     // A plain word is whole.
     fn add_plain(&mut self, value: Value) -> Result<(), SourceErrorKind>
         requires owed { (owed : ℕ) → self.old.part ≡ part.Code owed → 0 < owed }
-        ensures { Answered (machine.with_part (inside_of self.old) (Plain (value_of value)) (place_of self.old.place) (value_place value)) result (state_of self.new) }
+        ensures { Answered (machine.with_part (inside_of self.old) (Plain (value_of value))) result (state_of self.new) }
     {
         let part = match self.part {
             Part::Code(owed) => Part::Code(owed - 1),
             Part::Data => Part::Data,
         };
-        self.add(Item::Plain(value), self.place, part)
+        self.add(Item::Plain(value), part)
     }
 
     // Behind a comma.
-    fn take_plain(&mut self, token: &Meaning, place: Place) -> Result<(), SourceErrorKind>
+    fn take_plain(&mut self, token: &Meaning) -> Result<(), SourceErrorKind>
         requires position { self.old.position ≡ at.BehindComma }
         requires owed { (owed : ℕ) → self.old.part ≡ part.Code owed → 0 < owed }
-        ensures { Took (state_of self.old) (meaning_of token.now) (place_of place) result (state_of self.new) }
+        ensures { Took (state_of self.old) (meaning_of token.now) result (state_of self.new) }
     {
         match *token {
             Meaning::Number(number) => self.add_plain(Value::Number(number)),
             Meaning::Name(name) => {
-                let label = label_at(self.alloc, name, place)?;
+                let label = label(self.alloc, name)?;
                 self.add_plain(label)
             }
             Meaning::NumberRange => Err(SourceErrorKind::NumberRange),
@@ -268,7 +260,7 @@ impl Parser {
     fn take_slot(&mut self, token: &Meaning) -> Result<(), SourceErrorKind>
         requires position { self.old.position ≡ at.InWord }
         requires code { part_of self.old.part ≡ Code 0 }
-        ensures { (place : model.Place) → Took (state_of self.old) (meaning_of token.now) place result (state_of self.new) }
+        ensures { Took (state_of self.old) (meaning_of token.now) result (state_of self.new) }
     {
         match *token {
             Meaning::Op(op) => {
@@ -297,9 +289,9 @@ impl Parser {
     }
 
     // In brackets, behind an opcode that takes a destination.
-    fn take_field(&mut self, op: Op, token: &Meaning, place: Place) -> Result<(), SourceErrorKind>
+    fn take_field(&mut self, op: Op, token: &Meaning) -> Result<(), SourceErrorKind>
         requires position { self.old.position ≡ at.BehindDestOp op }
-        ensures { Took (state_of self.old) (meaning_of token.now) (place_of place) result (state_of self.new) }
+        ensures { Took (state_of self.old) (meaning_of token.now) result (state_of self.new) }
     {
         match *token {
             Meaning::Number(number) => {
@@ -316,7 +308,7 @@ impl Parser {
                 Ok(())
             }
             Meaning::Name(name) => {
-                self.dest = Pending::Name(name, place);
+                self.dest = Pending::Name(name);
                 self.position = Position::BehindDest(op);
                 Ok(())
             }
@@ -328,7 +320,7 @@ impl Parser {
     fn take_behind_dest(&mut self, op: Op, token: &Meaning) -> Result<(), SourceErrorKind>
         requires position { self.old.position ≡ at.BehindDest op }
         requires code { part_of self.old.part ≡ Code 0 }
-        ensures { (place : model.Place) → Took (state_of self.old) (meaning_of token.now) place result (state_of self.new) }
+        ensures { Took (state_of self.old) (meaning_of token.now) result (state_of self.new) }
     {
         match *token {
             Meaning::Slash => {
@@ -346,28 +338,28 @@ impl Parser {
     // A bracketed word without a destination is whole.
     fn close_word(&mut self) -> Result<(), SourceErrorKind>
         requires code { part_of self.old.part ≡ Code 0 }
-        ensures { Answered (machine.with_part (inside_of self.old) (Word self.old.ops.items) (place_of self.old.place) None) result (state_of self.new) }
+        ensures { Answered (machine.with_part (inside_of self.old) (Word self.old.ops.items)) result (state_of self.new) }
     {
         let owed = followers(&self.ops);
         let ops = std::mem::replace(&mut self.ops, ArrayVec::new());
-        self.add(Item::Word(ops), self.place, Part::Code(owed))
+        self.add(Item::Word(ops), Part::Code(owed))
     }
 
     // A bracketed word with a destination is whole.
     fn close(&mut self, op: Op, spare: Option<u8>) -> Result<(), SourceErrorKind>
         requires code { part_of self.old.part ≡ Code 0 }
-        ensures { Answered (machine.with_part (inside_of self.old) (WordTo self.old.ops.items op (pending_of self.old.dest) spare) (place_of self.old.place) (name_place_of self.old.dest)) result (state_of self.new) }
+        ensures { Answered (machine.with_part (inside_of self.old) (WordTo self.old.ops.items op (pending_of self.old.dest) spare)) result (state_of self.new) }
     {
         let owed = followers(&self.ops);
         let ops = std::mem::replace(&mut self.ops, ArrayVec::new());
         let item = word_to(self.alloc, ops, op, self.dest, spare)?;
-        self.add(item, self.place, Part::Code(owed))
+        self.add(item, Part::Code(owed))
     }
 
     // In brackets, behind `/`.
     fn take_spare(&mut self, op: Op, token: &Meaning) -> Result<(), SourceErrorKind>
         requires position { self.old.position ≡ at.BehindSlash op }
-        ensures { (place : model.Place) → Took (state_of self.old) (meaning_of token.now) place result (state_of self.new) }
+        ensures { Took (state_of self.old) (meaning_of token.now) result (state_of self.new) }
     {
         match *token {
             Meaning::Number(spare) if spare.get() < 8 => {
@@ -383,7 +375,7 @@ impl Parser {
     fn take_close(&mut self, op: Op, spare: u8, token: &Meaning) -> Result<(), SourceErrorKind>
         requires position { self.old.position ≡ at.BehindSpare op spare }
         requires code { part_of self.old.part ≡ Code 0 }
-        ensures { (place : model.Place) → Took (state_of self.old) (meaning_of token.now) place result (state_of self.new) }
+        ensures { Took (state_of self.old) (meaning_of token.now) result (state_of self.new) }
     {
         match *token {
             Meaning::CloseMark => self.close(op, Some(spare)),
@@ -392,29 +384,27 @@ impl Parser {
     }
 
     // An opcode outside brackets, where no follower is owed.
-    fn take_op(&mut self, op: Op, place: Place) -> Result<(), SourceErrorKind>
+    fn take_op(&mut self, op: Op) -> Result<(), SourceErrorKind>
         requires position { self.old.position ≡ at.Between }
-        ensures { Answered (machine.take_op (inside_of self.old) op (place_of place)) result (state_of self.new) }
+        ensures { Answered (machine.take_op (inside_of self.old) op) result (state_of self.new) }
     {
         if op.takes_dest() {
-            self.place = place;
             self.position = Position::BehindOp(op);
             return Ok(());
         }
         if is_followed(op) {
             return Err(SourceErrorKind::BadToken);
         }
-        self.add(Item::Instruction(op), place, Part::Code(0))
+        self.add(Item::Instruction(op), Part::Code(0))
     }
 
     // Behind `data`.
-    fn take_data(&mut self, token: &Meaning, place: Place) -> Result<(), SourceErrorKind>
+    fn take_data(&mut self, token: &Meaning) -> Result<(), SourceErrorKind>
         requires position { self.old.position ≡ at.Between }
-        ensures { Answered (machine.take_first Behind (inside_of self.old) (meaning_of token.now) (place_of place)) result (state_of self.new) }
+        ensures { Answered (machine.take_first Behind (inside_of self.old) (meaning_of token.now)) result (state_of self.new) }
     {
         match *token {
             Meaning::Comma => {
-                self.place = place;
                 self.position = Position::BehindComma;
                 Ok(())
             }
@@ -423,17 +413,16 @@ impl Parser {
     }
 
     // In the code part, where followers are owed.
-    fn take_owed(&mut self, token: &Meaning, place: Place) -> Result<(), SourceErrorKind>
+    fn take_owed(&mut self, token: &Meaning) -> Result<(), SourceErrorKind>
         requires position { self.old.position ≡ at.Between }
-        ensures { (owed : ℕ) → Answered (machine.take_first (Code (suc owed)) (inside_of self.old) (meaning_of token.now) (place_of place)) result (state_of self.new) }
+        ensures { (owed : ℕ) → Answered (machine.take_first (Code (suc owed)) (inside_of self.old) (meaning_of token.now)) result (state_of self.new) }
     {
         match *token {
             Meaning::Comma => {
-                self.place = place;
                 self.position = Position::BehindComma;
                 Ok(())
             }
-            Meaning::Data => self.add(Item::Data, place, Part::Data),
+            Meaning::Data => self.add(Item::Data, Part::Data),
             Meaning::Op(op) if !is_followed(op) => Err(SourceErrorKind::BadWord),
             Meaning::Number(_) | Meaning::Align | Meaning::OpenMark => Err(
                 SourceErrorKind::BadWord,
@@ -443,17 +432,16 @@ impl Parser {
     }
 
     // In the code part, where no follower is owed.
-    fn take_code(&mut self, token: &Meaning, place: Place) -> Result<(), SourceErrorKind>
+    fn take_code(&mut self, token: &Meaning) -> Result<(), SourceErrorKind>
         requires position { self.old.position ≡ at.Between }
-        ensures { Answered (machine.take_first (Code 0) (inside_of self.old) (meaning_of token.now) (place_of place)) result (state_of self.new) }
+        ensures { Answered (machine.take_first (Code 0) (inside_of self.old) (meaning_of token.now)) result (state_of self.new) }
     {
         match *token {
-            Meaning::Op(op) => self.take_op(op, place),
-            Meaning::Number(number) => self.add(Item::Literal(number), place, Part::Code(0)),
-            Meaning::Align => self.add(Item::Align, place, Part::Code(0)),
-            Meaning::Data => self.add(Item::Data, place, Part::Data),
+            Meaning::Op(op) => self.take_op(op),
+            Meaning::Number(number) => self.add(Item::Literal(number), Part::Code(0)),
+            Meaning::Align => self.add(Item::Align, Part::Code(0)),
+            Meaning::Data => self.add(Item::Data, Part::Data),
             Meaning::OpenMark => {
-                self.place = place;
                 self.ops = ArrayVec::new();
                 self.position = Position::InWord;
                 Ok(())
@@ -463,22 +451,22 @@ impl Parser {
     }
 
     // What begins an item, but for a label.
-    fn take_item(&mut self, token: &Meaning, place: Place) -> Result<(), SourceErrorKind>
+    fn take_item(&mut self, token: &Meaning) -> Result<(), SourceErrorKind>
         requires position { self.old.position ≡ at.Between }
-        ensures { Answered (machine.take_first (part_of self.old.part) (inside_of self.old) (meaning_of token.now) (place_of place)) result (state_of self.new) }
+        ensures { Answered (machine.take_first (part_of self.old.part) (inside_of self.old) (meaning_of token.now)) result (state_of self.new) }
     {
         match self.part {
-            Part::Data => self.take_data(token, place),
-            Part::Code(0) => self.take_code(token, place),
-            Part::Code(_) => self.take_owed(token, place),
+            Part::Data => self.take_data(token),
+            Part::Code(0) => self.take_code(token),
+            Part::Code(_) => self.take_owed(token),
         }
     }
 
     // Where an item is whole.
-    fn take_between(&mut self, token: &Meaning, place: Place) -> Result<(), SourceErrorKind>
+    fn take_between(&mut self, token: &Meaning) -> Result<(), SourceErrorKind>
         requires position { self.old.position ≡ at.Between }
         requires consistent { IsConsistent (state_of self.old) }
-        ensures { Took (state_of self.old) (meaning_of token.now) (place_of place) result (state_of self.new) }
+        ensures { Took (state_of self.old) (meaning_of token.now) result (state_of self.new) }
     {
         match *token {
             Meaning::BadToken => Err(SourceErrorKind::BadToken),
@@ -491,24 +479,25 @@ impl Parser {
                 self.position = Position::Naming;
                 Ok(())
             }
-            Meaning::Label(name) => self.take_label(name, place),
-            _ => self.take_item(token, place),
+            Meaning::Label(name) => self.take_label(name),
+            _ => self.take_item(token),
         }
     }
 
     // The section that is open ends.
     fn end_section(&mut self) -> Result<(), SourceErrorKind>
         requires new { words.is_named self.old.node (names_of self.old) ≡ false }
-        requires labels { labels_of self.old ≡ labels_in (map placed_of self.old.items.items) }
+        requires labels { labels_of self.old ≡ names_in (map item_of self.old.items.items) }
         ensures done { OnOk result (done_of self.new ≡ closed (inside_of self.old)) }
         ensures names { OnOk result (names_of self.new ≡ names_of self.old ++ self.old.node ∷ []) }
         ensures err { IfErr result (λ kind. kind ≡ Memory) }
     {
-        // The lists are copied to ones of their size, so that their room serves for the next section.
+        // The items are copied to a list of their size, so that their room serves for the next section.
         let mut items = Vec::with_capacity(self.alloc, self.items.len())?;
         items.append(&mut self.items)?;
-        let mut labels = Vec::with_capacity(self.alloc, self.labels.len())?;
-        labels.extend_from_slice(self.labels.as_slice())?;
+        // The next section is likely to have as many labels.
+        let room = IndexSet::with_capacity(self.alloc, self.labels.len())?;
+        let labels = std::mem::replace(&mut self.labels, room);
         self.sections.insert(self.node, Section { items, labels })?;
         Ok(())
     }
@@ -524,9 +513,9 @@ impl Parser {
     }
 
     // A label, which may stand wherever an item may.
-    fn take_label(&mut self, name: Name, place: Place) -> Result<(), SourceErrorKind>
+    fn take_label(&mut self, name: Name) -> Result<(), SourceErrorKind>
         requires position { self.old.position ≡ at.Between }
-        ensures { Answered (machine.take_label (inside_of self.old) name.bytes (place_of place)) result (state_of self.new) }
+        ensures { Answered (machine.take_label (inside_of self.old) name.bytes) result (state_of self.new) }
     {
         if is_reserved(name.as_str()) {
             return Err(SourceErrorKind::ReservedLabel);
@@ -534,25 +523,25 @@ impl Parser {
         if !self.add_label(name)? {
             return Err(SourceErrorKind::DuplicateLabel);
         }
-        let item = Item::Label(name);
-        self.items.push(PlacedItem { item, place })?;
+        let name = Box::new(self.alloc, name)?;
+        self.items.push(Item::Label(name))?;
         Ok(())
     }
 
     /// Takes a token, or refuses it.
-    pub(crate) fn take(&mut self, token: &Meaning, place: Place) -> Result<(), SourceErrorKind>
+    pub(crate) fn take(&mut self, token: &Meaning) -> Result<(), SourceErrorKind>
         requires good { Good (state_of self.old) }
         requires consistent { IsConsistent (state_of self.old) }
-        ensures { Took (state_of self.old) (meaning_of token.now) (place_of place) result (state_of self.new) }
+        ensures { Took (state_of self.old) (meaning_of token.now) result (state_of self.new) }
     {
         match self.position {
             Position::Nothing => self.take_nothing(token),
             Position::Naming => self.take_name(token),
-            Position::Between => self.take_between(token, place),
-            Position::BehindOp(op) => self.take_dest(op, token, place),
-            Position::BehindComma => self.take_plain(token, place),
+            Position::Between => self.take_between(token),
+            Position::BehindOp(op) => self.take_dest(op, token),
+            Position::BehindComma => self.take_plain(token),
             Position::InWord => self.take_slot(token),
-            Position::BehindDestOp(op) => self.take_field(op, token, place),
+            Position::BehindDestOp(op) => self.take_field(op, token),
             Position::BehindDest(op) => self.take_behind_dest(op, token),
             Position::BehindSlash(op) => self.take_spare(op, token),
             Position::BehindSpare(op, spare) => self.take_close(op, spare, token),
@@ -563,7 +552,7 @@ impl Parser {
     /// Takes the text's end, or refuses it.
     pub(crate) fn finish(&mut self) -> Result<(), SourceErrorKind>
         requires consistent { IsConsistent (state_of self.old) }
-        ensures { (place : model.Place) → Took (state_of self.old) end place result (state_of self.new) }
+        ensures { Took (state_of self.old) end result (state_of self.new) }
     {
         match self.position {
             Position::Nothing => Err(SourceErrorKind::NoNode),

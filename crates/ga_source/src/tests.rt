@@ -1,6 +1,6 @@
 use crate::{
-    Item, Name, Place, PlacedItem, PlacedName, SourceError, SourceErrorKind, Token, TransferWord,
-    Value, parse, tokens,
+    Item, ItemPlace, Name, Place, SourceError, SourceErrorKind, Token, TransferWord, Value, parse,
+    tokens,
 };
 use arrayvec::ArrayVec;
 use ga_place::Node;
@@ -16,10 +16,16 @@ fn at(kind: SourceErrorKind, line: usize, column: usize) -> Option<SourceError> 
     Some(SourceError { kind, line, column })
 }
 
-fn item(item: Item, line: usize, column: usize) -> PlacedItem {
-    PlacedItem {
-        item,
+/// An item whose first token stands at a place, and the name that it uses at another.
+fn found(place: (usize, usize), name: Option<(usize, usize)>) -> ItemPlace {
+    let name = match name {
+        Some((line, column)) => Some(Place { line, column }),
+        None => None,
+    };
+    let (line, column) = place;
+    ItemPlace {
         place: Place { line, column },
+        name,
     }
 }
 
@@ -27,11 +33,10 @@ fn number(value: u32) -> Result<Word18, Fail> {
     Ok(Word18::new(value).ok_or("more than 18 bits")?)
 }
 
-/// A name that is used as a value.
-fn using(alloc: Global, name: &str, line: usize, column: usize) -> Result<Value, Fail> {
+/// The name of a label.
+fn named(alloc: Global, name: &str) -> Result<Box<Name>, Fail> {
     let name = Name::from(name).map_err(|_| "more than 16 bytes")?;
-    let place = Place { line, column };
-    Ok(Value::Label(Box::new(alloc, PlacedName { name, place })?))
+    Ok(Box::new(alloc, name)?)
 }
 
 /// A section for each node, each of one word and on a line of its own.
@@ -154,11 +159,11 @@ fn every_node_once(rt: HostRuntime) -> Result<(), Fail> {
 }
 
 /// The bracketed words of the text below.
-fn bracketed_words(alloc: Global) -> Result<(PlacedItem, PlacedItem), Fail> {
+fn bracketed_words(alloc: Global) -> Result<(Item, Item), Fail> {
     let printed = TransferWord {
         ops: ArrayVec::new(),
         op: Op::Next,
-        dest: using(alloc, "loop", 4, 10)?,
+        dest: Value::Label(named(alloc, "loop")?),
         spare: Some(3),
     };
     let mut ops = ArrayVec::new();
@@ -169,43 +174,45 @@ fn bracketed_words(alloc: Global) -> Result<(PlacedItem, PlacedItem), Fail> {
         dest: Value::Number(number(7)?),
         spare: None,
     };
-    let first = item(Item::WordTo(Box::new(alloc, printed)?), 4, 3);
-    let second = item(Item::WordTo(Box::new(alloc, followed)?), 5, 2);
+    let first = Item::WordTo(Box::new(alloc, printed)?);
+    let second = Item::WordTo(Box::new(alloc, followed)?);
     Ok((first, second))
 }
 
 /// The items of the text below.
-fn expected_items(alloc: Global) -> Result<Vec<PlacedItem>, Fail> {
+fn expected_items(alloc: Global) -> Result<Vec<Item>, Fail> {
     let (one, five, ones) = (number(1)?, number(5)?, number(0x3FFFF)?);
-    let name = Name::from("loop").map_err(|_| "more than 16 bytes")?;
-    let dest = using(alloc, "loop", 2, 18)?;
-    let follower = using(alloc, "loop", 3, 14)?;
+    let name = named(alloc, "loop")?;
+    let dest = Value::Label(named(alloc, "loop")?);
+    let follower = Value::Label(named(alloc, "loop")?);
     let mut word = ArrayVec::new();
     word.push(Op::FetchP);
     word.push(Op::Nop);
     let (first, second) = bracketed_words(alloc)?;
     Ok(vec![in alloc;
-        item(Item::Label(name), 2, 3),
-        item(Item::Instruction(Op::Dup), 2, 9),
-        item(Item::Literal(five), 2, 13),
-        item(Item::Transfer { op: Op::If, dest }, 2, 15),
-        item(Item::Word(word), 3, 3),
-        item(Item::Plain(follower), 3, 12),
+        Item::Label(name),
+        Item::Instruction(Op::Dup),
+        Item::Literal(five),
+        Item::Transfer { op: Op::If, dest },
+        Item::Word(word),
+        Item::Plain(follower),
         first,
         second,
-        item(Item::Plain(Value::Number(one)), 5, 16),
-        item(Item::Align, 5, 20),
-        item(Item::Data, 5, 26),
-        item(Item::Plain(Value::Number(ones)), 5, 31),
+        Item::Plain(Value::Number(one)),
+        Item::Align,
+        Item::Data,
+        Item::Plain(Value::Number(ones)),
     ]?)
 }
 
+/// A node on several lines, and another one.
+const TWO_NODES: &str =
+    "node 008 \\ é\n  loop: dup 5 if loop\n  [ @p . ] , loop\n  [ next loop / 3 ]\r\n [ @p jump 7 ] , 1 align data , $3FFFF\nnode 717 DUP: jump DUP";
+
 #[test]
-fn items_and_places(rt: HostRuntime) -> Result<(), Fail> {
+fn items_of_sections(rt: HostRuntime) -> Result<(), Fail> {
     let alloc = rt.alloc();
-    let text =
-        "node 008 \\ é\n  loop: dup 5 if loop\n  [ @p . ] , loop\n  [ next loop / 3 ]\r\n [ @p jump 7 ] , 1 align data , $3FFFF\nnode 717 DUP: jump DUP";
-    let program = parse(alloc, text)?;
+    let program = parse(alloc, TWO_NODES)?;
     let sections = program.sections();
     assert_eq!(rt; sections.len(), 2);
     let node = Node::new(8).ok_or("no node")?;
@@ -218,32 +225,42 @@ fn items_and_places(rt: HostRuntime) -> Result<(), Fail> {
 }
 
 #[test]
+fn places_of_items(rt: HostRuntime) -> Result<(), Fail> {
+    let alloc = rt.alloc();
+    let program = parse(alloc, TWO_NODES)?;
+    let first = [
+        found((2, 3), None),
+        found((2, 9), None),
+        found((2, 13), None),
+        found((2, 15), Some((2, 18))),
+        found((3, 3), None),
+        found((3, 12), Some((3, 14))),
+        found((4, 3), Some((4, 10))),
+        found((5, 2), None),
+        found((5, 16), None),
+        found((5, 20), None),
+        found((5, 26), None),
+        found((5, 31), None),
+    ];
+    assert!(rt; program.places(alloc, 0)?.as_slice() == first.as_slice());
+    let second = [found((6, 10), None), found((6, 15), Some((6, 20)))];
+    assert!(rt; program.places(alloc, 1)?.as_slice() == second.as_slice());
+    assert!(rt; program.places(alloc, 2)?.is_empty());
+    Ok(())
+}
+
+#[test]
 fn upper_case_is_a_name(rt: HostRuntime) -> Result<(), Fail> {
     let alloc = rt.alloc();
     let program = parse(alloc, "node 717 DUP: jump DUP")?;
     let node = Node::new(717).ok_or("no node")?;
     let section = program.sections().get(&node).ok_or("no section")?;
-    let name = Name::from("DUP").map_err(|_| "more than 16 bytes")?;
+    let dest = Value::Label(named(alloc, "DUP")?);
     let expected = vec![in alloc;
-        item(Item::Label(name), 1, 10),
-        item(
-            Item::Transfer {
-                op: Op::Jump,
-                dest: using(alloc, "DUP", 1, 20)?
-            },
-            1,
-            15
-        ),
+        Item::Label(named(alloc, "DUP")?),
+        Item::Transfer { op: Op::Jump, dest },
     ]?;
     assert!(rt; section.items == expected);
-    let last = section.items.last().ok_or("no item")?;
-    assert!(rt;
-        last.name_place()
-            == Some(Place {
-                line: 1,
-                column: 20
-            })
-    );
     Ok(())
 }
 

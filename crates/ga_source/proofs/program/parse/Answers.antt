@@ -10,14 +10,14 @@ use Rattle.ga_pack.specs.Model.Token.{is_node}
 use Rattle.ga_source.specs.declared.error.SourceError.{SourceError}
 use Rattle.ga_source.specs.Error.{error_place, kind_of}
 use Rattle.ga_source.specs.Machine.{take}
-use Rattle.ga_source.specs.Parser.{RefusedAs, done_of, state_of}
+use Rattle.ga_source.specs.Parser.{RefusedAs, state_of}
 use Rattle.ga_source.specs.Program.{HasNoProgram, IsFirstFault}
 use Rattle.ga_source.specs.Token.{lines_left, place_of, runs_left}
 use Rattle.ga_source.proofs.Lines.{is_mark}
-use Rattle.ga_source.proofs.Reading.{Lines, Scan, Whole, lines_fault, lines_first, lines_taken, no_end, reading_consistent, reading_good, scan_empty, scan_fault, scan_first, scan_here, scan_low, scan_mark, scan_next, scan_none, scan_plain, scan_token}
+use Rattle.ga_source.proofs.Reading.{Lines, Scan, lines_fault, lines_first, lines_taken, no_end, scan_empty, scan_fault, scan_first, scan_here, scan_low, scan_mark, scan_next, scan_none, scan_plain, scan_token}
 use Rattle.ga_source.proofs.Whole.{is_end}
 use Rattle.ga_source.proofs.program.parse.Goals as goal
-use Rattle.ga_source.proofs.program.parse.Goals.{In-Ok, then-not-is_empty+in_ok-take_at, else-not-is_empty, in-None-run, in-Some-run+then-is_comment}
+use Rattle.ga_source.proofs.program.parse.Goals.{then-not-is_empty+in_ok-take_at, else-not-is_empty, in-None-run, in-Some-run+then-is_comment}
 
 each_error : {A : Type 0} (r : Result A SourceError) (P Q : SourceError → Type 0) → ((e : SourceError) → P e → Q e) → IsErrAnd r P → IfErr r Q
 each_error (Ok x) P Q f h = tt
@@ -44,7 +44,7 @@ take_at-requires-clause-good c =
     let behind = c.loop-run.is_behind_node in
     let s = state_of c.loop-run.parser in
     let scan = scan_here text line column bytes lines all (runs_left c.loop-run.run-iterator) c.loop-bytes.is_behind_node behind (state_of c.loop-bytes.parser) s here cut c.loop-run.invariant in
-    reading_good text (length scan.seen) behind s scan.reading
+    scan.reading.reads.stands.good
 
 pub take_at-requires-clause-consistent : goal.take_at-requires-clause-consistent
 take_at-requires-clause-consistent c =
@@ -59,7 +59,7 @@ take_at-requires-clause-consistent c =
     let behind = c.loop-run.is_behind_node in
     let s = state_of c.loop-run.parser in
     let scan = scan_here text line column bytes lines all (runs_left c.loop-run.run-iterator) c.loop-bytes.is_behind_node behind (state_of c.loop-bytes.parser) s here cut c.loop-run.invariant in
-    reading_consistent text (length scan.seen) behind s scan.reading
+    scan.reading.consistent
 
 pub returns-in_err-take_at-clause-fault : goal.returns-in_err-take_at-clause-fault
 returns-in_err-take_at-clause-fault c =
@@ -81,8 +81,8 @@ returns-in_err-take_at-clause-fault c =
     let filled : length run ≡ 0 → ⊥ = eqb-false (length run) 0 (sym c.is_empty.ensures ∙ c.if-not-is_empty.true) in
     let some : 0 < length run = omega (arith, filled) in
     let error = c.in_err-take_at.field-0.0 in
-    let refused : RefusedAs (take s (meaning_at behind run) (record { line = line; column = column })) (kind_of error.kind) =
-    subst (λ m. RefusedAs (take s m (record { line = line; column = column })) (kind_of error.kind)) c.meaning_at-meaning.ensures c.in_err-take_at.ensures.refused in
+    let refused : RefusedAs (take s (meaning_at behind run)) (kind_of error.kind) =
+    subst (λ m. RefusedAs (take s m) (kind_of error.kind)) c.meaning_at-meaning.ensures c.in_err-take_at.ensures.refused in
     let told = scan_fault text line here.start bytes lines here.seen column run others behind s (kind_of error.kind) (error_place error) next mark some c.in_err-take_at.ensures.at refused in
     each_error c.from_residual.result (λ e. e ≡ error) (λ e. IsFirstFault text (kind_of e.kind) (error_place e)) (λ e same. subst (λ x. IsFirstFault text (kind_of x.kind) (error_place x)) (sym same) told.0) c.from_residual.ensures.1
 
@@ -106,8 +106,8 @@ returns-in_err-take_at-clause-none c =
     let filled : length run ≡ 0 → ⊥ = eqb-false (length run) 0 (sym c.is_empty.ensures ∙ c.if-not-is_empty.true) in
     let some : 0 < length run = omega (arith, filled) in
     let error = c.in_err-take_at.field-0.0 in
-    let refused : RefusedAs (take s (meaning_at behind run) (record { line = line; column = column })) (kind_of error.kind) =
-    subst (λ m. RefusedAs (take s m (record { line = line; column = column })) (kind_of error.kind)) c.meaning_at-meaning.ensures c.in_err-take_at.ensures.refused in
+    let refused : RefusedAs (take s (meaning_at behind run)) (kind_of error.kind) =
+    subst (λ m. RefusedAs (take s m) (kind_of error.kind)) c.meaning_at-meaning.ensures c.in_err-take_at.ensures.refused in
     let told = scan_fault text line here.start bytes lines here.seen column run others behind s (kind_of error.kind) (error_place error) next mark some c.in_err-take_at.ensures.at refused in
     each_error c.from_residual.result (λ e. e ≡ error) (λ e. HasNoProgram text (kind_of e.kind)) (λ e same. subst (λ x. HasNoProgram text (kind_of x.kind)) (sym same) told.1) c.from_residual.ensures.1
 
@@ -166,8 +166,8 @@ loop-run-preserved c bytes offset lines before cut read reading =
       | then-not-is_empty+in_ok-take_at w ↦
           (let filled : length run ≡ 0 → ⊥ = eqb-false (length run) 0 (sym c.is_empty.ensures ∙ w.if-not-is_empty.true) in
           let some : 0 < length run = omega (arith, filled) in
-          let taken : take s (meaning_at behind run) (record { line = line; column = column }) ≡ Ok s' =
-          ap (λ m. take s m (record { line = line; column = column })) (sym w.meaning_at-meaning.ensures) ∙ w.in_ok-take_at.ensures.taken ∙ ap (λ p. Ok (state_of p)) (sym w.parser-is) in
+          let taken : take s (meaning_at behind run) ≡ Ok s' =
+          ap (λ m. take s m) (sym w.meaning_at-meaning.ensures) ∙ w.in_ok-take_at.ensures.taken ∙ ap (λ p. Ok (state_of p)) (sym w.parser-is) in
           scan_token text line offset bytes lines before column run others behind behind' s s' next mark some (ap is_end (sym w.meaning_at-meaning.ensures) ∙ no_end w.meaning_at-meaning.result) taken
           (w.is_behind_node-is ∙ w.is_node-is_behind_node.ensures ∙ ap is_node w.meaning_at-meaning.ensures))
       | else-not-is_empty w ↦
@@ -198,13 +198,10 @@ loop-bytes-preserved c =
           (sym w.is_comment.ensures ∙ w.if-is_comment.true)
     ]
 
-whole : (c : In-Ok) → Whole c.args.text.now (done_of c.finish.new.self)
-whole c =
-    let text = c.args.text.now in
-    lines_taken text c.loop-bytes.line _ c.loop-bytes.is_behind_node (state_of c.loop-bytes.parser) c.finish.new.self c.loop-bytes.invariant c.in-None.ensures.steps.0 c.in-Ok.ensures
-
 pub invariant_of-result : goal.invariant_of-result
-invariant_of-result c = (whole c).right
+invariant_of-result c =
+    let text = c.args.text.now in
+    (lines_taken text c.loop-bytes.line _ c.loop-bytes.is_behind_node (state_of c.loop-bytes.parser) c.finish.new.self c.loop-bytes.invariant c.in-None.ensures.steps.0 c.in-Ok.ensures).right
 
 pub returns-in-Ok-clause-program : goal.returns-in-Ok-clause-program
 returns-in-Ok-clause-program c =
@@ -216,18 +213,18 @@ returns-in-Ok-clause-only c =
     let text = c.args.text.now in
     (lines_taken text c.loop-bytes.line _ c.loop-bytes.is_behind_node (state_of c.loop-bytes.parser) c.finish.new.self c.loop-bytes.invariant c.in-None.ensures.steps.0 c.in-Ok.ensures).only
 
-pub returns-in-Err-clause-fault : goal.returns-in-Err-clause-fault
-returns-in-Err-clause-fault c =
+pub returns-clause-fault : goal.returns-clause-fault
+returns-clause-fault c =
     let text = c.args.text.now in
     let place = place_of c.end_place.result in
     subst (λ x. IsFirstFault text (kind_of x.kind) (error_place x)) (sym c.fault_at.ensures)
     (lines_fault text c.loop-bytes.line _ c.loop-bytes.is_behind_node (state_of c.loop-bytes.parser) (kind_of c.in-Err.kind) place c.loop-bytes.invariant c.in-None.ensures.steps.0 c.end_place.ensures
-    (c.in-Err.ensures place)).0
+    c.in-Err.ensures).0
 
-pub returns-in-Err-clause-none : goal.returns-in-Err-clause-none
-returns-in-Err-clause-none c =
+pub returns-clause-none : goal.returns-clause-none
+returns-clause-none c =
     let text = c.args.text.now in
     let place = place_of c.end_place.result in
     subst (λ x. HasNoProgram text (kind_of x.kind)) (sym c.fault_at.ensures)
     (lines_fault text c.loop-bytes.line _ c.loop-bytes.is_behind_node (state_of c.loop-bytes.parser) (kind_of c.in-Err.kind) place c.loop-bytes.invariant c.in-None.ensures.steps.0 c.end_place.ensures
-    (c.in-Err.ensures place)).1
+    c.in-Err.ensures).1

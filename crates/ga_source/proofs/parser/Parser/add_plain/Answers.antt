@@ -1,8 +1,7 @@
 use Rattle.std.proofs.Common.{◌≡◌, Some}
 use Rattle.ga_pack.specs.Model.Source.{Plain, part_after}
-use Rattle.ga_source.specs.Item.{value_of, value_place}
+use Rattle.ga_source.specs.Item.{value_of}
 use Rattle.ga_source.specs.Parser.{state_of, inside_of, part_of}
-use Rattle.ga_source.specs.Token.{place_of}
 use Rattle.ga_source.proofs.ParserSteps.{answered_added, plain_data, plain_owed}
 use Rattle.ga_source.proofs.parser.Parser.add_plain.Goals as goal
 use Rattle.ga_source.proofs.parser.Parser.add_plain.Goals.{in-Code, in-Data}
@@ -16,6 +15,6 @@ returns c =
       | in-Code w ↦ plain_owed self.part part w.in-Code.owed v w.in-Code.is w.part-is (c.requires.owed w.in-Code.owed w.in-Code.is)
       | in-Data w ↦ plain_data self.part part v w.in-Data.is w.part-is
     ] in
-    answered_added (inside_of self) (Plain v) (place_of self.place) (value_place c.args.value) (part_of part) c.add.result (state_of c.add.new.self) stands
+    answered_added (inside_of self) (Plain v) (part_of part) c.add.result (state_of c.add.new.self) stands
     c.add.ensures.ok
     c.add.ensures.err
