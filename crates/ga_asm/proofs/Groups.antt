@@ -15,7 +15,7 @@ use Rattle.ga_pack.specs.Model.Source.{Item, Instruction, Transfer, Literal, Her
 use Rattle.ga_pack.proofs.Encoded.{shapeless_many}
 use Rattle.ga_pack.proofs.OneLayout.{joins_loose}
 use Rattle.ga_pack.proofs.Packable.{packable}
-use Rattle.ga_source.specs.declared.item.PlacedItem as placed
+use Rattle.ga_source.specs.declared.item.Item as an
 use Rattle.ga_source.specs.Item.{item_of}
 use Rattle.ga_asm.specs.Image.{labels_of}
 use Rattle.ga_asm.specs.Layout.{Placing, count_of, data_at, plain}
@@ -191,7 +191,7 @@ pub next_of : (items : List Item) (l : the.Layout) (counts : List ℕ) (done : �
     → Next items l counts done rest words
 next_of items l counts done rest words m same h = next_by items l counts done rest words m m.back refl same h
 
-module _ (items rest : List placed.PlacedItem) (l : the.Layout) (counts : List ℕ) (done : ℕ) (words : List ℕ) (n : Next (plain items) l counts done (plain rest) words) where
+module _ (items rest : List an.Item) (l : the.Layout) (counts : List ℕ) (done : ℕ) (words : List ℕ) (n : Next (plain items) l counts done (plain rest) words) where
   -- the items of the group, and those behind it
   pub next_room : get_or counts done 0 ≤ length rest
   next_room =
@@ -199,17 +199,17 @@ module _ (items rest : List placed.PlacedItem) (l : the.Layout) (counts : List �
       let count = n.count_is in
       omega arith
 
-  pub next_group : (group : List placed.PlacedItem) → group ≡ take (get_or counts done 0) rest → plain group ≡ members n.group
+  pub next_group : (group : List an.Item) → group ≡ take (get_or counts done 0) rest → plain group ≡ members n.group
   next_group group e =
-      ap plain e ∙ ap (λ t. plain (take t rest)) n.count_is ∙ sym (take-map (λ (i : placed.PlacedItem). item_of i.item) (length (members n.group)) rest)
+      ap plain e ∙ ap (λ t. plain (take t rest)) n.count_is ∙ sym (take-map (λ (i : an.Item). item_of i) (length (members n.group)) rest)
       ∙ ap (take (length (members n.group))) n.rest_is ∙ take-append_seam (members n.group) (items_of n.back)
 
-  pub next_behind : (behind : List placed.PlacedItem) → behind ≡ drop (get_or counts done 0) rest → plain behind ≡ items_of n.back
+  pub next_behind : (behind : List an.Item) → behind ≡ drop (get_or counts done 0) rest → plain behind ≡ items_of n.back
   next_behind behind e =
-      ap plain e ∙ ap (λ t. plain (drop t rest)) n.count_is ∙ sym (drop-map (λ (i : placed.PlacedItem). item_of i.item) (length (members n.group)) rest)
+      ap plain e ∙ ap (λ t. plain (drop t rest)) n.count_is ∙ sym (drop-map (λ (i : an.Item). item_of i) (length (members n.group)) rest)
       ∙ ap (drop (length (members n.group))) n.rest_is ∙ drop-append_seam (members n.group) (items_of n.back)
 
-  pub next_some : (group : List placed.PlacedItem) → group ≡ take (get_or counts done 0) rest → 0 < length group
+  pub next_some : (group : List an.Item) → group ≡ take (get_or counts done 0) rest → 0 < length group
   next_some group e =
       let count = sym (plain_length group) ∙ ap length (next_group group e) in
       let some = members_some n.group in
@@ -246,7 +246,7 @@ module _ (items rest : List placed.PlacedItem) (l : the.Layout) (counts : List �
   arranged : Arranged (labels_after [] 0 n.front) (address_after 0 n.front) (n.group ∷ n.back)
   arranged = arranged_at [] 0 n.front n.group n.back n.stand_in.arranged
 
-  pub next_is_group : list_all is_item (plain items) ≡ true → (group : List placed.PlacedItem) → group ≡ take (get_or counts done 0) rest → IsGroup (labels_of l.labels.entries) (plain group)
+  pub next_is_group : list_all is_item (plain items) ≡ true → (group : List an.Item) → group ≡ take (get_or counts done 0) rest → IsGroup (labels_of l.labels.entries) (plain group)
   next_is_group right group e =
       let all = sym n.stand_in.in_order ∙ items_append n.front (n.group ∷ n.back) in
       let right' = subst (λ t. list_all is_item t ≡ true) all right in
@@ -255,11 +255,11 @@ module _ (items rest : List placed.PlacedItem) (l : the.Layout) (counts : List �
       subst (IsGroup (labels_of l.labels.entries)) (sym (next_group group e))
       (group_right (labels_after [] 0 n.front) (labels_of l.labels.entries) (address_after 0 n.front) n.group n.back arranged here)
 
-  next_head : (group : List placed.PlacedItem) (d : placed.PlacedItem) → group ≡ take (get_or counts done 0) rest → item_of (get_or group 0 d).item ≡ head_of n.group
+  next_head : (group : List an.Item) (d : an.Item) → group ≡ take (get_or counts done 0) rest → item_of (get_or group 0 d) ≡ head_of n.group
   next_head [] d e = absurd (let some = next_some [] e in omega arith)
   next_head (i ∷ group) d e = by n.group (next_group (i ∷ group) e)
     where
-      by : (g : Group) → plain (i ∷ group) ≡ members g → item_of i.item ≡ head_of g
+      by : (g : Group) → plain (i ∷ group) ≡ members g → item_of i ≡ head_of g
       by (Shared j js) h = cc
       by (Alone j) h = cc
 
@@ -284,8 +284,8 @@ module _ (items rest : List placed.PlacedItem) (l : the.Layout) (counts : List �
     kind_is = refl;
   }
 
-  pub next_far : (group : List placed.PlacedItem) (d : placed.PlacedItem) → group ≡ take (get_or counts done 0) rest
-      → is_in_reach (labels_of l.labels.entries) (length words) (item_of (get_or group 0 d).item) ≡ false → SecondPassFault (plain items) (length items - length rest) OutOfReach
+  pub next_far : (group : List an.Item) (d : an.Item) → group ≡ take (get_or counts done 0) rest
+      → is_in_reach (labels_of l.labels.entries) (length words) (item_of (get_or group 0 d)) ≡ false → SecondPassFault (plain items) (length items - length rest) OutOfReach
   next_far group d e far = far_by n.group refl (subst (λ t. is_in_reach (labels_of l.labels.entries) (length words) t ≡ false) (next_head group d e) far)
 
   near_by : (g : Group) → is_in_reach (labels_of l.labels.entries) (length words) (head_of g) ≡ true → group_in_reach (labels_of l.labels.entries) (length words) g ≡ true
@@ -293,8 +293,8 @@ module _ (items rest : List placed.PlacedItem) (l : the.Layout) (counts : List �
   near_by (Alone i) near = near
 
   -- its words are made
-  pub next_made : (group behind : List placed.PlacedItem) (d : placed.PlacedItem) (more : List ℕ) → group ≡ take (get_or counts done 0) rest → behind ≡ drop (get_or counts done 0) rest
-      → is_in_reach (labels_of l.labels.entries) (length words) (item_of (get_or group 0 d).item) ≡ true
+  pub next_made : (group behind : List an.Item) (d : an.Item) (more : List ℕ) → group ≡ take (get_or counts done 0) rest → behind ≡ drop (get_or counts done 0) rest
+      → is_in_reach (labels_of l.labels.entries) (length words) (item_of (get_or group 0 d)) ≡ true
       → MoreWords (labels_of l.labels.entries) (plain group) words more → Making (plain items) l (done + 1) (plain behind) more
   next_made group behind d more e f near made =
       let labels = labels_of l.labels.entries in

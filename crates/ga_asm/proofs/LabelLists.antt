@@ -2,19 +2,21 @@
 use Rattle.std.proofs.Common.{◌≡◌, ◌≤◌, ℕ, Bool, true, false, List, [], ◌∷◌, ◌++◌, Option, Some, None, refl, ap, arith, map}
 use Rattle.std.proofs.lemmas.Bool.{and_parts, leb-true}
 use Rattle.std.specs.Prelude.{String, codes, ◌||◌, nat_le, if◌then◌else◌}
+use Rattle.std.specs.List.{list_any}
 use Rattle.std.specs.Map.{lookup}
 use Rattle.std.specs.Option.{unwrap_or}
 use Rattle.std.specs.Str.{bytes_eq}
 use Rattle.std.specs.String.{string_bytes, string_eq}
 use Rattle.indexmap.specs.IndexMap.{insert_entry}
-use Rattle.ga_pack.specs.Model.Layout.{Labels, address_of, names_in}
+use Rattle.ga_pack.specs.Model.Layout.{Labels, address_of}
 use Rattle.ga_pack.specs.Model.Source.{is_among}
-use Rattle.ga_source.specs.declared.item.PlacedItem as placed
-use Rattle.ga_source.specs.declared.item.Item.{Item}
-use Rattle.ga_source.specs.declared.item.Item.TheVariants as item
-use Rattle.ga_source.specs.Item.{item_of, label_before, labels_in, placed_of}
 use Rattle.ga_asm.specs.Image.{all_near, entry_of, labels_of}
-use Rattle.ga_asm.specs.Layout.{names_of, plain}
+use Rattle.ga_asm.specs.Layout.{names_of}
+
+-- a test of mapped elements
+pub list_any_map : {X Y : Type 0} (p : Y → Bool) (f : X → Y) (xs : List X) → list_any p (map f xs) ≡ list_any (λ x. p (f x)) xs
+list_any_map p f [] = refl
+list_any_map p f (x ∷ xs) = ap (λ r. p (f x) || r) (list_any_map p f xs)
 
 pub lookup_labels : {A : Type 0} (name : List ℕ) (entries : List (String A × ℕ)) → lookup (λ k. bytes_eq name (string_bytes k)) entries ≡ address_of (labels_of entries) name
 lookup_labels name [] = refl
@@ -54,20 +56,3 @@ near_entry labels h = by (address_of labels (codes "main")) (near_found labels (
     by : (r : Option ℕ) → ((address : ℕ) → all_near labels ≡ true → r ≡ Some address → address ≤ 64) → unwrap_or r 0 ≤ 64
     by None found = omega arith
     by (Some address) found = found address h refl
-
--- the labels of a section's items
-names_by : (x : Item) (items : List placed.PlacedItem) → labels_in (map placed_of items) ≡ names_in (plain items)
-    → label_before (item_of x) (labels_in (map placed_of items)) ≡ names_in (item_of x ∷ plain items)
-names_by (item.Label s) items e = ap (λ r. s.bytes ∷ r) e
-names_by (item.Instruction o) items e = e
-names_by (item.Transfer o v) items e = e
-names_by (item.Literal n) items e = e
-names_by item.Align items e = e
-names_by (item.Word ops) items e = e
-names_by (item.WordTo word) items e = e
-names_by (item.Plain v) items e = e
-names_by item.Data items e = e
-
-pub names_are : (items : List placed.PlacedItem) → labels_in (map placed_of items) ≡ names_in (plain items)
-names_are [] = refl
-names_are (i ∷ items) = names_by i.item items (names_are items)

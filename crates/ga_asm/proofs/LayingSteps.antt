@@ -9,7 +9,7 @@ use Rattle.ga_pack.specs.Model.Layout.{Labels, Arranged, address_after, labels_a
 use Rattle.ga_pack.specs.Model.LayoutFault.{AsmKind, Judged, Passed, fault_at, fault_behind, joins_last, words_added}
 use Rattle.ga_pack.specs.Model.Source.{Item, Here, Items, is_new, start}
 use Rattle.ga_pack.proofs.Placed.{add, add_stands}
-use Rattle.ga_source.specs.declared.item.PlacedItem as placed
+use Rattle.ga_source.specs.declared.item.Item as an
 use Rattle.ga_source.specs.Item.{item_of}
 use Rattle.ga_asm.specs.Image.{all_near, labels_of}
 use Rattle.ga_asm.specs.Layout.{IsBlank, IsFirstPassFault, Laying, Placing, closed_counts, counts_after, data_after, data_at, joins_open, labels_with, names_of, open_after, open_at, open_count, open_if, open_of, plain}
@@ -113,55 +113,55 @@ laying_next names before l m x laying none step =
 
 -- ---- the items as they stand in the text
 
-cut : (items : List placed.PlacedItem) (at : ℕ) (d : placed.PlacedItem) → at < length items → plain items ≡ plain (first at items) ++ (item_of (get_or items at d).item ∷ plain (drop (suc at) items))
+cut : (items : List an.Item) (at : ℕ) (d : an.Item) → at < length items → plain items ≡ plain (first at items) ++ (item_of (get_or items at d) ∷ plain (drop (suc at) items))
 cut [] at d h = absurd (omega arith)
 cut (i ∷ items) zero d h = refl
-cut (i ∷ items) (suc at) d h = ap (λ t. item_of i.item ∷ t) (cut items at d (omega arith))
+cut (i ∷ items) (suc at) d h = ap (λ t. item_of i ∷ t) (cut items at d (omega arith))
 
-cut_is : (items : List placed.PlacedItem) (at : ℕ) (d : placed.PlacedItem) → at < length items → d ≡ get_or items at d → plain items ≡ plain (first at items) ++ (item_of d.item ∷ plain (drop (suc at) items))
-cut_is items at d h is = cut items at d h ∙ ap (λ t. plain (first at items) ++ (item_of t.item ∷ plain (drop (suc at) items))) (sym is)
+cut_is : (items : List an.Item) (at : ℕ) (d : an.Item) → at < length items → d ≡ get_or items at d → plain items ≡ plain (first at items) ++ (item_of d ∷ plain (drop (suc at) items))
+cut_is items at d h is = cut items at d h ∙ ap (λ t. plain (first at items) ++ (item_of t ∷ plain (drop (suc at) items))) (sym is)
 
-front_length : (items : List placed.PlacedItem) (at : ℕ) → at ≤ length items → length (plain (first at items)) ≡ at
+front_length : (items : List an.Item) (at : ℕ) → at ≤ length items → length (plain (first at items)) ≡ at
 front_length items zero h = refl
 front_length [] (suc at) h = absurd (omega arith)
 front_length (i ∷ items) (suc at) h = let e = front_length items at (omega arith) in omega arith
 
-front_more : (items : List placed.PlacedItem) (at : ℕ) (d : placed.PlacedItem) → at < length items → plain (first (at + 1) items) ≡ plain (first at items) ++ item_of (get_or items at d).item ∷ []
+front_more : (items : List an.Item) (at : ℕ) (d : an.Item) → at < length items → plain (first (at + 1) items) ≡ plain (first at items) ++ item_of (get_or items at d) ∷ []
 front_more [] at d h = absurd (omega arith)
 front_more (i ∷ items) zero d h = refl
 front_more (i ∷ items) (suc at) d h =
     let e : suc at + 1 ≡ suc (at + 1) = omega arith in
-    ap (λ k. plain (first k (i ∷ items))) e ∙ ap (λ t. item_of i.item ∷ t) (front_more items at d (omega arith))
+    ap (λ k. plain (first k (i ∷ items))) e ∙ ap (λ t. item_of i ∷ t) (front_more items at d (omega arith))
 
-pub front_next : (items : List placed.PlacedItem) (at : ℕ) (d : placed.PlacedItem) → at < length items → d ≡ get_or items at d → plain (first (at + 1) items) ≡ plain (first at items) ++ item_of d.item ∷ []
-front_next items at d h is = front_more items at d h ∙ ap (λ t. plain (first at items) ++ item_of t.item ∷ []) (sym is)
+pub front_next : (items : List an.Item) (at : ℕ) (d : an.Item) → at < length items → d ≡ get_or items at d → plain (first (at + 1) items) ≡ plain (first at items) ++ item_of d ∷ []
+front_next items at d h is = front_more items at d h ∙ ap (λ t. plain (first at items) ++ item_of t ∷ []) (sym is)
 
-pub front_all : (items : List placed.PlacedItem) (at : ℕ) → length items ≤ at → first at items ≡ items
+pub front_all : (items : List an.Item) (at : ℕ) → length items ≤ at → first at items ≡ items
 front_all [] zero h = refl
 front_all [] (suc at) h = refl
 front_all (i ∷ items) zero h = absurd (omega arith)
 front_all (i ∷ items) (suc at) h = ap (λ t. i ∷ t) (front_all items at (omega arith))
 
 -- a label that is laid is new
-pub next_new : (names : List (List ℕ)) (items : List placed.PlacedItem) (at : ℕ) (d : placed.PlacedItem) (l : the.Layout) → at < length items → d ≡ get_or items at d
-    → Items start (plain items) → Laying names (plain (first at items)) l → is_new (item_of d.item) (names_of (labels_of l.labels.entries)) ≡ true
+pub next_new : (names : List (List ℕ)) (items : List an.Item) (at : ℕ) (d : an.Item) (l : the.Layout) → at < length items → d ≡ get_or items at d
+    → Items start (plain items) → Laying names (plain (first at items)) l → is_new (item_of d) (names_of (labels_of l.labels.entries)) ≡ true
 next_new names items at d l h is right laying =
     let right' = subst (λ t. Items start t) (cut_is items at d h is) right in
-    subst (λ t. is_new (item_of d.item) t ≡ true) (sym laying.names_are) (items_new start (plain (first at items)) (item_of d.item) (plain (drop (suc at) items)) right')
+    subst (λ t. is_new (item_of d) t ≡ true) (sym laying.names_are) (items_new start (plain (first at items)) (item_of d) (plain (drop (suc at) items)) right')
 
-pub laying_fault : (items : List placed.PlacedItem) (at : ℕ) (d : placed.PlacedItem) (l : the.Layout) (kind : Option AsmKind) → at < length items → d ≡ get_or items at d
+pub laying_fault : (items : List an.Item) (at : ℕ) (d : an.Item) (l : the.Layout) (kind : Option AsmKind) → at < length items → d ≡ get_or items at d
     → Laying (names_in (plain items)) (plain (first at items)) l
-    → kind ≡ fault_at (names_in (plain items)) (labels_of l.labels.entries) l.address (joins_open (labels_of l.labels.entries) (open_of l) (item_of d.item)) (item_of d.item)
+    → kind ≡ fault_at (names_in (plain items)) (labels_of l.labels.entries) l.address (joins_open (labels_of l.labels.entries) (open_of l) (item_of d)) (item_of d)
     → IsFirstPassFault (plain items) at kind
 laying_fault items at d l None h is laying e = tt
 laying_fault items at d l (Some kind) h is laying e = record {
   before = plain (first at items);
-  item = item_of d.item;
+  item = item_of d;
   rest = plain (drop (suc at) items);
   split = cut_is items at d h is;
   at_is = sym (front_length items at (omega arith));
   passed = laying.passed;
-  judged = record { groups = laying.groups; stand_in = laying.stand_in; fault_is = fault_same (names_in (plain items)) (plain (first at items)) l laying (item_of d.item) ∙ sym e };
+  judged = record { groups = laying.groups; stand_in = laying.stand_in; fault_is = fault_same (names_in (plain items)) (plain (first at items)) l laying (item_of d) ∙ sym e };
 }
 
 -- ---- the beginning and the end

@@ -1,7 +1,6 @@
 mod ByCases
 mod LabelLists
 mod Loose
-mod Names
 mod Summary
 mod RightItems
 mod LayingSteps

@@ -9,7 +9,7 @@ use Rattle.std.specs.Prelude.{◌&&◌, nat_lt, if◌then◌else◌}
 use Rattle.ga_pack.specs.Model.Source.{Item, Literal, Transfer, Value, WordTo, dest_bound, is_below, is_item, is_spare, stand_from}
 use Rattle.ga_word.specs.Op.{takes_dest}
 use Rattle.std.proofs.lemmas.Bool.{and_parts, ltb-true}
-use Rattle.ga_source.specs.declared.item.PlacedItem as placed
+use Rattle.ga_source.specs.declared.item.Item as an
 use Rattle.ga_source.specs.Item.{item_of}
 use Rattle.ga_asm.specs.Layout.{plain}
 use Rattle.ga_asm.specs.Making.{IsGroup, IsGroupBy, IsPackable, MoreWords, item_dest}
@@ -58,49 +58,49 @@ followers_none old words more all front x all_is words_are none more_are =
 
 -- ---- the words of a group
 
-pub group_some : (labels : Labels) (items : List placed.PlacedItem) → IsGroup labels (plain items) → 0 < length items
+pub group_some : (labels : Labels) (items : List an.Item) → IsGroup labels (plain items) → 0 < length items
 unfolding IsGroup
 group_some labels [] group = absurd group
 group_some labels (i ∷ items) group = omega arith
 
-pub plain_length : (items : List placed.PlacedItem) → length (plain items) ≡ length items
+pub plain_length : (items : List an.Item) → length (plain items) ≡ length items
 plain_length [] = refl
 plain_length (i ∷ items) = let e = plain_length items in omega arith
 
-pub group_shared : (labels : Labels) (items : List placed.PlacedItem) (d : placed.PlacedItem) → IsGroup labels (plain items) → is_loose (item_of (get_or items 0 d).item) ≡ true
+pub group_shared : (labels : Labels) (items : List an.Item) (d : an.Item) → IsGroup labels (plain items) → is_loose (item_of (get_or items 0 d)) ≡ true
     → (length items ≤ 4) × IsPackable (ops_of (plain items)) (last_dest labels 0 (plain items)) 0
 unfolding IsGroup
 group_shared labels [] d group loose = absurd group
 group_shared labels (i ∷ items) d group loose =
-    let shared = subst (λ b. IsGroupBy labels b (item_of i.item) (plain items)) loose group in
+    let shared = subst (λ b. IsGroupBy labels b (item_of i) (plain items)) loose group in
     let few = shared.0 in
     let e = plain_length items in
     (omega arith, shared.1)
 
-pub group_alone : (labels : Labels) (items : List placed.PlacedItem) (d : placed.PlacedItem) → IsGroup labels (plain items) → is_loose (item_of (get_or items 0 d).item) ≡ false
-    → is_item (item_of (get_or items 0 d).item) ≡ true
+pub group_alone : (labels : Labels) (items : List an.Item) (d : an.Item) → IsGroup labels (plain items) → is_loose (item_of (get_or items 0 d)) ≡ false
+    → is_item (item_of (get_or items 0 d)) ≡ true
 unfolding IsGroup
 group_alone labels [] d group alone = absurd group
-group_alone labels (i ∷ items) d group alone = subst (λ b. IsGroupBy labels b (item_of i.item) (plain items)) alone group
+group_alone labels (i ∷ items) d group alone = subst (λ b. IsGroupBy labels b (item_of i) (plain items)) alone group
 
-pub shared_more : (labels : Labels) (items : List placed.PlacedItem) (d : placed.PlacedItem) (word : ℕ) (words one more : List ℕ) → 0 < length items → is_loose (item_of (get_or items 0 d).item) ≡ true
+pub shared_more : (labels : Labels) (items : List an.Item) (d : an.Item) (word : ℕ) (words one more : List ℕ) → 0 < length items → is_loose (item_of (get_or items 0 d)) ≡ true
     → IsWord word (ops_of (plain items)) (last_dest labels 0 (plain items)) 0 → one ≡ words ++ word ∷ [] → more ≡ one ++ literals (plain items) → MoreWords labels (plain items) words more
 unfolding MoreWords GroupWords
 shared_more labels [] d word words one more some loose is_word one_is more_is = absurd (omega arith)
 shared_more labels (i ∷ items) d word words one more some loose is_word one_is more_is =
     let new = word ∷ literals (plain (i ∷ items)) in
-    let made : GroupWords labels (Shared (item_of i.item) (plain items)) new = (word, is_word, refl) in (
+    let made : GroupWords labels (Shared (item_of i) (plain items)) new = (word, is_word, refl) in (
       new,
-      subst (λ b. GroupWords labels (if b then Shared (item_of i.item) (plain items) else Alone (item_of i.item)) new) (sym loose) made,
+      subst (λ b. GroupWords labels (if b then Shared (item_of i) (plain items) else Alone (item_of i)) new) (sym loose) made,
       more_is ∙ ap (λ t. t ++ literals (plain (i ∷ items))) one_is ∙ append_assoc words (word ∷ []) (literals (plain (i ∷ items))),
     )
 
-pub alone_more : (labels : Labels) (items : List placed.PlacedItem) (d : placed.PlacedItem) (words more : List ℕ) → 0 < length items → is_loose (item_of (get_or items 0 d).item) ≡ false
-    → ((new : List ℕ) × GroupWords labels (Alone (item_of (get_or items 0 d).item)) new × (more ≡ words ++ new)) → MoreWords labels (plain items) words more
+pub alone_more : (labels : Labels) (items : List an.Item) (d : an.Item) (words more : List ℕ) → 0 < length items → is_loose (item_of (get_or items 0 d)) ≡ false
+    → ((new : List ℕ) × GroupWords labels (Alone (item_of (get_or items 0 d))) new × (more ≡ words ++ new)) → MoreWords labels (plain items) words more
 unfolding MoreWords
 alone_more labels [] d words more some alone made = absurd (omega arith)
 alone_more labels (i ∷ items) d words more some alone made =
-    (made.0, subst (λ b. GroupWords labels (if b then Shared (item_of i.item) (plain items) else Alone (item_of i.item)) made.0) (sym alone) made.1, made.2)
+    (made.0, subst (λ b. GroupWords labels (if b then Shared (item_of i) (plain items) else Alone (item_of i)) made.0) (sym alone) made.1, made.2)
 
 pub on_ok : {A E P Q : Type 0} (r : Result A E) → (P → Q) → OnOk r P → OnOk r Q
 on_ok (Ok a) f p = f p

@@ -5,7 +5,7 @@ use Rattle.std.specs.Prelude.{◌||◌, if◌then◌else◌}
 use Rattle.std.specs.List.{list_all, list_any}
 use Rattle.ga_pack.specs.Model.Layout.{Group, Shared, Alone, address_after, items_of, names_in, size}
 use Rattle.ga_pack.specs.Model.Source.{Before, Item, Instruction, Transfer, Literal, Here, Align, Word, WordTo, Plain, Data, Items, after, is_item, is_new, labels_with, makes_word, start}
-use Rattle.ga_source.specs.declared.item.PlacedItem as placed
+use Rattle.ga_source.specs.declared.item.Item as an
 use Rattle.ga_asm.specs.Layout.{plain}
 use Rattle.ga_asm.proofs.ByCases.{on_test}
 
@@ -61,7 +61,7 @@ words_some a (Alone i ∷ groups) h =
     h
 
 -- and there are some
-pub items_some : (items : List placed.PlacedItem) → Items start (plain items) → 0 < length items
+pub items_some : (items : List an.Item) → Items start (plain items) → 0 < length items
 unfolding Items
 items_some [] right = absurd (cc)
 items_some (i ∷ items) right = omega arith

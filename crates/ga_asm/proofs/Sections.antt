@@ -1,25 +1,25 @@
 -- The sections of a program.
 use Rattle.std.proofs.Common.{◌≡◌, ◌∙◌, ◌<◌, ℕ, zero, suc, Bool, true, false, List, [], ◌∷◌, ◌++◌, length, map, get_or, Option, Some, None, refl, sym, ap, subst, append_assoc, append-nil, arith}
 use Rattle.std.specs.Prelude.{nat_eq, ◌||◌, if◌then◌else◌}
+use Rattle.std.proofs.lemmas.List.{length-map}
 use Rattle.std.specs.List.{list_any}
 use Rattle.std.specs.Option.{option_map, unwrap_or}
 use Rattle.indexmap.specs.IndexMap.{insert_entry}
-use Rattle.ga_pack.specs.Model.Layout.{names_in}
-use Rattle.ga_pack.specs.Model.LayoutFault.{AllRight, AsmFault, AsmKind, IsRight, Passed, fault_place, plain_items}
+use Rattle.ga_pack.specs.Model.LayoutFault.{AllRight, AsmFault, AsmKind, IsRight, plain_items}
 use Rattle.ga_pack.specs.Model.Program.{PlacedItem, PlacedSection}
 use Rattle.ga_pack.specs.Model.Source.{Item, Items, Sections, is_named, makes_word, start}
 use Rattle.ga_pack.specs.Model.Text.{Place}
 use Rattle.ga_pack.proofs.OneLayout.{one_laid}
 use Rattle.ga_pack.proofs.OneFault.{right_program}
-use Rattle.ga_source.specs.declared.item.PlacedItem as placed
+use Rattle.ga_source.specs.declared.places.ItemPlace as found
 use Rattle.ga_source.specs.declared.section.Section as written
-use Rattle.ga_source.specs.Item.{item_of, name_place_in, placed_of}
-use Rattle.ga_source.specs.Token.{place_of}
 use Rattle.ga_source.specs.declared.token.Place as here
+use Rattle.ga_source.specs.Item.{item_of}
 use Rattle.ga_source.specs.Section.{section_of}
-use Rattle.ga_source.specs.Program.{items_in, sections_in}
+use Rattle.ga_source.specs.Program.{item_place, item_place_of, items_at, section_in, sections_in}
+use Rattle.ga_source.specs.Token.{place_of}
 use Rattle.ga_source.specs.Program.{IsRight as IsRightProgram}
-use Rattle.ga_asm.specs.Assembling.{HasNoFault, IsAssembled, IsFaultless, IsFirstFault, IsNodeFault, IsPlaceOf}
+use Rattle.ga_asm.specs.Assembling.{HasNoFault, IsAssembled, IsFaultless, IsFirstFault, IsNodeFault, IsPlaceOf, IsTold}
 use Rattle.ga_asm.specs.Image.{Fits, ImageView, IsImage, entry_of, labels_of}
 use Rattle.ga_asm.specs.Layout.{Placing, plain}
 use Rattle.ga_asm.specs.Making.{IsMade}
@@ -27,32 +27,28 @@ use Rattle.ga_asm.specs.declared.layout.Layout as the
 use Rattle.ga_asm.proofs.LabelLists.{near_entry}
 use Rattle.ga_asm.proofs.RightItems.{items_word, words_some}
 
--- ---- the items of a section
+-- ---- the place of an item
 
-plain_is : (items : List placed.PlacedItem) → map (λ (i : PlacedItem). i.item) (map placed_of items) ≡ plain items
-plain_is [] = refl
-plain_is (i ∷ items) = ap (λ t. item_of i.item ∷ t) (plain_is items)
+pub told_place : (name : Option here.Place) (place : here.Place) → place_of (unwrap_or name place) ≡ unwrap_or (option_map place_of name) (place_of place)
+told_place None place = refl
+told_place (Some there) place = refl
 
-items_are : (items : List placed.PlacedItem) → items_in (map placed_of items) ≡ plain items
-items_are [] = refl
-items_are (i ∷ items) = ap (λ t. item_of i.item ∷ t) (items_are items)
-
-pub told_name : (i : placed.PlacedItem) (told : Option here.Place) (place p : here.Place) → option_map place_of told ≡ name_place_in i.item → place ≡ p → told ≡ Some p → place_of place ≡ fault_place (placed_of i)
-told_name i told place p same e is = ap place_of e ∙ ap (λ t. unwrap_or (option_map place_of t) (place_of i.place)) (sym is) ∙ ap (λ t. unwrap_or t (place_of i.place)) same
-
-pub told_place : (i : placed.PlacedItem) (told : Option here.Place) (place : here.Place) → option_map place_of told ≡ name_place_in i.item → place ≡ i.place → told ≡ None → place_of place ≡ fault_place (placed_of i)
-told_place i told place same e is = ap place_of e ∙ ap (λ t. unwrap_or (option_map place_of t) (place_of i.place)) (sym is) ∙ ap (λ t. unwrap_or t (place_of i.place)) same
-
-pub place_at : (items : List placed.PlacedItem) (at : ℕ) (d : placed.PlacedItem) (place : Place) → at < length items → d ≡ get_or items at d → place ≡ fault_place (placed_of d) → IsPlaceOf items at place
-place_at [] at d place h is e = absurd (omega arith)
-place_at (i ∷ items) zero d place h is e = record { front = []; item = placed_of i; back = map placed_of items; split = refl; at_is = refl; place_is = e ∙ ap (λ t. fault_place (placed_of t)) is }
-place_at (i ∷ items) (suc at) d place h is e =
-    let more = place_at items at d place (omega arith) is e in
+-- an item's place, of those found for a section, is that of its fault
+pub place_at : (items : List PlacedItem) (places : List found.ItemPlace) (at : ℕ) (d : found.ItemPlace) (place : Place) → map item_place_of places ≡ map item_place items → at < length items
+    → place ≡ unwrap_or (item_place_of (get_or places at d)).1 (item_place_of (get_or places at d)).0 → IsPlaceOf items at place
+place_at [] places at d place same h e = absurd (omega arith)
+place_at (i ∷ items) [] at d place same h e = absurd (cc)
+place_at (i ∷ items) (p ∷ places) zero d place same h e =
+    let one : item_place_of p ≡ item_place i = cc in
+    record { front = []; item = i; back = items; split = refl; at_is = refl; place_is = e ∙ ap (λ t. unwrap_or t.1 t.0) one }
+place_at (i ∷ items) (p ∷ places) (suc at) d place same h e =
+    let others : map item_place_of places ≡ map item_place items = cc in
+    let more = place_at items places at d place others (omega arith) e in
     record {
-      front = placed_of i ∷ more.front;
+      front = i ∷ more.front;
       item = more.item;
       back = more.back;
-      split = ap (λ t. placed_of i ∷ t) more.split;
+      split = ap (λ t. i ∷ t) more.split;
       at_is = (let count = more.at_is in omega arith);
       place_is = more.place_is;
     }
@@ -74,31 +70,47 @@ image_fits items l words code_len entry right p m code_is entry_is =
 
 -- ---- the sections of a program
 
+-- the first of the sections that are left, as the program has it
+pub record Left (back : List PlacedSection) (section : ℕ × written.Section) (rest : List (ℕ × written.Section)) : Type 0 where
+  pub placed : PlacedSection
+  pub others : List PlacedSection
+  pub split : back ≡ placed ∷ others
+  pub name : placed.name ≡ section.0
+  pub items : plain_items placed ≡ plain section.1.items.items
+  pub rest_is : sections_in others ≡ map section_of rest
+
+left_of : (back : List PlacedSection) (section : ℕ × written.Section) (rest : List (ℕ × written.Section)) → sections_in back ≡ map section_of (section ∷ rest) → Left back section rest
+left_of [] section rest e = absurd (cc)
+left_of (placed ∷ others) section rest e =
+    let one : section_in placed ≡ section_of section = cc in
+    let more : sections_in others ≡ map section_of rest = cc in
+    record { placed = placed; others = others; split = refl; name = ap (λ t. t.name) one; items = ap (λ t. t.items) one; rest_is = more }
+
+abbrev names : List PlacedSection → List ℕ
+names sections = map (λ s. s.name) sections
+
 -- a section among others is of a new node, and its items are right
-pub record Fresh (front : List (ℕ × written.Section)) (section : ℕ × written.Section) : Type 0 where
-  pub new : is_named section.0 (map (λ e. e.0) front) ≡ false
-  pub right : Items start (plain section.1.items.items)
+pub record Fresh (front : List PlacedSection) (name : ℕ) (items : List Item) : Type 0 where
+  pub new : is_named name (names front) ≡ false
+  pub right : Items start items
 
-fresh_by : (seen : List ℕ) (front : List (ℕ × written.Section)) (section : ℕ × written.Section) (back : List (ℕ × written.Section))
-    → Sections seen (sections_in (map section_of (front ++ section ∷ back)))
-    → (is_named section.0 (seen ++ map (λ e. e.0) front) ≡ false) × Items start (plain section.1.items.items)
+fresh_by : (seen : List ℕ) (front : List PlacedSection) (section : PlacedSection) (back : List PlacedSection)
+    → Sections seen (sections_in (front ++ section ∷ back)) → (is_named section.name (seen ++ names front) ≡ false) × Items start (plain_items section)
 unfolding Sections
-fresh_by seen [] section back right =
-    (rw append-nil right.0, subst (Items start) (items_are section.1.items.items) right.1)
+fresh_by seen [] section back right = (rw append-nil right.0, right.1)
 fresh_by seen (other ∷ front) section back right =
-    let more = fresh_by (seen ++ other.0 ∷ []) front section back right.2 in
-    (subst (λ t. is_named section.0 t ≡ false) (append_assoc seen (other.0 ∷ []) (map (λ e. e.0) front)) more.0, more.1)
+    let more = fresh_by (seen ++ other.name ∷ []) front section back right.2 in
+    (subst (λ t. is_named section.name t ≡ false) (append_assoc seen (other.name ∷ []) (names front)) more.0, more.1)
 
-pub fresh_section : (front : List (ℕ × written.Section)) (section : ℕ × written.Section) (back : List (ℕ × written.Section))
-    → Sections [] (sections_in (map section_of (front ++ section ∷ back))) → Fresh front section
+fresh_section : (front : List PlacedSection) (section : PlacedSection) (back : List PlacedSection) → Sections [] (sections_in (front ++ section ∷ back)) → Fresh front section.name (plain_items section)
 fresh_section front section back right = let parts = fresh_by [] front section back right in record { new = parts.0; right = parts.1 }
 
 -- ---- the images so far
 
-pub record Assembling (front : List (ℕ × written.Section)) (images : List (ℕ × ImageView)) : Type 0 where
-  pub assembled : IsAssembled (map section_of front) images
-  pub all_right : AllRight (map section_of front)
-  pub names_are : map (λ i. i.0) images ≡ map (λ e. e.0) front
+pub record Assembling (front : List PlacedSection) (images : List (ℕ × ImageView)) : Type 0 where
+  pub assembled : IsAssembled front images
+  pub all_right : AllRight front
+  pub names_are : map (λ i. i.0) images ≡ names front
 
 assembled_snoc : (sections : List PlacedSection) (images : List (ℕ × ImageView)) (section : PlacedSection) (image : ℕ × ImageView)
     → IsAssembled sections images → image.0 ≡ section.name → IsImage (plain_items section) image.1 → IsAssembled (sections ++ section ∷ []) (images ++ image ∷ [])
@@ -128,23 +140,18 @@ pub image_last : {V : Type 0} (same : ℕ → ℕ → Bool) → ((x y : ℕ) →
 image_last same is_same [] n v h = refl
 image_last same is_same (e ∷ entries) n v h = last_by same e entries n v (nat_eq n e.0) (is_same n e.0) h (image_last same is_same entries n v)
 
-pub assembling_next : (front : List (ℕ × written.Section)) (section : ℕ × written.Section) (images more : List (ℕ × ImageView)) (image : ImageView)
-    → Assembling front images → IsFaultless (plain section.1.items.items) image → more ≡ images ++ (section.0, image) ∷ [] → Assembling (front ++ section ∷ []) more
+assembling_next : (front : List PlacedSection) (section : PlacedSection) (images more : List (ℕ × ImageView)) (image : ImageView)
+    → Assembling front images → IsFaultless (plain_items section) image → more ≡ images ++ (section.name, image) ∷ [] → Assembling (front ++ section ∷ []) more
 assembling_next front section images more image a f e =
-    let is : IsImage (plain_items (section_of section)) image = subst (λ t. IsImage t image) (sym (plain_is section.1.items.items)) f.image_is in
-    let laid = is.laid in
-    let passed : Passed (names_in (plain_items (section_of section))) [] (plain_items (section_of section)) =
-    subst (λ t. Passed (names_in t) [] t) (sym (plain_is section.1.items.items)) f.passed in
-    let right : IsRight (plain_items (section_of section)) =
-    record { words = image.words; labels = image.labels; code_len = image.code_len; laid = laid; passed = passed } in
+    let laid = f.image_is.laid in
+    let passed = f.passed in
+    let right : IsRight (plain_items section) = record { words = image.words; labels = image.labels; code_len = image.code_len; laid = laid; passed = passed } in
     record {
-      assembled =
-          subst (λ t. IsAssembled t more) (sym (map_snoc section_of front section))
-          (subst (IsAssembled (map section_of front ++ section_of section ∷ [])) (sym e) (assembled_snoc (map section_of front) images (section_of section) (section.0, image) a.assembled refl is));
-      all_right = subst AllRight (sym (map_snoc section_of front section)) (right_snoc (map section_of front) (section_of section) a.all_right right);
+      assembled = subst (IsAssembled (front ++ section ∷ [])) (sym e) (assembled_snoc front images section (section.name, image) a.assembled refl f.image_is);
+      all_right = right_snoc front section a.all_right right;
       names_are =
-          ap (map (λ (i : ℕ × ImageView). i.0)) e ∙ map_snoc (λ (i : ℕ × ImageView). i.0) images (section.0, image) ∙ ap (λ t. t ++ section.0 ∷ []) a.names_are
-          ∙ sym (map_snoc (λ (i : ℕ × written.Section). i.0) front section);
+          ap (map (λ (i : ℕ × ImageView). i.0)) e ∙ map_snoc (λ (i : ℕ × ImageView). i.0) images (section.name, image) ∙ ap (λ t. t ++ section.name ∷ []) a.names_are
+          ∙ sym (map_snoc (λ (s : PlacedSection). s.name) front section);
     }
 
 pub assembling_none : Assembling [] []
@@ -184,63 +191,92 @@ one_assembled (s ∷ sections) (i ∷ images) (o ∷ others) a b =
 pub no_fault : (sections : List PlacedSection) → AllRight sections → HasNoFault sections
 no_fault sections all node place kind fault = right_program all fault
 
--- ---- the first fault
-
-pub section_fault : (front : List (ℕ × written.Section)) (section : ℕ × written.Section) (back : List (ℕ × written.Section)) (program : List PlacedSection) (images : List (ℕ × ImageView)) (at node : ℕ) (place : Place) (kind : Option AsmKind)
-    → program ≡ map section_of (front ++ section ∷ back) → Assembling front images → node ≡ section.0 → IsPlaceOf section.1.items.items at place
-    → IsNodeFault (plain section.1.items.items) at kind → IsFirstFault program node place kind
-section_fault front section back program images at node place None e a name p fault = tt
-section_fault front section back program images at node place (Some kind) e a name p fault = record {
-  before = map section_of front;
-  section = section_of section;
-  rest = map section_of back;
-  split = e ∙ map_append front;
-  all_right = a.all_right;
-  node_is = name;
-  front = p.front;
-  item = p.item;
-  back = p.back;
-  items_split = p.split;
-  fault = subst (λ t. AsmFault t (length p.front) kind) (sym (plain_is section.1.items.items)) (subst (λ t. AsmFault (plain section.1.items.items) t kind) p.at_is fault);
-  place_is = p.place_is;
-}
-  where
-    map_append : (front : List (ℕ × written.Section)) → map section_of (front ++ section ∷ back) ≡ map section_of front ++ section_of section ∷ map section_of back
-    map_append [] = refl
-    map_append (other ∷ front) = ap (λ t. section_of other ∷ t) (map_append front)
-
 -- ---- while sections are left
 
 pub record Ongoing (program : List PlacedSection) (images : List (ℕ × ImageView)) (rest : List (ℕ × written.Section)) : Type 0 where
-  pub front : List (ℕ × written.Section)
-  pub program_is : program ≡ map section_of (front ++ rest)
+  pub front : List PlacedSection
+  pub back : List PlacedSection
+  pub program_is : program ≡ front ++ back
+  pub rest_is : sections_in back ≡ map section_of rest
   pub right : Sections [] (sections_in program)
   pub so_far : Assembling front images
 
-pub ongoing_none : (program : List PlacedSection) (images : List (ℕ × ImageView)) (all : List (ℕ × written.Section)) → map section_of all ≡ program → IsRightProgram program → images ≡ [] → Ongoing program images all
+pub ongoing_none : (program : List PlacedSection) (images : List (ℕ × ImageView)) (all : List (ℕ × written.Section)) → map section_of all ≡ sections_in program → IsRightProgram program → images ≡ [] → Ongoing program images all
 unfolding IsRightProgram
-ongoing_none program images all e right none = record { front = []; program_is = sym e; right = right; so_far = subst (Assembling []) (sym none) assembling_none }
+ongoing_none program images all e right none = record { front = []; back = program; program_is = refl; rest_is = sym e; right = right; so_far = subst (Assembling []) (sym none) assembling_none }
 
-pub ongoing_fresh : (program : List PlacedSection) (images : List (ℕ × ImageView)) (section : ℕ × written.Section) (rest : List (ℕ × written.Section)) (o : Ongoing program images (section ∷ rest)) → Fresh o.front section
-ongoing_fresh program images section rest o = fresh_section o.front section rest (subst (λ t. Sections [] (sections_in t)) o.program_is o.right)
+module _ (program : List PlacedSection) (images : List (ℕ × ImageView)) (section : ℕ × written.Section) (rest : List (ℕ × written.Section)) (o : Ongoing program images (section ∷ rest)) where
+  left : Left o.back section rest
+  left = left_of o.back section rest o.rest_is
 
-pub ongoing_new : (program : List PlacedSection) (images : List (ℕ × ImageView)) (section : ℕ × written.Section) (rest : List (ℕ × written.Section)) → Ongoing program images (section ∷ rest) → is_named section.0 (map (λ i. i.0) images) ≡ false
-ongoing_new program images section rest o = ap (is_named section.0) o.so_far.names_are ∙ (ongoing_fresh program images section rest o).new
+  whole : program ≡ o.front ++ left.placed ∷ left.others
+  whole = o.program_is ∙ ap (λ t. o.front ++ t) left.split
 
-pub ongoing_next : (program : List PlacedSection) (images more : List (ℕ × ImageView)) (section : ℕ × written.Section) (rest : List (ℕ × written.Section)) (image : ImageView)
-    → Ongoing program images (section ∷ rest) → IsFaultless (plain section.1.items.items) image → more ≡ images ++ (section.0, image) ∷ [] → Ongoing program more rest
-ongoing_next program images more section rest image o f e = record {
-  front = o.front ++ section ∷ [];
-  program_is = o.program_is ∙ ap (map section_of) (sym (append_assoc o.front (section ∷ []) rest));
-  right = o.right;
-  so_far = assembling_next o.front section images more image o.so_far f e;
-}
+  fresh : Fresh o.front left.placed.name (plain_items left.placed)
+  fresh = fresh_section o.front left.placed left.others (subst (λ t. Sections [] (sections_in t)) whole o.right)
 
-pub ongoing_fault : (program : List PlacedSection) (images : List (ℕ × ImageView)) (section : ℕ × written.Section) (rest : List (ℕ × written.Section)) (at node : ℕ) (place : Place) (kind : Option AsmKind)
-    → Ongoing program images (section ∷ rest) → node ≡ section.0 → IsPlaceOf section.1.items.items at place → IsNodeFault (plain section.1.items.items) at kind → IsFirstFault program node place kind
-ongoing_fault program images section rest at node place kind o name p fault = section_fault o.front section rest program images at node place kind o.program_is o.so_far name p fault
+  -- the items of the section are right
+  pub ongoing_right : Items start (plain section.1.items.items)
+  ongoing_right = subst (Items start) left.items fresh.right
+
+  -- its node has no image
+  pub ongoing_new : is_named section.0 (map (λ i. i.0) images) ≡ false
+  ongoing_new = ap (is_named section.0) o.so_far.names_are ∙ ap (λ n. is_named n (names o.front)) (sym left.name) ∙ fresh.new
+
+  -- it gets one
+  pub ongoing_next : (more : List (ℕ × ImageView)) (image : ImageView) → IsFaultless (plain section.1.items.items) image → more ≡ images ++ (section.0, image) ∷ [] → Ongoing program more rest
+  ongoing_next more image f e = record {
+    front = o.front ++ left.placed ∷ [];
+    back = left.others;
+    program_is = whole ∙ sym (append_assoc o.front (left.placed ∷ []) left.others);
+    rest_is = left.rest_is;
+    right = o.right;
+    so_far = assembling_next o.front left.placed images more image o.so_far (subst (λ t. IsFaultless t image) (sym left.items) f) (e ∙ ap (λ n. images ++ (n, image) ∷ []) (sym left.name));
+  }
+
+  items_behind : (front : List PlacedSection) (s : PlacedSection) (back : List PlacedSection) → items_at (front ++ s ∷ back) (length front) ≡ s.items
+  items_behind [] s back = refl
+  items_behind (other ∷ front) s back = items_behind front s back
+
+  -- its items are found behind so many sections as there are images
+  items_are : items_at program (length images) ≡ left.placed.items
+  items_are =
+      let count : length images ≡ length o.front = sym (length-map images (λ (i : ℕ × ImageView). i.0)) ∙ ap length o.so_far.names_are ∙ length-map o.front (λ (s : PlacedSection). s.name) in
+      ap (items_at program) count ∙ ap (λ t. items_at t (length o.front)) whole ∙ items_behind o.front left.placed left.others
+
+  pub ongoing_within : (at : ℕ) → at < length section.1.items.items → at < length (items_at program (length images))
+  ongoing_within at h =
+      let same : length left.placed.items ≡ length section.1.items.items = sym (length-map left.placed.items (λ (i : PlacedItem). i.item)) ∙ ap length left.items ∙ length-map section.1.items.items item_of in
+      omega (arith, ap length items_are, same, h)
+
+  -- its fault is the first of the program
+  pub ongoing_fault : (at node : ℕ) (place : Place) (kind told : Option AsmKind) → node ≡ section.0 → IsNodeFault (plain section.1.items.items) at kind → IsTold (items_at program (length images)) at kind told place
+      → IsFirstFault program node place told
+  ongoing_fault at node place kind None name fault t = tt
+  ongoing_fault at node place kind (Some k) name fault t =
+      let p = t.1 in
+      let has : AsmFault (plain section.1.items.items) at k = subst (IsNodeFault (plain section.1.items.items) at) t.0 fault in
+      record {
+        before = o.front;
+        section = left.placed;
+        rest = left.others;
+        split = whole;
+        all_right = o.so_far.all_right;
+        node_is = name ∙ sym left.name;
+        front = p.front;
+        item = p.item;
+        back = p.back;
+        items_split = sym items_are ∙ p.split;
+        fault = subst (λ t. AsmFault t (length p.front) k) (sym left.items) (subst (λ t. AsmFault (plain section.1.items.items) t k) p.at_is has);
+        place_is = p.place_is;
+      }
 
 pub ongoing_all : (program : List PlacedSection) (images : List (ℕ × ImageView)) (rest : List (ℕ × written.Section)) → Ongoing program images rest → rest ≡ [] → IsAssembled program images × AllRight program
 ongoing_all program images rest o none =
-    let all : map section_of o.front ≡ program = sym (o.program_is ∙ ap (λ t. map section_of (o.front ++ t)) none ∙ ap (map section_of) (append-nil o.front)) in
+    let no_more = no_sections o.back (o.rest_is ∙ ap (map section_of) none) in
+    let all : o.front ≡ program = sym (o.program_is ∙ ap (λ t. o.front ++ t) no_more ∙ append-nil o.front) in
     (subst (λ t. IsAssembled t images) all o.so_far.assembled, subst AllRight all o.so_far.all_right)
+  where
+    no_sections : (sections : List PlacedSection) → sections_in sections ≡ [] → sections ≡ []
+    no_sections [] e = refl
+    no_sections (s ∷ sections) e = absurd (cc)

@@ -4,15 +4,15 @@ use Rattle.std.specs.Option.{option_or}
 use Rattle.ga_word.specs.declared.op.Op.{Op}
 use Rattle.ga_pack.specs.Model.Layout.{Labels, Group, Shared, Alone, StandIn, address_after, is_loose, joins, labels_after, names_in, op_of, ops_of, size}
 use Rattle.ga_pack.specs.Model.LayoutFault.{AsmKind, FirstPassFault, Passed}
-use Rattle.ga_pack.specs.Model.Source.{Item, Here, Data, is_among}
-use Rattle.ga_source.specs.declared.item.PlacedItem as placed
+use Rattle.ga_pack.specs.Model.Source.{Item, Here, Data}
+use Rattle.ga_source.specs.declared.item.Item as an
 use Rattle.ga_source.specs.Item.{item_of}
 use Rattle.ga_asm.specs.Image.{all_near, labels_of}
 use Rattle.ga_asm.specs.declared.layout.Layout as the
 
--- items without their places
-abbrev pub plain : List placed.PlacedItem → List Item
-plain items = map (λ i. item_of i.item) items
+-- items as the model has them
+abbrev pub plain : List an.Item → List Item
+plain items = map item_of items
 
 -- the address and the opcodes of the word that the next item may join
 abbrev pub Open : Type 0
@@ -91,10 +91,6 @@ data_at address (Alone i ∷ groups) = if is_data i then Some address else data_
 -- the names of labels
 abbrev pub names_of : Labels → List (List ℕ)
 names_of labels = map (λ label. label.0) labels
-
--- the same names are among both
-abbrev pub AreSameNames : List (List ℕ) → List (List ℕ) → Type 0
-AreSameNames names others = (name : List ℕ) → is_among name names ≡ is_among name others
 
 -- Nothing is laid.
 pub record IsBlank (l : the.Layout) : Type 0 where

@@ -1,7 +1,9 @@
 //! The images of a program.
 ghost use Rattle.std.specs.Prelude.{◌≡◌, ◌<◌, ℕ, ◌++◌, ◌∷◌, [], IfErr, IfOk, List, OnOk, false, length, map};
 ghost use Rattle.ga_pack.specs.Model.Source.{Items, is_named, start};
-ghost use Rattle.ga_asm.specs.Assembling.{HasNoFault, IsAssembled, IsFaultless, IsFirstFault, IsNodeFault, IsPlaceOf};
+ghost use Rattle.ga_source.specs.Program.{items_at};
+ghost use Rattle.ga_source.specs.Token.{place_of};
+ghost use Rattle.ga_asm.specs.Assembling.{HasNoFault, IsAssembled, IsFaultless, IsFirstFault, IsNodeFault, IsPlaceOf, IsTold};
 ghost use Rattle.ga_asm.specs.Error.{error_place, kind_of};
 ghost use Rattle.ga_asm.specs.Image.{ImageView};
 ghost use Rattle.ga_asm.specs.Layout.{plain};
@@ -9,12 +11,12 @@ ghost use Rattle.ga_asm.specs.declared.error.AsmErrorKind.TheVariants.{Memory};
 
 use crate::error::{AsmError, AsmErrorKind};
 use crate::image::Image;
-use crate::layout::{Refusal, address_of, first_pass, set_names};
+use crate::layout::{Refusal, address_of, first_pass};
 use crate::making::second_pass;
 use ga_place::Node;
-use ga_source::{Name, PlacedItem, Program, Section};
-use indexmap::{IndexMap, IndexSet};
-use std::alloc::Global;
+use ga_source::{Place, Program, Section};
+use indexmap::IndexMap;
+use std::alloc::{AllocError, Global};
 use std::marker::Model;
 
 /// The images of a program: one for each node that its text names, in its order. A contract sees them as
@@ -39,18 +41,15 @@ impl Images {
     }
 }
 
-// The image of a section, or the first fault of its items. The set is one for names, and its room serves again.
-fn image_of(alloc: Global, section: &Section, names: &mut IndexSet<Name>) -> Result<Image, Refusal>
+// The image of a section, or the first fault of its items.
+fn image_of(alloc: Global, section: &Section) -> Result<Image, Refusal>
     requires { Items start (plain section.now.items.items) }
     ensures ok { IfOk result (λ image. IsFaultless (plain section.now.items.items) image) }
     ensures err { IfErr result (λ refusal. IsNodeFault (plain section.now.items.items) refusal.at (kind_of refusal.kind)) }
     ensures at { IfErr result (λ refusal. refusal.at < length section.now.items.items) }
 {
     let items = section.items.as_slice();
-    if let Err(kind) = set_names(names, section.labels.as_slice()) {
-        return Err(Refusal { at: 0, kind });
-    }
-    let layout = first_pass(alloc, names, items)?;
+    let layout = first_pass(alloc, &section.labels, items)?;
     let words = second_pass(alloc, items, &layout)?;
     let code_len = usize::from(layout.data_start.unwrap_or(layout.address));
     let entry = address_of(&layout.labels, "main").unwrap_or(0);
@@ -76,23 +75,47 @@ fn add_image(
     Ok(())
 }
 
-// The fault, with its node and the place of its item.
-fn error_at(node: Node, items: &[PlacedItem], refusal: Refusal) -> AsmError
-    requires { refusal.at < length items.now }
-    ensures kind { result.kind ≡ refusal.kind }
-    ensures node { result.node ≡ node }
-    ensures place { IsPlaceOf items.now refusal.at (error_place result) }
+// Where the fault of an item is told, by the numbers of its section and of the item in it: at the name that
+// it uses, or else at its first token.
+fn fault_place(
+    alloc: Global,
+    program: &Program<'_>,
+    section: usize,
+    item: usize,
+) -> Result<Place, AllocError>
+    requires { item < length (items_at program.now section) }
+    ensures { IfOk result (λ place. IsPlaceOf (items_at program.now section) item (place_of place)) }
 {
-    let placed = &items[refusal.at];
-    let place = match placed.name_place() {
-        Some(place) => place,
-        None => placed.place,
-    };
-    AsmError {
-        kind: refusal.kind,
-        node,
-        line: place.line,
-        column: place.column,
+    let places = program.places(alloc, section)?;
+    let found = places[item];
+    Ok(found.name.unwrap_or(found.place))
+}
+
+// The fault of a section's item, with its node and its place.
+fn error_at(
+    alloc: Global,
+    program: &Program<'_>,
+    section: usize,
+    node: Node,
+    refusal: Refusal,
+) -> AsmError
+    requires { refusal.at < length (items_at program.now section) }
+    ensures node { result.node ≡ node }
+    ensures told { IsTold (items_at program.now section) refusal.at (kind_of refusal.kind) (kind_of result.kind) (error_place result) }
+{
+    match fault_place(alloc, program, section, refusal.at) {
+        Ok(place) => AsmError {
+            kind: refusal.kind,
+            node,
+            line: place.line,
+            column: place.column,
+        },
+        Err(_) => AsmError {
+            kind: AsmErrorKind::Memory,
+            node,
+            line: 1,
+            column: 1,
+        },
     }
 }
 
@@ -103,7 +126,7 @@ fn error_at(node: Node, items: &[PlacedItem], refusal: Refusal) -> AsmError
 /// in slot 0 of a word of its own. A node has 64 words at most, and a fault is that of the first node in the
 /// text's order that has one. It fails as `Memory` only where memory is refused. It takes time in proportion
 /// to the program, if hashing spreads the names of its labels.
-pub fn assemble(alloc: Global, program: &Program) -> Result<Images, AsmError>
+pub fn assemble(alloc: Global, program: &Program<'_>) -> Result<Images, AsmError>
     ensures images { IfOk result (λ images. IsAssembled program.now images) }
     // they are the only images of the program
     ensures only { IfOk result (λ images. (other : List (ℕ × ImageView)) → IsAssembled program.now other → other ≡ images) }
@@ -113,15 +136,15 @@ pub fn assemble(alloc: Global, program: &Program) -> Result<Images, AsmError>
     ensures fault { IfErr result (λ error. IsFirstFault program.now error.node (error_place error) (kind_of error.kind)) }
 {
     let mut images = IndexMap::new(alloc);
-    let mut names = IndexSet::new(alloc);
     for (node, section) in program.sections() {
-        let image = match image_of(alloc, section, &mut names) {
+        let before = images.len();
+        let image = match image_of(alloc, section) {
             Ok(image) => image,
-            Err(refusal) => return Err(error_at(*node, section.items.as_slice(), refusal)),
+            Err(refusal) => return Err(error_at(alloc, program, before, *node, refusal)),
         };
         if let Err(kind) = add_image(&mut images, *node, image) {
             let refusal = Refusal { at: 0, kind };
-            return Err(error_at(*node, section.items.as_slice(), refusal));
+            return Err(error_at(alloc, program, before, *node, refusal));
         }
     }
     Ok(Images { images })

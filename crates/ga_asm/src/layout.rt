@@ -9,12 +9,12 @@ ghost use Rattle.ga_pack.specs.Followers as counted;
 ghost use Rattle.ga_source.specs.Item.{item_of, value_of, word_of};
 ghost use Rattle.ga_asm.specs.Error.{kind_in, kind_of};
 ghost use Rattle.ga_asm.specs.Image.{labels_of};
-ghost use Rattle.ga_asm.specs.Layout.{AreSameNames, IsBlank, IsFirstPassFault, counts_after, data_after, joins_word, Placing, labels_with, names_of, open_after, open_count, open_of, plain};
+ghost use Rattle.ga_asm.specs.Layout.{IsBlank, IsFirstPassFault, counts_after, data_after, joins_word, Placing, labels_with, names_of, open_after, open_count, open_of, plain};
 ghost use Rattle.ga_asm.specs.declared.error.AsmErrorKind.TheVariants.{Memory};
 
 use crate::error::AsmErrorKind;
 use crate::slots::Slots;
-use ga_source::{Item, Name, PlacedItem, Section, TransferWord, Value};
+use ga_source::{Item, Name, Section, TransferWord, Value};
 use ga_word::{Op, Word18};
 use indexmap::{IndexMap, IndexSet};
 use std::alloc::{AllocError, Global};
@@ -59,7 +59,7 @@ fn is_value(names: &IndexSet<Name>, value: &Value) -> bool
 {
     match value {
         Value::Number(_) => true,
-        Value::Label(label) => is_among(names, &label.name),
+        Value::Label(name) => is_among(names, name),
     }
 }
 
@@ -170,7 +170,7 @@ pub(crate) fn value_among(labels: &IndexMap<String, u8>, value: &Value) -> Optio
 {
     match value {
         Value::Number(number) => Some(*number),
-        Value::Label(label) => { Word18::new(u32::from(address_of(labels, label.name.as_str())?)) }
+        Value::Label(name) => Word18::new(u32::from(address_of(labels, name.as_str())?)),
     }
 }
 
@@ -189,10 +189,10 @@ fn word_reaches(labels: &IndexMap<String, u8>, address: u8, word: &TransferWord)
     requires { address ≤ 64 }
     ensures { result ≡ laid.is_in_reach (labels_of labels.now.entries) address (word_of word.now) }
 {
-    let Value::Label(label) = &word.dest else {
+    let Value::Label(name) = &word.dest else {
         return true;
     };
-    match address_of(labels, label.name.as_str()) {
+    match address_of(labels, name.as_str()) {
         Some(dest) => reaches(
             word.ops.len(),
             p_behind(address, word.ops.as_slice()),
@@ -359,27 +359,15 @@ impl Layout {
     }
 }
 
-/// The names become those of these labels, so that each is looked up.
-pub(crate) fn set_names(names: &mut IndexSet<Name>, labels: &[Name]) -> Result<(), AsmErrorKind>
-    ensures ok { OnOk result (AreSameNames (map (λ name. name.bytes) names.new.keys) (map (λ name. name.bytes) labels.now)) }
-    ensures err { IfErr result (λ kind. kind ≡ Memory) }
-{
-    names.clear();
-    for label in labels {
-        names.insert(*label)?;
-    }
-    Ok(())
-}
-
 /// Where the items of a node come to stand, or the first fault of the first pass. The names are those of
 /// all labels of the node.
 pub(crate) fn first_pass(
     alloc: Global,
     names: &IndexSet<Name>,
-    items: &[PlacedItem],
+    items: &[Item],
 ) -> Result<Layout, Refusal>
     requires right { Items start (plain items.now) }
-    requires names { AreSameNames (map (λ name. name.bytes) names.now.keys) (names_in (plain items.now)) }
+    requires names { map (λ name. name.bytes) names.now.keys ≡ names_in (plain items.now) }
     ensures ok { IfOk result (λ layout. Placing (plain items.now) layout) }
     ensures err { IfErr result (λ refusal. IsFirstPassFault (plain items.now) refusal.at (kind_of refusal.kind)) }
     ensures at { IfErr result (λ refusal. refusal.at < length items.now) }
@@ -391,12 +379,12 @@ pub(crate) fn first_pass(
             return Err(Refusal { at: 0, kind });
         }
     };
-    for (at, placed) in items.iter().enumerate() {
-        let joined = layout.joins(&placed.item);
-        if let Some(kind) = layout.fault_of(names, &placed.item, joined) {
+    for (at, item) in items.iter().enumerate() {
+        let joined = layout.joins(item);
+        if let Some(kind) = layout.fault_of(names, item, joined) {
             return Err(Refusal { at, kind });
         }
-        if let Err(kind) = layout.add(&placed.item, joined) {
+        if let Err(kind) = layout.add(item, joined) {
             return Err(Refusal { at, kind });
         }
     }

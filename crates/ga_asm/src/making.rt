@@ -21,7 +21,7 @@ use crate::error::AsmErrorKind;
 use crate::layout::{Layout, Refusal, is_in_reach, is_loose, op_of, value_among};
 use arrayvec::ArrayVec;
 use ga_pack::{Packed, encode};
-use ga_source::{Item, PlacedItem, TransferWord, Value};
+use ga_source::{Item, TransferWord, Value};
 use ga_word::{Op, Word18};
 use indexmap::IndexMap;
 use std::alloc::Global;
@@ -111,16 +111,16 @@ fn word(ops: ArrayVec<Op, 4>, dest: Option<u16>, spare: u8) -> Word18
 }
 
 // The word that items outside brackets share.
-fn shared_word(labels: &IndexMap<String, u8>, items: &[PlacedItem]) -> Word18
+fn shared_word(labels: &IndexMap<String, u8>, items: &[Item]) -> Word18
     requires few { length items.now ≤ 4 }
     requires packable { IsPackable (ops_of (plain items.now)) (last_dest (labels_of labels.now.entries) 0 (plain items.now)) 0 }
     ensures { IsWord result (ops_of (plain items.now)) (last_dest (labels_of labels.now.entries) 0 (plain items.now)) 0 }
 {
     let mut ops = ArrayVec::new();
     let mut dest = None;
-    for placed in items {
-        dest = item_dest(labels, ops.len(), &placed.item);
-        ops.push(op_of(&placed.item));
+    for item in items {
+        dest = item_dest(labels, ops.len(), item);
+        ops.push(op_of(item));
     }
     word(ops, dest, 0)
 }
@@ -136,12 +136,12 @@ fn follower_of(item: &Item) -> Option<Word18>
 }
 
 // The followers of a word that items outside brackets share.
-fn push_followers(items: &[PlacedItem], words: &mut Vec<Word18>) -> Result<(), AsmErrorKind>
+fn push_followers(items: &[Item], words: &mut Vec<Word18>) -> Result<(), AsmErrorKind>
     ensures ok { OnOk result (words.new.items ≡ words.old.items ++ laid.literals (plain items.now)) }
     ensures err { IfErr result (λ kind. kind ≡ Memory) }
 {
-    for placed in items {
-        if let Some(number) = follower_of(&placed.item) {
+    for item in items {
+        if let Some(number) = follower_of(item) {
             words.push(number)?;
         }
     }
@@ -189,14 +189,14 @@ fn push_alone(
 // The words of a group.
 fn push_group(
     labels: &IndexMap<String, u8>,
-    items: &[PlacedItem],
+    items: &[Item],
     words: &mut Vec<Word18>,
 ) -> Result<(), AsmErrorKind>
     requires { IsGroup (labels_of labels.now.entries) (plain items.now) }
     ensures ok { OnOk result (MoreWords (labels_of labels.now.entries) (plain items.now) words.old.items words.new.items) }
     ensures err { IfErr result (λ kind. kind ≡ Memory) }
 {
-    let first = &items[0].item;
+    let first = &items[0];
     if is_loose(first) {
         words.push(shared_word(labels, items))?;
         push_followers(items, words)
@@ -209,7 +209,7 @@ fn push_group(
 /// reach.
 pub(crate) fn second_pass(
     alloc: Global,
-    items: &[PlacedItem],
+    items: &[Item],
     layout: &Layout,
 ) -> Result<Vec<Word18>, Refusal>
     requires placed { Placing (plain items.now) layout.now }
@@ -228,7 +228,7 @@ pub(crate) fn second_pass(
         let (group, behind) = rest.split_at(*count);
         let at = items.len() - rest.len();
         let address = words.len() as u8;
-        if !is_in_reach(&layout.labels, address, &group[0].item) {
+        if !is_in_reach(&layout.labels, address, &group[0]) {
             let kind = AsmErrorKind::OutOfReach;
             return Err(Refusal { at, kind });
         }

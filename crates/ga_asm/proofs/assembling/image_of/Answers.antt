@@ -1,23 +1,16 @@
-use Rattle.std.proofs.Common.{◌∙◌, ◌<◌, length, map, sym, ap, subst}
+use Rattle.std.proofs.Common.{◌∙◌, ◌<◌, length, sym, ap, subst}
 use Rattle.std.specs.List.{list_all}
 use Rattle.std.specs.Option.{unwrap_or}
 use Rattle.ga_pack.specs.Model.Layout.{names_in}
-use Rattle.ga_pack.specs.Model.Source.{is_among, is_item, start}
+use Rattle.ga_pack.specs.Model.Source.{is_item, start}
 use Rattle.ga_asm.specs.Layout.{Placing, plain}
 use Rattle.ga_asm.specs.Making.{IsMade}
-use Rattle.ga_asm.proofs.LabelLists.{names_are}
 use Rattle.ga_asm.proofs.RightItems.{items_right, items_some}
 use Rattle.ga_asm.proofs.Sections.{image_fits}
 use Rattle.ga_asm.proofs.assembling.image_of.Goals as goal
 
 pub first_pass-requires-clause-names : goal.first_pass-requires-clause-names
-first_pass-requires-clause-names c name =
-    c.in_default.ensures.ok name
-    ∙ ap (λ t. is_among name t)
-    (ap (map (λ name. name.bytes)) c.as_slice.ensures.value ∙ c.args.section.now.labels_of_items ∙ names_are c.args.section.now.items.items ∙ ap (λ t. names_in (plain t)) (sym c.as_slice-items.ensures.value))
-
-pub returns-in-Err-clause-at : goal.returns-in-Err-clause-at
-returns-in-Err-clause-at c = items_some c.args.section.now.items.items c.requires
+first_pass-requires-clause-names c = c.args.section.now.labels_of_items ∙ ap (λ t. names_in (plain t)) (sym c.as_slice-items.ensures.value)
 
 pub second_pass-requires-clause-right : goal.second_pass-requires-clause-right
 second_pass-requires-clause-right c =

@@ -1,10 +1,10 @@
-use Rattle.std.proofs.Common.{◌∙◌, map, sym, subst, take}
+use Rattle.std.proofs.Common.{◌∙◌, ap, sym, subst, take}
 use Rattle.ga_pack.specs.Model.Layout.{names_in}
+use Rattle.ga_pack.specs.Model.LayoutFault.{fault_at}
 use Rattle.ga_source.specs.Item.{item_of}
 use Rattle.ga_asm.specs.Error.{kind_of}
 use Rattle.ga_asm.specs.Image.{labels_of}
 use Rattle.ga_asm.specs.Layout.{Laying, joins_open, open_of, plain}
-use Rattle.ga_asm.proofs.Names.{fault_same}
 use Rattle.ga_asm.proofs.LayingSteps.{front_all, front_next, laying_all, laying_fault, laying_next, laying_none, next_new}
 use Rattle.ga_asm.proofs.RightItems.{items_some}
 use Rattle.ga_asm.proofs.layout.first_pass.Goals as goal
@@ -16,9 +16,9 @@ pub returns-in-Some-clause-err : goal.returns-in-Some-clause-err
 returns-in-Some-clause-err c =
     let items = c.args.items.now in
     let l = c.loop-at.layout in
-    let x = item_of c.index-items-at.result.item in
+    let x = item_of c.index-items-at.result in
     laying_fault items c.loop-at.at c.index-items-at.result l (kind_of c.in-Some.kind) c.loop-at-test.true c.index-items-at.is c.loop-at.invariant
-    (c.in-Some.ensures ∙ fault_same (map (λ name. name.bytes) c.args.names.now.keys) (names_in (plain items)) (labels_of l.labels.entries) l.address (joins_open (labels_of l.labels.entries) (open_of l) x) x c.requires.names)
+    (c.in-Some.ensures ∙ ap (λ t. fault_at t (labels_of l.labels.entries) l.address (joins_open (labels_of l.labels.entries) (open_of l) x) x) c.requires.names)
 
 pub add-requires-clause-new : goal.add-requires-clause-new
 add-requires-clause-new c =
@@ -30,11 +30,11 @@ loop-at-preserved c =
     let l = c.loop-at.layout in
     let m = c.add.new.self in
     let names = names_in (plain items) in
-    let x = item_of c.index-items-at.result.item in
+    let x = item_of c.index-items-at.result in
     let e = c.in_default-add.ensures in
     subst (λ t. Laying names t m) (sym (front_next items c.loop-at.at c.index-items-at.result c.loop-at-test.true c.index-items-at.is))
     (laying_next names (plain (take c.loop-at.at items)) l m x c.loop-at.invariant
-    (sym (c.in_default.ensures ∙ fault_same (map (λ name. name.bytes) c.args.names.now.keys) (names_in (plain items)) (labels_of l.labels.entries) l.address (joins_open (labels_of l.labels.entries) (open_of l) x) x c.requires.names))
+    (sym (c.in_default.ensures ∙ ap (λ t. fault_at t (labels_of l.labels.entries) l.address (joins_open (labels_of l.labels.entries) (open_of l) x) x) c.requires.names))
     (record { labels = e.labels; address = e.address; word = e.word; counts = e.counts; data_start = e.data; near = e.near }))
 
 pub returns-in-Ok-close-clause-ok : goal.returns-in-Ok-close-clause-ok

@@ -1,6 +1,6 @@
 use Rattle.std.proofs.Common.{◌∙◌, sym}
 use Rattle.std.specs.Str.{bytes_eq}
-use Rattle.ga_asm.proofs.Names.{list_any_map}
+use Rattle.ga_asm.proofs.LabelLists.{list_any_map}
 use Rattle.ga_asm.proofs.layout.is_among.Goals as goal
 
 pub returns : goal.returns

@@ -7,4 +7,4 @@ use Rattle.ga_asm.proofs.layout.is_value.Goals as goal
 pub returns-in-Label : goal.returns-in-Label
 returns-in-Label c =
     let keys = map (λ name. name.bytes) c.args.names.now.keys in
-    c.is_among.ensures ∙ ap (λ t. is_among t keys) (ap (λ label. label.name.bytes) c.deref.ensures) ∙ ap (λ t. is_value keys (value_of t)) (sym c.in-Label.is)
+    c.is_among.ensures ∙ ap (λ t. is_among t keys) (ap (λ name. name.bytes) c.deref.ensures) ∙ ap (λ t. is_value keys (value_of t)) (sym c.in-Label.is)

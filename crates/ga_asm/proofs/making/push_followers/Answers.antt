@@ -6,18 +6,18 @@ use Rattle.ga_asm.proofs.MakingSteps.{followers_none, followers_some}
 use Rattle.ga_asm.proofs.making.push_followers.Goals as goal
 use Rattle.ga_asm.proofs.making.push_followers.Goals.{in-Some+in_ok-push, in_default}
 
-pub loop-placed-preserved : goal.loop-placed-preserved
-loop-placed-preserved c =
+pub loop-item-preserved : goal.loop-item-preserved
+loop-item-preserved c =
     let items = c.args.items.now in
-    let at = c.loop-placed.placed-index in
-    let x = item_of c.placed-item.result.item in
+    let at = c.loop-item.item-index in
+    let x = item_of c.item-item.result in
     let front = plain (take at items) in
-    let next = front_next items at c.placed-item.result c.loop-placed-test.true c.placed-item.is in
+    let next = front_next items at c.item-item.result c.loop-item-test.true c.item-item.is in
     elim c.match-follower_of.branch [
       | in-Some+in_ok-push w ↦
-          followers_some c.args.words.now.items c.loop-placed.words.items c.match-follower_of.words.items (plain (take (at + 1) items)) front x w.in-Some.number
-          next c.loop-placed.invariant w.in-Some.ensures (ap (λ t. t.items) w.words-is ∙ w.in_ok-push.ensures.items)
+          followers_some c.args.words.now.items c.loop-item.words.items c.match-follower_of.words.items (plain (take (at + 1) items)) front x w.in-Some.number
+          next c.loop-item.invariant w.in-Some.ensures (ap (λ t. t.items) w.words-is ∙ w.in_ok-push.ensures.items)
       | in_default w ↦
-          followers_none c.args.words.now.items c.loop-placed.words.items c.match-follower_of.words.items (plain (take (at + 1) items)) front x
-          next c.loop-placed.invariant w.in_default.ensures (ap (λ t. t.items) w.words-is)
+          followers_none c.args.words.now.items c.loop-item.words.items c.match-follower_of.words.items (plain (take (at + 1) items)) front x
+          next c.loop-item.invariant w.in_default.ensures (ap (λ t. t.items) w.words-is)
     ]

@@ -3,5 +3,5 @@ use Rattle.ga_pack.specs.Model.Layout.{literals}
 use Rattle.ga_asm.specs.Layout.{plain}
 use Rattle.ga_asm.proofs.making.push_followers.Given as goal
 
-abbrev pub invariant-loop-placed : goal.invariant-loop-placed
-invariant-loop-placed l = l.words.items ≡ l.initial.words.items ++ literals (plain (take l.placed-index l.items))
+abbrev pub invariant-loop-item : goal.invariant-loop-item
+invariant-loop-item l = l.words.items ≡ l.initial.words.items ++ literals (plain (take l.item-index l.items))

@@ -1,4 +1,4 @@
-use Rattle.std.proofs.Common.{◌≡◌, ◌∙◌, get_or, length, sym, ap, arith}
+use Rattle.std.proofs.Common.{◌≡◌, ◌∙◌, length, sym, ap, arith}
 use Rattle.ga_pack.specs.Model.Layout.{is_in_reach}
 use Rattle.ga_source.specs.Item.{item_of}
 use Rattle.ga_asm.specs.Image.{labels_of}
@@ -43,7 +43,7 @@ returns-then-not-is_in_reach-clause-err c =
     let n = next_of (plain c.args.items.now) c.args.layout.now c.deref-count-items.result.now c.loop-count.count-index (plain c.loop-count.rest.now) c.loop-count.words.items c.loop-count.invariant c.deref-count-items.ensures.value c.loop-count-test.true in
     let count : c.len-address.result ≡ length c.loop-count.words.items = omega (arith, c.len-address.ensures) in
     next_far c.args.items.now c.loop-count.rest.now c.args.layout.now c.deref-count-items.result.now c.loop-count.count-index c.loop-count.words.items n c.split_at.result.0.now c.index-group-0.result c.split_at.ensures.front
-    (ap (λ t. is_in_reach (labels_of c.args.layout.now.labels.entries) t (item_of (get_or c.split_at.result.0.now 0 c.index-group-0.result).item)) (sym count) ∙ sym c.is_in_reach.ensures ∙ c.if-not-is_in_reach.true)
+    (ap (λ t. is_in_reach (labels_of c.args.layout.now.labels.entries) (length c.loop-count.words.items) (item_of t)) (sym c.index-group-0.is) ∙ ap (λ t. is_in_reach (labels_of c.args.layout.now.labels.entries) t (item_of c.index-group-0.result)) (sym count) ∙ sym c.is_in_reach.ensures ∙ c.if-not-is_in_reach.true)
 
 pub returns-then-not-is_in_reach-clause-at : goal.returns-then-not-is_in_reach-clause-at
 returns-then-not-is_in_reach-clause-at c =
@@ -65,7 +65,7 @@ loop-count-preserved c =
     let n = next_of (plain c.args.items.now) c.args.layout.now c.deref-count-items.result.now c.loop-count.count-index (plain c.loop-count.rest.now) c.loop-count.words.items c.loop-count.invariant c.deref-count-items.ensures.value c.loop-count-test.true in
     let count : c.len-address.result ≡ length c.loop-count.words.items = omega (arith, c.len-address.ensures) in
     next_made c.args.items.now c.loop-count.rest.now c.args.layout.now c.deref-count-items.result.now c.loop-count.count-index c.loop-count.words.items n c.split_at.result.0.now c.split_at.result.1.now c.index-group-0.result c.push_group.new.words.items c.split_at.ensures.front c.split_at.ensures.back
-    (ap (λ t. is_in_reach (labels_of c.args.layout.now.labels.entries) t (item_of (get_or c.split_at.result.0.now 0 c.index-group-0.result).item)) (sym count) ∙ sym c.is_in_reach.ensures ∙ c.if-not-is_in_reach.false)
+    (ap (λ t. is_in_reach (labels_of c.args.layout.now.labels.entries) (length c.loop-count.words.items) (item_of t)) (sym c.index-group-0.is) ∙ ap (λ t. is_in_reach (labels_of c.args.layout.now.labels.entries) t (item_of c.index-group-0.result)) (sym count) ∙ sym c.is_in_reach.ensures ∙ c.if-not-is_in_reach.false)
     c.in_default-push_group.ensures.ok
 
 pub returns-clause-ok : goal.returns-clause-ok

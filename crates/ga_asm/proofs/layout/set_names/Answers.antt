@@ -1,9 +1,0 @@
-use Rattle.std.proofs.Common.{refl}
-use Rattle.std.specs.Str.{bytes_eq}
-use Rattle.ga_asm.proofs.Names.{names_next}
-use Rattle.ga_asm.proofs.layout.set_names.Goals as goal
-
-pub loop-label-preserved : goal.loop-label-preserved
-loop-label-preserved c =
-    names_next (λ name. name.bytes) (λ one other. bytes_eq one.bytes other.bytes) (λ x y. refl) c.args.labels.now c.loop-label.label-index c.label-item.result c.loop-label.names.keys
-    c.insert.new.self.keys c.loop-label-test.true c.label-item.is c.loop-label.invariant c.in_ok-insert.ensures.keys

@@ -1,6 +1,0 @@
-use Rattle.std.proofs.Common.{map, take}
-use Rattle.ga_asm.specs.Layout.{AreSameNames}
-use Rattle.ga_asm.proofs.layout.set_names.Given as goal
-
-abbrev pub invariant-loop-label : goal.invariant-loop-label
-invariant-loop-label l = AreSameNames (map (λ name. name.bytes) l.names.keys) (map (λ name. name.bytes) (take l.label-index l.labels))
