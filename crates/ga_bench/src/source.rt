@@ -8,7 +8,7 @@ use ga_source::{Program, parse};
 use std::alloc::Global;
 
 /// The program of an input that is source text.
-pub fn program_of(alloc: Global, input: &[u8]) -> Result<Program, ServeError>
+pub fn program_of(alloc: Global, input: &[u8]) -> Result<Program<'_>, ServeError>
     ensures { Answers (λ program. program) (IsProgramIn input.now) result }
 {
     let program = parse(alloc, text_of(input)?)?;
