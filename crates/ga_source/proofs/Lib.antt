@@ -10,5 +10,6 @@ mod ItemPlaces
 mod Reading
 mod Lines
 mod Slices
+mod Texts
 mod Numerals
 mod Names

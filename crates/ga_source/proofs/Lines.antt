@@ -1,5 +1,5 @@
 -- A text is cut into lines, and a line into runs, and so its tokens are found.
-use Rattle.std.proofs.Common.{rules, ◌≡◌, ◌∙◌, ◌++◌, ◌+◌, ◌-◌, ◌<◌, ◌≤◌, ◌⊎◌, ℕ, suc, Bool, true, false, not, Some, None, List, [], ◌∷◌, inl, inr, map, length, take, drop, get_or, take_all, take-append-drop, length-drop, refl, sym, ap, ap₂, subst, append_assoc, arith, length-append}
+use Rattle.std.proofs.Common.{rules, ◌≡◌, ◌∙◌, ◌++◌, ◌+◌, ◌-◌, ◌<◌, ◌≤◌, ◌⊎◌, ℕ, Bool, true, false, not, Some, None, List, [], ◌∷◌, inl, inr, map, length, take, drop, get_or, take_all, take-append-drop, length-drop, refl, sym, ap, ap₂, subst, append_assoc, arith, length-append}
 use Rattle.std.specs.Prelude.{◌==◌, All, codes, count_by, filter, if◌then◌else◌}
 use Rattle.std.specs.List.{position, position_or_len, slice_split, onto_first}
 use Rattle.std.specs.Str.{bytes_eq}
@@ -9,12 +9,8 @@ use Rattle.std.proofs.lemmas.List.Quantifiers.{position-Some}
 use Rattle.std.proofs.lemmas.Grind.{common_steps}
 use Rattle.std.proofs.lemmas.List.Splits.{slice_split-cons_no, slice_split-cons_yes, length-slice_split, slice_split_at, slice_split_none}
 use Rattle.std.proofs.lemmas.List.Sums.{count_by-le-length, fails_before_first, sum_by-append}
-use Rattle.std.proofs.lemmas.Bool.Decides.{nat_tests}
-use Rattle.std.proofs.lemmas.Str.Ascii.{All-from_ascii}
 use Rattle.std.proofs.lemmas.Bool.{false_from_ne_true}
-use Rattle.std.specs.Bool.{MatchBool}
 use Rattle.memchr.specs.Find.{NoneBefore, Nowhere, Passes, is_byte}
-use Rattle.std.specs.Str.{IsAscii, IsNotAscii}
 use Rattle.ga_word.specs.Text.{is_blank, is_empty}
 use Rattle.ga_pack.specs.Model.Text.{Lexeme, Place, Run, before_comment, begins_character, end_from, lexemes, lexemes_from, line_lexemes, lines_of, place_behind, runs_from}
 
@@ -24,7 +20,7 @@ use Rattle.ga_pack.specs.Model.Text.{Lexeme, Place, Run, before_comment, begins_
 abbrev pub Cut : (p : ℕ → Bool) → List ℕ → List ℕ → List (List ℕ) → Type 0
 Cut p xs first others = ((others ≡ []) × (xs ≡ first)) ⊎ ((y : ℕ) × (rest : List ℕ) × (xs ≡ first ++ y ∷ rest) × (p y ≡ true) × (slice_split p rest ≡ others))
 
-record First (p : ℕ → Bool) (xs : List ℕ) : Type 0 where
+pub record First (p : ℕ → Bool) (xs : List ℕ) : Type 0 where
   pub first : List ℕ
   pub others : List (List ℕ)
   pub parts : slice_split p xs ≡ first ∷ others
@@ -43,7 +39,7 @@ first_more p x xs false e f = record {
   cut = longer_cut p x xs f.first f.others f.cut;
 }
 
-first_of : (p : ℕ → Bool) (xs : List ℕ) → First p xs
+pub first_of : (p : ℕ → Bool) (xs : List ℕ) → First p xs
 first_of p [] = record { first = []; others = []; parts = refl; cut = inl (refl, refl) }
 first_of p (x ∷ xs) = first_more p x xs (p x) refl (first_of p xs)
 
@@ -116,19 +112,6 @@ pub record Next (bytes : List ℕ) (at column : ℕ) (run : List ℕ) (others : 
 count_append : (xs ys : List ℕ) → count_by begins_character (xs ++ ys) ≡ count_by begins_character xs + count_by begins_character ys
 count_append xs ys = sum_by-append _ xs ys
 
--- each byte of an ASCII line begins a character
-plain_all : (bytes : List ℕ) → All (λ c. c < 128) bytes → count_by begins_character bytes ≡ length bytes
-plain_all [] all = refl
-plain_all (x ∷ xs) all =
-    let first : x < 128 = all 0 0 (omega arith) in
-    let begins : begins_character x ≡ true = grind (arith, nat_tests) in
-    let rest : count_by begins_character xs ≡ length xs = plain_all xs (λ k d m. all (suc k) d (omega (arith, m))) in
-    omega (arith, rest, count_append (x ∷ []) xs, ap {B = ℕ} (λ b. if b then 1 else 0) begins)
-
-pub plain_ascii : (bytes : List ℕ) (b : Bool) → MatchBool b (IsAscii bytes) (IsNotAscii bytes) → b ≡ true → count_by begins_character bytes ≡ length bytes
-plain_ascii bytes true is e = plain_all bytes (All-from_ascii bytes is)
-plain_ascii bytes false is e = absurd (cc)
-
 blank_begins : (y : ℕ) → is_blank y ≡ true → begins_character y ≡ true
 blank_begins y e = search rules
 
@@ -143,20 +126,6 @@ next_stands bytes at column run others s (inr (y, rest, whole, blank, left)) = i
   parts = left;
   columns = omega (arith, s.columns, count_append s.front (run ++ y ∷ []), count_append run (y ∷ []), ap {B = ℕ} (λ b. if b then 1 else 0) (blank_begins y blank));
 })
-
--- a part of a line each of whose bytes begins a character is such a part
-pub plain_part : (bytes : List ℕ) (at column : ℕ) (run : List ℕ) (others : List (List ℕ)) → (run ∷ others ≡ []) ⊎ Stands bytes at column (run ∷ others)
-    → count_by begins_character bytes ≡ length bytes → count_by begins_character run ≡ length run
-plain_part bytes at column run others (inl none) plain = absurd (cc)
-plain_part bytes at column run others (inr s) plain = more (cut is_blank s.rest run others s.parts)
-  where
-    whole : count_by begins_character s.rest ≡ length s.rest
-    whole = omega (arith, plain, ap (count_by begins_character) s.whole ∙ count_append s.front s.rest, ap length s.whole ∙ length-append s.front s.rest, count_by-le-length begins_character s.front, count_by-le-length begins_character s.rest)
-
-    more : Cut is_blank s.rest run others → count_by begins_character run ≡ length run
-    more (inl (none, same)) = sym (ap (count_by begins_character) same) ∙ whole ∙ ap length same
-    more (inr (y, rest, same, blank, left)) =
-        omega (arith, whole, ap (count_by begins_character) same ∙ count_append run (y ∷ rest), ap length same ∙ length-append run (y ∷ rest), count_by-le-length begins_character run, count_by-le-length begins_character (y ∷ rest))
 
 pub next_part : (bytes : List ℕ) (at column : ℕ) (run : List ℕ) (others : List (List ℕ)) → (run ∷ others ≡ []) ⊎ Stands bytes at column (run ∷ others) → Next bytes at column run others
 next_part bytes at column run others (inl none) = absurd (cc)
@@ -256,21 +225,6 @@ module _ {X : Type 0} (f : Lexeme → X) where
             ∙ sym (append_assoc tokens here _)
             ∙ ap₂ (λ xs ys. xs ++ map f ys) (sym e) there;
       }
-
-  -- a token of the line at hand, and what is made of those behind it
-  pub one_more : (text : List ℕ) (line offset : ℕ) (bytes : List ℕ) (lines : List (List ℕ)) (start column : ℕ) (run : List ℕ) (others : List (List ℕ)) (before tokens : List X)
-      → Read text line offset (bytes ∷ lines) before → Scanned line offset bytes start column (run ∷ others) before tokens → is_mark run ≡ false → 0 < length run
-      → (more : List X) × (map f (lexemes text) ≡ tokens ++ f (lexeme_at line column start run) ∷ more)
-  one_more text line offset bytes lines start column run others before tokens r s mark some =
-      let next = next_part bytes s.at column run others s.stands in
-      let token : lexeme_at line column start run ≡ placed_run line offset bytes (record { offset = s.at; text = run }) = rw (s.starts, next.columns) refl in
-      let here = map f (of_parts line offset bytes (s.at + length run + 1) others) in
-      let there = map f (lexemes_from (line + 1) (offset + length bytes + 1) lines) in (
-        here ++ there,
-        r.found ∙ ap (λ l. before ++ l) (map-append f (line_lexemes line offset bytes) _) ∙ sym (append_assoc before _ there) ∙ ap (λ l. l ++ there) s.found
-            ∙ ap (λ ls. (tokens ++ map f ls) ++ there) (of_run line offset bytes s.at run others mark some) ∙ append_assoc tokens _ there
-            ∙ ap (λ t. tokens ++ f t ∷ (here ++ there)) (sym token),
-      )
 
   pub all_read : (text : List ℕ) (line start : ℕ) (left : List (List ℕ)) (tokens : List X) → Read text line start left tokens → left ≡ [] → tokens ≡ map f (lexemes text)
   all_read text line start left tokens r none = sym (append-nil tokens) ∙ ap (λ ls. tokens ++ map f (lexemes_from line start ls)) (sym none) ∙ sym r.found

@@ -1,7 +1,5 @@
 -- Names, and names in front of `:`.
-use Rattle.std.proofs.Common.{◌≡◌, ◌∙◌, ◌++◌, ◌<◌, ◌≤◌, ℕ, zero, suc, Bool, true, false, List, [], ◌∷◌, Option, Result, Ok, Err, Some, None, length, refl, sym, ap, arith, append_assoc, inl, inr, lit<, eq-eqb}
-use Rattle.std.specs.Prelude.{IfOk, IsOk}
-use Rattle.std.specs.Result.{result_ok}
+use Rattle.std.proofs.Common.{◌≡◌, ◌∙◌, ◌++◌, ◌<◌, ◌≤◌, ℕ, zero, suc, Bool, true, false, List, [], ◌∷◌, Option, Some, None, length, refl, sym, ap, arith, append_assoc, inl, inr, lit<, eq-eqb}
 use Rattle.std.specs.Option.{option_map}
 use Rattle.std.specs.Prelude.{◌==◌, ◌&&◌, nat_le, nat_lt, if◌then◌else◌}
 use Rattle.std.specs.List.{list_all}
@@ -62,12 +60,11 @@ name_fits (c ∷ cs) e =
     let few = ltb-true (length cs) 16 (and_parts (is_letter c) (nat_lt (length cs) 16) both.0).1 in
     omega (arith, few)
 
-module _ {N : Type 0} (bytes : N → List ℕ) where
-  -- the name that is kept of a text
-  pub name_kept : {E : Type 0} (text : List ℕ) (kept : Result N E) → is_name text ≡ true → IsOk kept → IfOk kept (λ n. bytes n ≡ text) → option_map (λ n. name (bytes n)) (result_ok kept) ≡ as_name text
-  name_kept text (Ok n) e ok same = rw e (ap (λ (t : List ℕ). Some (name t)) same)
-  name_kept text (Err x) e ok same = absurd (cc)
+-- a text that is a name
+pub name_read : (text same : List ℕ) → is_name text ≡ true → same ≡ text → Some (name same) ≡ as_name text
+name_read text same is e = rw is (ap (λ (t : List ℕ). Some (name t)) e)
 
+module _ {N : Type 0} (bytes : N → List ℕ) where
   same_name : (b : Bool) (front : List ℕ) (read : Option N) → option_map (λ t. name (bytes t)) read ≡ (if b then Some (name front) else None) → option_map (λ t. label (bytes t)) read ≡ (if b then Some (label front) else None)
   same_name true front None e = absurd (cc)
   same_name true front (Some t) e = cc

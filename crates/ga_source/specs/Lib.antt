@@ -1,4 +1,5 @@
 pub mod Token
+pub mod Name
 pub mod Meaning
 pub mod Machine
 pub mod Error

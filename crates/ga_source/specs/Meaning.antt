@@ -1,4 +1,5 @@
 -- What a token means, as the model has it.
+use Rattle.std.specs.Prelude.{◌≤◌, length}
 use Rattle.ga_source.specs.declared.meaning.Meaning.{Meaning}
 use Rattle.ga_source.specs.declared.meaning.Meaning.TheVariants as means
 use Rattle.ga_pack.specs.Model.Token.{Token, op, number, name, label, node, node_name, align, data_part, open_mark, close_mark, comma, slash, bad}
@@ -7,8 +8,8 @@ use Rattle.ga_pack.specs.Model.Token as model
 abbrev pub meaning_of : Meaning → Token
 meaning_of (means.Op o) = op o
 meaning_of (means.Number n) = number n
-meaning_of (means.Name s) = name s.bytes
-meaning_of (means.Label s) = label s.bytes
+meaning_of (means.Name s) = name s.now
+meaning_of (means.Label s) = label s.now
 meaning_of means.Node = node
 meaning_of (means.NodeName n) = node_name n
 meaning_of means.Align = align
@@ -19,3 +20,9 @@ meaning_of means.Comma = comma
 meaning_of means.Slash = slash
 meaning_of means.BadToken = bad model.BadToken
 meaning_of means.NumberRange = bad model.NumberRange
+
+-- a name in the token has at most sixteen bytes
+abbrev pub IsShort : Token → Type 0
+IsShort (name s) = length s ≤ 16
+IsShort (label s) = length s ≤ 16
+IsShort t = Unit {0}

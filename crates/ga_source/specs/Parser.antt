@@ -5,24 +5,18 @@ use Rattle.ga_source.specs.declared.error.SourceErrorKind.{SourceErrorKind}
 use Rattle.ga_source.specs.declared.parser.Parser as written
 use Rattle.ga_source.specs.declared.parser.Part as standing
 use Rattle.ga_source.specs.declared.parser.Part.TheVariants as part
-use Rattle.ga_source.specs.declared.parser.Pending.{Pending}
-use Rattle.ga_source.specs.declared.parser.Pending.TheVariants as pending
 use Rattle.ga_source.specs.declared.parser.Position.{Position}
 use Rattle.ga_source.specs.declared.parser.Position.TheVariants as position
 use Rattle.ga_source.specs.Error.{kind_of}
-use Rattle.ga_source.specs.Item.{item_of}
+use Rattle.ga_source.specs.Item.{item_of, value_of}
 use Rattle.ga_source.specs.Section.{section_of}
 use Rattle.ga_source.specs.Machine.{Inside, State, nothing, naming, inside, finished, between, behind_op, behind_comma, in_word, behind_dest_op, behind_dest, behind_slash, behind_spare, take}
 use Rattle.ga_pack.specs.Model.Token.{SourceKind, Token}
-use Rattle.ga_pack.specs.Model.Source.{Section, Value, Number, Label, Part, Code, Behind}
+use Rattle.ga_pack.specs.Model.Source.{Section, Part, Code, Behind}
 
 abbrev pub part_of : standing.Part → Part
 part_of (part.Code owed) = Code owed
 part_of part.Data = Behind
-
-abbrev pub pending_of : Pending → Value
-pending_of (pending.Number n) = Number n
-pending_of (pending.Name s) = Label s.bytes
 
 abbrev pub done_of : written.Parser → List Section
 done_of p = map section_of p.sections.entries
@@ -44,9 +38,9 @@ at_position (position.BehindOp o) p = inside (inside_of p) (behind_op o)
 at_position position.BehindComma p = inside (inside_of p) behind_comma
 at_position position.InWord p = inside (inside_of p) (in_word p.ops.items)
 at_position (position.BehindDestOp o) p = inside (inside_of p) (behind_dest_op p.ops.items o)
-at_position (position.BehindDest o) p = inside (inside_of p) (behind_dest p.ops.items o (pending_of p.dest))
-at_position (position.BehindSlash o) p = inside (inside_of p) (behind_slash p.ops.items o (pending_of p.dest))
-at_position (position.BehindSpare o k) p = inside (inside_of p) (behind_spare p.ops.items o (pending_of p.dest) k)
+at_position (position.BehindDest o) p = inside (inside_of p) (behind_dest p.ops.items o (value_of p.dest))
+at_position (position.BehindSlash o) p = inside (inside_of p) (behind_slash p.ops.items o (value_of p.dest))
+at_position (position.BehindSpare o k) p = inside (inside_of p) (behind_spare p.ops.items o (value_of p.dest) k)
 at_position position.Finished p = finished (done_of p)
 
 abbrev pub state_of : written.Parser → State

@@ -1,14 +1,15 @@
 -- Tokens and places, as the model has them, and the runs of a line.
-use Rattle.std.specs.Prelude.{◌+◌, ℕ, List, [], Option, length}
+use Rattle.std.specs.Prelude.{◌⊎◌, ◌≡◌, ◌+◌, ◌<◌, ◌≤◌, ℕ, true, false, All, List, [], ◌∷◌, ◌++◌, Option, drop, get_or, length}
 use Rattle.std.specs.Borrow.{Bor}
 use Rattle.std.specs.List.{slice_split}
 use Rattle.std.specs.Option.{option_map_or}
 use Rattle.ga_word.specs.Text.{is_blank}
-use Rattle.ga_pack.specs.Model.Text.{Lexeme, Place, lines_of}
+use Rattle.ga_pack.specs.Model.Text.{Lexeme, Place, lines_of, texts_of}
 use Rattle.ga_source.specs.declared.token.Token as written
 use Rattle.ga_source.specs.declared.token.Place as here
 use Rattle.ga_source.specs.declared.token.Lines.{Lines}
 use Rattle.ga_source.specs.declared.token.Runs.{Runs}
+use Rattle.ga_source.specs.declared.token.Texts.{Texts}
 
 -- a token of a text ends behind its bytes
 abbrev pub token_of : Lexeme → written.Token
@@ -32,3 +33,21 @@ runs_of rest = option_map_or (λ line. slice_split is_blank line.now) rest []
 -- the runs that an iterator has left
 abbrev pub runs_left : Runs → List (List ℕ)
 runs_left runs = runs_of runs.rest
+
+-- the texts that an iterator has left
+abbrev pub texts_left : Texts → List (List ℕ)
+texts_left texts = texts_of texts.rest.now
+
+-- what stands behind a run: nothing, or a blank and more
+abbrev pub BehindRun : List ℕ → Type 0
+BehindRun behind = (behind ≡ []) ⊎ ((c : ℕ) × (rest : List ℕ) × (behind ≡ c ∷ rest) × (is_blank c ≡ true))
+
+-- The first run of a text, behind blanks, and what stands behind it.
+pub record Begins (text run behind : List ℕ) : Type 0 where
+  pub skipped : ℕ
+  pub within : skipped ≤ length text
+  pub blanks : (k : ℕ) → k < skipped → is_blank (get_or text k 0) ≡ true
+  pub whole : drop skipped text ≡ run ++ behind
+  pub some : 0 < length run
+  pub none : All (λ c. is_blank c ≡ false) run
+  pub ends : BehindRun behind

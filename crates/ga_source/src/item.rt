@@ -2,18 +2,16 @@ ghost use Rattle.std.specs.Prelude.{◌≡◌};
 ghost use Rattle.ga_pack.specs.Model.Source as words;
 ghost use Rattle.ga_source.specs.Item.{item_of};
 
-use arrayvec::{ArrayString, ArrayVec};
+use crate::name::Name;
+use arrayvec::ArrayVec;
 use ga_word::{Op, Word18};
 
-/// The name of a label: one to sixteen letters, digits and `_`.
-pub type Name = ArrayString<16>;
-
 /// A number, or the name of a label of the node, which stands for its address.
-#[derive(Debug, PartialEq, Eq, Drop)]
+#[derive(Clone, Copy, Debug, PartialEq, Eq)]
 pub enum Value {
     /// As a destination below what its slot holds.
     Number(Word18),
-    Label(Box<Name>),
+    Label(Name),
 }
 
 /// A bracketed word with a destination.
@@ -37,7 +35,7 @@ pub enum Item {
     /// A number: `@p`, with the number as its follower.
     Literal(Word18),
     /// A label, which names the next address.
-    Label(Box<Name>),
+    Label(Name),
     /// The next item begins a word.
     Align,
     /// A bracketed word without a destination: its opcodes.

@@ -4,6 +4,7 @@
 mod error;
 mod item;
 mod meaning;
+mod name;
 mod parser;
 mod places;
 mod program;
@@ -11,7 +12,8 @@ mod section;
 mod token;
 
 pub use error::{SourceError, SourceErrorKind};
-pub use item::{Item, Name, TransferWord, Value};
+pub use item::{Item, TransferWord, Value};
+pub use name::Name;
 pub use places::ItemPlace;
 pub use program::{Program, parse};
 pub use section::Section;

@@ -1,25 +1,24 @@
-ghost use Rattle.std.specs.Prelude.{◌≡◌, ◌==◌, ◌^◌, ◌<◌, ◌≤◌, length};
+ghost use Rattle.std.specs.Prelude.{◌≡◌, ◌==◌, ◌^◌, ◌<◌, ◌≤◌, IfSome, length};
 ghost use Rattle.std.specs.List.{list_all};
 ghost use Rattle.std.specs.Option.{option_map};
 ghost use Rattle.ga_pack.specs.Model.Meaning as model;
 ghost use Rattle.ga_pack.specs.Model.Token.{label, name, node_name};
-ghost use Rattle.ga_source.specs.Meaning.{meaning_of};
+ghost use Rattle.ga_source.specs.Meaning.{IsShort, meaning_of};
 
-use crate::item::Name;
 use ga_place::Node;
 use ga_word::{Op, Word18};
 use std::str;
 
 /// What a token means.
 #[derive(Clone, Copy)]
-pub(crate) enum Meaning {
+pub(crate) enum Meaning<'a> {
     Op(Op),
     /// A number that a word holds.
     Number(Word18),
     /// A name that is not reserved.
-    Name(Name),
+    Name(&'a str),
     /// A name, reserved or not, that stood in front of `:`.
-    Label(Name),
+    Label(&'a str),
     Node,
     /// The name of a node, behind `node`.
     NodeName(Node),
@@ -37,8 +36,9 @@ pub(crate) enum Meaning {
 
 /// What a token means that stands behind the token `node` or not.
 #[tactic(auto, unfolding(ga_pack::specs::Model::Meaning::meaning_at))]
-pub(crate) fn meaning_at(is_behind_node: bool, text: &[u8]) -> Meaning
-    ensures { meaning_of result ≡ model.meaning_at is_behind_node text.now }
+pub(crate) fn meaning_at(is_behind_node: bool, text: &[u8]) -> Meaning<'_>
+    ensures value { meaning_of result ≡ model.meaning_at is_behind_node text.now }
+    ensures short { IsShort (meaning_of result) }
 {
     if is_behind_node {
         if let Some(node) = node_named(text) {
@@ -59,8 +59,9 @@ pub(crate) fn is_reserved(name: &str) -> bool
 
 /// What a token means, but for the name of a node.
 #[tactic(auto, unfolding(ga_pack::specs::Model::Meaning::meaning_of))]
-fn plain_meaning(text: &[u8]) -> Meaning
-    ensures { meaning_of result ≡ model.meaning_of text.now }
+fn plain_meaning(text: &[u8]) -> Meaning<'_>
+    ensures value { meaning_of result ≡ model.meaning_of text.now }
+    ensures short { IsShort (meaning_of result) }
 {
     // A comma stands in front of each word of data.
     if text == b",".as_slice() {
@@ -109,8 +110,10 @@ fn number_named(text: &[u8]) -> Option<Word18>
 }
 
 /// A word or a mark with a meaning of its own.
-fn fixed(text: &[u8]) -> Option<Meaning>
-    ensures { option_map meaning_of result ≡ model.as_fixed text.now }
+#[inline(always)]
+fn fixed<'a>(text: &[u8]) -> Option<Meaning<'a>>
+    ensures value { option_map meaning_of result ≡ model.as_fixed text.now }
+    ensures short { IfSome result (λ meaning. IsShort (meaning_of meaning)) }
 {
     let meaning = match text {
         b"node" => Meaning::Node,
@@ -126,8 +129,9 @@ fn fixed(text: &[u8]) -> Option<Meaning>
 }
 
 /// A number that a word holds, or not.
-fn ranged(number: u32) -> Meaning
-    ensures { meaning_of result ≡ model.ranged number }
+fn ranged<'a>(number: u32) -> Meaning<'a>
+    ensures value { meaning_of result ≡ model.ranged number }
+    ensures short { IsShort (meaning_of result) }
 {
     match Word18::new(number) {
         Some(number) => Meaning::Number(number),
@@ -174,8 +178,9 @@ fn node_named(text: &[u8]) -> Option<Node>
 }
 
 /// The name in front of `:`.
-fn label_name(text: &[u8]) -> Option<Name>
-    ensures { option_map (λ name. label name.bytes) result ≡ model.as_label text.now }
+fn label_name(text: &[u8]) -> Option<&str>
+    ensures value { option_map (λ name. label name.now) result ≡ model.as_label text.now }
+    ensures short { IfSome result (λ name. length name.now ≤ 16) }
 {
     let (last, name) = text.split_last()?;
     if *last != b':' {
@@ -185,14 +190,15 @@ fn label_name(text: &[u8]) -> Option<Name>
 }
 
 /// A text that is a name, reserved or not.
-fn name_in(text: &[u8]) -> Option<Name>
-    ensures { option_map (λ found. name found.bytes) result ≡ model.as_name text.now }
+fn name_in(text: &[u8]) -> Option<&str>
+    ensures value { option_map (λ found. name found.now) result ≡ model.as_name text.now }
+    ensures short { IfSome result (λ name. length name.now ≤ 16) }
 {
     if !is_name(text) {
         return None;
     }
     // A name is ASCII.
-    Name::from(unsafe { str::from_utf8_unchecked(text) }).ok()
+    Some(unsafe { str::from_utf8_unchecked(text) })
 }
 
 /// One to sixteen letters and digits, the first no digit.

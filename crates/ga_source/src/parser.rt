@@ -10,15 +10,16 @@ ghost use Rattle.ga_source.specs.Error.{kind_of};
 ghost use Rattle.ga_source.specs.Item.{item_of, value_of};
 ghost use Rattle.ga_source.specs.Machine as machine;
 ghost use Rattle.ga_source.specs.Machine.{Good, IsConsistent, added, closed, nothing};
-ghost use Rattle.ga_source.specs.Meaning.{meaning_of};
-ghost use Rattle.ga_source.specs.Parser.{Answered, Took, done_of, inside_of, labels_of, names_of, part_of, pending_of, state_of};
+ghost use Rattle.ga_source.specs.Meaning.{IsShort, meaning_of};
+ghost use Rattle.ga_source.specs.Parser.{Answered, Took, done_of, inside_of, labels_of, names_of, part_of, state_of};
 ghost use Rattle.ga_source.specs.declared.error.SourceErrorKind.TheVariants.{Memory};
 ghost use Rattle.ga_source.specs.declared.parser.Part.TheVariants as part;
 ghost use Rattle.ga_source.specs.declared.parser.Position.TheVariants as at;
 
 use crate::error::SourceErrorKind;
-use crate::item::{Item, Name, TransferWord, Value};
+use crate::item::{Item, TransferWord, Value};
 use crate::meaning::{Meaning, is_reserved};
+use crate::name::Name;
 use crate::section::Section;
 use arrayvec::ArrayVec;
 use ga_place::Node;
@@ -33,13 +34,6 @@ enum Part {
     Code(u32),
     // Behind `data`.
     Data,
-}
-
-// A destination.
-#[derive(Clone, Copy)]
-enum Pending {
-    Number(u16),
-    Name(Name),
 }
 
 // Where the parser stands.
@@ -78,26 +72,7 @@ pub(crate) struct Parser {
     position: Position,
     // The opcodes of a bracketed word, but for one that takes a destination; and its destination.
     ops: ArrayVec<Op, 4>,
-    dest: Pending,
-}
-
-impl Pending {
-    // The value, which owns its name.
-    fn value(self, alloc: Global) -> Result<Value, AllocError>
-        ensures { IfOk result (λ value. value_of value ≡ pending_of self) }
-    {
-        match self {
-            Pending::Number(number) => Ok(Value::Number(Word18::new(u32::from(number)).unwrap())),
-            Pending::Name(name) => label(alloc, name),
-        }
-    }
-}
-
-// The name of a label as a value.
-fn label(alloc: Global, name: Name) -> Result<Value, AllocError>
-    ensures { IfOk result (λ value. value_of value ≡ Label name.bytes) }
-{
-    Ok(Value::Label(Box::new(alloc, name)?))
+    dest: Value,
 }
 
 // A bracketed word with a destination.
@@ -105,12 +80,11 @@ fn word_to(
     alloc: Global,
     ops: ArrayVec<Op, 4>,
     op: Op,
-    dest: Pending,
+    dest: Value,
     spare: Option<u8>,
 ) -> Result<Item, AllocError>
-    ensures { IfOk result (λ item. item_of item ≡ WordTo ops.items op (pending_of dest) spare) }
+    ensures { IfOk result (λ item. item_of item ≡ WordTo ops.items op (value_of dest) spare) }
 {
-    let dest = dest.value(alloc)?;
     let word = TransferWord {
         ops,
         op,
@@ -135,7 +109,7 @@ impl Parser {
             has_word: false,
             position: Position::Nothing,
             ops: ArrayVec::new(),
-            dest: Pending::Number(0),
+            dest: Value::Number(Word18::default()),
         }
     }
 
@@ -155,7 +129,7 @@ impl Parser {
     }
 
     // Before the first `node`.
-    fn take_nothing(&mut self, token: &Meaning) -> Result<(), SourceErrorKind>
+    fn take_nothing(&mut self, token: &Meaning<'_>) -> Result<(), SourceErrorKind>
         requires position { self.old.position ≡ at.Nothing }
         ensures { Took (state_of self.old) (meaning_of token.now) result (state_of self.new) }
     {
@@ -179,7 +153,7 @@ impl Parser {
     }
 
     // Behind `node`.
-    fn take_name(&mut self, token: &Meaning) -> Result<(), SourceErrorKind>
+    fn take_name(&mut self, token: &Meaning<'_>) -> Result<(), SourceErrorKind>
         requires position { self.old.position ≡ at.Naming }
         ensures { Took (state_of self.old) (meaning_of token.now) result (state_of self.new) }
     {
@@ -203,25 +177,25 @@ impl Parser {
     }
 
     // An opcode outside brackets and its destination are whole.
-    fn add_transfer(&mut self, op: Op, value: Pending) -> Result<(), SourceErrorKind>
-        ensures ok { OnOk result (state_of self.new ≡ added (inside_of self.old) (Transfer op (pending_of value)) (Code 0)) }
+    fn add_transfer(&mut self, op: Op, dest: Value) -> Result<(), SourceErrorKind>
+        ensures ok { OnOk result (state_of self.new ≡ added (inside_of self.old) (Transfer op (value_of dest)) (Code 0)) }
         ensures err { IfErr result (λ kind. kind ≡ Memory) }
     {
-        let dest = value.value(self.alloc)?;
         self.add(Item::Transfer { op, dest }, Part::Code(0))
     }
 
     // Behind an opcode that takes a destination, outside brackets.
-    fn take_dest(&mut self, op: Op, token: &Meaning) -> Result<(), SourceErrorKind>
+    fn take_dest(&mut self, op: Op, token: &Meaning<'_>) -> Result<(), SourceErrorKind>
         requires position { self.old.position ≡ at.BehindOp op }
+        requires short { IsShort (meaning_of token.now) }
         ensures { Took (state_of self.old) (meaning_of token.now) result (state_of self.new) }
     {
         match *token {
             Meaning::Number(number) if number.get() < 0x400 => {
-                self.add_transfer(op, Pending::Number(number.get() as u16))
+                self.add_transfer(op, Value::Number(number))
             }
             Meaning::Number(_) => Err(SourceErrorKind::NumberRange),
-            Meaning::Name(name) => self.add_transfer(op, Pending::Name(name)),
+            Meaning::Name(name) => self.add_transfer(op, Value::Label(name_of(name))),
             Meaning::NumberRange => Err(SourceErrorKind::NumberRange),
             _ => Err(SourceErrorKind::BadToken),
         }
@@ -240,24 +214,22 @@ impl Parser {
     }
 
     // Behind a comma.
-    fn take_plain(&mut self, token: &Meaning) -> Result<(), SourceErrorKind>
+    fn take_plain(&mut self, token: &Meaning<'_>) -> Result<(), SourceErrorKind>
         requires position { self.old.position ≡ at.BehindComma }
         requires owed { (owed : ℕ) → self.old.part ≡ part.Code owed → 0 < owed }
+        requires short { IsShort (meaning_of token.now) }
         ensures { Took (state_of self.old) (meaning_of token.now) result (state_of self.new) }
     {
         match *token {
             Meaning::Number(number) => self.add_plain(Value::Number(number)),
-            Meaning::Name(name) => {
-                let label = label(self.alloc, name)?;
-                self.add_plain(label)
-            }
+            Meaning::Name(name) => self.add_plain(Value::Label(name_of(name))),
             Meaning::NumberRange => Err(SourceErrorKind::NumberRange),
             _ => Err(SourceErrorKind::BadToken),
         }
     }
 
     // In brackets, where no opcode with a destination stands yet.
-    fn take_slot(&mut self, token: &Meaning) -> Result<(), SourceErrorKind>
+    fn take_slot(&mut self, token: &Meaning<'_>) -> Result<(), SourceErrorKind>
         requires position { self.old.position ≡ at.InWord }
         requires code { part_of self.old.part ≡ Code 0 }
         ensures { Took (state_of self.old) (meaning_of token.now) result (state_of self.new) }
@@ -289,8 +261,9 @@ impl Parser {
     }
 
     // In brackets, behind an opcode that takes a destination.
-    fn take_field(&mut self, op: Op, token: &Meaning) -> Result<(), SourceErrorKind>
+    fn take_field(&mut self, op: Op, token: &Meaning<'_>) -> Result<(), SourceErrorKind>
         requires position { self.old.position ≡ at.BehindDestOp op }
+        requires short { IsShort (meaning_of token.now) }
         ensures { Took (state_of self.old) (meaning_of token.now) result (state_of self.new) }
     {
         match *token {
@@ -303,12 +276,12 @@ impl Parser {
                 if number.get() >= bound {
                     return Err(SourceErrorKind::BadWord);
                 }
-                self.dest = Pending::Number(number.get() as u16);
+                self.dest = Value::Number(number);
                 self.position = Position::BehindDest(op);
                 Ok(())
             }
             Meaning::Name(name) => {
-                self.dest = Pending::Name(name);
+                self.dest = Value::Label(name_of(name));
                 self.position = Position::BehindDest(op);
                 Ok(())
             }
@@ -317,7 +290,7 @@ impl Parser {
     }
 
     // In brackets, behind a destination.
-    fn take_behind_dest(&mut self, op: Op, token: &Meaning) -> Result<(), SourceErrorKind>
+    fn take_behind_dest(&mut self, op: Op, token: &Meaning<'_>) -> Result<(), SourceErrorKind>
         requires position { self.old.position ≡ at.BehindDest op }
         requires code { part_of self.old.part ≡ Code 0 }
         ensures { Took (state_of self.old) (meaning_of token.now) result (state_of self.new) }
@@ -348,7 +321,7 @@ impl Parser {
     // A bracketed word with a destination is whole.
     fn close(&mut self, op: Op, spare: Option<u8>) -> Result<(), SourceErrorKind>
         requires code { part_of self.old.part ≡ Code 0 }
-        ensures { Answered (machine.with_part (inside_of self.old) (WordTo self.old.ops.items op (pending_of self.old.dest) spare)) result (state_of self.new) }
+        ensures { Answered (machine.with_part (inside_of self.old) (WordTo self.old.ops.items op (value_of self.old.dest) spare)) result (state_of self.new) }
     {
         let owed = followers(&self.ops);
         let ops = std::mem::replace(&mut self.ops, ArrayVec::new());
@@ -357,7 +330,7 @@ impl Parser {
     }
 
     // In brackets, behind `/`.
-    fn take_spare(&mut self, op: Op, token: &Meaning) -> Result<(), SourceErrorKind>
+    fn take_spare(&mut self, op: Op, token: &Meaning<'_>) -> Result<(), SourceErrorKind>
         requires position { self.old.position ≡ at.BehindSlash op }
         ensures { Took (state_of self.old) (meaning_of token.now) result (state_of self.new) }
     {
@@ -372,7 +345,7 @@ impl Parser {
     }
 
     // In brackets, behind spare bits.
-    fn take_close(&mut self, op: Op, spare: u8, token: &Meaning) -> Result<(), SourceErrorKind>
+    fn take_close(&mut self, op: Op, spare: u8, token: &Meaning<'_>) -> Result<(), SourceErrorKind>
         requires position { self.old.position ≡ at.BehindSpare op spare }
         requires code { part_of self.old.part ≡ Code 0 }
         ensures { Took (state_of self.old) (meaning_of token.now) result (state_of self.new) }
@@ -399,7 +372,7 @@ impl Parser {
     }
 
     // Behind `data`.
-    fn take_data(&mut self, token: &Meaning) -> Result<(), SourceErrorKind>
+    fn take_data(&mut self, token: &Meaning<'_>) -> Result<(), SourceErrorKind>
         requires position { self.old.position ≡ at.Between }
         ensures { Answered (machine.take_first Behind (inside_of self.old) (meaning_of token.now)) result (state_of self.new) }
     {
@@ -413,7 +386,7 @@ impl Parser {
     }
 
     // In the code part, where followers are owed.
-    fn take_owed(&mut self, token: &Meaning) -> Result<(), SourceErrorKind>
+    fn take_owed(&mut self, token: &Meaning<'_>) -> Result<(), SourceErrorKind>
         requires position { self.old.position ≡ at.Between }
         ensures { (owed : ℕ) → Answered (machine.take_first (Code (suc owed)) (inside_of self.old) (meaning_of token.now)) result (state_of self.new) }
     {
@@ -432,7 +405,7 @@ impl Parser {
     }
 
     // In the code part, where no follower is owed.
-    fn take_code(&mut self, token: &Meaning) -> Result<(), SourceErrorKind>
+    fn take_code(&mut self, token: &Meaning<'_>) -> Result<(), SourceErrorKind>
         requires position { self.old.position ≡ at.Between }
         ensures { Answered (machine.take_first (Code 0) (inside_of self.old) (meaning_of token.now)) result (state_of self.new) }
     {
@@ -451,7 +424,7 @@ impl Parser {
     }
 
     // What begins an item, but for a label.
-    fn take_item(&mut self, token: &Meaning) -> Result<(), SourceErrorKind>
+    fn take_item(&mut self, token: &Meaning<'_>) -> Result<(), SourceErrorKind>
         requires position { self.old.position ≡ at.Between }
         ensures { Answered (machine.take_first (part_of self.old.part) (inside_of self.old) (meaning_of token.now)) result (state_of self.new) }
     {
@@ -463,9 +436,10 @@ impl Parser {
     }
 
     // Where an item is whole.
-    fn take_between(&mut self, token: &Meaning) -> Result<(), SourceErrorKind>
+    fn take_between(&mut self, token: &Meaning<'_>) -> Result<(), SourceErrorKind>
         requires position { self.old.position ≡ at.Between }
         requires consistent { IsConsistent (state_of self.old) }
+        requires short { IsShort (meaning_of token.now) }
         ensures { Took (state_of self.old) (meaning_of token.now) result (state_of self.new) }
     {
         match *token {
@@ -492,12 +466,11 @@ impl Parser {
         ensures names { OnOk result (names_of self.new ≡ names_of self.old ++ self.old.node ∷ []) }
         ensures err { IfErr result (λ kind. kind ≡ Memory) }
     {
-        // The items are copied to a list of their size, so that their room serves for the next section.
-        let mut items = Vec::with_capacity(self.alloc, self.items.len())?;
-        items.append(&mut self.items)?;
-        // The next section is likely to have as many labels.
-        let room = IndexSet::with_capacity(self.alloc, self.labels.len())?;
-        let labels = std::mem::replace(&mut self.labels, room);
+        // The next section has room for as many items.
+        let room = Vec::with_capacity(self.alloc, self.items.len())?;
+        let items = std::mem::replace(&mut self.items, room);
+        let mut labels = Vec::with_capacity(self.alloc, self.labels.len())?;
+        labels.extend_from_slice(self.labels.as_slice())?;
         self.sections.insert(self.node, Section { items, labels })?;
         Ok(())
     }
@@ -513,25 +486,27 @@ impl Parser {
     }
 
     // A label, which may stand wherever an item may.
-    fn take_label(&mut self, name: Name) -> Result<(), SourceErrorKind>
+    fn take_label(&mut self, name: &str) -> Result<(), SourceErrorKind>
         requires position { self.old.position ≡ at.Between }
-        ensures { Answered (machine.take_label (inside_of self.old) name.bytes) result (state_of self.new) }
+        requires short { length name.now ≤ 16 }
+        ensures { Answered (machine.take_label (inside_of self.old) name.now) result (state_of self.new) }
     {
-        if is_reserved(name.as_str()) {
+        if is_reserved(name) {
             return Err(SourceErrorKind::ReservedLabel);
         }
+        let name = name_of(name);
         if !self.add_label(name)? {
             return Err(SourceErrorKind::DuplicateLabel);
         }
-        let name = Box::new(self.alloc, name)?;
         self.items.push(Item::Label(name))?;
         Ok(())
     }
 
     /// Takes a token, or refuses it.
-    pub(crate) fn take(&mut self, token: &Meaning) -> Result<(), SourceErrorKind>
+    pub(crate) fn take(&mut self, token: &Meaning<'_>) -> Result<(), SourceErrorKind>
         requires good { Good (state_of self.old) }
         requires consistent { IsConsistent (state_of self.old) }
+        requires short { IsShort (meaning_of token.now) }
         ensures { Took (state_of self.old) (meaning_of token.now) result (state_of self.new) }
     {
         match self.position {
@@ -573,6 +548,17 @@ impl Parser {
     }
 }
 
+// A name in place.
+fn name_of(text: &str) -> Name
+    requires { length text.now ≤ 16 }
+    ensures { result.bytes ≡ text.now }
+{
+    match Name::new(text) {
+        Some(name) => name,
+        None => unreachable!(),
+    }
+}
+
 // `@p` and `!p` have a follower.
 fn is_followed(op: Op) -> bool
     ensures { result ≡ counted.is_followed op }
@@ -598,7 +584,7 @@ fn followers(ops: &[Op]) -> u32
 }
 
 // The fault of a token that may not stand in brackets.
-fn bracket_fault(token: &Meaning) -> SourceErrorKind
+fn bracket_fault(token: &Meaning<'_>) -> SourceErrorKind
     ensures { kind_of result ≡ Some (faults.bracket_fault (meaning_of token.now)) }
 {
     match *token {

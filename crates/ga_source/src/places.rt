@@ -46,8 +46,15 @@ impl<'a> Program<'a> {
     }
 }
 
-// The places of the tokens of a text, and that of its end. (Only faults need them.)
-#[inline(never)]
+/// The place of a token, by its number from 0, or of the text's end behind the last one.
+pub(crate) fn token_place(alloc: Global, text: &str, token: usize) -> Result<Place, AllocError>
+    ensures { IfOk result (λ place. place_of place ≡ model.place_at (places_of text.now) token) }
+{
+    let places = all_places(alloc, text)?;
+    Ok(place_at(places.as_slice(), token))
+}
+
+// The places of the tokens of a text, and that of its end.
 fn all_places(alloc: Global, text: &str) -> Result<Vec<Place>, AllocError>
     ensures { IfOk result (λ places. map place_of places.items ≡ places_of text.now) }
 {

@@ -1,22 +1,20 @@
 //! The program of a text.
-ghost use Rattle.std.specs.Prelude.{◌≡◌, IfErr, IfOk, List, OnOk, [], map};
+ghost use Rattle.std.specs.Prelude.{◌≡◌, IfErr, IfOk, List, [], map};
 ghost use Rattle.ga_pack.specs.Model.Program.{IsProgram, PlacedSection, placed_sections};
 ghost use Rattle.ga_pack.specs.Model.Source.{Sections};
 ghost use Rattle.ga_pack.specs.Model.Text.{places_of};
 ghost use Rattle.ga_pack.specs.Model.Token as token;
 ghost use Rattle.ga_source.specs.Error.{error_place, kind_of};
 ghost use Rattle.ga_source.specs.Section.{section_of};
-ghost use Rattle.ga_source.specs.Machine.{Good, IsConsistent, take};
 ghost use Rattle.ga_source.specs.Meaning.{meaning_of};
-ghost use Rattle.ga_source.specs.Parser.{RefusedAs, state_of};
-ghost use Rattle.ga_source.specs.Program.{HasNoProgram, IsFirstFault, IsRight, sections_in};
-ghost use Rattle.ga_source.specs.Token.{place_of};
+ghost use Rattle.ga_source.specs.Program.{HasNoProgram, IsFirstFault, IsRight, IsTold, sections_in};
 
 use crate::error::{SourceError, SourceErrorKind};
 use crate::meaning::{Meaning, meaning_at};
 use crate::parser::Parser;
+use crate::places::token_place;
 use crate::section::Section;
-use crate::token::{Lines, Place, Runs, end_place, is_comment, is_plain, width};
+use crate::token::Texts;
 use ga_place::Node;
 use indexmap::IndexMap;
 use std::alloc::Global;
@@ -65,58 +63,45 @@ pub fn parse(alloc: Global, text: &str) -> Result<Program<'_>, SourceError>
 {
     let mut parser = Parser::new(alloc);
     let mut is_behind_node = false;
-    let mut line = 1;
-    for bytes in Lines::new(text) {
-        let is_plain = is_plain(bytes);
-        let mut column = 1;
-        for run in Runs::new(bytes) {
-            if is_comment(run) {
-                break;
-            }
-            if !run.is_empty() {
-                let meaning = meaning_at(is_behind_node, run);
-                take_at(&mut parser, &meaning, Place { line, column })?;
-                is_behind_node = is_node(&meaning);
-            }
-            column += width(run, is_plain) + 1;
+    let mut taken = 0;
+    for run in Texts::new(text) {
+        let meaning = meaning_at(is_behind_node, run);
+        if let Err(kind) = parser.take(&meaning) {
+            return Err(fault_at(alloc, text, taken, kind));
         }
-        line += 1;
+        is_behind_node = is_node(&meaning);
+        taken += 1;
     }
     match parser.finish() {
         Ok(()) => Ok(Program {
             text,
             sections: parser.sections,
         }),
-        Err(kind) => Err(fault_at(end_place(text), kind)),
+        Err(kind) => Err(fault_at(alloc, text, taken, kind)),
     }
 }
 
-/// Takes a token, or refuses it at its place.
-fn take_at(parser: &mut Parser, meaning: &Meaning, place: Place) -> Result<(), SourceError>
-    requires good { Good (state_of parser.old) }
-    requires consistent { IsConsistent (state_of parser.old) }
-    ensures taken { OnOk result (take (state_of parser.old) (meaning_of meaning.now) ≡ Ok (state_of parser.new)) }
-    ensures refused { IfErr result (λ error. RefusedAs (take (state_of parser.old) (meaning_of meaning.now)) (kind_of error.kind)) }
-    ensures at { IfErr result (λ error. error_place error ≡ place_of place) }
-{
-    match parser.take(meaning) {
-        Ok(()) => Ok(()),
-        Err(kind) => Err(fault_at(place, kind)),
-    }
-}
-
-fn is_node(meaning: &Meaning) -> bool
+fn is_node(meaning: &Meaning<'_>) -> bool
     ensures { result ≡ token.is_node (meaning_of meaning.now) }
 {
     matches!(*meaning, Meaning::Node)
 }
 
-fn fault_at(place: Place, kind: SourceErrorKind) -> SourceError
-    ensures { result ≡ record { kind = kind; line = place.line; column = place.column } }
+// The fault of a token, by its number from 0, or of the text's end.
+#[inline(never)]
+fn fault_at(alloc: Global, text: &str, token: usize, kind: SourceErrorKind) -> SourceError
+    ensures { IsTold text.now token kind result }
 {
-    SourceError {
-        kind,
-        line: place.line,
-        column: place.column,
+    match token_place(alloc, text, token) {
+        Ok(place) => SourceError {
+            kind,
+            line: place.line,
+            column: place.column,
+        },
+        Err(_) => SourceError {
+            kind: SourceErrorKind::Memory,
+            line: 1,
+            column: 1,
+        },
     }
 }

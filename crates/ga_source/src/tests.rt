@@ -34,9 +34,8 @@ fn number(value: u32) -> Result<Word18, Fail> {
 }
 
 /// The name of a label.
-fn named(alloc: Global, name: &str) -> Result<Box<Name>, Fail> {
-    let name = Name::from(name).map_err(|_| "more than 16 bytes")?;
-    Ok(Box::new(alloc, name)?)
+fn named(name: &str) -> Result<Name, Fail> {
+    Ok(Name::new(name).ok_or("more than 16 bytes")?)
 }
 
 /// A section for each node, each of one word and on a line of its own.
@@ -163,7 +162,7 @@ fn bracketed_words(alloc: Global) -> Result<(Item, Item), Fail> {
     let printed = TransferWord {
         ops: ArrayVec::new(),
         op: Op::Next,
-        dest: Value::Label(named(alloc, "loop")?),
+        dest: Value::Label(named("loop")?),
         spare: Some(3),
     };
     let mut ops = ArrayVec::new();
@@ -182,9 +181,9 @@ fn bracketed_words(alloc: Global) -> Result<(Item, Item), Fail> {
 /// The items of the text below.
 fn expected_items(alloc: Global) -> Result<Vec<Item>, Fail> {
     let (one, five, ones) = (number(1)?, number(5)?, number(0x3FFFF)?);
-    let name = named(alloc, "loop")?;
-    let dest = Value::Label(named(alloc, "loop")?);
-    let follower = Value::Label(named(alloc, "loop")?);
+    let name = named("loop")?;
+    let dest = Value::Label(named("loop")?);
+    let follower = Value::Label(named("loop")?);
     let mut word = ArrayVec::new();
     word.push(Op::FetchP);
     word.push(Op::Nop);
@@ -219,7 +218,7 @@ fn items_of_sections(rt: HostRuntime) -> Result<(), Fail> {
     let section = sections.get(&node).ok_or("no section")?;
     let expected = expected_items(alloc)?;
     assert!(rt; section.items == expected);
-    let name = Name::from("loop").map_err(|_| "more than 16 bytes")?;
+    let name = named("loop")?;
     assert!(rt; section.labels.as_slice() == [name].as_slice());
     Ok(())
 }
@@ -255,12 +254,22 @@ fn upper_case_is_a_name(rt: HostRuntime) -> Result<(), Fail> {
     let program = parse(alloc, "node 717 DUP: jump DUP")?;
     let node = Node::new(717).ok_or("no node")?;
     let section = program.sections().get(&node).ok_or("no section")?;
-    let dest = Value::Label(named(alloc, "DUP")?);
+    let dest = Value::Label(named("DUP")?);
     let expected = vec![in alloc;
-        Item::Label(named(alloc, "DUP")?),
+        Item::Label(named("DUP")?),
         Item::Transfer { op: Op::Jump, dest },
     ]?;
     assert!(rt; section.items == expected);
+    Ok(())
+}
+
+#[test]
+fn names(rt: HostRuntime) -> Result<(), Fail> {
+    let name = named("abcdefghijklmnop")?;
+    assert!(rt; name.as_str() == "abcdefghijklmnop");
+    assert!(rt; Name::new("abcdefghijklmnopq").is_none());
+    assert!(rt; named("loop")? == named("loop")?);
+    assert!(rt; named("loop")? != named("Loop")?);
     Ok(())
 }
 

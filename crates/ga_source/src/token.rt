@@ -1,10 +1,10 @@
-ghost use Rattle.std.specs.Prelude.{◌≡◌, ◌+◌, ◌^◌, ◌<◌, ◌≤◌, ◌++◌, ◌∷◌, All, IfOk, codes, count_by, length, map, slice_range, true};
+ghost use Rattle.std.specs.Prelude.{◌≡◌, ◌+◌, ◌^◌, ◌<◌, ◌≤◌, ◌++◌, ◌∷◌, All, IfOk, IfSome, None, [], codes, count_by, length, map, not, slice_range};
 ghost use Rattle.std.specs.Iterator.{YieldsFirstRef, item_count};
 ghost use Rattle.std.specs.List.{position, slice_split};
 ghost use Rattle.std.specs.Str.{bytes_eq};
 ghost use Rattle.ga_word.specs.Text.{is_blank};
 ghost use Rattle.ga_pack.specs.Model.Text.{begins_character, end_of, lexemes, line_lexemes, lines_of, texts_of};
-ghost use Rattle.ga_source.specs.Token.{lines_in, lines_left, place_of, runs_left, runs_of, token_of};
+ghost use Rattle.ga_source.specs.Token.{BehindRun, Begins, lines_in, lines_left, place_of, runs_left, runs_of, texts_left, token_of};
 
 use memchr::memchr;
 use std::alloc::{AllocError, Global};
@@ -81,7 +81,7 @@ fn add_line(
 }
 
 /// Whether a run begins a comment.
-pub(crate) fn is_comment(run: &[u8]) -> bool
+fn is_comment(run: &[u8]) -> bool
     ensures { result ≡ bytes_eq run.now (codes "\\") }
 {
     run == b"\\".as_slice()
@@ -102,12 +102,12 @@ pub(crate) fn end_place(text: &str) -> Place
 
 /// The lines of a text, from the front. Each ends by LF, and what stands behind the last LF is a line too.
 #[derive(Drop)]
-pub(crate) struct Lines<'a> {
+struct Lines<'a> {
     rest: Option<&'a [u8]>,
 }
 
 impl<'a> Lines<'a> {
-    pub(crate) fn new(text: &'a str) -> Self
+    fn new(text: &'a str) -> Self
         ensures { lines_left result ≡ lines_of text.now }
     {
         Lines {
@@ -131,6 +131,7 @@ impl<'a> Iterator for Lines<'a> {
 }
 
 /// The first line of a text, and what stands behind the LF at its end.
+#[inline(always)]
 fn first_line(text: &[u8]) -> (&[u8], Option<&[u8]>)
     ensures { lines_of text.now ≡ result.0.now ∷ lines_in result.1 }
 {
@@ -142,12 +143,12 @@ fn first_line(text: &[u8]) -> (&[u8], Option<&[u8]>)
 
 /// The runs of a line, which stand one blank apart, from the front. A run may be empty.
 #[derive(Drop)]
-pub(crate) struct Runs<'a> {
+struct Runs<'a> {
     rest: Option<&'a [u8]>,
 }
 
 impl<'a> Runs<'a> {
-    pub(crate) fn new(line: &'a [u8]) -> Self
+    fn new(line: &'a [u8]) -> Self
         ensures { runs_left result ≡ slice_split is_blank line.now }
     {
         Runs { rest: Some(line) }
@@ -185,8 +186,77 @@ fn run_end(line: &[u8]) -> Option<usize>
     line.iter().position(|byte| is_blank(*byte))
 }
 
+/// The texts of the tokens of a text, from the front.
+#[derive(Drop)]
+pub(crate) struct Texts<'a> {
+    rest: &'a [u8],
+}
+
+impl<'a> Texts<'a> {
+    pub(crate) fn new(text: &'a str) -> Self
+        ensures { texts_left result ≡ texts_of text.now }
+    {
+        Texts {
+            rest: text.as_bytes(),
+        }
+    }
+}
+
+impl<'a> Iterator for Texts<'a> {
+    type Item = &'a [u8];
+
+    ghost next_gives = { YieldsFirstRef texts_left };
+
+    ghost remaining = { item_count texts_left };
+
+    fn next(&mut self) -> Option<&'a [u8]> {
+        loop {
+            let (run, behind) = first_token(self.rest)?;
+            if !is_comment(run) {
+                self.rest = behind_blank(behind);
+                return Some(run);
+            }
+            self.rest = match first_line(behind).1 {
+                Some(lines) => lines,
+                None => &[],
+            };
+        }
+    }
+}
+
+/// The first run of bytes that are no blanks, and what stands behind it.
+fn first_token(text: &[u8]) -> Option<(&[u8], &[u8])>
+    ensures some { IfSome result (λ parts. Begins text.now parts.0.now parts.1.now) }
+    ensures none { result ≡ None → texts_of text.now ≡ [] }
+{
+    let (_, rest) = text.split_at(token_start(text)?);
+    match run_end(rest) {
+        Some(end) => Some(rest.split_at(end)),
+        None => Some(rest.split_at(rest.len())),
+    }
+}
+
+/// What stands behind the blank in front, if anything stands there.
+fn behind_blank(text: &[u8]) -> &[u8]
+    requires { BehindRun text.now }
+    ensures texts { texts_of result.now ≡ texts_of text.now }
+    ensures short { length result.now ≤ length text.now }
+{
+    match text.split_first() {
+        Some((_, rest)) => rest,
+        None => text,
+    }
+}
+
+/// Where the first byte stands that is not blank.
+fn token_start(text: &[u8]) -> Option<usize>
+    ensures { result ≡ position (λ c. not (is_blank c)) text.now }
+{
+    text.iter().position(|byte| !is_blank(*byte))
+}
+
 /// How many characters some bytes begin.
-pub(crate) fn characters(bytes: &[u8]) -> usize
+fn characters(bytes: &[u8]) -> usize
     ensures { result ≡ count_by begins_character bytes.now }
 {
     let mut characters = 0;
@@ -194,21 +264,6 @@ pub(crate) fn characters(bytes: &[u8]) -> usize
         characters += usize::from(begins_character(*byte));
     }
     characters
-}
-
-/// Whether each byte of a line begins a character, as in most lines.
-pub(crate) fn is_plain(line: &[u8]) -> bool
-    ensures { result ≡ true → count_by begins_character line.now ≡ length line.now }
-{
-    line.is_ascii()
-}
-
-/// How many characters a run begins, which needs no count in a plain line.
-pub(crate) fn width(run: &[u8], is_plain: bool) -> usize
-    requires { is_plain ≡ true → count_by begins_character run.now ≡ length run.now }
-    ensures { result ≡ count_by begins_character run.now }
-{
-    if is_plain { run.len() } else { characters(run) }
 }
 
 /// Whether a byte ends a run: space, tab, LF and CR.

@@ -1,9 +1,9 @@
 use Rattle.std.proofs.Common.{◌≡◌, ◌∙◌, ap, rules}
 use Rattle.ga_pack.specs.Followers.{followers}
 use Rattle.ga_pack.specs.Model.Source.{WordTo, Code}
-use Rattle.ga_source.specs.Item.{item_of}
+use Rattle.ga_source.specs.Item.{item_of, value_of}
 use Rattle.ga_source.specs.Machine.{added}
-use Rattle.ga_source.specs.Parser.{pending_of, state_of, inside_of, part_of}
+use Rattle.ga_source.specs.Parser.{state_of, inside_of, part_of}
 use Rattle.ga_source.proofs.ParserSteps.{answered_added, word_to_after, on_ok_to}
 use Rattle.ga_source.proofs.parser.Parser.close.Goals as goal
 
@@ -12,7 +12,7 @@ returns c =
     let self = c.args.self.now in
     let op = c.args.op in
     let spare = c.args.spare in
-    let v = pending_of self.dest in
+    let v = value_of self.dest in
     let i = item_of c.in_ok-item.item in
     let ops : c.replace-ops.result.items ≡ self.ops.items = ap (λ x. x.items) c.replace-ops.ensures.value in
     let item : i ≡ WordTo self.ops.items op v spare = c.in_ok-item.ensures ∙ ap (λ x. WordTo x op v spare) ops in
