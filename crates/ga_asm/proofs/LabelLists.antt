@@ -1,10 +1,9 @@
 -- Labels in a map, and as the model has them.
-use Rattle.std.proofs.Common.{◌≡◌, ◌≤◌, ℕ, Bool, true, false, List, [], ◌∷◌, ◌++◌, Option, Some, None, refl, ap, arith, map}
+use Rattle.std.proofs.Common.{◌≡◌, ◌≤◌, ℕ, Bool, true, false, List, [], ◌∷◌, ◌++◌, Option, Some, None, refl, ap, arith}
 use Rattle.std.proofs.lemmas.Bool.{and_parts, leb-true}
 use Rattle.std.specs.Prelude.{String, codes, ◌||◌, nat_le, if◌then◌else◌}
-use Rattle.std.specs.List.{list_any}
 use Rattle.std.specs.Map.{lookup}
-use Rattle.std.specs.Option.{unwrap_or}
+use Rattle.std.specs.Option.{is_some, unwrap_or}
 use Rattle.std.specs.Str.{bytes_eq}
 use Rattle.std.specs.String.{string_bytes, string_eq}
 use Rattle.indexmap.specs.IndexMap.{insert_entry}
@@ -12,11 +11,6 @@ use Rattle.ga_pack.specs.Model.Layout.{Labels, address_of}
 use Rattle.ga_pack.specs.Model.Source.{is_among}
 use Rattle.ga_asm.specs.Image.{all_near, entry_of, labels_of}
 use Rattle.ga_asm.specs.Layout.{names_of}
-
--- a test of mapped elements
-pub list_any_map : {X Y : Type 0} (p : Y → Bool) (f : X → Y) (xs : List X) → list_any p (map f xs) ≡ list_any (λ x. p (f x)) xs
-list_any_map p f [] = refl
-list_any_map p f (x ∷ xs) = ap (λ r. p (f x) || r) (list_any_map p f xs)
 
 pub lookup_labels : {A : Type 0} (name : List ℕ) (entries : List (String A × ℕ)) → lookup (λ k. bytes_eq name (string_bytes k)) entries ≡ address_of (labels_of entries) name
 lookup_labels name [] = refl
@@ -37,6 +31,16 @@ labels_more name key address [] e h = ap (λ t. (t, address) ∷ []) e
 labels_more name key address (entry ∷ entries) e h =
     more_by name key address entry entries (bytes_eq name (string_bytes entry.0)) (bytes_eq (string_bytes key) (string_bytes entry.0))
     (ap (λ t. bytes_eq t (string_bytes entry.0)) e) h (labels_more name key address entries e)
+
+-- a label that is found is among the names
+found_by : (name : List ℕ) (label : List ℕ × ℕ) (labels : Labels) (b : Bool) → (is_some (address_of labels name) ≡ true → is_among name (names_of labels) ≡ true)
+    → is_some (if b then Some label.1 else address_of labels name) ≡ true → (b || is_among name (names_of labels)) ≡ true
+found_by name label labels true rest h = refl
+found_by name label labels false rest h = rest h
+
+pub found_among : (name : List ℕ) (labels : Labels) → is_some (address_of labels name) ≡ true → is_among name (names_of labels) ≡ true
+found_among name [] h = absurd (cc)
+found_among name (label ∷ labels) h = found_by name label labels (bytes_eq name label.0) (found_among name labels) h
 
 -- a label that is found is near
 near_by : (labels : Labels) (name : List ℕ) (address near : ℕ) (b : Bool) → near ≤ 64 → (address_of labels name ≡ Some address → address ≤ 64)

@@ -3,16 +3,18 @@ use Rattle.std.proofs.Common.{◌≡◌, ◌∙◌, ◌<◌, ◌≤◌, ℕ, zer
 use Rattle.std.proofs.Common.{take as first}
 use Rattle.std.proofs.lemmas.Bool.{and_from, le-leb}
 use Rattle.std.proofs.lemmas.Grind.{common_steps}
-use Rattle.std.proofs.lemmas.List.Folds.{list_all-append}
-use Rattle.std.specs.Prelude.{◌&&◌, nat_le}
+use Rattle.std.proofs.lemmas.List.Folds.{list_all-append, list_any-append}
+use Rattle.std.specs.Prelude.{◌&&◌, ◌||◌, nat_le}
+use Rattle.std.specs.Str.{bytes_eq}
 use Rattle.ga_pack.specs.Model.Layout.{Labels, Arranged, address_after, labels_after, names_in}
 use Rattle.ga_pack.specs.Model.LayoutFault.{AsmKind, Judged, Passed, fault_at, fault_behind, joins_last, words_added}
-use Rattle.ga_pack.specs.Model.Source.{Item, Here, Items, is_new, start}
+use Rattle.ga_pack.specs.Model.Source.{Item, Here, Items, is_among, is_new, start}
 use Rattle.ga_pack.proofs.Placed.{add, add_stands}
 use Rattle.ga_source.specs.declared.item.Item as an
 use Rattle.ga_source.specs.Item.{item_of}
+use Rattle.ga_source.specs.Name.{NameText}
 use Rattle.ga_asm.specs.Image.{all_near, labels_of}
-use Rattle.ga_asm.specs.Layout.{IsBlank, IsFirstPassFault, Laying, Placing, closed_counts, counts_after, data_after, data_at, joins_open, labels_with, names_of, open_after, open_at, open_count, open_if, open_of, plain}
+use Rattle.ga_asm.specs.Layout.{AreAmong, IsBlank, IsFirstPassFault, IsRefusal, Laying, Placing, closed_counts, counts_after, data_after, data_at, joins_open, labels_with, names_of, open_after, open_at, open_count, open_if, open_of, plain, plain_names}
 use Rattle.ga_asm.specs.declared.layout.Layout as the
 use Rattle.ga_asm.proofs.RightItems.{items_new}
 use Rattle.ga_asm.proofs.Summary.{address_add, counts_add, counts_closed, data_add, joins_is, labels_add, open_add}
@@ -25,10 +27,10 @@ passed_more names front [] x passed judged = (rw append-nil at judged, tt)
 passed_more names front (i ∷ items) x passed judged =
     (passed.0, passed_more names (front ++ i ∷ []) items x passed.1 (subst (λ t. Judged names t x None) (sym (append_assoc front (i ∷ []) items)) judged))
 
-names_snoc : (front : List Item) (x : Item) → names_in (front ++ x ∷ []) ≡ names_in front ++ names_in (x ∷ [])
-names_snoc [] x = refl
-names_snoc (Here s ∷ front) x = ap (λ r. s ∷ r) (names_snoc front x)
-names_snoc (i ∷ front) x = names_snoc front x
+names_more : (front more : List Item) → names_in (front ++ more) ≡ names_in front ++ names_in more
+names_more [] more = refl
+names_more (Here s ∷ front) more = ap (λ r. s ∷ r) (names_more front more)
+names_more (i ∷ front) more = names_more front more
 
 names_append : (labels more : Labels) → names_of (labels ++ more) ≡ names_of labels ++ names_of more
 names_append [] more = refl
@@ -89,7 +91,7 @@ laying_next names before l m x laying none step =
           ∙ sym (labels_add [] 0 groups x);
       names_are =
           ap names_of step.labels ∙ names_with (labels_of l.labels.entries) l.address x ∙ ap (λ t. t ++ names_in (x ∷ [])) laying.names_are
-          ∙ sym (names_snoc before x);
+          ∙ sym (names_more before (x ∷ []));
       address_is =
           step.address ∙ ap (λ t. t + words_added joined x) laying.address_is ∙ ap (λ t. address_after 0 groups + words_added t x) (sym same)
           ∙ sym (address_add [] 0 groups x);
@@ -136,11 +138,15 @@ front_more (i ∷ items) (suc at) d h =
 pub front_next : (items : List an.Item) (at : ℕ) (d : an.Item) → at < length items → d ≡ get_or items at d → plain (first (at + 1) items) ≡ plain (first at items) ++ item_of d ∷ []
 front_next items at d h is = front_more items at d h ∙ ap (λ t. plain (first at items) ++ item_of t ∷ []) (sym is)
 
-pub front_all : (items : List an.Item) (at : ℕ) → length items ≤ at → first at items ≡ items
+pub front_all : {A : Type 0} (items : List A) (at : ℕ) → length items ≤ at → first at items ≡ items
 front_all [] zero h = refl
 front_all [] (suc at) h = refl
 front_all (i ∷ items) zero h = absurd (omega arith)
 front_all (i ∷ items) (suc at) h = ap (λ t. i ∷ t) (front_all items at (omega arith))
+
+or_left : (a b : Bool) → a ≡ true → (a || b) ≡ true
+or_left true b h = refl
+or_left false b h = absurd (cc)
 
 -- a label that is laid is new
 pub next_new : (names : List (List ℕ)) (items : List an.Item) (at : ℕ) (d : an.Item) (l : the.Layout) → at < length items → d ≡ get_or items at d
@@ -149,9 +155,19 @@ next_new names items at d l h is right laying =
     let right' = subst (λ t. Items start t) (cut_is items at d h is) right in
     subst (λ t. is_new (item_of d) t ≡ true) (sym laying.names_are) (items_new start (plain (first at items)) (item_of d) (plain (drop (suc at) items)) right')
 
+-- the labels that are laid are among those of the node
+pub laid_among : (items : List an.Item) (at : ℕ) (d : an.Item) (l : the.Layout) (labels : List NameText) → at < length items → d ≡ get_or items at d
+    → Laying (names_in (plain items)) (plain (first at items)) l → plain_names labels ≡ names_in (plain items) → AreAmong (names_of (labels_of l.labels.entries)) (plain_names labels)
+laid_among items at d l labels h is laying same name among =
+    let before = names_in (plain (first at items)) in
+    let behind = names_in (item_of d ∷ plain (drop (suc at) items)) in
+    ap (is_among name) (same ∙ ap names_in (cut_is items at d h is) ∙ names_more (plain (first at items)) (item_of d ∷ plain (drop (suc at) items)))
+    ∙ list_any-append (bytes_eq name) before behind
+    ∙ or_left (is_among name before) (is_among name behind) (ap (is_among name) (sym laying.names_are) ∙ among)
+
 pub laying_fault : (items : List an.Item) (at : ℕ) (d : an.Item) (l : the.Layout) (kind : Option AsmKind) → at < length items → d ≡ get_or items at d
     → Laying (names_in (plain items)) (plain (first at items)) l
-    → kind ≡ fault_at (names_in (plain items)) (labels_of l.labels.entries) l.address (joins_open (labels_of l.labels.entries) (open_of l) (item_of d)) (item_of d)
+    → IsRefusal (fault_at (names_in (plain items)) (labels_of l.labels.entries) l.address (joins_open (labels_of l.labels.entries) (open_of l) (item_of d)) (item_of d)) kind
     → IsFirstPassFault (plain items) at kind
 laying_fault items at d l None h is laying e = tt
 laying_fault items at d l (Some kind) h is laying e = record {
@@ -161,7 +177,7 @@ laying_fault items at d l (Some kind) h is laying e = record {
   split = cut_is items at d h is;
   at_is = sym (front_length items at (omega arith));
   passed = laying.passed;
-  judged = record { groups = laying.groups; stand_in = laying.stand_in; fault_is = fault_same (names_in (plain items)) (plain (first at items)) l laying (item_of d) ∙ sym e };
+  judged = record { groups = laying.groups; stand_in = laying.stand_in; fault_is = fault_same (names_in (plain items)) (plain (first at items)) l laying (item_of d) ∙ e };
 }
 
 -- ---- the beginning and the end

@@ -1,6 +1,7 @@
 mod ByCases
 mod LabelLists
 mod Loose
+mod Names
 mod Summary
 mod RightItems
 mod LayingSteps

@@ -17,10 +17,6 @@ kind_of kind.UnextAlone = Some model.UnextAlone
 kind_of kind.TooLong = Some model.TooLong
 kind_of kind.Memory = None
 
-abbrev pub kind_in : Option AsmErrorKind → Option AsmKind
-kind_in None = None
-kind_in (Some k) = kind_of k
-
 abbrev pub kind_name : AsmErrorKind → List ℕ
 kind_name kind.UndefinedLabel = codes "UndefinedLabel"
 kind_name kind.OutOfReach = codes "OutOfReach"

@@ -1,13 +1,16 @@
 -- What is kept of the items of a node while they are laid.
-use Rattle.std.specs.Prelude.{◌≡◌, ◌≤◌, ℕ, ◌+◌, Bool, true, false, List, [], ◌∷◌, ◌++◌, length, map, Option, Some, None, if◌then◌else◌}
+use Rattle.std.specs.Prelude.{◌≡◌, ◌≤◌, ℕ, ◌+◌, Bool, true, false, List, [], ◌∷◌, ◌++◌, length, map, Option, Some, None, Result, Ok, Err, if◌then◌else◌}
 use Rattle.std.specs.Option.{option_or}
 use Rattle.ga_word.specs.declared.op.Op.{Op}
 use Rattle.ga_pack.specs.Model.Layout.{Labels, Group, Shared, Alone, StandIn, address_after, is_loose, joins, labels_after, names_in, op_of, ops_of, size}
 use Rattle.ga_pack.specs.Model.LayoutFault.{AsmKind, FirstPassFault, Passed}
-use Rattle.ga_pack.specs.Model.Source.{Item, Here, Data}
+use Rattle.ga_pack.specs.Model.Source.{Item, Here, Data, is_among}
 use Rattle.ga_source.specs.declared.item.Item as an
 use Rattle.ga_source.specs.Item.{item_of}
+use Rattle.ga_source.specs.Name.{NameText}
+use Rattle.ga_asm.specs.Error.{kind_of}
 use Rattle.ga_asm.specs.Image.{all_near, labels_of}
+use Rattle.ga_asm.specs.declared.error.AsmErrorKind.{AsmErrorKind}
 use Rattle.ga_asm.specs.declared.layout.Layout as the
 
 -- items as the model has them
@@ -92,6 +95,18 @@ data_at address (Alone i ∷ groups) = if is_data i then Some address else data_
 abbrev pub names_of : Labels → List (List ℕ)
 names_of labels = map (λ label. label.0) labels
 
+-- names as the model has them
+abbrev pub plain_names : List NameText → List (List ℕ)
+plain_names names = map (λ name. name.bytes) names
+
+-- the first names are among the others
+abbrev pub AreAmong : List (List ℕ) → List (List ℕ) → Type 0
+AreAmong names others = (name : List ℕ) → is_among name names ≡ true → is_among name others ≡ true
+
+-- the same names are among both
+abbrev pub AreSameNames : List (List ℕ) → List (List ℕ) → Type 0
+AreSameNames names others = (name : List ℕ) → is_among name names ≡ is_among name others
+
 -- Nothing is laid.
 pub record IsBlank (l : the.Layout) : Type 0 where
   pub labels : l.labels.entries ≡ []
@@ -127,6 +142,16 @@ pub record Placing (items : List Item) (l : the.Layout) : Type 0 where
   pub data_is : l.data_start ≡ data_at 0 groups
   pub few : l.address ≤ 64
   pub labels_near : all_near (labels_of l.labels.entries) ≡ true
+
+-- what was refused for this fault, unless memory was
+abbrev pub IsRefusal : Option AsmKind → Option AsmKind → Type 0
+IsRefusal fault None = Unit {0}
+IsRefusal fault (Some kind) = fault ≡ Some kind
+
+-- an item with this fault or none was refused for it, or passed where it has none
+abbrev pub Refuses : {A : Type 0} → Option AsmKind → Result A AsmErrorKind → Type 0
+Refuses fault (Ok x) = fault ≡ None
+Refuses fault (Err kind) = IsRefusal fault (kind_of kind)
 
 -- The first fault of the first pass, unless memory was refused.
 abbrev pub IsFirstPassFault : List Item → ℕ → Option AsmKind → Type 0

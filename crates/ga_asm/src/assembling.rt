@@ -49,7 +49,7 @@ fn image_of(alloc: Global, section: &Section) -> Result<Image, Refusal>
     ensures at { IfErr result (λ refusal. refusal.at < length section.now.items.items) }
 {
     let items = section.items.as_slice();
-    let layout = first_pass(alloc, &section.labels, items)?;
+    let layout = first_pass(alloc, section.labels.as_slice(), items)?;
     let words = second_pass(alloc, items, &layout)?;
     let code_len = usize::from(layout.data_start.unwrap_or(layout.address));
     let entry = address_of(&layout.labels, "main").unwrap_or(0);

@@ -1,5 +1,6 @@
 //! The first pass over the items of a node: where each one comes to stand, or the first fault.
-ghost use Rattle.std.specs.Prelude.{◌≡◌, ◌+◌, ◌<◌, ◌≤◌, ◌++◌, ◌∷◌, [], IfErr, IfOk, None, OnOk, Some, false, length, map, true};
+ghost use Rattle.std.specs.Prelude.{◌≡◌, ◌+◌, ◌<◌, ◌≤◌, ◌++◌, ◌∷◌, [], IfErr, IfOk, IfSome, None, OnOk, Some, false, length, map, true};
+ghost use Rattle.std.proofs.Props.{props};
 ghost use Rattle.ga_pack.specs.Model.Layout as laid;
 ghost use Rattle.ga_pack.specs.Model.Layout.{names_in};
 ghost use Rattle.ga_pack.specs.Model.LayoutFault as faults;
@@ -7,9 +8,9 @@ ghost use Rattle.ga_pack.specs.Model.Source.{Items, start};
 ghost use Rattle.ga_pack.specs.Model.Source as words;
 ghost use Rattle.ga_pack.specs.Followers as counted;
 ghost use Rattle.ga_source.specs.Item.{item_of, value_of, word_of};
-ghost use Rattle.ga_asm.specs.Error.{kind_in, kind_of};
+ghost use Rattle.ga_asm.specs.Error.{kind_of};
 ghost use Rattle.ga_asm.specs.Image.{labels_of};
-ghost use Rattle.ga_asm.specs.Layout.{IsBlank, IsFirstPassFault, counts_after, data_after, joins_word, Placing, labels_with, names_of, open_after, open_count, open_of, plain};
+ghost use Rattle.ga_asm.specs.Layout.{AreAmong, AreSameNames, IsBlank, IsFirstPassFault, Refuses, counts_after, data_after, joins_word, Placing, labels_with, names_of, open_after, open_count, open_of, plain, plain_names};
 ghost use Rattle.ga_asm.specs.declared.error.AsmErrorKind.TheVariants.{Memory};
 
 use crate::error::AsmErrorKind;
@@ -45,22 +46,63 @@ pub(crate) struct Refusal {
     pub(crate) kind: AsmErrorKind,
 }
 
-// The name is one of these.
-#[inline(never)]
-fn is_among(names: &IndexSet<Name>, name: &Name) -> bool
-    ensures { result ≡ words.is_among name.now.bytes (map (λ name. name.bytes) names.now.keys) }
-{
-    names.contains(name)
+// The names of the labels of a node. A set of them is made when a name is first asked for that isn't laid,
+// which is seldom: most jumps go back.
+#[derive(Drop)]
+pub(crate) struct Names<'a> {
+    alloc: Global,
+    labels: &'a [Name],
+    set: Option<IndexSet<Name>>,
+    ghost same: { IfSome set (λ set. AreSameNames (plain_names set.keys) (plain_names labels.now)) } by { Prim.hlevel props },
 }
 
-#[inline]
-fn is_value(names: &IndexSet<Name>, value: &Value) -> bool
-    ensures { result ≡ laid.is_value (map (λ name. name.bytes) names.now.keys) (value_of value.now) }
-{
-    match value {
-        Value::Number(_) => true,
-        Value::Label(name) => is_among(names, name),
+impl<'a> Names<'a> {
+    pub(crate) fn new(alloc: Global, labels: &'a [Name]) -> Self
+        ensures { result.labels.now ≡ labels.now }
+    {
+        Names {
+            alloc,
+            labels,
+            set: None,
+        }
     }
+
+    // The set, which is taken out.
+    fn take_set(&mut self) -> Result<IndexSet<Name>, AsmErrorKind>
+        ensures labels { self.new.labels.now ≡ self.old.labels.now }
+        ensures ok { IfOk result (λ set. AreSameNames (plain_names set.keys) (plain_names self.old.labels.now)) }
+        ensures err { IfErr result (λ kind. kind ≡ Memory) }
+    {
+        match self.set.take() {
+            Some(set) => Ok(set),
+            None => set_of(self.alloc, self.labels),
+        }
+    }
+
+    // The name is one of these.
+    #[inline(never)]
+    fn contains(&mut self, name: &Name) -> Result<bool, AsmErrorKind>
+        ensures labels { self.new.labels.now ≡ self.old.labels.now }
+        ensures ok { IfOk result (λ found. found ≡ words.is_among name.now.bytes (plain_names self.old.labels.now)) }
+        ensures err { IfErr result (λ kind. kind ≡ Memory) }
+    {
+        let set = self.take_set()?;
+        let found = set.contains(name);
+        self.set = Some(set);
+        Ok(found)
+    }
+}
+
+// The set of these names.
+fn set_of(alloc: Global, labels: &[Name]) -> Result<IndexSet<Name>, AsmErrorKind>
+    ensures ok { IfOk result (λ set. AreSameNames (plain_names set.keys) (plain_names labels.now)) }
+    ensures err { IfErr result (λ kind. kind ≡ Memory) }
+{
+    let mut set = IndexSet::with_capacity(alloc, labels.len())?;
+    for label in labels {
+        set.insert(*label)?;
+    }
+    Ok(set)
 }
 
 fn is_unext(op: Op) -> bool
@@ -231,32 +273,53 @@ impl Layout {
         self.is_open && !self.slots.is_ended() && self.fits(item)
     }
 
-    // The first fault of the item, which joins the open word or not, in a node with these labels.
-    fn fault_of(&self, names: &IndexSet<Name>, item: &Item, joined: bool) -> Option<AsmErrorKind>
+    // The value is a number or a label, which is laid or not yet.
+    fn is_value(&self, names: &mut Names<'_>, value: &Value) -> Result<bool, AsmErrorKind>
+        requires laid { AreAmong (names_of (labels_of self.now.labels.entries)) (plain_names names.old.labels.now) }
+        ensures labels { names.new.labels.now ≡ names.old.labels.now }
+        ensures ok { IfOk result (λ found. found ≡ laid.is_value (plain_names names.old.labels.now) (value_of value.now)) }
+        ensures err { IfErr result (λ kind. kind ≡ Memory) }
+    {
+        match value {
+            Value::Number(_) => Ok(true),
+            Value::Label(name) => {
+                Ok(address_of(&self.labels, name.as_str()).is_some() || names.contains(name)?)
+            }
+        }
+    }
+
+    // Refuses the item, which joins the open word or not, for its first fault in a node with these labels.
+    fn judge(&self, names: &mut Names<'_>, item: &Item, joined: bool) -> Result<(), AsmErrorKind>
         requires joined { joined ≡ joins_word self.now (item_of item.now) }
         requires near { self.now.word ≤ 64 }
         requires few { self.now.address ≤ 64 }
-        ensures { kind_in result ≡ faults.fault_at (map (λ name. name.bytes) names.now.keys) (labels_of self.now.labels.entries) self.now.address (joins_word self.now (item_of item.now)) (item_of item.now) }
+        requires laid { AreAmong (names_of (labels_of self.now.labels.entries)) (plain_names names.old.labels.now) }
+        ensures labels { names.new.labels.now ≡ names.old.labels.now }
+        ensures told { Refuses (faults.fault_at (plain_names names.old.labels.now) (labels_of self.now.labels.entries) self.now.address (joins_word self.now (item_of item.now)) (item_of item.now)) result }
     {
         match item {
             Item::Instruction(op) if !joined && is_unext(*op) => {
-                return Some(AsmErrorKind::UnextAlone);
+                return Err(AsmErrorKind::UnextAlone);
             }
-            Item::Transfer { dest, .. } | Item::Plain(dest) if !is_value(names, dest) => {
-                return Some(AsmErrorKind::UndefinedLabel);
+            Item::Transfer { dest, .. } | Item::Plain(dest) => {
+                if !self.is_value(names, dest)? {
+                    return Err(AsmErrorKind::UndefinedLabel);
+                }
             }
-            Item::WordTo(word) if !is_value(names, &word.dest) => {
-                return Some(AsmErrorKind::UndefinedLabel);
-            }
-            Item::WordTo(word) if !word_reaches(&self.labels, self.address, word) => {
-                return Some(AsmErrorKind::OutOfReach);
+            Item::WordTo(word) => {
+                if !self.is_value(names, &word.dest)? {
+                    return Err(AsmErrorKind::UndefinedLabel);
+                }
+                if !word_reaches(&self.labels, self.address, word) {
+                    return Err(AsmErrorKind::OutOfReach);
+                }
             }
             _ => {}
         }
         if self.address + words_added(joined, item) > 64 {
-            return Some(AsmErrorKind::TooLong);
+            return Err(AsmErrorKind::TooLong);
         }
-        None
+        Ok(())
     }
 }
 
@@ -359,29 +422,26 @@ impl Layout {
     }
 }
 
-/// Where the items of a node come to stand, or the first fault of the first pass. The names are those of
-/// all labels of the node.
-pub(crate) fn first_pass(
-    alloc: Global,
-    names: &IndexSet<Name>,
-    items: &[Item],
-) -> Result<Layout, Refusal>
+/// Where the items of a node come to stand, or the first fault of the first pass. The labels are all
+/// those of the node.
+pub(crate) fn first_pass(alloc: Global, labels: &[Name], items: &[Item]) -> Result<Layout, Refusal>
     requires right { Items start (plain items.now) }
-    requires names { map (λ name. name.bytes) names.now.keys ≡ names_in (plain items.now) }
+    requires names { plain_names labels.now ≡ names_in (plain items.now) }
     ensures ok { IfOk result (λ layout. Placing (plain items.now) layout) }
     ensures err { IfErr result (λ refusal. IsFirstPassFault (plain items.now) refusal.at (kind_of refusal.kind)) }
     ensures at { IfErr result (λ refusal. refusal.at < length items.now) }
 {
-    let mut layout = match Layout::new(alloc, names.len(), items.len()) {
+    let mut layout = match Layout::new(alloc, labels.len(), items.len()) {
         Ok(layout) => layout,
         Err(_) => {
             let kind = AsmErrorKind::Memory;
             return Err(Refusal { at: 0, kind });
         }
     };
+    let mut names = Names::new(alloc, labels);
     for (at, item) in items.iter().enumerate() {
         let joined = layout.joins(item);
-        if let Some(kind) = layout.fault_of(names, item, joined) {
+        if let Err(kind) = layout.judge(&mut names, item, joined) {
             return Err(Refusal { at, kind });
         }
         if let Err(kind) = layout.add(item, joined) {

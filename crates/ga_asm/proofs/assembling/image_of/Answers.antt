@@ -3,14 +3,15 @@ use Rattle.std.specs.List.{list_all}
 use Rattle.std.specs.Option.{unwrap_or}
 use Rattle.ga_pack.specs.Model.Layout.{names_in}
 use Rattle.ga_pack.specs.Model.Source.{is_item, start}
-use Rattle.ga_asm.specs.Layout.{Placing, plain}
+use Rattle.ga_asm.specs.Layout.{Placing, plain, plain_names}
 use Rattle.ga_asm.specs.Making.{IsMade}
 use Rattle.ga_asm.proofs.RightItems.{items_right, items_some}
 use Rattle.ga_asm.proofs.Sections.{image_fits}
 use Rattle.ga_asm.proofs.assembling.image_of.Goals as goal
 
 pub first_pass-requires-clause-names : goal.first_pass-requires-clause-names
-first_pass-requires-clause-names c = c.args.section.now.labels_of_items ∙ ap (λ t. names_in (plain t)) (sym c.as_slice-items.ensures.value)
+first_pass-requires-clause-names c =
+    ap plain_names c.as_slice.ensures.value ∙ c.args.section.now.labels_of_items ∙ ap (λ t. names_in (plain t)) (sym c.as_slice-items.ensures.value)
 
 pub second_pass-requires-clause-right : goal.second_pass-requires-clause-right
 second_pass-requires-clause-right c =
