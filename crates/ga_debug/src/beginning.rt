@@ -37,6 +37,7 @@ pub fn chip_after(alloc: Global, head: &Head<'_>) -> Result<Chip, ReplayError>
 }
 
 /// The images of a source text.
+#[inline(never)]
 fn images_of(alloc: Global, source: &str) -> Result<Images, ReplayError>
     ensures { Answers (λ images. images) (IsImagesOf source.now) result }
 {
