@@ -23,7 +23,8 @@ pub fn read_input<R: Read>(alloc: Global, reader: &mut R) -> Result<Vec<u8>, Ser
     ensures fault { IfErr result (ReadFails (R.remaining reader.old)) }
     ensures no_more { ConsumesUpTo 1048577 (R.remaining reader.old) (R.remaining reader.new) }
 {
-    let mut input = Vec::new(alloc);
+    // The system gives a page of the room where it is touched.
+    let mut input = Vec::with_capacity(alloc, INPUT_LIMIT + 1)?;
     let mut buffer = [0; 8192];
     for _ in 0..READS_LIMIT {
         let most = buffer.len().min(INPUT_LIMIT + 1 - input.len());
