@@ -21,6 +21,7 @@ RUNS = [
     (["one", "5"], b""),
     (["asm"], b"node 709 . node 000 x: [ @p a! @p ] , 5 , x jump x data y: , x"),
     (["asm"], b"node 000 jump x"),
+    (["asm"], b"node 000 x: jump y y: . node 001 jump y x: . y: ."),
     (["asm"], b"node 000 ]"),
     (["boot", "708,709,710"], b"node 710 5 x: . node 708 ."),
     (["boot", "708,709"], b"node 710 ."),
