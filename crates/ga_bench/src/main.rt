@@ -1,30 +1,10 @@
 //! The bench of the GA144: each subcommand reads one input and writes one text.
 #![tactic(auto)]
 
-mod answer;
-mod asm;
-mod boot;
-mod command_line;
-mod debug;
-mod dis;
-mod engine;
-mod fault;
-mod number;
-mod one;
-mod reading;
-mod replay;
-mod request;
-mod route;
-mod run;
-mod source;
-mod text;
-mod writing;
-
-use crate::command_line::{LineError, job, refusal};
-use crate::engine::serve;
-use crate::fault::{ServeError, status};
-use crate::request::Job;
 use clap::error::ErrorKind::InvalidValue;
+use ga_command_line::{Job, LineError, job, refusal};
+use ga_jobs::ServeError;
+use ga_serve::{serve, status};
 use std::io::ErrorKind::OutOfMemory;
 use std::process::ExitCode;
 use std::rt::Env;
@@ -65,6 +45,3 @@ fn job_of_arguments<R: Env + AllocGlobal>(rt: &R) -> Result<Job, LineError> {
     let words: Vec<&str> = arguments.iter().map(|word| word.as_str()).collect(alloc)?;
     job(alloc, &words)
 }
-
-#[cfg(test)]
-mod tests;

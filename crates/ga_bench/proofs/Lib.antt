@@ -1,7 +1,0 @@
-mod Entered
-mod Replies
-mod Dealing
-mod Faults
-mod Again
-mod WorkedLines
-mod WorkedOutputs

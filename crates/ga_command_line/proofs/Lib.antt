@@ -1,0 +1,2 @@
+mod Entered
+mod WorkedLines

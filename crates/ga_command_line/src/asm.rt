@@ -1,0 +1,24 @@
+ghost use Rattle.std.specs.Prelude.{IfOk};
+ghost use Rattle.ga_command_line.specs.Asm.{asm_command};
+ghost use Rattle.ga_command_line.specs.Command.{IsCommandOf};
+
+use clap::Command;
+use std::alloc::{AllocError, Global};
+
+const HELP: &str = "\
+Reads source text: for each node `node`, its name in three digits, and its items. Writes for each
+node a line with its entry, how many of its words are code and how many there are, and its words,
+eight on a line.
+
+Example: echo 'node 709 main: $5 $7 + @b' | ga-bench asm";
+
+/// The subcommand `asm`.
+#[tactic(auto, unfolding(crate::specs::Asm::asm_command))]
+pub fn command<'a>(alloc: Global) -> Result<Command<'a>, AllocError>
+    ensures { IfOk result (IsCommandOf asm_command) }
+{
+    let command = Command::new(alloc, "asm")
+        .about("Assembles source text, and prints the words of each node")
+        .after_help(HELP);
+    Ok(command)
+}

@@ -1,0 +1,27 @@
+ghost use Rattle.std.specs.Prelude.{IfOk};
+ghost use Rattle.ga_command_line.specs.Boot.{boot_command};
+ghost use Rattle.ga_command_line.specs.Command.{IsCommandOf};
+
+use clap::{Arg, Command};
+use std::alloc::{AllocError, Global};
+
+const HELP: &str = "\
+Reads source text, as asm does. Writes a line 'load' with a number and so many words, eight on a
+line, and 'start' in the same way: what the loader of the route's first node is to be given, so that
+each node of the route has its words in memory, and then starts.
+
+Example: echo 'node 709 .' | ga-bench boot 708,709";
+
+/// The subcommand `boot ROUTE`.
+#[tactic(auto, unfolding(crate::specs::Boot::boot_command))]
+pub fn command<'a>(alloc: Global) -> Result<Command<'a>, AllocError>
+    ensures { IfOk result (IsCommandOf boot_command) }
+{
+    let route = Arg::new(alloc, "ROUTE").required(true).help(
+        "Node names with commas between them: an edge node, and each next one its neighbour",
+    );
+    Command::new(alloc, "boot")
+        .about("Assembles source text, and prints the words that boot a route")
+        .after_help(HELP)
+        .arg(route)
+}

@@ -1,0 +1,141 @@
+ghost use Rattle.std.specs.Prelude.{◌≡◌, IfErr, IfOk, false, map};
+ghost use Rattle.clap.specs.Words.{app_of, kind_of, subcommand_rows_of};
+ghost use Rattle.clap.specs.declared.error.kind.ErrorKind.TheVariants.{OutOfMemory};
+ghost use Rattle.ga_command_line.specs.declared.command_line.LineError.TheVariants.{Memory};
+ghost use Rattle.ga_command_line.specs.Command.{IsCommandOf, has_globals, linked};
+ghost use Rattle.ga_command_line.specs.CommandLine.{InRange, IsAskedFor, IsJobOf, IsRight, bare_command, bench_command};
+
+use crate::request::Job;
+use crate::route::route_at;
+use crate::{asm, boot, debug, dis, one, replay, run};
+use clap::error::ErrorKind;
+use clap::{ArgMatches, Command};
+use std::alloc::{AllocError, Global};
+use thiserror::Error;
+
+/// Why a command line names no job.
+#[derive(Debug, Drop, Error)]
+pub enum LineError {
+    /// The words are wrong, or ask for help or the version.
+    #[error("{0}")]
+    Parse(clap::Error),
+    /// Memory ran out.
+    #[error("memory")]
+    Memory,
+}
+
+impl From<clap::Error> for LineError {
+    ghost from_gives = { λ error fault. kind_of error ≡ OutOfMemory → fault ≡ Memory };
+
+    fn from(error: clap::Error) -> LineError {
+        match error.kind() {
+            ErrorKind::OutOfMemory => LineError::Memory,
+            _ => LineError::Parse(error),
+        }
+    }
+}
+
+impl From<AllocError> for LineError {
+    ghost from_gives = { λ _ fault. fault ≡ Memory };
+
+    fn from(_error: AllocError) -> LineError {
+        LineError::Memory
+    }
+}
+
+/// Reads a command line, of which the first word is the program's name.
+pub fn job(alloc: Global, words: &[&str]) -> Result<Job, LineError>
+    ensures in_range { IfOk result InRange }
+    ensures named { IfOk result (IsJobOf (map (λ word. word.now) words.now)) }
+    // Right words are refused only for want of memory.
+    ensures right { IfErr result (λ error. (job : Job) → IsRight (map (λ word. word.now) words.now) job
+        → error ≡ LineError.Memory) }
+{
+    let matches = command(alloc)?.try_get_matches_from(words)?;
+    job_in(alloc, &matches)
+}
+
+/// The job that the subcommand of a command line and its arguments name.
+fn job_in(alloc: Global, matches: &ArgMatches<'_>) -> Result<Job, LineError>
+    ensures in_range { IfOk result InRange }
+    ensures named { IfOk result (IsAskedFor (subcommand_rows_of matches.now)) }
+    ensures right { IfErr result (λ error. (job : Job) → IsAskedFor (subcommand_rows_of matches.now) job
+        → InRange job → error ≡ LineError.Memory) }
+{
+    match matches.subcommand() {
+        Some(("one", found)) => Ok(Job::One {
+            tries: one::tries_of(alloc, found)?,
+        }),
+        Some(("asm", _)) => Ok(Job::Asm),
+        Some(("dis", found)) => Ok(Job::Dis {
+            code: dis::code_of(alloc, found)?,
+        }),
+        Some(("boot", found)) => Ok(Job::Boot {
+            route: route_at(alloc, found)?,
+        }),
+        Some(("run", found)) => Ok(run::job_of(alloc, found)?),
+        Some(("debug", _)) => Ok(Job::Debug),
+        Some(("replay", _)) => Ok(Job::Replay),
+        _ => Err(refusal(
+            alloc,
+            ErrorKind::MissingSubcommand,
+            "a subcommand is missing",
+        )),
+    }
+}
+
+/// An error in a command line that this program finds itself, with the usage.
+pub fn refusal(alloc: Global, kind: ErrorKind, message: &str) -> LineError {
+    match refused(alloc, kind, message) {
+        Ok(error) => LineError::from(error),
+        Err(error) => LineError::from(error),
+    }
+}
+
+fn refused(alloc: Global, kind: ErrorKind, message: &str) -> Result<clap::Error, AllocError> {
+    command(alloc)?.error(kind, message)
+}
+
+/// The whole command.
+fn command<'a>(alloc: Global) -> Result<Command<'a>, AllocError>
+    ensures { IfOk result (IsCommandOf bench_command) }
+{
+    let command = bare_command(alloc)?;
+    let command = link(command, one::command(alloc)?)?;
+    let command = link(command, asm::command(alloc)?)?;
+    let command = link(command, dis::command(alloc)?)?;
+    let command = link(command, boot::command(alloc)?)?;
+    let command = link(command, run::command(alloc)?)?;
+    let command = link(command, debug::command(alloc)?)?;
+    link(command, replay::command(alloc)?)
+}
+
+/// The command without its subcommands.
+#[tactic(auto, unfolding(crate::specs::CommandLine::bare_command))]
+fn bare_command<'a>(alloc: Global) -> Result<Command<'a>, AllocError>
+    ensures { IfOk result (IsCommandOf bare_command) }
+{
+    let command = Command::new(alloc, "ga-bench")
+        .bin_name("ga-bench")?
+        .version("0.1.0")
+        .about("A bench for the GA144, a chip of 144 small computers")
+        .after_help(STATUS_HELP)
+        .subcommand_required(true);
+    Ok(command)
+}
+
+/// The command with one more subcommand.
+#[tactic(auto, unfolding(crate::specs::Command::linked))]
+fn link<'a>(command: Command<'a>, subcommand: Command<'a>) -> Result<Command<'a>, AllocError>
+    requires command { has_globals command ≡ false }
+    requires subcommand { has_globals subcommand ≡ false }
+    ensures { IfOk result (IsCommandOf (linked (app_of command.entry) (app_of subcommand.entry))) }
+{
+    command.subcommand(subcommand)
+}
+
+const STATUS_HELP: &str = "\
+Each command reads standard input to its end, and then writes standard output.
+
+Exit status: 0 where all was written, 1 where the input was refused or a read or a write failed,
+2 where the command line is wrong, 3 where memory ran out. What failed is told on standard error.";

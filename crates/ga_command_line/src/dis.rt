@@ -1,0 +1,48 @@
+ghost use Rattle.std.specs.Prelude.{◌≡◌, ℕ, IfErr, IfOk, Option, codes};
+ghost use Rattle.clap.specs.Words.{found_of, rows_of};
+ghost use Rattle.ga_command_line.specs.Command.{IsCommandOf};
+ghost use Rattle.ga_command_line.specs.Dis.{IsDisInRange, dis_command};
+ghost use Rattle.ga_command_line.specs.Number.{IsNumberIfAt};
+
+use crate::command_line::LineError;
+use crate::number::number_if;
+use clap::{Arg, ArgMatches, Command, value_parser};
+use std::alloc::{AllocError, Global};
+
+/// The most words that a node's memory holds.
+const CODE_LIMIT: u32 = 64;
+
+const HELP: &str = "\
+Reads 1 to 64 words, each as five hex digits up to 3FFFF, between spaces, tabs and line ends, in at
+most 1048576 bytes. Writes a line 'node 000', and for each word a line: a word of code in brackets, and
+a follower of it or a word of data behind a comma. Where there is data, a line 'data' stands before it.
+It is source text, of which asm makes the same words.
+
+Example: echo 05872 2C9B2 00001 | ga-bench dis --code 2";
+
+/// The subcommand `dis [--code N]`.
+#[tactic(auto, unfolding(crate::specs::Dis::dis_command))]
+pub fn command<'a>(alloc: Global) -> Result<Command<'a>, AllocError>
+    ensures { IfOk result (IsCommandOf dis_command) }
+{
+    let code = Arg::new(alloc, "N")
+        .long("code")
+        .value_parser(value_parser!(u32).range(0..=i64::from(CODE_LIMIT)))
+        .help(
+            "How many words are code, from 0 to 64; the others are data. By default all are code",
+        );
+    Command::new(alloc, "dis")
+        .about("Prints words as source text")
+        .after_help(HELP)
+        .arg(code)
+}
+
+/// How many words the arguments of `dis` say to be code, where they say it.
+pub fn code_of(alloc: Global, found: &ArgMatches<'_>) -> Result<Option<u32>, LineError>
+    ensures in_range { IfOk result IsDisInRange }
+    ensures number { IfOk result (IsNumberIfAt (codes "N") (rows_of (found_of found.now))) }
+    ensures right { IfErr result (λ error. (code : Option ℕ) → IsDisInRange code
+        → IsNumberIfAt (codes "N") (rows_of (found_of found.now)) code → error ≡ LineError.Memory) }
+{
+    number_if(alloc, found, "N", 0, CODE_LIMIT)
+}

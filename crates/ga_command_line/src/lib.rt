@@ -1,0 +1,17 @@
+//! The command line of the bench: the job that its words name.
+#![tactic(auto)]
+
+mod asm;
+mod boot;
+mod command_line;
+mod debug;
+mod dis;
+mod number;
+mod one;
+mod replay;
+mod request;
+mod route;
+mod run;
+
+pub use crate::command_line::{LineError, job, refusal};
+pub use crate::request::Job;

@@ -1,0 +1,47 @@
+ghost use Rattle.std.specs.Prelude.{◌≡◌, ℕ, IfErr, IfOk, codes};
+ghost use Rattle.clap.specs.Words.{found_of, rows_of};
+ghost use Rattle.ga_command_line.specs.Command.{IsCommandOf};
+ghost use Rattle.ga_command_line.specs.Number.{IsNumberAt};
+ghost use Rattle.ga_command_line.specs.One.{IsOneInRange, one_command};
+
+use crate::command_line::LineError;
+use crate::number::number_of;
+use clap::{Arg, ArgMatches, Command, value_parser};
+use std::alloc::{AllocError, Global};
+
+/// The most tries that a job may ask for.
+const TRIES_LIMIT: u32 = 1_000_000;
+
+const HELP: &str = "\
+Reads 1 to 64 words, each as five hex digits up to 3FFFF, between spaces, tabs and line ends, in at
+most 1048576 bytes. They stand in the memory of node 000 from address 000 on, where it begins.
+A try is one step where the node needs nothing from outside, and else nothing.
+
+Writes one line: the registers of the node, its place, its steps, and its need for the next one.
+
+Example: echo 04A12 00005 00003 2C9B2 | ga-bench one 5";
+
+/// The subcommand `one TRIES`.
+#[tactic(auto, unfolding(crate::specs::One::one_command))]
+pub fn command<'a>(alloc: Global) -> Result<Command<'a>, AllocError>
+    ensures { IfOk result (IsCommandOf one_command) }
+{
+    let tries = Arg::new(alloc, "TRIES")
+        .required(true)
+        .value_parser(value_parser!(u32).range(0..=i64::from(TRIES_LIMIT)))
+        .help("How many times to try a step, from 0 to 1000000");
+    Command::new(alloc, "one")
+        .about("Runs words in the memory of one node, and prints the node")
+        .after_help(HELP)
+        .arg(tries)
+}
+
+/// The tries that the arguments of `one` ask for.
+pub fn tries_of(alloc: Global, found: &ArgMatches<'_>) -> Result<u32, LineError>
+    ensures in_range { IfOk result IsOneInRange }
+    ensures number { IfOk result (IsNumberAt (codes "TRIES") (rows_of (found_of found.now))) }
+    ensures right { IfErr result (λ error. (tries : ℕ) → IsOneInRange tries
+        → IsNumberAt (codes "TRIES") (rows_of (found_of found.now)) tries → error ≡ LineError.Memory) }
+{
+    number_of(alloc, found, "TRIES", 0, TRIES_LIMIT)
+}

@@ -1,0 +1,27 @@
+ghost use Rattle.std.specs.Prelude.{IfOk};
+ghost use Rattle.ga_command_line.specs.Replay.{replay_command};
+ghost use Rattle.ga_command_line.specs.Command.{IsCommandOf};
+
+use clap::Command;
+use std::alloc::{AllocError, Global};
+
+const HELP: &str = "\
+Reads a replay text: the line 'profile 1', the line 'place' or 'route' and node names with commas
+between them, source text, the line 'go', and commands with what comes of them. Does the commands,
+and writes 'same' and how many stated outcomes were compared, where all of them hold.
+
+Commands: break NNN HHH, clear NNN HHH, pass NNN, try NNN SIDE = OUTCOME, turn COUNT = STEPS. SIDE
+is r, d, l or u, OUTCOME is moved, waits, held or stopped, and COUNT goes to 1000000.
+
+Example: printf 'profile 1\\nplace\\nnode 000 .\\ngo\\nturn 4 = 4\\n' | ga-bench replay";
+
+/// The subcommand `replay`.
+#[tactic(auto, unfolding(crate::specs::Replay::replay_command))]
+pub fn command<'a>(alloc: Global) -> Result<Command<'a>, AllocError>
+    ensures { IfOk result (IsCommandOf replay_command) }
+{
+    let command = Command::new(alloc, "replay")
+        .about("Does the commands of a replay text, and compares what comes of them")
+        .after_help(HELP);
+    Ok(command)
+}

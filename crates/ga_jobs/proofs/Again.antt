@@ -1,0 +1,149 @@
+-- What `dis` writes for words is assembled to these words.
+use Rattle.std.proofs.Common.{◌≡◌, ◌∙◌, ◌<◌, ◌≤◌, ◌+◌, ◌^◌, inl, inr, ℕ, Bool, true, false, List, [], ◌∷◌, length, Option, Some, None, Result, Ok, Err, unwrap_or, refl, sym, ap, subst, arith}
+use Rattle.std.specs.Prelude.{◌==◌, ◌&&◌, All, nat_lt, if◌then◌else◌}
+use Rattle.std.specs.Char.{is_digit}
+use Rattle.std.specs.List.{list_all}
+use Rattle.std.specs.Str.{IsUtf8}
+use Rattle.std.proofs.lemmas.Bool.{and_parts, ltb-false, ltb-true}
+use Rattle.std.proofs.lemmas.List.Elements.{All-cons, All-nil}
+use Rattle.std.proofs.lemmas.Str.{is_utf8-from_IsUtf8}
+use Rattle.ga_word.specs.Hex.{hex_number, is_word_text, word_of}
+use Rattle.ga_word.specs.Text.{word_onto, words_from, words_of_text}
+use Rattle.ga_pack.specs.Model.Layout.{Labels}
+use Rattle.ga_pack.specs.Model.LayoutFault.{ProgramFault}
+use Rattle.ga_pack.specs.Model.Program.{IsFault, IsProgram, PlacedSection}
+use Rattle.ga_asm.specs.Assembling.{IsAssembled}
+use Rattle.ga_asm.specs.Image.{ImageView, entry_of}
+use Rattle.ga_disasm.specs.Source.{FitNode, IsSourceOf}
+use Rattle.ga_source.specs.Error.{error_place as source_place}
+use Rattle.ga_asm.specs.Error.{error_place as asm_place}
+use Rattle.ga_jobs.specs.Asm.{IsAsmOutput, images_text}
+use Rattle.ga_jobs.specs.Dis.{AssemblesTo, plain_image}
+use Rattle.ga_jobs.specs.Source.{IsImagesIn, IsProgramIn}
+use Rattle.ga_jobs.specs.Text.{counted, text_in, words_after, words_found, words_in}
+use Rattle.ga_jobs.specs.declared.fault.ServeError.{ServeError}
+use Rattle.ga_jobs.specs.declared.fault.ServeError.TheVariants.{Input, Words}
+use Rattle.ga_jobs.specs.declared.fault.InputFault.TheVariants.{BadText}
+use Rattle.ga_jobs.specs.declared.fault.WordsFault.TheVariants as fault
+
+-- ---- the words of an input fit a node
+
+is_below : (text : List ℕ) → is_word_text text ≡ true → hex_number text < 2 ^ 18
+unfolding is_word_text
+is_below text h = ltb-true (hex_number text) (2 ^ 18) (and_parts ((length text == 5) && list_all (λ c. is_digit c 16) text) (nat_lt (hex_number text) (2 ^ 18)) h).1
+
+word_below : (text : List ℕ) (word : ℕ) → word_of text ≡ Some word → word < 2 ^ 18
+word_below text word e = go (is_word_text text) refl e
+  where
+    go : (b : Bool) → is_word_text text ≡ b → (if b then Some (hex_number text) else None) ≡ Some word → word < 2 ^ 18
+    go true is f = let same : hex_number text ≡ word = cc in subst (λ (n : ℕ). n < 2 ^ 18) same (is_below text is)
+    go false is f = absurd (cc)
+
+abbrev IsBelow : ℕ → Type 0
+IsBelow word = word < 2 ^ 18
+
+words_below : (place : ℕ) (tokens : List (List ℕ)) (words : List ℕ) → words_from place tokens ≡ Ok words → All IsBelow words
+words_below place [] words e = let none : words ≡ [] = cc in subst (All IsBelow) (sym none) (All-nil IsBelow)
+words_below place (token ∷ tokens) words e = go (word_of token) refl (words_from (place + 1) tokens) (words_below (place + 1) tokens) e
+  where
+    go : (found : Option ℕ) → word_of token ≡ found → (rest : Result (List ℕ) ℕ) → ((others : List ℕ) → rest ≡ Ok others → All IsBelow others) → word_onto place found rest ≡ Ok words → All IsBelow words
+    go None is rest below f = absurd (cc)
+    go (Some word) is (Err bad) below f = absurd (cc)
+    go (Some word) is (Ok others) below f =
+        let all : word ∷ others ≡ words = cc in subst (All IsBelow) all (All-cons IsBelow word others (word_below token word is) (below others refl))
+
+record Counted (found words : List ℕ) : Type 0 where
+  is : found ≡ words
+  some : 0 < length words
+  most : length words ≤ 64
+
+counted_by : (found words : List ℕ) → counted found ≡ Ok words → Counted found words
+counted_by [] words e = absurd (cc)
+counted_by (word ∷ found) words e = go (nat_lt 64 (length (word ∷ found))) refl e
+  where
+    go : (b : Bool) → nat_lt 64 (length (word ∷ found)) ≡ b → (if b then Err (Words fault.TooLong) else Ok (word ∷ found)) ≡ Ok words → Counted (word ∷ found) words
+    go true is f = absurd (cc)
+    go false is f =
+        let same : word ∷ found ≡ words = cc in
+        let few = ltb-false 64 (length (word ∷ found)) is in
+        subst (Counted (word ∷ found)) same (record { is = refl; some = omega arith; most = omega arith })
+
+fit_found : (found : Result (List ℕ) ℕ) (words : List ℕ) → ((ws : List ℕ) → found ≡ Ok ws → All IsBelow ws) → words_found found ≡ Ok words → Counted words words × All IsBelow words
+fit_found (Err index) words below e = absurd (cc)
+fit_found (Ok found) words below e =
+    let count = counted_by found words e in
+    (subst (λ (ws : List ℕ). Counted ws words) count.is count, subst (All IsBelow) count.is (below found refl))
+
+fit_in : (text : Result (List ℕ) ServeError) (words : List ℕ) → words_after text ≡ Ok words → Counted words words × All IsBelow words
+fit_in (Err fault) words e = absurd (cc)
+fit_in (Ok text) words e = fit_found (words_of_text text) words (λ ws is. words_below 0 _ ws is) e
+
+-- the words of an input are those of a node, of which so many are code
+fit_node : (input words : List ℕ) (code_len : ℕ) → words_in input ≡ Ok words → code_len ≤ length words → FitNode words code_len
+unfolding words_in
+fit_node input words code_len e within =
+    let fit = fit_in (text_in input) words e in record { some = fit.0.some; most = fit.0.most; code_within = within; below = fit.1 }
+
+-- ---- a source text of words is assembled to them
+
+same_image : (image : ImageView) (words : List ℕ) (code_len : ℕ) → image.words ≡ words → image.code_len ≡ code_len → image.labels ≡ [] → image.entry ≡ entry_of image.labels → image ≡ plain_image words code_len
+same_image image words code_len is code labels entry =
+    let none : image.entry ≡ 0 = entry ∙ ap entry_of labels in
+    ap (λ (t : List ℕ). record image { words = t }) is
+    ∙ ap (λ (t : ℕ). record { words = words; code_len = t; entry = image.entry; labels = image.labels }) code
+    ∙ ap (λ (t : ℕ). record { words = words; code_len = code_len; entry = t; labels = image.labels }) none
+    ∙ ap (λ (t : Labels). record { words = words; code_len = code_len; entry = 0; labels = t }) labels
+
+module _ (text words : List ℕ) (code_len : ℕ) (utf8 : IsUtf8 text) (source : IsSourceOf text words code_len) where
+  is_text : text_in text ≡ Ok text
+  is_text = ap (λ (b : Bool). if b then Ok text else Err (Input BadText)) (is_utf8-from_IsUtf8 text utf8)
+
+  abbrev image : ImageView
+  image = plain_image words code_len
+
+  is_program : IsProgramIn text (Ok (source.section ∷ []))
+  is_program = (text, is_text, source.program_is)
+
+  assembled : IsAssembled (source.section ∷ []) ((0, image) ∷ [])
+  unfolding IsAssembled
+  assembled = (sym source.node_is, record { laid = source.laid; entry_is = refl }, tt)
+
+  one_image : (images : List (ℕ × ImageView)) → IsAssembled (source.section ∷ []) images → images ≡ (0, image) ∷ []
+  unfolding IsAssembled
+  one_image [] made = absurd made
+  one_image (i ∷ j ∷ images) made = absurd made.2
+  one_image (i ∷ []) made =
+      let only = source.only i.1.words i.1.labels i.1.code_len made.1.laid in
+      let same = same_image i.1 words code_len only.0 only.2 only.1 made.1.entry_is in
+      ap (λ (n : ℕ). (n, i.1) ∷ []) (made.0 ∙ source.node_is) ∙ ap (λ (v : ImageView). (0, v) ∷ []) same
+
+  one_program : (program : List PlacedSection) → IsProgramIn text (Ok program) → program ≡ source.section ∷ []
+  one_program program (text', is, program_is) =
+      let same : text' ≡ text = cc (is, is_text) in source.only_program program (subst (λ (t : List ℕ). IsProgram t program) same program_is)
+
+  no_fault : (fault : ServeError) → IsImagesIn text (Err fault) → ⊥
+  no_fault fault (inl (inl refused)) = cc (refused, is_text)
+  no_fault fault (inl (inr (text', is, refused))) =
+      let same : text' ≡ text = cc (is, is_text) in
+      source.no_source_fault refused.kind (source_place refused.error) (subst (λ (t : List ℕ). IsFault t refused.kind (source_place refused.error)) same refused.first)
+  no_fault fault (inr (program, is, refused)) =
+      let same = one_program program is in
+      source.no_program_fault refused.error.node (asm_place refused.error) refused.kind
+      (subst (λ (p : List PlacedSection). ProgramFault p refused.error.node (asm_place refused.error) refused.kind) same refused.first)
+
+  only : (answer : Result (List ℕ) ServeError) → IsAsmOutput text answer → answer ≡ Ok (images_text ((0, image) ∷ []))
+  only (Ok written) (images, (program, is, made), same) =
+      let all = one_image images (subst (λ (p : List PlacedSection). IsAssembled p images) (one_program program is) made) in
+      ap Ok (same ∙ ap images_text all)
+  only (Err fault) refused = absurd (no_fault fault refused)
+
+  pub assembles : AssemblesTo text words code_len
+  assembles = record { written = ((0, image) ∷ [], (source.section ∷ [], is_program, assembled), refl); only = only }
+
+-- the same of the words of an input
+pub again : (input words words' text : List ℕ) (code : Option ℕ) (code_len : ℕ) → words_in input ≡ Ok words → words_in input ≡ Ok words' → code_len ≡ unwrap_or code (length words) → code_len ≤ length words
+    → IsUtf8 text → (FitNode words code_len → IsSourceOf text words code_len) → AssemblesTo text words' (unwrap_or code (length words'))
+again input words words' text code code_len e e' code_is within utf8 source =
+    let same : words ≡ words' = cc in
+    subst (λ (ws : List ℕ). AssemblesTo text ws (unwrap_or code (length ws))) same
+    (subst (AssemblesTo text words) code_is (assembles text words code_len utf8 (source (fit_node input words code_len e within))))

@@ -1,0 +1,5 @@
+mod Replies
+mod Dealing
+mod Faults
+mod Again
+mod WorkedOutputs

@@ -1,0 +1,29 @@
+-- The job `asm`: what it writes.
+use Rattle.std.specs.Prelude.{ℕ, ◌≡◌, List, [], ◌∷◌, ◌++◌, codes, length, Result, Ok, Err}
+use Rattle.std.specs.Fmt.{decimal}
+use Rattle.ga_word.specs.Hex.{hex_digits}
+use Rattle.ga_word.specs.Text.{text_of_words}
+use Rattle.ga_place.specs.Node.{node_text}
+use Rattle.ga_asm.specs.Image.{ImageView}
+use Rattle.ga_jobs.specs.declared.fault.ServeError.{ServeError}
+use Rattle.ga_jobs.specs.Source.{IsImagesIn}
+
+-- the node, its entry, and how many of its words are code and how many there are
+unfoldable pub image_line : ℕ → ImageView → List ℕ
+image_line node image =
+    codes "node " ++ node_text node ++ codes " entry " ++ hex_digits 3 image.entry ++ codes " code " ++ decimal image.code_len
+    ++ codes " words " ++ decimal (length image.words) ++ 10 ∷ []
+
+-- that line, and the words
+abbrev pub image_text : ℕ → ImageView → List ℕ
+image_text node image = image_line node image ++ text_of_words image.words
+
+-- the images in order
+abbrev pub images_text : List (ℕ × ImageView) → List ℕ
+images_text [] = []
+images_text (image ∷ images) = image_text image.0 image.1 ++ images_text images
+
+-- what `asm` may write for an input, or its first fault
+abbrev pub IsAsmOutput : List ℕ → Result (List ℕ) ServeError → Type 0
+IsAsmOutput input (Ok text) = (images : List (ℕ × ImageView)) × IsImagesIn input (Ok images) × (text ≡ images_text images)
+IsAsmOutput input (Err fault) = IsImagesIn input (Err fault)

@@ -1,0 +1,43 @@
+-- The job `debug`: what it writes.
+use Rattle.std.specs.Prelude.{◌≡◌, ℕ, List, [], ◌∷◌, ◌++◌, codes, drop, Result, Ok, Err}
+use Rattle.ga_chip.specs.Chip.{Chip}
+use Rattle.ga_debug.specs.declared.error.DebugError.{DebugError}
+use Rattle.ga_debug.specs.declared.error.DebugError.TheVariants.{BadAddress, BadCommand, BadCount, BadNode, BadSide, Memory, NotHeld}
+use Rattle.ga_debug.specs.Begin.{IsBeginning}
+use Rattle.ga_debug.specs.Head.{lines_of}
+use Rattle.ga_debug.specs.Session.{after_line, reply_to}
+use Rattle.ga_jobs.specs.declared.fault.ServeError.{ServeError}
+use Rattle.ga_jobs.specs.Replay.{IsReplayFault}
+use Rattle.ga_jobs.specs.Text.{text_in}
+
+abbrev pub fault_name : DebugError → List ℕ
+fault_name BadCommand = codes "BadCommand"
+fault_name BadNode = codes "BadNode"
+fault_name BadAddress = codes "BadAddress"
+fault_name BadSide = codes "BadSide"
+fault_name BadCount = codes "BadCount"
+fault_name NotHeld = codes "NotHeld"
+fault_name Memory = codes "Memory"
+
+-- what is written of a reply
+abbrev pub replied : Result (List ℕ) DebugError → List ℕ
+replied (Ok reply) = reply ++ 10 ∷ []
+replied (Err fault) = codes "refused " ++ fault_name fault ++ 10 ∷ []
+
+-- the chip behind a command; one that is refused changes nothing
+abbrev pub after_reply : Result (List ℕ) DebugError → List ℕ → Chip → Chip
+after_reply (Ok reply) line chip = after_line line chip
+after_reply (Err fault) line chip = chip
+
+-- what is written of lines, of which the empty ones are no commands
+abbrev pub replies_to : Chip → List (List ℕ) → List ℕ
+replies_to chip [] = []
+replies_to chip ([] ∷ lines) = replies_to chip lines
+replies_to chip ((c ∷ line) ∷ lines) =
+    replied (reply_to (c ∷ line) chip) ++ replies_to (after_reply (reply_to (c ∷ line) chip) (c ∷ line) chip) lines
+
+-- what `debug` may write for an input, or its first fault: the commands stand behind the line `go`
+abbrev pub IsDebugOutput : List ℕ → Result (List ℕ) ServeError → Type 0
+IsDebugOutput input (Ok output) =
+    (text : List ℕ) × (chip : Chip) × (line : ℕ) × (text_in input ≡ Ok text) × IsBeginning text (Ok (chip, line)) × (output ≡ replies_to chip (drop line (lines_of text)))
+IsDebugOutput input (Err fault) = IsReplayFault (λ text error. IsBeginning text (Err error)) input fault

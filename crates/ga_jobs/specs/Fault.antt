@@ -1,0 +1,70 @@
+-- The faults of a job.
+use Rattle.std.specs.Prelude.{◌≡◌, Result, Ok, Err}
+use Rattle.ga_word.specs.declared.text.WordsError.{WordsError}
+use Rattle.ga_word.specs.declared.text.WordsError.TheVariants as words
+use Rattle.ga_source.specs.declared.error.SourceError.{SourceError}
+use Rattle.ga_source.specs.declared.error.SourceErrorKind.{SourceErrorKind}
+use Rattle.ga_source.specs.declared.error.SourceErrorKind.TheVariants as source
+use Rattle.ga_asm.specs.declared.error.AsmError.{AsmError}
+use Rattle.ga_asm.specs.declared.error.AsmErrorKind.{AsmErrorKind}
+use Rattle.ga_asm.specs.declared.error.AsmErrorKind.TheVariants as assembly
+use Rattle.ga_debug.specs.declared.replay_error.ReplayError.{ReplayError}
+use Rattle.ga_debug.specs.declared.replay_error.ReplayError.TheVariants as replay
+use Rattle.ga_path.specs.declared.error.BootError.{BootError}
+use Rattle.ga_path.specs.declared.error.BootError.TheVariants as boot
+use Rattle.ga_path.specs.declared.error.NamesError.{NamesError}
+use Rattle.ga_path.specs.declared.error.NamesError.TheVariants as names
+use Rattle.ga_path.specs.declared.error.RouteError.{RouteError}
+use Rattle.ga_path.specs.declared.error.RouteError.TheVariants as route
+use Rattle.ga_jobs.specs.declared.fault.ServeError.{ServeError}
+use Rattle.ga_jobs.specs.declared.fault.ServeError.TheVariants.{Words, Source, Asm, Route, Boot, Replay, Read, Write, Memory}
+use Rattle.ga_jobs.specs.declared.fault.RouteFault.TheVariants.{BadRoute, Nodes}
+use Rattle.ga_jobs.specs.declared.fault.WordsFault.TheVariants.{BadWord}
+
+-- the fault of a text that is not all words
+abbrev pub fault_of_words : WordsError → ServeError
+fault_of_words (words.BadWord index) = Words (BadWord index)
+fault_of_words words.Memory = Memory
+
+-- the fault of a source text, or of its program
+abbrev pub fault_of_source : SourceErrorKind → SourceError → ServeError
+fault_of_source source.Memory error = Memory
+fault_of_source kind error = Source error
+
+abbrev pub fault_of_asm : AsmErrorKind → AsmError → ServeError
+fault_of_asm assembly.Memory error = Memory
+fault_of_asm kind error = Asm error
+
+-- the fault of a text that doesn't name nodes, of nodes that are no route, and of a node that isn't on the route
+abbrev pub fault_of_names : NamesError → ServeError
+fault_of_names names.BadNames = Route BadRoute
+fault_of_names names.Memory = Memory
+
+abbrev pub fault_of_route : RouteError → ServeError
+fault_of_route route.Memory = Memory
+fault_of_route error = Route (Nodes error)
+
+abbrev pub fault_of_boot : BootError → ServeError
+fault_of_boot boot.Memory = Memory
+fault_of_boot error = Boot error
+
+-- the fault of a replay text
+abbrev pub fault_of_replay : ReplayError → ServeError
+fault_of_replay replay.Memory = Memory
+fault_of_replay error = Replay error
+
+-- What a function answers that reads nothing and writes nothing is right, a value seen through a view,
+-- unless memory ran out.
+abbrev pub FailsRightly : {B : Type 0} → (Result B ServeError → Type 0) → ServeError → Type 0
+FailsRightly IsRight Memory = Unit {0}
+FailsRightly IsRight Read = ⊥
+FailsRightly IsRight Write = ⊥
+FailsRightly IsRight fault = IsRight (Err fault)
+
+abbrev pub Answers : {A B : Type 0} → (A → B) → (Result B ServeError → Type 0) → Result A ServeError → Type 0
+Answers view IsRight (Ok value) = IsRight (Ok (view value))
+Answers view IsRight (Err fault) = FailsRightly IsRight fault
+
+-- the same, where one answer is right
+abbrev pub Gives : {A B : Type 0} → (A → B) → Result A ServeError → Result B ServeError → Type 0
+Gives view answer expected = Answers view (λ right. expected ≡ right) answer

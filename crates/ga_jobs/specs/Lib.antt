@@ -1,0 +1,11 @@
+pub mod Fault
+pub mod Text
+pub mod One
+pub mod Source
+pub mod Asm
+pub mod Dis
+pub mod Route
+pub mod Boot
+pub mod Run
+pub mod Replay
+pub mod Debug

@@ -1,0 +1,71 @@
+-- The job `run`: what it may write.
+use Rattle.std.specs.Prelude.{ℕ, ◌≡◌, ◌⊎◌, ◌+◌, ◌%◌, ◌==◌, List, [], ◌∷◌, ◌++◌, map, Option, Some, None, Result, Ok, Err, if◌then◌else◌}
+use Rattle.std.specs.List.{flat_map, range_with_len}
+use Rattle.std.specs.Option.{option_map_or}
+use Rattle.ga_chip.specs.Chip.{Chip, state_of}
+use Rattle.ga_dump.specs.Ledger.{ledger_dump}
+use Rattle.ga_dump.specs.Node.{node_dump}
+use Rattle.ga_group.specs.Plan.{Groups, plan_fault}
+use Rattle.ga_group.specs.Workers.{IsWorkersRun}
+use Rattle.ga_group.specs.declared.error.PlanError.{PlanError}
+use Rattle.ga_path.specs.Stream.{Images, unreached}
+use Rattle.ga_path.specs.declared.error.BootError.TheVariants.{Unreached}
+use Rattle.ga_debug.specs.Begin.{booted}
+use Rattle.ga_jobs.specs.declared.fault.ServeError.{ServeError}
+use Rattle.ga_jobs.specs.declared.fault.ServeError.TheVariants.{Boot, Plan}
+use Rattle.ga_jobs.specs.Route.{route_in}
+use Rattle.ga_jobs.specs.Source.{IsImagesIn}
+
+-- the nodes of a worker, of so many: the i-th node goes to worker i modulo their number; the first node here is the
+-- one with this i
+abbrev pub nodes_for : ℕ → ℕ → ℕ → List ℕ → List ℕ
+nodes_for workers worker at [] = []
+nodes_for workers worker at (name ∷ names) =
+    if at % workers == worker then name ∷ nodes_for workers worker (at + 1) names else nodes_for workers worker (at + 1) names
+
+-- the nodes of each of so many workers
+abbrev pub dealt : ℕ → List ℕ → Groups
+dealt workers nodes = map (λ worker. nodes_for workers worker 0 nodes) (range_with_len 0 workers)
+
+-- a plan of groups, or what is wrong with them
+abbrev pub plan_if : Option PlanError → Groups → Result Groups ServeError
+plan_if None groups = Ok groups
+plan_if (Some fault) groups = Err (Plan fault)
+
+abbrev pub plan_by : Groups → Result Groups ServeError
+plan_by groups = plan_if (plan_fault groups) groups
+
+-- the registers and stacks of a node, and the numbers of the cells that it writes
+abbrev pub node_text : Chip → ℕ → List ℕ
+node_text chip name = option_map_or node_dump (state_of chip name) [] ++ ledger_dump chip name
+
+abbrev pub nodes_text : Chip → List ℕ → List ℕ
+nodes_text chip names = flat_map (node_text chip) names
+
+-- The text tells the nodes of a route at the end of a run of a chip, in which so many workers share the nodes and make
+-- so many turns.
+pub record IsRunText (chip : Chip) (route : List ℕ) (workers turns : ℕ) (text : List ℕ) : Type 0 where
+  pub next : Chip
+  pub ran : IsWorkersRun chip (dealt workers route) turns next
+  pub told : text ≡ nodes_text next route
+
+-- what comes of a chip and the nodes of a route, or what is wrong with these as a plan
+abbrev pub IsRunFrom : Chip → List ℕ → ℕ → ℕ → Result (List ℕ) ServeError → Type 0
+IsRunFrom chip route workers turns (Ok text) = (plan_fault (dealt workers route) ≡ None) × IsRunText chip route workers turns text
+IsRunFrom chip route workers turns (Err fault) = plan_by (dealt workers route) ≡ Err fault
+
+-- what comes of images on a route: the chip boots along it, where each node with an image is on it
+abbrev pub IsRunAlong : Option ℕ → Images → List ℕ → ℕ → ℕ → Result (List ℕ) ServeError → Type 0
+IsRunAlong None images route workers turns answer = IsRunFrom (booted images route) route workers turns answer
+IsRunAlong (Some node) images route workers turns answer = Err (Boot (Unreached node)) ≡ answer
+
+-- what comes of images and a route, or of what is wrong with the route
+abbrev pub IsRunOf : Images → ℕ → ℕ → Result (List ℕ) ServeError → Result (List ℕ) ServeError → Type 0
+IsRunOf images workers turns (Ok route) answer = IsRunAlong (unreached images route) images route workers turns answer
+IsRunOf images workers turns (Err fault) answer = Err fault ≡ answer
+
+-- what `run` may write for an input, or its first fault: of the source, of the assembly, of the route, of the boot, of
+-- the plan
+abbrev pub IsRunOutput : List ℕ → ℕ → ℕ → List ℕ → Result (List ℕ) ServeError → Type 0
+IsRunOutput route workers turns input (Ok text) = (images : Images) × IsImagesIn input (Ok images) × IsRunOf images workers turns (route_in route) (Ok text)
+IsRunOutput route workers turns input (Err fault) = IsImagesIn input (Err fault) ⊎ ((images : Images) × IsImagesIn input (Ok images) × IsRunOf images workers turns (route_in route) (Err fault))

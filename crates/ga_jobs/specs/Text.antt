@@ -1,0 +1,34 @@
+-- The input as text and as words.
+use Rattle.std.specs.Prelude.{ℕ, List, length, nat_lt, Result, Ok, Err, if◌then◌else◌}
+use Rattle.std.specs.Str.{is_utf8}
+use Rattle.ga_word.specs.Text.{is_empty, words_of_text}
+use Rattle.ga_jobs.specs.declared.fault.ServeError.{ServeError}
+use Rattle.ga_jobs.specs.declared.fault.ServeError.TheVariants.{Input, Words}
+use Rattle.ga_jobs.specs.declared.fault.InputFault.TheVariants.{BadText}
+use Rattle.ga_jobs.specs.declared.fault.WordsFault.TheVariants as words
+
+-- an input as text: itself where it is UTF-8
+abbrev pub text_in : List ℕ → Result (List ℕ) ServeError
+text_in input = if is_utf8 input then Ok input else Err (Input BadText)
+
+-- one to 64 words
+abbrev pub counted : List ℕ → Result (List ℕ) ServeError
+counted found = if is_empty found then Err (Words words.Empty) else (if nat_lt 64 (length found) then Err (Words words.TooLong) else Ok found)
+
+abbrev pub words_found : Result (List ℕ) ℕ → Result (List ℕ) ServeError
+words_found (Ok found) = counted found
+words_found (Err index) = Err (Words (words.BadWord index))
+
+abbrev pub words_after : Result (List ℕ) ServeError → Result (List ℕ) ServeError
+words_after (Ok text) = words_found (words_of_text text)
+words_after (Err fault) = Err fault
+
+-- The words of an input: one to 64, in its text. Else the first fault: no text, a token that is no
+-- word, no word, or too many.
+unfoldable pub words_in : List ℕ → Result (List ℕ) ServeError
+words_in input = words_after (text_in input)
+
+-- the text that is made of what was found in an input, or the fault of the input
+abbrev pub text_from : {A : Type 0} → (A → List ℕ) → Result A ServeError → Result (List ℕ) ServeError
+text_from text (Ok found) = Ok (text found)
+text_from text (Err fault) = Err fault

@@ -1,0 +1,42 @@
+ghost use Rattle.std.specs.Prelude.{◌≡◌, ◌++◌, IfOk, string_bytes};
+ghost use Rattle.ga_jobs.specs.Boot.{IsBootOutput, part_text, text_by};
+ghost use Rattle.ga_jobs.specs.Fault.{Answers, Gives};
+ghost use Rattle.ga_jobs.specs.Route.{route_in};
+
+use crate::fault::ServeError;
+use crate::route::route_of;
+use crate::source::images_of;
+use ga_asm::Images;
+use ga_word::{Word18, push_words};
+use std::alloc::{AllocError, Global};
+use std::fmt::Write;
+
+/// Both parts of the boot stream of a route and of the input, which is source text, as text.
+pub fn output(alloc: Global, route: &str, input: &[u8]) -> Result<String, ServeError>
+    ensures { Answers string_bytes (IsBootOutput route.now input.now) result }
+{
+    let images = images_of(alloc, input)?;
+    boot_text(alloc, route, &images)
+}
+
+/// Both parts of the boot stream of a route and of images, as text.
+fn boot_text(alloc: Global, route: &str, images: &Images) -> Result<String, ServeError>
+    ensures { Gives string_bytes result (text_by images.now (route_in route.now)) }
+{
+    let route = route_of(alloc, route)?;
+    let boot = ga_path::boot(alloc, &route, images)?;
+    let mut text = String::new(alloc);
+    push_part(&mut text, "load", &boot.load)?;
+    push_part(&mut text, "start", &boot.start)?;
+    Ok(text)
+}
+
+/// Adds a line with the name of a part and the number of its words, and the words, eight on a line.
+#[tactic(auto, unfolding(crate::specs::Boot::part_text))]
+fn push_part(text: &mut String, name: &str, words: &[Word18]) -> Result<(), AllocError>
+    ensures { IfOk result (λ done. string_bytes text.new ≡ string_bytes text.old ++ part_text name.now words.now) }
+{
+    writeln!(text, "{name} {}", words.len())?;
+    push_words(text, words)?;
+    Ok(())
+}

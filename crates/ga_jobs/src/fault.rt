@@ -1,0 +1,182 @@
+ghost use Rattle.std.specs.Prelude.{◌≡◌};
+ghost use Rattle.ga_jobs.specs.Fault.{fault_of_asm, fault_of_boot, fault_of_names, fault_of_replay, fault_of_route, fault_of_source, fault_of_words};
+ghost use Rattle.ga_jobs.specs.declared.fault.ServeError.TheVariants.{Memory, Plan};
+
+use ga_asm::{AsmError, AsmErrorKind};
+use ga_debug::ReplayError;
+use ga_group::PlanError;
+use ga_path::{BootError, NamesError, RouteError};
+use ga_place::Node;
+use ga_source::{SourceError, SourceErrorKind};
+use ga_word::WordsError;
+use std::alloc::{AllocError, AllocFailed};
+use thiserror::Error;
+
+/// Why an input was refused before it was read as a job's own.
+#[derive(Debug, PartialEq, Eq, Drop, Error)]
+pub enum InputFault {
+    /// It has more bytes than are accepted.
+    #[error("TooLong")]
+    TooLong,
+    /// It is not UTF-8.
+    #[error("BadText")]
+    BadText,
+}
+
+/// Why an input was refused as words.
+#[derive(Debug, PartialEq, Eq, Drop, Error)]
+pub enum WordsFault {
+    /// The token at this index, counted from 0, writes no word.
+    #[error("{0} BadWord")]
+    BadWord(usize),
+    /// There is no word.
+    #[error("Empty")]
+    Empty,
+    /// There are more words than a node's memory holds.
+    #[error("TooLong")]
+    TooLong,
+    /// More words are said to be code than there are.
+    #[error("BadCode")]
+    BadCode,
+}
+
+/// Why a ROUTE was refused.
+#[derive(Debug, PartialEq, Eq, Drop, Error)]
+pub enum RouteFault {
+    /// It isn't names of nodes with commas between them.
+    #[error("BadRoute")]
+    BadRoute,
+    /// The nodes are no route.
+    #[error("{0}")]
+    Nodes(RouteError),
+}
+
+/// Why a job was not served. Its `Display` is the text that the program prints.
+#[derive(Debug, PartialEq, Eq, Drop, Error)]
+pub enum ServeError {
+    #[error("input {0}")]
+    Input(InputFault),
+    #[error("words {0}")]
+    Words(WordsFault),
+    #[error("source {0}")]
+    Source(SourceError),
+    #[error("asm {0}")]
+    Asm(AsmError),
+    #[error("route {0}")]
+    Route(RouteFault),
+    #[error("boot {0}")]
+    Boot(BootError),
+    #[error("plan {0}")]
+    Plan(PlanError),
+    #[error("replay {0}")]
+    Replay(ReplayError),
+    /// A read failed, or the input came in too many pieces.
+    #[error("read")]
+    Read,
+    /// A write failed, took nothing, or could not be flushed.
+    #[error("write")]
+    Write,
+    #[error("memory")]
+    Memory,
+}
+
+impl From<WordsError> for ServeError {
+    ghost from_gives = { λ error fault. fault ≡ fault_of_words error };
+
+    fn from(error: WordsError) -> ServeError {
+        match error {
+            WordsError::BadWord(index) => ServeError::Words(WordsFault::BadWord(index)),
+            WordsError::Memory => ServeError::Memory,
+        }
+    }
+}
+
+impl From<SourceError> for ServeError {
+    ghost from_gives = { λ error fault. fault ≡ fault_of_source error.kind error };
+
+    fn from(error: SourceError) -> ServeError {
+        match error.kind {
+            SourceErrorKind::Memory => ServeError::Memory,
+            _ => ServeError::Source(error),
+        }
+    }
+}
+
+impl From<AsmError> for ServeError {
+    ghost from_gives = { λ error fault. fault ≡ fault_of_asm error.kind error };
+
+    fn from(error: AsmError) -> ServeError {
+        match error.kind {
+            AsmErrorKind::Memory => ServeError::Memory,
+            _ => ServeError::Asm(error),
+        }
+    }
+}
+
+impl From<NamesError> for ServeError {
+    ghost from_gives = { λ error fault. fault ≡ fault_of_names error };
+
+    fn from(error: NamesError) -> ServeError {
+        match error {
+            NamesError::BadNames => ServeError::Route(RouteFault::BadRoute),
+            NamesError::Memory => ServeError::Memory,
+        }
+    }
+}
+
+impl From<RouteError> for ServeError {
+    ghost from_gives = { λ error fault. fault ≡ fault_of_route error };
+
+    fn from(error: RouteError) -> ServeError {
+        match error {
+            RouteError::Memory => ServeError::Memory,
+            _ => ServeError::Route(RouteFault::Nodes(error)),
+        }
+    }
+}
+
+impl From<BootError> for ServeError {
+    ghost from_gives = { λ error fault. fault ≡ fault_of_boot error };
+
+    fn from(error: BootError) -> ServeError {
+        match error {
+            BootError::Memory => ServeError::Memory,
+            BootError::Unreached(_) => ServeError::Boot(error),
+        }
+    }
+}
+
+impl From<(PlanError, Vec<Vec<Node>>)> for ServeError {
+    ghost from_gives = { λ refused fault. fault ≡ Plan refused.0 };
+
+    fn from(refused: (PlanError, Vec<Vec<Node>>)) -> ServeError {
+        ServeError::Plan(refused.0)
+    }
+}
+
+impl From<ReplayError> for ServeError {
+    ghost from_gives = { λ error fault. fault ≡ fault_of_replay error };
+
+    fn from(error: ReplayError) -> ServeError {
+        match error {
+            ReplayError::Memory => ServeError::Memory,
+            _ => ServeError::Replay(error),
+        }
+    }
+}
+
+impl From<AllocError> for ServeError {
+    ghost from_gives = { λ _ fault. fault ≡ Memory };
+
+    fn from(_error: AllocError) -> ServeError {
+        ServeError::Memory
+    }
+}
+
+impl<T: Drop> From<AllocFailed<T>> for ServeError {
+    ghost from_gives = { λ _ fault. fault ≡ Memory };
+
+    fn from(_failed: AllocFailed<T>) -> ServeError {
+        ServeError::Memory
+    }
+}

@@ -1,0 +1,18 @@
+ghost use Rattle.std.specs.Prelude.{string_bytes};
+ghost use Rattle.ga_jobs.specs.Fault.{Answers};
+ghost use Rattle.ga_jobs.specs.Replay.{IsReplayOutput};
+
+use crate::fault::ServeError;
+use crate::text::text_of;
+use std::alloc::Global;
+use std::fmt::Write;
+
+/// How many stated outcomes of the input, which is a replay text, were compared, as text.
+pub fn output(alloc: Global, input: &[u8]) -> Result<String, ServeError>
+    ensures { Answers string_bytes (IsReplayOutput input.now) result }
+{
+    let count = ga_debug::replay(alloc, text_of(input)?)?;
+    let mut text = String::new(alloc);
+    writeln!(text, "same {count}")?;
+    Ok(text)
+}

@@ -1,0 +1,134 @@
+ghost use Rattle.std.specs.Prelude.{◌≡◌, ◌<◌, IfOk, string_bytes};
+ghost use Rattle.ga_group.specs.Plan.{groups_of};
+ghost use Rattle.ga_group.specs.Workers.{IsWorkersRun};
+ghost use Rattle.ga_jobs.specs.Fault.{Answers, Gives};
+ghost use Rattle.ga_jobs.specs.Route.{route_in};
+ghost use Rattle.ga_jobs.specs.Run.{IsRunFrom, IsRunOf, IsRunOutput, dealt, nodes_for, nodes_text, plan_by};
+
+use crate::fault::ServeError;
+use crate::route::route_of;
+use crate::source::images_of;
+use ga_asm::Images;
+use ga_chip::Chip;
+use ga_debug::booted;
+use ga_dump::{ledger_text, node_text};
+use ga_group::{Gate, Plan, run_workers};
+use ga_place::Node;
+use std::alloc::{AllocError, Global};
+use std::thread::Threads;
+
+/// The nodes of a route after a run, as text: they boot from the input, which is source text, and so many workers
+/// make so many turns.
+pub fn output<Rt: AllocGlobal + Threads>(
+    rt: &Rt,
+    route: &str,
+    workers: u32,
+    turns: u32,
+    input: &[u8],
+) -> Result<String, ServeError>
+    ensures { Answers string_bytes (IsRunOutput route.now workers turns input.now) result }
+{
+    let images = images_of(rt.alloc(), input)?;
+    run_text(rt, route, workers, turns, &images)
+}
+
+/// The same of images.
+fn run_text<Rt: AllocGlobal + Threads>(
+    rt: &Rt,
+    route: &str,
+    workers: u32,
+    turns: u32,
+    images: &Images,
+) -> Result<String, ServeError>
+    ensures { Answers string_bytes (IsRunOf images.now workers turns (route_in route.now)) result }
+{
+    let alloc = rt.alloc();
+    let route = route_of(alloc, route)?;
+    let chip = booted(alloc, &route, images)?;
+    run_chip(rt, chip, route.nodes(), workers, turns)
+}
+
+/// Nodes of a chip as text, after so many workers, who share them, have made so many turns.
+fn run_chip<Rt: AllocGlobal + Threads>(
+    rt: &Rt,
+    chip: Chip,
+    nodes: &[Node],
+    workers: u32,
+    turns: u32,
+) -> Result<String, ServeError>
+    ensures { Answers string_bytes (IsRunFrom chip nodes.now workers turns) result }
+{
+    let plan = plan_of(rt.alloc(), nodes, workers)?;
+    let chip = after_run(rt, chip, &plan, turns);
+    let text = nodes_text(rt.alloc(), &chip, nodes)?;
+    Ok(text)
+}
+
+/// The plan by which so many workers share nodes.
+fn plan_of(alloc: Global, nodes: &[Node], workers: u32) -> Result<Plan, ServeError>
+    ensures { Gives (λ plan. plan) result (plan_by (dealt workers nodes.now)) }
+{
+    let groups = dealt(alloc, nodes, workers as usize)?;
+    let plan = Plan::new(groups)?;
+    Ok(plan)
+}
+
+/// The nodes of each of so many workers.
+fn dealt(alloc: Global, nodes: &[Node], workers: usize) -> Result<Vec<Vec<Node>>, AllocError>
+    ensures { IfOk result (λ groups. groups_of groups ≡ dealt workers nodes.now) }
+{
+    let mut groups = Vec::new(alloc);
+    for worker in 0..workers {
+        groups.push(nodes_for(alloc, nodes, workers, worker)?)?;
+    }
+    Ok(groups)
+}
+
+/// The nodes of one of so many workers: the i-th node goes to worker i modulo their number.
+fn nodes_for(
+    alloc: Global,
+    nodes: &[Node],
+    workers: usize,
+    worker: usize,
+) -> Result<Vec<Node>, AllocError>
+    requires { worker < workers }
+    ensures { IfOk result (λ group. group.items ≡ nodes_for workers worker 0 nodes.now) }
+{
+    let mut group = Vec::new(alloc);
+    for (at, node) in nodes.iter().enumerate() {
+        if at % workers == worker {
+            group.push(*node)?;
+        }
+    }
+    Ok(group)
+}
+
+/// Lets the workers come as they come.
+struct Open;
+
+impl Gate for Open {
+    fn turn(&self, _worker: u32, _turn: u64, _moved: u64) {}
+}
+
+/// The chip after so many turns of workers.
+fn after_run<Rt: Threads>(rt: &Rt, chip: Chip, plan: &Plan, turns: u32) -> Chip
+    ensures { IsWorkersRun chip plan.now turns result }
+{
+    match run_workers(rt, chip, plan, u64::from(turns), &Open) {
+        Ok(chip) => chip,
+        Err(_) => unreachable!(),
+    }
+}
+
+/// The registers and stacks of nodes, and behind those of each node the numbers of its cells.
+#[inline(never)]
+fn nodes_text(alloc: Global, chip: &Chip, nodes: &[Node]) -> Result<String, AllocError>
+    ensures { IfOk result (λ text. string_bytes text ≡ nodes_text chip.now nodes.now) }
+{
+    let mut text = String::new(alloc);
+    for node in nodes {
+        text.push_str(&node_text(alloc, chip.state(*node))?)?;
+        text.push_str(&ledger_text(alloc, chip, *node)?)?;
+    }
+    Ok(text)
+}

@@ -1,0 +1,12 @@
+use Rattle.std.proofs.Common.{string_bytes, subst, sym}
+use Rattle.ga_jobs.specs.Fault.{Answers}
+use Rattle.ga_jobs.specs.Run.{IsRunOutput}
+use Rattle.ga_serve.specs.Answer.{IsJobOutput}
+use Rattle.ga_serve.proofs.answer.output.Goals as goal
+
+pub returns-in-Run : goal.returns-in-Run
+unfolding IsJobOutput
+returns-in-Run g c =
+    let run = c.in-Run in
+    subst (λ job. Answers string_bytes (IsJobOutput job c.args.input.now) c.output-in-Run.result) (sym run.is)
+    (subst (λ route. Answers string_bytes (IsRunOutput route run.workers run.turns c.args.input.now) c.output-in-Run.result) c.deref-in-Run.ensures c.output-in-Run.ensures)

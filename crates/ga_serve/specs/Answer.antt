@@ -1,0 +1,28 @@
+-- What a job may answer to the bytes that it reads: a text, or the first fault.
+use Rattle.std.specs.Prelude.{◌≡◌, ℕ, List, length, nat_lt, MatchBool, Result, Err, string_bytes}
+use Rattle.ga_command_line.specs.declared.request.Job.{Job}
+use Rattle.ga_command_line.specs.declared.request.Job.TheVariants.{One, Asm, Dis, Boot, Run, Debug, Replay}
+use Rattle.ga_jobs.specs.declared.fault.ServeError.{ServeError}
+use Rattle.ga_jobs.specs.declared.fault.ServeError.TheVariants.{Input}
+use Rattle.ga_jobs.specs.declared.fault.InputFault.TheVariants.{TooLong}
+use Rattle.ga_jobs.specs.Asm.{IsAsmOutput}
+use Rattle.ga_jobs.specs.Boot.{IsBootOutput}
+use Rattle.ga_jobs.specs.Debug.{IsDebugOutput}
+use Rattle.ga_jobs.specs.Dis.{dis_output}
+use Rattle.ga_jobs.specs.One.{one_output}
+use Rattle.ga_jobs.specs.Replay.{IsReplayOutput}
+use Rattle.ga_jobs.specs.Run.{IsRunOutput}
+
+-- what a job may answer to an input that is not too long
+unfoldable pub IsJobOutput : Job → List ℕ → Result (List ℕ) ServeError → Type 0
+IsJobOutput (One tries) input answer = answer ≡ one_output tries input
+IsJobOutput Asm input answer = IsAsmOutput input answer
+IsJobOutput (Dis code) input answer = answer ≡ dis_output code input
+IsJobOutput (Boot route) input answer = IsBootOutput (string_bytes route) input answer
+IsJobOutput (Run route workers turns) input answer = IsRunOutput (string_bytes route) workers turns input answer
+IsJobOutput Debug input answer = IsDebugOutput input answer
+IsJobOutput Replay input answer = IsReplayOutput input answer
+
+-- What the program may answer to an input: more than 1,048,576 bytes are too long.
+abbrev pub IsOutput : Job → List ℕ → Result (List ℕ) ServeError → Type 0
+IsOutput job input answer = MatchBool (nat_lt 1048576 (length input)) (answer ≡ Err (Input TooLong)) (IsJobOutput job input answer)

@@ -1,0 +1,4 @@
+pub mod Answer
+pub mod Reading
+pub mod Writing
+pub mod Engine

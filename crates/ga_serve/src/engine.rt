@@ -1,0 +1,51 @@
+ghost use Rattle.std.specs.Prelude.{◌≡◌, ◌≢◌, IfErr, IfSome};
+ghost use Rattle.std.specs.Io.KnownBytes.{Keeps};
+ghost use Rattle.ga_serve.specs.Reading.{ConsumesUpTo, ReadsFirst};
+ghost use Rattle.ga_serve.specs.Engine.{Serves, status_of};
+
+use crate::answer::output;
+use crate::reading::read_input;
+use crate::writing::write_output;
+use ga_command_line::Job;
+use ga_jobs::ServeError;
+use std::io::{Read, Write};
+use std::thread::Threads;
+
+/// Serves a job, the engine under every subcommand: reads the whole input, makes the whole output, and
+/// then writes it. An input has at most 1,048,576 bytes, and comes in at most 2,097,152 reads.
+///
+/// The first fault is answered. `Read` and `Input(TooLong)` come while the input is read, the faults of
+/// the input in the order of the job's output, and `Write` last; a front of the output may then have
+/// been written. `Memory` comes where memory was refused, before anything is written.
+pub fn serve<Rt: AllocGlobal + Threads, R: Read, W: Write>(
+    rt: &Rt,
+    reader: &mut R,
+    writer: &mut W,
+    job: &Job,
+) -> Result<(), ServeError>
+    // Where the reader and the writer tell their bytes, what is written is an output for what is read.
+    ensures served { IfSome (R.remaining reader.old) (λ input.
+        Serves job.now input (W.contents writer.old) (W.contents writer.new) result) }
+    ensures read_first { ReadsFirst result (R.remaining reader.new) }
+    ensures read_no_more { ConsumesUpTo 1048577 (R.remaining reader.old) (R.remaining reader.new) }
+
+    // At any reader.
+    ensures unwritten { IfErr result (λ fault. fault ≢ ServeError.Write
+        → Keeps (W.contents writer.old) (W.contents writer.new)) }
+{
+    let input = read_input(rt.alloc(), reader)?;
+    let text = output(rt, job, &input)?;
+    write_output(writer, text.as_bytes())
+}
+
+/// The exit status of the program: 0 for an output that was written, 1 for a refused input and for
+/// a read or a write that failed, and 3 for want of memory.
+pub fn status(outcome: &Result<(), ServeError>) -> u8
+    ensures { result ≡ status_of outcome.now }
+{
+    match outcome {
+        Ok(()) => 0,
+        Err(ServeError::Memory) => 3,
+        Err(_) => 1,
+    }
+}

@@ -1,0 +1,130 @@
+//! What jobs write.
+ghost use Rattle.std.specs.Prelude.{◌≡◌, ◌++◌, List, ℕ, Ok, OnOk};
+ghost use Rattle.ga_serve.specs.Answer.{IsOutput};
+
+use crate::streams::{LINE, WORDS, sink_of, source_of};
+use ga_command_line::Job;
+use ga_jobs::ServeError;
+use ga_serve::{serve, status};
+use std::test::Fail;
+use std::thread::Threads;
+
+#[test]
+fn answers_lines(rt: HostRuntime) -> Result<(), Fail> {
+    let table = [
+        (Job::One { tries: 5 }, WORDS, LINE),
+        (
+            Job::One { tries: 0 },
+            "\t2c9b2\r\n",
+            "node 000 P 000 A 00000 B 15D R 00000 S 00000 T 00000 io 00000 at fetch steps 0 need own\n",
+        ),
+        (
+            Job::One { tries: 9 },
+            "101D5",
+            "node 000 P 1D5 A 00000 B 15D R 00000 S 00000 T 00000 io 00000 at fetch steps 2 need take\n",
+        ),
+        (
+            Job::Asm,
+            "node 709 . node 000 [ @p a! @p . ] , 5 main: data , 3\n",
+            "node 709 entry 000 code 1 words 1\n2C9B2\nnode 000 entry 002 code 2 words 3\n04A12 00005 00003\n",
+        ),
+        (
+            Job::Dis { code: Some(2) },
+            "05872 2C9B2 00001",
+            "node 000\n[ @p !+ unext . ]\n, $2C9B2\ndata\n, $00001\n",
+        ),
+        (
+            Job::Dis { code: None },
+            "10BD5",
+            "node 000\n[ jump $003D5 / 2 ]\n",
+        ),
+    ];
+    for (job, input, text) in table {
+        for most in [1, 7, 8192] {
+            let mut reader = source_of(input.as_bytes(), most);
+            let mut writer = sink_of(rt.alloc(), most);
+            let outcome = serve(&rt, &mut reader, &mut writer, &job);
+            assert_eq!(rt; status(&outcome), 0);
+            assert_eq!(rt;
+                writer.taken.as_slice(),
+                text.as_bytes(),
+                "{most} at a call"
+            );
+        }
+    }
+    Ok(())
+}
+
+#[test]
+fn boots_a_route(rt: HostRuntime) -> Result<(), Fail> {
+    let alloc = rt.alloc();
+    let text =
+        "load 14\n000AE 001D5 00008 101D5 04A12 00000 00000 2E9B2\n05872 2C9B2 2C9B2 000AE 00000 00000\n\
+        start 7\n000AE 001D5 00001 10000 001B5 00000 00000\n";
+    let route = String::from_str(alloc, "708,709")?;
+    let mut writer = sink_of(alloc, 8192);
+    let mut reader = source_of(b"node 709 .", 8192);
+    let outcome = serve(&rt, &mut reader, &mut writer, &Job::Boot { route });
+    assert_eq!(rt; status(&outcome), 0);
+    assert_eq!(rt; writer.taken.as_slice(), text.as_bytes());
+    Ok(())
+}
+
+/// Two nodes of which the second adds 5 and 7, and stops at the read of io.
+const TWO_NODES: &str = "node 709 main: $5 $7 + @b";
+
+/// What becomes of the two nodes, worked out from the rules of the chip.
+const TWO_NODES_RUN: &str = "\
+node 708 P 1B5 A 00000 B 15D R 00000 S 00000 T 00000 io 00000 at fetch steps 48 need take
+ds 00000 00000 00000 00000 00000 00000 00000 00000
+rs 00000 00000 00000 00000 00000 00000 00000 00000
+708 right written 12 read 12 pending 0
+708 down written 0 read 0 pending 0
+708 left written 0 read 0 pending 0
+node 709 P 004 A 00004 B 15D R 00000 S 00000 T 0000C io 00000 at slot0 steps 39 need stopped IoRead
+ds 00000 00000 00000 00000 00000 00000 00000 00000
+rs 00000 00000 00000 00000 00000 00000 00000 00000
+709 right written 0 read 0 pending 0
+709 down written 0 read 0 pending 0
+709 left written 0 read 0 pending 0
+";
+
+#[test]
+fn run_two_nodes(rt: HostRuntime) -> Result<(), Fail> {
+    let alloc = rt.alloc();
+    for workers in [1, 2] {
+        let job = Job::Run {
+            route: String::from_str(alloc, "708,709")?,
+            workers,
+            turns: 200,
+        };
+        let mut writer = sink_of(alloc, 8192);
+        let mut reader = source_of(TWO_NODES.as_bytes(), 8192);
+        assert_eq!(rt; status(&serve(&rt, &mut reader, &mut writer, &job)), 0);
+        assert_eq!(rt; writer.taken.as_slice(), TWO_NODES_RUN.as_bytes());
+    }
+    Ok(())
+}
+
+/// Serves a job over bytes in memory. What its clause says is the composition: the bytes written are
+/// an output of the job for the bytes read.
+fn served(
+    rt: &(impl AllocGlobal + Threads),
+    job: &Job,
+    input: &[u8],
+    output: &mut Vec<u8>,
+) -> Result<(), ServeError>
+    ensures { OnOk result ((text : List ℕ) × IsOutput job.now input.now (Ok text)
+        × (output.new.items ≡ output.old.items ++ text)) }
+{
+    let mut reader = input;
+    serve(rt, &mut reader, output, job)
+}
+
+#[test]
+fn composes(rt: HostRuntime) {
+    let mut output = Vec::new(rt.alloc());
+    let outcome = served(&rt, &Job::One { tries: 5 }, WORDS.as_bytes(), &mut output);
+    assert_eq!(rt; outcome, Ok(()));
+    assert_eq!(rt; output.as_slice(), LINE.as_bytes());
+}

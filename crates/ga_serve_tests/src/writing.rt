@@ -1,0 +1,36 @@
+//! Outputs are written whole, or a front of them.
+use crate::streams::{LINE, WORDS, sink_of, source_of};
+use ga_command_line::Job;
+use ga_jobs::ServeError;
+use ga_serve::serve;
+use std::io::ErrorKind;
+
+#[test]
+fn fails_at_each_write(rt: HostRuntime) {
+    let alloc = rt.alloc();
+    // 88 bytes, 40 at a call: three writes, and a flush.
+    for (call, kind, taken, is_served) in [
+        (0, ErrorKind::Other, 0, false),
+        (1, ErrorKind::Other, 40, false),
+        (2, ErrorKind::Other, 80, false),
+        (3, ErrorKind::Other, 88, false),
+        (0, ErrorKind::Interrupted, 88, true),
+        (1, ErrorKind::Interrupted, 88, true),
+        (2, ErrorKind::Interrupted, 88, true),
+    ] {
+        let mut writer = sink_of(alloc, 40);
+        writer.fails_at = Some(call);
+        writer.kind = kind;
+        let mut reader = source_of(WORDS.as_bytes(), 8192);
+        let outcome = serve(&rt, &mut reader, &mut writer, &Job::One { tries: 5 });
+        assert_eq!(rt; outcome.is_ok(), is_served);
+        assert_eq!(rt; is_served || outcome == Err(ServeError::Write), true);
+        assert_eq!(rt; writer.taken.len(), taken);
+        assert!(rt; LINE.as_bytes().starts_with(&writer.taken));
+    }
+    let mut writer = sink_of(alloc, 0);
+    let mut reader = source_of(WORDS.as_bytes(), 8192);
+    let outcome = serve(&rt, &mut reader, &mut writer, &Job::One { tries: 5 });
+    assert_eq!(rt; outcome, Err(ServeError::Write));
+    assert_eq!(rt; writer.calls, 1);
+}
