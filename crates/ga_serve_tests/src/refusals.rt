@@ -4,12 +4,13 @@ use ga_command_line::Job;
 use ga_jobs::ServeError;
 use ga_serve::{serve, status};
 use std::alloc::Global;
+use std::process::Abort;
 use std::test::Fail;
 use std::thread::Threads;
 
 /// Serves a job that is refused, and compares the text of its fault and its status. Nothing is written.
 fn refuses(
-    rt: &(impl AllocGlobal + Threads),
+    rt: &(impl AllocGlobal + Threads + Abort),
     job: &Job,
     input: &[u8],
     text: &str,
