@@ -75,72 +75,6 @@ end_build() {
         touch -r "$out/begun" "$out/new" && mv -f "$out/new" "$stamp"
 }
 
-# The crates of crates.txt, a line for each layer: those of a line stand on lines above it alone.
-crate_layers() {
-    sed 's/#.*//' "$root/crates.txt" | awk -F: '
-        NF > 1 { name = $1; gsub(/[ \t]/, "", name); sub(/[ \t].*/, "", name); stands_on[name] = $2; layer[name] = 0 }
-        END {
-            for (changed = 1; changed; ) {
-                changed = 0
-                for (name in stands_on) {
-                    count = split(stands_on[name], below, " ")
-                    for (i = 1; i <= count; i++)
-                        if (below[i] in layer && layer[below[i]] >= layer[name]) {
-                            layer[name] = layer[below[i]] + 1
-                            changed = 1
-                        }
-                }
-            }
-            for (name in layer) names[layer[name]] = names[layer[name]] " " name
-            for (i = 0; i in names; i++) print names[i]
-        }'
-}
-
-# Proves one crate. The program is also compiled and linked, which the toolchain does where it runs it.
-prove_crate() (
-    cd "$root/crates/$1" || exit
-    if [ "$1" = ga_bench ]; then
-        exec rt run -- --version
-    fi
-    exec rt lib
-)
-
-# Shows of a crate's log what was not proved, without what only waits for that; or how the log ends.
-show_failure() {
-    say "$1 was not proved or not built:"
-    grep -E ': error: |: no proof: ' "$2" | grep -vE 'no proof: (it calls|its contract rests)' | cut -c1-400 |
-        awk '!seen[$0]++' | head -n 20 >"$out/failures"
-    if [ -s "$out/failures" ]; then
-        cat "$out/failures" >&2
-    else
-        tail -n 20 "$2" >&2
-    fi
-    rm -f "$out/failures"
-    say "the whole log is $2"
-}
-
-# Proves every crate, those that don't stand on each other side by side, and builds the program. The caller
-# holds the lock.
-prove_all() {
-    crate_layers >"$out/layers" || return 1
-    while read -r layer; do
-        say "proving $layer"
-        from=$(date +%s)
-        for name in $layer; do
-            { prove_crate "$name" </dev/null >"$out/$name.log" 2>&1 && : >"$out/$name.proved"; } 9>&- &
-        done
-        wait
-        for name in $layer; do
-            if [ ! -f "$out/$name.proved" ]; then
-                show_failure "$name" "$out/$name.log"
-                return 1
-            fi
-            rm -f "$out/$name.proved"
-        done
-        say "proved $layer ($(($(date +%s) - from)) s)"
-    done <"$out/layers"
-}
-
 # Makes the built program current. Statuses: 69 without the toolchain, 70 where the build failed.
 build() {
     if ! command -v rt >/dev/null 2>&1; then
@@ -154,8 +88,7 @@ build() {
     fi
     say 'the program is proved and built first, since it is new or its sources changed: this takes minutes, once'
     while :; do
-        rm -f "$out"/*.proved
-        begin_build && prove_all || return 70
+        begin_build && python3 "$root/scripts/prove.py" "$root" 9>&- || return 70
         end_build && break
         if [ ! -f "$root/crates/ga_bench/out/ga_bench" ] || [ "$(sources_sum)" = "$begun_sum" ]; then
             say "the built program can't be put into $out"
