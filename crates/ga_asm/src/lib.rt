@@ -11,6 +11,3 @@ mod slots;
 pub use assembling::{Images, assemble};
 pub use error::{AsmError, AsmErrorKind};
 pub use image::Image;
-
-#[cfg(test)]
-mod tests;

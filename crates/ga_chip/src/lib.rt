@@ -19,6 +19,3 @@ pub use chip::Chip;
 pub use error::ChipError;
 pub use ledger::Ledger;
 pub use outcome::{Outcome, Try, side_of_turn};
-
-#[cfg(test)]
-mod tests;

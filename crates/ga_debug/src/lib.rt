@@ -18,6 +18,3 @@ pub use error::DebugError;
 pub use replay_error::ReplayError;
 pub use replaying::replay;
 pub use session::Session;
-
-#[cfg(test)]
-mod tests;

@@ -8,6 +8,3 @@ mod printing;
 pub use apart::items;
 pub use item::Item;
 pub use printing::print;
-
-#[cfg(test)]
-mod tests;

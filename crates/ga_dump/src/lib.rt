@@ -9,6 +9,3 @@ mod row;
 pub use ledger::ledger_text;
 pub use memory::memory_text;
 pub use node::node_text;
-
-#[cfg(test)]
-mod tests;

@@ -10,6 +10,3 @@ pub use error::FrameError;
 pub use frame::Frame;
 pub use reading::read_frames;
 pub use writing::write_frame;
-
-#[cfg(test)]
-mod tests;

@@ -11,6 +11,3 @@ pub use error::{PlanError, RunError};
 pub use gate::Gate;
 pub use plan::Plan;
 pub use workers::run_workers;
-
-#[cfg(test)]
-mod tests;

@@ -11,6 +11,3 @@ pub use decoding::{decode, op_in_slot0, op_in_slot1, op_in_slot2, op_in_slot3};
 pub use encoding::{PackError, encode};
 pub use following::followers;
 pub use packed::Packed;
-
-#[cfg(test)]
-mod tests;

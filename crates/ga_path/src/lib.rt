@@ -13,6 +13,3 @@ pub use names::read_nodes;
 pub use parts::Boot;
 pub use route::Route;
 pub use stream::boot;
-
-#[cfg(test)]
-mod tests;

@@ -10,6 +10,3 @@ pub use address::{Where, advance, idle_address, locate, port_address};
 pub use cell_id::{CellId, cell};
 pub use node::Node;
 pub use side::{SIDES, Side, Sides, neighbour, side_to};
-
-#[cfg(test)]
-mod tests;

@@ -18,6 +18,3 @@ pub use places::ItemPlace;
 pub use program::{Program, parse};
 pub use section::Section;
 pub use token::{Place, Token, tokens};
-
-#[cfg(test)]
-mod tests;

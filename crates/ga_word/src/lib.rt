@@ -11,6 +11,3 @@ pub use hex::{hex5, read_hex5};
 pub use op::Op;
 pub use text::{WordsError, push_words, read_words, words_text};
 pub use word::Word18;
-
-#[cfg(test)]
-mod tests;

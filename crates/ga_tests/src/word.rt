@@ -1,9 +1,6 @@
-use crate::{Op, Word18, WordsError, hex5, read_hex5, read_words, words_text};
+use crate::shared::word;
+use ga_word::{Op, Word18, WordsError, hex5, read_hex5, read_words, words_text};
 use std::test::Fail;
-
-fn word(number: u32) -> Result<Word18, Fail> {
-    Ok(Word18::new(number).ok_or("more than 18 bits")?)
-}
 
 #[test]
 fn arithmetic_edges(rt: HostRuntime) -> Result<(), Fail> {

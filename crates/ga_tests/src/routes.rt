@@ -1,8 +1,6 @@
-use crate::{Boot, BootError, NamesError, Route, RouteError, boot, read_nodes};
-use ga_asm::{Images, assemble};
+use crate::shared::{assembled, node};
 use ga_frame::read_frames;
-use ga_place::Node;
-use ga_source::parse;
+use ga_path::{Boot, BootError, NamesError, Route, RouteError, boot, read_nodes};
 use ga_word::Word18;
 use std::alloc::Global;
 use std::test::Fail;
@@ -10,14 +8,9 @@ use std::test::Fail;
 fn route(alloc: Global, names: &[u16]) -> Result<Result<Route, RouteError>, Fail> {
     let mut nodes = Vec::new(alloc);
     for name in names {
-        nodes.push(Node::new(*name).ok_or("no node")?)?;
+        nodes.push(node(*name)?)?;
     }
     Ok(Route::new(alloc, &nodes))
-}
-
-fn images(alloc: Global, text: &str) -> Result<Images, Fail> {
-    let program = parse(alloc, text).ok().ok_or("no program")?;
-    Ok(assemble(alloc, &program).ok().ok_or("no images")?)
 }
 
 fn numbers(words: &[Word18], wanted: &[u32]) -> bool {
@@ -31,7 +24,7 @@ fn numbers(words: &[Word18], wanted: &[u32]) -> bool {
 fn booted(alloc: Global, names: &[u16], text: &str) -> Result<Boot, Fail> {
     let route = route(alloc, names)?.ok().ok_or("no route")?;
     Ok(
-        boot(alloc, &route, &images(alloc, text)?)
+        boot(alloc, &route, &assembled(alloc, text)?)
             .ok()
             .ok_or("no boot")?,
     )
@@ -138,8 +131,8 @@ fn refusals_by_name(rt: HostRuntime) -> Result<(), Fail> {
         assert_eq!(rt; route(alloc, names)?.err(), Some(fault));
     }
     let short = route(alloc, &[708, 709])?.ok().ok_or("no route")?;
-    let images = images(alloc, "node 709 . node 710 . node 711 .")?;
-    let unreached = BootError::Unreached(Node::new(710).ok_or("no node")?);
+    let images = assembled(alloc, "node 709 . node 710 . node 711 .")?;
+    let unreached = BootError::Unreached(node(710)?);
     assert_eq!(rt; boot(alloc, &short, &images).err(), Some(unreached));
     Ok(())
 }
@@ -156,7 +149,7 @@ fn longest_route(rt: HostRuntime) -> Result<(), Fail> {
     }
     let route = route(alloc, &names)?.ok().ok_or("no route")?;
     assert_eq!(rt; route.nodes().len(), 144);
-    let boot = boot(alloc, &route, &images(alloc, "node 717 .")?)
+    let boot = boot(alloc, &route, &assembled(alloc, "node 717 .")?)
         .ok()
         .ok_or("no boot")?;
     // the far end: its jump, six words to fill its memory, and the close; each of 142 others: a jump, a pump

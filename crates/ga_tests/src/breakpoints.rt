@@ -1,5 +1,6 @@
-use super::{give, moves, node, outcome, place, reset};
-use crate::{Chip, ChipError, Outcome};
+use crate::chips::{give, moves, outcome, place, reset};
+use crate::shared::node;
+use ga_chip::{Chip, ChipError, Outcome};
 use ga_node::Stop;
 use ga_place::Side;
 use std::test::Fail;

@@ -1,23 +1,17 @@
-use crate::{Gate, Plan, PlanError, RunError, run_workers};
-use ga_chip::{Chip, Outcome, Try};
+use crate::chips::{WRITE_12_RIGHT, chip_with};
+use crate::shared::node;
+use ga_chip::{Outcome, Try};
+use ga_group::{Gate, Plan, PlanError, RunError, run_workers};
 use ga_place::{Node, Side};
-use ga_word::Word18;
 use std::alloc::Global;
 use std::sync::atomic::{AtomicU64, Ordering};
 use std::test::Fail;
-
-/// Writes 12 to the port on the right.
-const WRITE_12_RIGHT: [u32; 4] = [0x05DA2, 0x00012, 0x001D5, 0x089B2];
 
 /// A gate that lets all through.
 struct Open;
 
 impl Gate for Open {
     fn turn(&self, _worker: u32, _turn: u64, _moved: u64) {}
-}
-
-fn node(name: u16) -> Result<Node, Fail> {
-    Ok(Node::new(name).ok_or("no such node")?)
 }
 
 /// Groups of nodes, by their names.
@@ -35,17 +29,6 @@ fn groups(alloc: Global, names: &[&[u16]]) -> Result<Vec<Vec<Node>>, Fail> {
 
 fn plan(alloc: Global, names: &[&[u16]]) -> Result<Plan, Fail> {
     Ok(Plan::new(groups(alloc, names)?).map_err(|_| "no plan")?)
-}
-
-/// A chip after reset with words in a node, whose entry is 0.
-fn chip_with(alloc: Global, name: u16, numbers: &[u32]) -> Result<Chip, Fail> {
-    let mut words = [Word18::default(); 64];
-    for (word, number) in words.iter_mut().zip(numbers) {
-        *word = Word18::new(*number).ok_or("more than 18 bits")?;
-    }
-    let mut chip = Chip::reset(alloc).map_err(|_| "no memory")?;
-    chip.place(node(name)?, &words, 0).map_err(|_| "begun")?;
-    Ok(chip)
 }
 
 #[test]

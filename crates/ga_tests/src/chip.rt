@@ -1,49 +1,10 @@
-use crate::{Chip, ChipError, Ledger, Outcome, Try};
+use crate::chips::{WRITE_12_RIGHT, give, moves, outcome, place, reset};
+use crate::shared::{TWO_HOPS, node, word, words};
+use ga_chip::{ChipError, Ledger, Outcome, Try};
 use ga_node::Stop;
-use ga_place::{Node, Side};
-use ga_word::Word18;
+use ga_place::Side;
 use std::alloc::Global;
 use std::test::Fail;
-
-mod breaks;
-
-/// Writes 12 to the port on the right.
-const WRITE_12_RIGHT: [u32; 4] = [0x05DA2, 0x00012, 0x001D5, 0x089B2];
-
-fn node(name: u16) -> Result<Node, Fail> {
-    Ok(Node::new(name).ok_or("no such node")?)
-}
-
-/// Places words in a node, with entry 0.
-fn place(chip: &mut Chip, name: u16, numbers: &[u32]) -> Result<(), Fail> {
-    let mut words = [Word18::default(); 64];
-    for (word, number) in words.iter_mut().zip(numbers) {
-        *word = Word18::new(*number).ok_or("more than 18 bits")?;
-    }
-    chip.place(node(name)?, &words, 0).map_err(|_| "begun")?;
-    Ok(())
-}
-
-fn reset(alloc: Global) -> Result<Chip, Fail> {
-    Ok(Chip::reset(alloc).map_err(|_| "no memory")?)
-}
-
-/// How many of so many tries were `Moved` before the first that wasn't.
-fn moves(chip: &mut Chip, name: u16, side: Side, tries: u32) -> Result<u32, Fail> {
-    let node = node(name)?;
-    for moved in 0..tries {
-        if chip.attempt(Try { node, side }) != Outcome::Moved {
-            return Ok(moved);
-        }
-    }
-    Ok(tries)
-}
-
-/// The outcome of a try.
-fn outcome(chip: &mut Chip, name: u16, side: Side) -> Result<Outcome, Fail> {
-    let node = node(name)?;
-    Ok(chip.attempt(Try { node, side }))
-}
 
 fn ledger(written: u64, read: u64, pending: u8) -> Ledger {
     Ledger {
@@ -271,34 +232,10 @@ fn placed_anew_until_it_begins(rt: HostRuntime) -> Result<(), Fail> {
     place(&mut chip, 708, &[0x2C9B2])?;
     place(&mut chip, 708, &WRITE_12_RIGHT)?;
     assert!(rt; chip.turn(Side::Right) == 1);
-    let words = [Word18::new(0x2C9B2).ok_or("18 bits")?];
-    let again = chip.place(node(708)?, &words, 1);
+    let again = chip.place(node(708)?, &[word(0x2C9B2)?], 1);
     assert!(rt; again.is_err_and(|error| error == ChipError::Begun));
     assert!(rt; chip.state(node(708)?).p() == 1);
     assert!(rt; moves(&mut chip, 708, Side::Right, 100)? == 6);
-    Ok(())
-}
-
-/// The load and the start of 710 over two hops from 708, with the one word `. . . .`.
-const TWO_HOPS: [u32; 34] = [
-    0x000AE, 0x001D5, 0x0000F, 0x101D5, 0x04A12, 0x00175, 0x00007, 0x2E9B2, 0x05A72, 0x10175,
-    0x04A12, 0x00000, 0x00000, 0x2E9B2, 0x05872, 0x2C9B2, 0x2C9B2, 0x2C9B2, 0x000AE, 0x00000,
-    0x00000, 0x000AE, 0x001D5, 0x00007, 0x04A12, 0x00175, 0x00000, 0x2E9B2, 0x05A72, 0x10000,
-    0x101B5, 0x001B5, 0x00000, 0x00000,
-];
-
-fn words(alloc: Global, numbers: &[u32]) -> Result<Vec<Word18>, Fail> {
-    let mut words = Vec::new(alloc);
-    for number in numbers {
-        words.push(Word18::new(*number).ok_or("more than 18 bits")?)?;
-    }
-    Ok(words)
-}
-
-/// Gives a node a stream, which it isn't refused.
-fn give(alloc: Global, chip: &mut Chip, name: u16, numbers: &[u32]) -> Result<(), Fail> {
-    chip.give_stream(node(name)?, words(alloc, numbers)?)
-        .map_err(|_| "refused")?;
     Ok(())
 }
 

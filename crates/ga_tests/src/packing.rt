@@ -1,19 +1,7 @@
-use crate::{PackError, Packed, decode, encode, followers};
-use arrayvec::ArrayVec;
-use ga_word::{Op, Word18};
+use crate::shared::{packed, word};
+use ga_pack::{PackError, Packed, decode, encode, followers};
+use ga_word::Op;
 use std::test::Fail;
-
-fn packed(ops: &[Op], dest: Option<u16>, spare: u8) -> Packed {
-    let mut all = ArrayVec::new();
-    for op in ops {
-        let _full = all.try_push(*op);
-    }
-    Packed {
-        ops: all,
-        dest,
-        spare,
-    }
-}
 
 fn four(a: Op, b: Op, c: Op, d: Op) -> Packed {
     packed(&[a, b, c, d], None, 0)
@@ -63,10 +51,13 @@ fn destinations_by_slot(rt: HostRuntime) -> Result<(), Fail> {
         (four(Op::Dup, Op::Nop, Op::Nop, Op::Nop), 0x2_49B2),
     ];
     for (packed, number) in &table {
-        let word = encode(packed).map(|word| word.get());
-        assert_eq!(rt; word, Ok(*number), "the word of {packed:?}");
-        let word = Word18::new(*number).ok_or("no word")?;
-        assert_eq!(rt; decode(word), *packed, "the reading of {number:05X}");
+        let made = encode(packed).map(|word| word.get());
+        assert_eq!(rt; made, Ok(*number), "the word of {packed:?}");
+        assert_eq!(rt;
+            decode(word(*number)?),
+            *packed,
+            "the reading of {number:05X}"
+        );
     }
     Ok(())
 }
@@ -94,7 +85,7 @@ fn refuses_by_name(rt: HostRuntime) -> Result<(), Fail> {
 #[test]
 fn encode_gives_each_word_back(rt: HostRuntime) -> Result<(), Fail> {
     for number in 0..1 << 18 {
-        let word = Word18::new(number).ok_or("no word")?;
+        let word = word(number)?;
         let again = encode(&decode(word));
         assert_eq!(rt; again, Ok(word), "{number:05X}");
     }
@@ -110,6 +101,37 @@ fn counts_followers(rt: HostRuntime) -> Result<(), Fail> {
     ];
     for (packed, count) in &table {
         assert_eq!(rt; followers(packed), *count, "the followers of {packed:?}");
+    }
+    Ok(())
+}
+
+#[test]
+fn reads_words(rt: HostRuntime) -> Result<(), Fail> {
+    let table: [(u32, &[Op], Option<u16>, u8); 7] = [
+        (0x2_C9B2, &[Op::Nop, Op::Nop, Op::Nop, Op::Nop], None, 0),
+        (
+            0x0_4A12,
+            &[Op::FetchP, Op::AStore, Op::FetchP, Op::Nop],
+            None,
+            0,
+        ),
+        (0x2_4D92, &[Op::Dup, Op::Dup, Op::Dup, Op::Nop], None, 0),
+        (0x2_4D95, &[Op::Dup, Op::Dup, Op::Dup, Op::Return], None, 0),
+        (0x3_A9B2, &[Op::Drop, Op::Nop, Op::Nop, Op::Nop], None, 0),
+        // `. . jump 2` and `. . . unext`
+        (0x2_C942, &[Op::Nop, Op::Nop, Op::Jump], Some(0x002), 0),
+        (
+            0x2_C9B4,
+            &[Op::Nop, Op::Nop, Op::Nop, Op::Micronext],
+            None,
+            0,
+        ),
+    ];
+    for (number, ops, dest, spare) in table {
+        let packed = decode(word(number)?);
+        assert_eq!(rt; packed.ops.as_slice(), ops, "opcodes of {number:05X}");
+        assert_eq!(rt; packed.dest, dest, "destination of {number:05X}");
+        assert_eq!(rt; packed.spare, spare, "spare bits of {number:05X}");
     }
     Ok(())
 }

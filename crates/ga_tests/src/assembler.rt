@@ -1,21 +1,12 @@
-use crate::{AsmError, AsmErrorKind, Image, Images, assemble};
-use ga_place::Node;
+use crate::shared::{assembled, node};
+use ga_asm::{AsmError, AsmErrorKind, Image, Images, assemble};
 use ga_source::parse;
 use std::alloc::Global;
 use std::test::Fail;
 
-fn assembled(alloc: Global, text: &str) -> Result<Images, Fail> {
-    let program = parse(alloc, text).map_err(|_| "no program")?;
-    Ok(assemble(alloc, &program).map_err(|_| "no images")?)
-}
-
 fn fault(alloc: Global, text: &str) -> Result<Option<AsmError>, Fail> {
     let program = parse(alloc, text).map_err(|_| "no program")?;
     Ok(assemble(alloc, &program).err())
-}
-
-fn node(name: u16) -> Result<Node, Fail> {
-    Ok(Node::new(name).ok_or("no node")?)
 }
 
 fn image(images: &Images, name: u16) -> Result<&Image, Fail> {

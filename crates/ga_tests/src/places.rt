@@ -1,8 +1,8 @@
-use crate::{
+use bitflags::Flags;
+use ga_place::{
     Node, SIDES, Side, Sides, Where, advance, cell, idle_address, locate, neighbour, port_address,
     side_to,
 };
-use bitflags::Flags;
 use std::test::Fail;
 
 #[test]

@@ -1,33 +1,8 @@
-use crate::{Item, items, print};
-use arrayvec::ArrayVec;
-use ga_pack::Packed;
-use ga_word::{Op, Word18};
+use crate::shared::{packed, word, words};
+use ga_disasm::{Item, items, print};
+use ga_word::Op;
 use std::alloc::Global;
 use std::test::Fail;
-
-fn word(number: u32) -> Result<Word18, Fail> {
-    Ok(Word18::new(number).ok_or("no word")?)
-}
-
-fn words(alloc: Global, numbers: &[u32]) -> Result<Vec<Word18>, Fail> {
-    let mut words = Vec::new(alloc);
-    for number in numbers {
-        words.push(word(*number)?)?;
-    }
-    Ok(words)
-}
-
-fn code(ops: &[Op], dest: Option<u16>, spare: u8) -> Item {
-    let mut all = ArrayVec::new();
-    for op in ops {
-        let _full = all.try_push(*op);
-    }
-    Item::Code(Packed {
-        ops: all,
-        dest,
-        spare,
-    })
-}
 
 #[test]
 fn items_and_print(rt: HostRuntime) -> Result<(), Fail> {
@@ -36,11 +11,11 @@ fn items_and_print(rt: HostRuntime) -> Result<(), Fail> {
     assert_eq!(rt; words.len(), 3);
     let items = items(alloc, &words, 2)?;
     let worked = [
-        code(
+        Item::Code(packed(
             &[Op::FetchP, Op::StorePlus, Op::Micronext, Op::Nop],
             None,
             0,
-        ),
+        )),
         Item::Follower(word(0x2_C9B2)?),
         Item::Data(word(0x0_0001)?),
     ];

@@ -1,31 +1,12 @@
-use crate::{Frame, FrameError, read_frames, write_frame};
+use crate::shared::{TWO_HOPS, word, words};
+use ga_frame::{Frame, FrameError, read_frames, write_frame};
 use ga_word::Word18;
 use std::alloc::Global;
 use std::test::Fail;
 
-fn word(number: u32) -> Result<Word18, Fail> {
-    Ok(Word18::new(number).ok_or("more than 18 bits")?)
-}
-
-fn words(alloc: Global, numbers: &[u32]) -> Result<Vec<Word18>, Fail> {
-    let mut words = Vec::new(alloc);
-    for number in numbers {
-        words.push(word(*number)?)?;
-    }
-    Ok(words)
-}
-
 fn read(alloc: Global, numbers: &[u32]) -> Result<Result<Vec<Frame>, FrameError>, Fail> {
     Ok(read_frames(alloc, &words(alloc, numbers)?))
 }
-
-/// The load and the start of 710 over two hops from 708.
-const TWO_HOPS: [u32; 34] = [
-    0x000AE, 0x001D5, 0x0000F, 0x101D5, 0x04A12, 0x00175, 0x00007, 0x2E9B2, 0x05A72, 0x10175,
-    0x04A12, 0x00000, 0x00000, 0x2E9B2, 0x05872, 0x2C9B2, 0x2C9B2, 0x2C9B2, 0x000AE, 0x00000,
-    0x00000, 0x000AE, 0x001D5, 0x00007, 0x04A12, 0x00175, 0x00000, 0x2E9B2, 0x05A72, 0x10000,
-    0x101B5, 0x001B5, 0x00000, 0x00000,
-];
 
 #[test]
 fn frame_faults(rt: HostRuntime) -> Result<(), Fail> {

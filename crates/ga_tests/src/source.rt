@@ -1,10 +1,10 @@
-use crate::{
+use crate::shared::{node, word};
+use arrayvec::ArrayVec;
+use ga_source::{
     Item, ItemPlace, Name, Place, SourceError, SourceErrorKind, Token, TransferWord, Value, parse,
     tokens,
 };
-use arrayvec::ArrayVec;
-use ga_place::Node;
-use ga_word::{Op, Word18};
+use ga_word::Op;
 use std::alloc::Global;
 use std::test::Fail;
 
@@ -29,10 +29,6 @@ fn found(place: (usize, usize), name: Option<(usize, usize)>) -> ItemPlace {
     }
 }
 
-fn number(value: u32) -> Result<Word18, Fail> {
-    Ok(Word18::new(value).ok_or("more than 18 bits")?)
-}
-
 /// The name of a label.
 fn named(name: &str) -> Result<Name, Fail> {
     Ok(Name::new(name).ok_or("more than 16 bytes")?)
@@ -43,7 +39,7 @@ fn sections_of_all_nodes(alloc: Global) -> Result<String, Fail> {
     let mut text = String::new(alloc);
     for row in 0..8u16 {
         for column in 0..18u16 {
-            let node = Node::new(row * 100 + column).ok_or("no node")?;
+            let node = node(row * 100 + column)?;
             let line = format!(in alloc; "node {node} dup\n")?;
             text.push_str(line.as_str())?;
         }
@@ -170,7 +166,7 @@ fn bracketed_words(alloc: Global) -> Result<(Item, Item), Fail> {
     let followed = TransferWord {
         ops,
         op: Op::Jump,
-        dest: Value::Number(number(7)?),
+        dest: Value::Number(word(7)?),
         spare: None,
     };
     let first = Item::WordTo(Box::new(alloc, printed)?);
@@ -180,20 +176,20 @@ fn bracketed_words(alloc: Global) -> Result<(Item, Item), Fail> {
 
 /// The items of the text below.
 fn expected_items(alloc: Global) -> Result<Vec<Item>, Fail> {
-    let (one, five, ones) = (number(1)?, number(5)?, number(0x3FFFF)?);
+    let (one, five, ones) = (word(1)?, word(5)?, word(0x3FFFF)?);
     let name = named("loop")?;
     let dest = Value::Label(named("loop")?);
     let follower = Value::Label(named("loop")?);
-    let mut word = ArrayVec::new();
-    word.push(Op::FetchP);
-    word.push(Op::Nop);
+    let mut ops = ArrayVec::new();
+    ops.push(Op::FetchP);
+    ops.push(Op::Nop);
     let (first, second) = bracketed_words(alloc)?;
     Ok(vec![in alloc;
         Item::Label(name),
         Item::Instruction(Op::Dup),
         Item::Literal(five),
         Item::Transfer { op: Op::If, dest },
-        Item::Word(word),
+        Item::Word(ops),
         Item::Plain(follower),
         first,
         second,
@@ -214,8 +210,7 @@ fn items_of_sections(rt: HostRuntime) -> Result<(), Fail> {
     let program = parse(alloc, TWO_NODES)?;
     let sections = program.sections();
     assert_eq!(rt; sections.len(), 2);
-    let node = Node::new(8).ok_or("no node")?;
-    let section = sections.get(&node).ok_or("no section")?;
+    let section = sections.get(&node(8)?).ok_or("no section")?;
     let expected = expected_items(alloc)?;
     assert!(rt; section.items == expected);
     let name = named("loop")?;
@@ -252,8 +247,7 @@ fn places_of_items(rt: HostRuntime) -> Result<(), Fail> {
 fn upper_case_is_a_name(rt: HostRuntime) -> Result<(), Fail> {
     let alloc = rt.alloc();
     let program = parse(alloc, "node 717 DUP: jump DUP")?;
-    let node = Node::new(717).ok_or("no node")?;
-    let section = program.sections().get(&node).ok_or("no section")?;
+    let section = program.sections().get(&node(717)?).ok_or("no section")?;
     let dest = Value::Label(named("DUP")?);
     let expected = vec![in alloc;
         Item::Label(named("DUP")?),

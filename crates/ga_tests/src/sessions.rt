@@ -1,25 +1,16 @@
-use crate::{DebugError, ReplayError, Session, begin, replay};
-use ga_chip::Chip;
+use crate::chips::{chip_with, reset};
+use ga_debug::{DebugError, ReplayError, Session, begin, replay};
 use ga_path::RouteError;
-use ga_place::Node;
-use ga_word::Word18;
 use std::alloc::Global;
 use std::test::Fail;
 
 fn session(alloc: Global) -> Result<Session, Fail> {
-    Ok(Session::new(Chip::reset(alloc)?))
+    Ok(Session::new(reset(alloc)?))
 }
 
 /// A session over a chip with words in a node.
 fn placed(alloc: Global, name: u16, numbers: &[u32]) -> Result<Session, Fail> {
-    let mut chip = Chip::reset(alloc)?;
-    let node = Node::new(name).ok_or("no such node")?;
-    let mut words = [Word18::default(); 64];
-    for (word, number) in words.iter_mut().zip(numbers) {
-        *word = Word18::new(*number).ok_or("more than 18 bits")?;
-    }
-    chip.place(node, &words, 0).map_err(|_| "begun")?;
-    Ok(Session::new(chip))
+    Ok(Session::new(chip_with(alloc, name, numbers)?))
 }
 
 /// Whether a session gives this reply.

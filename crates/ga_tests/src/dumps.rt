@@ -1,22 +1,10 @@
-use crate::{ledger_text, memory_text, node_text};
+use crate::shared::{node, words};
 use ga_chip::Chip;
+use ga_dump::{ledger_text, memory_text, node_text};
 use ga_node::NodeState;
-use ga_place::{Node, Side};
-use ga_word::Word18;
+use ga_place::Side;
 use std::alloc::Global;
 use std::test::Fail;
-
-fn node(name: u16) -> Result<Node, Fail> {
-    Ok(Node::new(name).ok_or("no such node")?)
-}
-
-fn words(alloc: Global, numbers: &[u32]) -> Result<Vec<Word18>, Fail> {
-    let mut words = Vec::new(alloc);
-    for number in numbers {
-        words.push(Word18::new(*number).ok_or("more than 18 bits")?)?;
-    }
-    Ok(words)
-}
 
 /// The example of the node's own text: it puts 5 into A and leaves 3 in T.
 fn loaded(alloc: Global) -> Result<NodeState, Fail> {
