@@ -16,7 +16,10 @@ fn named(alloc: Global, words: &[&str]) -> Result<Job, Fail> {
 fn reads_command_lines(rt: HostRuntime) -> Result<(), Fail> {
     let alloc = rt.alloc();
     for (text, tries) in [("0", 0), ("5", 5), ("1000000", 1_000_000)] {
-        assert_eq!(rt; named(alloc, &["ga-bench", "one", text])?, Job::One { tries });
+        assert_eq!(rt;
+            named(alloc, &["ga-bench", "one", text])?,
+            Job::One { tries }
+        );
     }
     assert_eq!(rt; named(alloc, &["ga-bench", "asm"])?, Job::Asm);
     assert_eq!(rt; named(alloc, &["ga-bench", "debug"])?, Job::Debug);
@@ -36,7 +39,10 @@ fn reads_routes(rt: HostRuntime) -> Result<(), Fail> {
     let alloc = rt.alloc();
     for text in ["708,709", "", "any text"] {
         let route = String::from_str(alloc, text)?;
-        assert_eq!(rt; named(alloc, &["ga-bench", "boot", text])?, Job::Boot { route });
+        assert_eq!(rt;
+            named(alloc, &["ga-bench", "boot", text])?,
+            Job::Boot { route }
+        );
     }
     for (words, workers, turns) in [
         (&["ga-bench", "run", "708", "1", "0"], 1, 0),
