@@ -1,5 +1,5 @@
 #!/usr/bin/env python3
-"""Proves the crates of a repository and builds the program, side by side where they don't stand on each other.
+"""Proves the crates of the program and builds it, those side by side that don't stand on each other.
 
     prove.py ROOT
 
@@ -78,17 +78,18 @@ def link(file, to):
 
 
 def crates_of(root):
-    """The crates of crates.txt, lowest first."""
+    """The program's crate and all below it, lowest first."""
     crates = {}
     with open(f'{root}/crates.txt') as text:
         for name, words in re.findall(r'^(\w+):(.*)', text.read(), re.M):
             direct = [crates[word] for word in words.split() if word in crates]
             below = {crate.name: crate for it in direct for crate in [*it.below, it]}
             crates[name] = Crate(root, name, list(below.values()))
-    for crate in reversed(crates.values()):
+    found = [*crates[PROGRAM].below, crates[PROGRAM]]
+    for crate in reversed(found):
         for below in crate.below:
             below.chain = max(below.chain, below.size + crate.chain)
-    return list(crates.values())
+    return found
 
 
 def prove_all(crates):
@@ -98,7 +99,7 @@ def prove_all(crates):
     with ThreadPoolExecutor(processors) as pool:
         while left or running:
             for crate in [it for it in left if proved.issuperset(it.below)][: processors - len(running)]:
-                # the crate that most others wait for takes all processors, and the others what it leaves
+                # the crate that most others wait for takes all processors, and each other one half of them
                 jobs = processors if crate is left[0] else (processors + 1) // 2
                 left.remove(crate)
                 running[pool.submit(crate.prove, jobs)] = crate
