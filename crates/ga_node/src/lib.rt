@@ -17,6 +17,3 @@ mod work;
 pub use need::{Need, Stop};
 pub use place::Place;
 pub use state::NodeState;
-
-#[cfg(test)]
-mod tests;

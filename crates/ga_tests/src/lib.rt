@@ -21,6 +21,10 @@ mod dumps;
 #[cfg(test)]
 mod frames;
 #[cfg(test)]
+mod loader;
+#[cfg(test)]
+mod node;
+#[cfg(test)]
 mod packing;
 #[cfg(test)]
 mod places;

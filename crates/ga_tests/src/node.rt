@@ -1,26 +1,12 @@
-use crate::decoded::Decoded;
-use crate::{Need, NodeState, Place, Stop};
-use ga_place::{Node, Side, Sides};
+use crate::shared::{self, node, word};
+use ga_node::{Need, NodeState, Place, Stop};
+use ga_place::{SIDES, Side, Sides};
 use ga_word::{Op, Word18};
 use std::test::Fail;
 
-mod loader;
-
-fn word(number: u32) -> Result<Word18, Fail> {
-    Ok(Word18::new(number).ok_or("more than 18 bits")?)
-}
-
-fn node_000() -> Result<Node, Fail> {
-    Ok(Node::new(0).ok_or("no node 000")?)
-}
-
 /// Node 000 with these words at the front of its memory, after as many tries.
 fn run(numbers: &[u32], tries: u32) -> Result<NodeState, Fail> {
-    let mut words = [Word18::default(); 64];
-    for (word, number) in words.iter_mut().zip(numbers) {
-        *word = self::word(*number)?;
-    }
-    let mut state = NodeState::loaded(node_000()?, &words, 0);
+    let mut state = NodeState::loaded(node(0)?, &shared::memory(numbers)?, 0);
     for _ in 0..tries {
         let _moved = state.try_own();
     }
@@ -88,18 +74,34 @@ fn stack_order(rt: HostRuntime) -> Result<(), Fail> {
 /// A row of registers: P, R, T, S and A.
 type Registers = [u32; 5];
 
-/// Node 000 with items 11, 12 .. on its data stack, 21, 22 .. on its return stack, and 10A00 and 10A3F at
-/// both ends of its memory.
-fn filled() -> Result<NodeState, Fail> {
-    let mut words = [Word18::default(); 64];
-    words[0] = word(0x10A00)?;
-    words[63] = word(0x10A3F)?;
-    let mut state = NodeState::loaded(node_000()?, &words, 0);
-    for item in [8, 7, 6, 5, 4, 3, 2, 1] {
-        state.data_stack.push(word(0x10 + item)?);
-        state.return_stack.push(word(0x20 + item)?);
+/// What stands on the stacks, below their registers, before an opcode.
+const DATA_STACK: [u32; 8] = [0x11, 0x12, 0x13, 0x14, 0x15, 0x16, 0x17, 0x18];
+
+const RETURN_STACK: [u32; 8] = [0x21, 0x22, 0x23, 0x24, 0x25, 0x26, 0x27, 0x28];
+
+/// The node takes a word at a port where it wants one.
+fn take(state: &mut NodeState, word: Word18) -> Result<(), Fail> {
+    let Need::Take(sides) = state.need() else {
+        return Err("no word is taken".into());
+    };
+    for side in SIDES {
+        if sides.has(side) {
+            state.step_took(side, word);
+            return Ok(());
+        }
     }
-    Ok(state)
+    Err("no side".into())
+}
+
+/// The node takes words at a port, and does in between what it does by itself.
+fn feed(state: &mut NodeState, numbers: &[u32]) -> Result<(), Fail> {
+    for number in numbers {
+        for _ in 0..4 {
+            let _moved = state.try_own();
+        }
+        take(state, word(*number)?)?;
+    }
+    Ok(())
 }
 
 /// An opcode in its slot, behind and in front of `.`. Each slot is stored with its part of 15555.
@@ -114,19 +116,48 @@ fn packed(op: Op, place: Place, dest: u32) -> Result<Word18, Fail> {
     })
 }
 
-/// The filled node about to run an opcode in a slot, with these registers, and in B the low nine bits of A.
+/// Node 000 about to run an opcode in a slot, with these registers, and in B the low nine bits of A. It has items 11, 12
+/// .. on its data stack and 21, 22 .. on its return stack, and 10A00 and 10A3F at both ends of its memory, but for the
+/// word with the opcode, which stands at the address before P, or comes in at P where that is a port.
 fn before(op: Op, place: Place, dest: u32, registers: Registers) -> Result<NodeState, Fail> {
-    let mut state = filled()?;
     let [p, r, t, s, a] = registers;
-    state.place = place;
-    state.posted = None;
-    state.word = Decoded::new(packed(op, place, dest)?);
-    state.p = (p % 0x400) as u16;
-    state.b = (a % 0x200) as u16;
-    state.r = word(r)?;
-    state.t = word(t)?;
-    state.s = word(s)?;
-    state.a = word(a)?;
+    let word_with = packed(op, place, dest)?;
+    let from = if p < 0x80 { (p + 0x7F) % 0x80 } else { p };
+    let mut words = shared::memory(&[0x10A00])?;
+    words[63] = word(0x10A3F)?;
+    if p < 0x80 {
+        words[(from % 0x40) as usize] = word_with;
+    }
+    // at the right port it takes `@p a! . .` and `@p b! . .`, `@p push . .` and `@p . . .`, each with its literal,
+    // and a jump
+    let mut state = NodeState::loaded(node(0)?, &words, 0x1D5);
+    feed(&mut state, &[0x04AB2, a, 0x04BB2, a])?;
+    for item in [0x28, 0x27, 0x26, 0x25, 0x24, 0x23, 0x22, 0x21, r] {
+        feed(&mut state, &[0x048B2, item])?;
+    }
+    for item in [0x18, 0x17, 0x16, 0x15, 0x14, 0x13, 0x12, 0x11, s, t] {
+        feed(&mut state, &[0x049B2, item])?;
+    }
+    feed(&mut state, &[0x10000 | from])?;
+    let _jumped = state.try_own();
+    if p < 0x80 {
+        let _fetched = state.try_own();
+    } else {
+        take(&mut state, word_with)?;
+    }
+    for slot in [Place::Slot0, Place::Slot1, Place::Slot2] {
+        if state.place() == slot && place != slot {
+            let _moved = state.try_own();
+        }
+    }
+    let is_there = (state.place(), state.word()) == (place, word_with)
+        && self::registers(&state) == registers
+        && u32::from(state.b()) == a % 0x200
+        && state.data_stack().map(|word| word.get()) == DATA_STACK
+        && state.return_stack().map(|word| word.get()) == RETURN_STACK;
+    if !is_there {
+        return Err("it was not brought there".into());
+    }
     Ok(state)
 }
 
@@ -145,15 +176,15 @@ fn registers(state: &NodeState) -> Registers {
 const OPCODES: &str = "\
 ;     slot0 0    5   3FFFF 1     2     3   3FF 21    1     2     3      fetch
 ;     slot3 0    5   12    1     2     3   12  21    1     2     3      fetch
-ex    slot0 0    2AA 3FC05 1     2     3   5   2AA   1     2     3      fetch
+ex    slot0 0    1A5 3FC05 1     2     3   5   1A5   1     2     3      fetch
 ex    slot2 0    0   155   1     2     3   155 0     1     2     3      fetch
-jump  slot0 3FF  155 9     1     2     3   3FF 9     1     2     3      fetch
-jump  slot1 FF   2AA 9     1     2     3   2FF 9     1     2     3      fetch
-jump  slot1 0    3AA 9     1     2     3   300 9     1     2     3      fetch
-jump  slot2 7    2A8 9     1     2     3   2AF 9     1     2     3      fetch
-jump  slot2 0    2AF 9     1     2     3   2A8 9     1     2     3      fetch
-call  slot0 2A   201 9     1     2     3   2A  201   1     2     3      fetch
-call  slot1 10   3AA 9     1     2     3   310 3AA   1     2     3      fetch
+jump  slot0 3FF  175 9     1     2     3   3FF 9     1     2     3      fetch
+jump  slot1 FF   1A5 9     1     2     3   1FF 9     1     2     3      fetch
+jump  slot1 0    1F5 9     1     2     3   100 9     1     2     3      fetch
+jump  slot2 7    1A5 9     1     2     3   1A7 9     1     2     3      fetch
+jump  slot2 0    2F  9     1     2     3   28  9     1     2     3      fetch
+call  slot0 2A   115 9     1     2     3   2A  115   1     2     3      fetch
+call  slot1 10   1F5 9     1     2     3   110 1F5   1     2     3      fetch
 call  slot2 1    13  9     1     2     3   11  13    1     2     3      fetch
 unext slot0 0    5   0     1     2     3   5   21    1     2     3      slot1
 unext slot0 0    5   1     1     2     3   5   0     1     2     3      slot0
@@ -162,17 +193,17 @@ unext slot3 0    5   1     1     2     3   5   0     1     2     3      slot0
 unext slot2 0    5   3FFFF 1     2     3   5   3FFFE 1     2     3      slot0
 next  slot0 3FF  5   0     1     2     3   5   21    1     2     3      fetch
 next  slot0 3FF  5   1     1     2     3   3FF 0     1     2     3      fetch
-next  slot1 AB   3FF 2     1     2     3   3AB 1     1     2     3      fetch
+next  slot1 AB   1F5 2     1     2     3   1AB 1     1     2     3      fetch
 next  slot2 5    18  3FFFF 1     2     3   1D  3FFFE 1     2     3      fetch
 if    slot0 2A   5   9     0     2     3   2A  9     0     2     3      fetch
 if    slot0 2A   5   9     1     2     3   5   9     1     2     3      fetch
-if    slot1 AB   305 9     0     2     3   3AB 9     0     2     3      fetch
-if    slot2 7    305 9     20000 2     3   305 9     20000 2     3      fetch
-if    slot2 7    305 9     0     2     3   307 9     0     2     3      fetch
+if    slot1 AB   105 9     0     2     3   1AB 9     0     2     3      fetch
+if    slot2 7    105 9     20000 2     3   105 9     20000 2     3      fetch
+if    slot2 7    105 9     0     2     3   107 9     0     2     3      fetch
 -if   slot0 2A   5   9     1FFFF 2     3   2A  9     1FFFF 2     3      fetch
 -if   slot0 2A   5   9     20000 2     3   5   9     20000 2     3      fetch
--if   slot1 AB   305 9     0     2     3   3AB 9     0     2     3      fetch
--if   slot2 2    305 9     0     2     3   302 9     0     2     3      fetch
+-if   slot1 AB   105 9     0     2     3   1AB 9     0     2     3      fetch
+-if   slot2 2    105 9     0     2     3   102 9     0     2     3      fetch
 +*    slot0 0    5   9     0     3     5   5   9     1     3     20002  slot1
 +*    slot3 0    5   9     20001 7     2   5   9     30000 7     20001  fetch
 +*    slot0 0    5   9     3FFFF 2     1   5   9     0     2     20000  slot1
@@ -229,11 +260,12 @@ fn opcodes(rt: HostRuntime) -> Result<(), Fail> {
     for row in OPCODES.lines() {
         let op = Op::from_name(field(row, 0)?).ok_or("no opcode")?;
         let mut state = before(op, place(field(row, 1)?)?, number(row, 2)?, five(row, 3)?)?;
+        let steps = state.steps();
         assert_eq!(rt; state.need(), Need::Own, "{row}");
         state.step_own();
         assert_eq!(rt; registers(&state), five(row, 8)?, "{row}");
-        assert_eq!(rt; state.place, place(field(row, 13)?)?, "{row}");
-        assert_eq!(rt; state.steps(), 1, "{row}");
+        assert_eq!(rt; state.place(), place(field(row, 13)?)?, "{row}");
+        assert_eq!(rt; state.steps().checked_sub(steps), Some(1), "{row}");
     }
     let mut state = before(Op::BStore, Place::Slot0, 0, [5, 9, 0x3FE5D, 2, 3])?;
     assert!(rt; state.try_own());
@@ -246,25 +278,26 @@ const READS: &str = "\
 @p 03F 0      10A3F  040 0
 @p 040 0      10A00  041 0
 @p 07F 0      10A3F  000 0
-@p 200 0      10A00  201 0
-@p 0A9 0      10195  0AA 0
-@+ 0   0003F  10A3F  0   00040
-@+ 0   0007F  10A3F  0   00000
-@+ 0   3FE7F  10A3F  0   3FE00
-@+ 0   000E9  10195  0   000EA
+@p 000 0      10A00  001 0
+@+ 5   0003F  10A3F  5   00040
+@+ 5   0007F  10A3F  5   00000
+@+ 5   3FE7F  10A3F  5   3FE00
+@+ 5   000A9  10195  5   000AA
+@+ 5   000E9  10195  5   000EA
 @b 03F 00040  10A00  03F 00040
 @  03F 3FE7F  10A3F  03F 3FE7F
 ";
 
-/// A write of 155 in each row: the opcode, P and A before it, and after it; then what 000, 03F and io hold.
+/// A write of 155 in each row: the opcode, P and A before it, and after it; then what 000, 03F and io hold. (C9B2 is the
+/// word with the opcode.)
 const WRITES: &str = "\
 !p 03F 0      040 0      10A00 155   0
 !p 07F 0      000 0      10A00 155   0
-!p 240 0      241 0      155   10A3F 0
-!p 15D 0      15D 0      10A00 10A3F 155
-!+ 0   0007F  0   00000  10A00 155   0
-!+ 0   3FE40  0   3FE41  155   10A3F 0
-!+ 0   3FF5D  0   3FF5D  10A00 10A3F 155
+!p 000 0      001 0      155   0C9B2 0
+!p 040 0      041 0      155   0C9B2 0
+!+ 5   0007F  5   00000  10A00 155   0
+!+ 5   3FE40  5   3FE41  155   10A3F 0
+!+ 5   3FF5D  5   3FF5D  10A00 10A3F 155
 !b 03F 00040  03F 00040  155   10A3F 0
 !  03F 0007F  03F 0007F  10A00 155   0
 ";
@@ -278,7 +311,7 @@ fn memory(rt: HostRuntime) -> Result<(), Fail> {
         assert!(rt; state.try_own(), "{row}");
         let end = [number(row, 4)?, 9, number(row, 3)?, 1, number(row, 5)?];
         assert_eq!(rt; registers(&state), end, "{row}");
-        assert_eq!(rt; state.place, Place::Slot1, "{row}");
+        assert_eq!(rt; state.place(), Place::Slot1, "{row}");
     }
     for row in WRITES.lines() {
         let op = Op::from_name(field(row, 0)?).ok_or("no opcode")?;
@@ -290,7 +323,7 @@ fn memory(rt: HostRuntime) -> Result<(), Fail> {
         let holds = [state.ram()[0], state.ram()[63], state.io()].map(|word| word.get());
         let held = [number(row, 5)?, number(row, 6)?, number(row, 7)?];
         assert_eq!(rt; holds, held, "{row}");
-        assert_eq!(rt; state.place, Place::Slot1, "{row}");
+        assert_eq!(rt; state.place(), Place::Slot1, "{row}");
     }
     Ok(())
 }
@@ -309,7 +342,7 @@ fn multiply_step(rt: HostRuntime) -> Result<(), Fail> {
         (all.t().get(), all.s().get(), all.a().get()),
         (0, 3, 0x0000F)
     );
-    assert_eq!(rt; (all.place, all.r().get()), (Place::Slot2, 0));
+    assert_eq!(rt; (all.place(), all.r().get()), (Place::Slot2, 0));
     Ok(())
 }
 
@@ -356,13 +389,13 @@ fn ports(rt: HostRuntime) -> Result<(), Fail> {
     );
     state.step_took(Side::Right, word(0x049B2)?);
     assert_eq!(rt;
-        (state.word().get(), state.p(), state.place),
+        (state.word().get(), state.p(), state.place()),
         (0x049B2, 0x1D5, Place::Slot0)
     );
     assert_eq!(rt; state.need(), Need::Take(Sides::RIGHT));
     state.step_took(Side::Right, word(0x155)?);
     assert_eq!(rt;
-        (state.t().get(), state.p(), state.place),
+        (state.t().get(), state.p(), state.place()),
         (0x155, 0x1D5, Place::Slot1)
     );
     assert_eq!(rt; state.steps(), 4);
@@ -376,7 +409,7 @@ fn ports(rt: HostRuntime) -> Result<(), Fail> {
         assert!(rt; !state.try_own());
         state.step_took(Side::Up, word(0x155)?);
         assert_eq!(rt; registers(&state), [5, 9, 0x155, 1, 0x001A5], "{op:?}");
-        assert_eq!(rt; state.place, Place::Slot1);
+        assert_eq!(rt; state.place(), Place::Slot1);
     }
     Ok(())
 }
@@ -392,11 +425,12 @@ fn posts(rt: HostRuntime) -> Result<(), Fail> {
         let mut state = before(op, Place::Slot0, 0, [p, 9, 0x155, 2, a])?;
         assert_eq!(rt; state.need(), Need::Post(Side::Right, word(0x155)?));
         assert_eq!(rt; (state.try_own(), state.waiting()), (false, None));
+        let steps = state.steps();
         // it pops the word, and an address of a port stays
         state.step_posted();
         assert_eq!(rt; registers(&state), [p, 9, 2, 0x11, a], "{op:?}");
         assert_eq!(rt;
-            (state.need(), state.place),
+            (state.need(), state.place()),
             (Need::Check(Side::Right), Place::Slot0)
         );
         assert_eq!(rt;
@@ -405,8 +439,11 @@ fn posts(rt: HostRuntime) -> Result<(), Fail> {
         );
         state.step_checked();
         assert_eq!(rt; registers(&state), [p, 9, 2, 0x11, a], "{op:?}");
-        assert_eq!(rt; (state.need(), state.place), (Need::Own, Place::Slot1));
-        assert_eq!(rt; (state.waiting(), state.steps()), (None, 2));
+        assert_eq!(rt; (state.need(), state.place()), (Need::Own, Place::Slot1));
+        assert_eq!(rt;
+            (state.waiting(), state.steps().checked_sub(steps)),
+            (None, Some(2))
+        );
     }
     Ok(())
 }
@@ -424,7 +461,7 @@ fn posts_what_the_caller_names(rt: HostRuntime) -> Result<(), Fail> {
 
 #[test]
 fn readers(rt: HostRuntime) -> Result<(), Fail> {
-    let reset = NodeState::reset(node_000()?);
+    let reset = NodeState::reset(node(0)?);
     assert_eq!(rt; reset.node().name(), 0);
     assert_eq!(rt; (reset.p(), reset.b(), reset.steps()), (0x195, 0x15D, 0));
     // `@p @p a! .` with literals 7 and 9

@@ -1,11 +1,11 @@
-use super::{node_000, word};
-use crate::{Need, NodeState, Place, Stop};
+use crate::shared::{node, word};
+use ga_node::{Need, NodeState, Place, Stop};
 use ga_place::Side;
 use std::test::Fail;
 
 /// A booting node 000 to which these words came in.
 fn given(numbers: &[u32]) -> Result<NodeState, Fail> {
-    let mut state = NodeState::booting(node_000()?);
+    let mut state = NodeState::booting(node(0)?);
     for number in numbers {
         if state.need() != Need::Input {
             return Err("no word is wanted".into());
@@ -27,7 +27,7 @@ fn header_and_memory(rt: HostRuntime) -> Result<(), Fail> {
         (&frame, Place::Completion),
     ] {
         let state = given(words)?;
-        assert_eq!(rt; (state.place, state.need()), (place, Need::Input));
+        assert_eq!(rt; (state.place(), state.need()), (place, Need::Input));
         assert_eq!(rt; state.steps(), words.len() as u64);
     }
     // from 03F the address goes on in the mirror of memory
@@ -56,7 +56,7 @@ fn ends(rt: HostRuntime) -> Result<(), Fail> {
     ] {
         let state = given(frame)?;
         assert_eq!(rt;
-            (state.place, state.p(), state.need()),
+            (state.place(), state.p(), state.need()),
             (Place::Fetch, 5, Need::Own)
         );
         assert_eq!(rt; state.steps(), frame.len() as u64);
@@ -75,12 +75,12 @@ fn port(rt: HostRuntime) -> Result<(), Fail> {
         assert!(rt; !state.try_own());
         state.step_posted();
         assert_eq!(rt;
-            (state.need(), state.place),
+            (state.need(), state.place()),
             (Need::Check(Side::Right), Place::Body)
         );
         assert_eq!(rt; state.waiting(), Some(Side::Right));
         state.step_checked();
-        assert_eq!(rt; (state.need(), state.place), (Need::Input, place));
+        assert_eq!(rt; (state.need(), state.place()), (Need::Input, place));
     }
     assert_eq!(rt; state.steps(), 9);
     Ok(())
