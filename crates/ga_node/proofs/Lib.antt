@@ -3,4 +3,5 @@ pub mod Loading
 mod Works
 mod StackRing
 mod WorkedNodes
+mod WorkedSteps
 mod WorkedLoader
