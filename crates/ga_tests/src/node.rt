@@ -1,6 +1,6 @@
 use crate::shared::{self, node, word};
 use ga_node::{Need, NodeState, Place, Stop};
-use ga_place::{SIDES, Side, Sides};
+use ga_place::{Side, Sides};
 use ga_word::{Op, Word18};
 use std::test::Fail;
 
@@ -84,13 +84,16 @@ fn take(state: &mut NodeState, word: Word18) -> Result<(), Fail> {
     let Need::Take(sides) = state.need() else {
         return Err("no word is taken".into());
     };
-    for side in SIDES {
-        if sides.has(side) {
-            state.step_took(side, word);
-            return Ok(());
-        }
+    if sides.has(Side::Right) {
+        state.step_took(Side::Right, word);
+    } else if sides.has(Side::Down) {
+        state.step_took(Side::Down, word);
+    } else if sides.has(Side::Left) {
+        state.step_took(Side::Left, word);
+    } else if sides.has(Side::Up) {
+        state.step_took(Side::Up, word);
     }
-    Err("no side".into())
+    Ok(())
 }
 
 /// The node takes words at a port, and does in between what it does by itself.
