@@ -132,6 +132,7 @@ def show_failure(crate):
 
 def main(root):
     failed = prove_all(crates_of(root))
+    shutil.rmtree(f'{root}/out/trees', ignore_errors=True)
     if failed:
         show_failure(failed)
     return 1 if failed else 0
