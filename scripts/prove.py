@@ -4,12 +4,13 @@
     prove.py ROOT
 
 Status: 0 where all is proved, 1 where a crate is not; what is said of it goes to standard error, and the whole log
-of each crate to out/NAME.log.
+of each crate to out/NAME.log. The libraries are left in out/rlibs, and the program is out/ga_bench.
 
-`rt lib` locks the folders of its crate and of all crates below, so two of them would wait for each other. Each crate
-is therefore proved in a tree of its own, out/trees/NAME, into which the crates below are linked. What is kept of its
-proof, crates/NAME/out, moves there and back. So a build that was broken off goes on where it was.
+A library is built with what it states and without its proofs, as the gate builds it: what stands on it then takes
+two thirds of the time. `rt lib` has no word for that, so the toolchain's own program `rattle` is called here. A build
+that was broken off goes on with the crates that were not done.
 """
+import hashlib
 import os
 import re
 import shutil
@@ -20,61 +21,71 @@ from concurrent.futures import FIRST_COMPLETED, ThreadPoolExecutor, wait
 
 PROGRAM = 'ga_bench'
 SOURCES = ('src', 'specs', 'proofs')
+KIT = os.path.dirname(subprocess.run(['rt', 'doc'], capture_output=True, text=True, check=True).stdout.strip())
+LOGIC = ['--antt-project', f'{KIT}/rattle/logic/antt-project.json', '--logic-built', f'{KIT}/logic_built']
+TOOLCHAIN = ['--toolchain', f'{KIT}/toolchain']
 
 
 class Crate:
-    """A crate, the crates of the repository below it, and the size of the longest chain of crates from it up."""
+    """A crate: those of the repository and of the toolchain that it names, all of the repository below it, and the
+    size of the longest chain of crates from it up."""
 
-    def __init__(self, root, name, below):
-        self.root, self.name, self.below = root, name, below
-        self.folder = f'{root}/crates/{name}'
-        self.size = sum(os.path.getsize(file) for part in SOURCES for file in files_of(f'{self.folder}/{part}'))
-        self.chain = self.size
+    def __init__(self, root, name, direct, of_kit):
+        self.root, self.name, self.direct, self.of_kit = root, name, direct, of_kit
+        self.below = list({it.name: it for crate in direct for it in [*crate.below, crate]}.values())
+        self.folder, self.rlibs = f'{root}/crates/{name}', f'{root}/out/rlibs'
+        self.made = f'{root}/out/{name}.o' if name == PROGRAM else f'{self.rlibs}/{name}.rlib'
+        self.files = sorted(file for part in SOURCES for file in files_of(f'{self.folder}/{part}'))
+        self.size = self.chain = sum(map(os.path.getsize, self.files))
 
-    def prove(self, jobs):
-        """Proves the crate in a tree of its own. Returns whether it is proved."""
-        tree = f'{self.root}/out/trees/{self.name}'
-        inside = f'{tree}/crates/{self.name}'
-        kept = f'{inside}/out'
-        if os.path.isdir(kept):  # a build was killed here
-            shutil.rmtree(f'{self.folder}/out', ignore_errors=True)
-            shutil.move(kept, f'{self.folder}/out')
-        shutil.rmtree(tree, ignore_errors=True)
-        self.plant(tree)
+    def sum(self):
+        """The sum of all that the crate is made from."""
+        found = hashlib.sha256(repr([it.sum() for it in self.direct] + self.of_kit).encode())
+        for file in [f'{KIT}/WHAT', *self.files]:
+            with open(file, 'rb') as it:
+                found.update(f'{os.path.relpath(file, self.root)}\0'.encode() + it.read())
+        return found.hexdigest()
+
+    def is_proved(self):
+        """Whether what is there was made from what the crate is now."""
         try:
-            if os.path.isdir(f'{self.folder}/out'):
-                os.rename(f'{self.folder}/out', kept)
-            call = ['rt', 'run', '--jobs', jobs, '--', '--version'] if self.name == PROGRAM else ['rt', 'lib', '--jobs', jobs]
-            with open(f'{self.root}/out/{self.name}.log', 'wb') as log:
-                ended = subprocess.run(list(map(str, call)), cwd=inside, stdin=subprocess.DEVNULL, stdout=log, stderr=log)
-            return ended.returncode == 0
-        finally:
-            if os.path.isdir(kept):
-                os.rename(kept, f'{self.folder}/out')
-            shutil.rmtree(tree, ignore_errors=True)
+            with open(f'{self.made}.sum') as it:
+                return os.path.exists(self.made) and it.read() == self.sum()
+        except OSError:
+            return False
 
-    def plant(self, tree):
-        """Links what the proof reads into a tree: the crate's sources, and the crates below as they are proved."""
-        for crate in [self, *self.below]:
-            parts = SOURCES if crate is self else (*SOURCES, 'out/rlib')
-            for file in [file for part in parts for file in files_of(f'{crate.folder}/{part}')]:
-                link(file, f'{tree}/{os.path.relpath(file, self.root)}')
-        names = {crate.name for crate in [self, *self.below]}
-        with open(f'{self.root}/crates.txt') as listed, open(f'{tree}/crates.txt', 'w') as text:
-            text.writelines(line for line in listed if line.partition(':')[0] in names)
-        shutil.copy(f'{self.root}/HANDLES', tree)
+    def words(self, jobs):
+        """The call that proves the crate, and builds it."""
+        words = ['--crate-name', self.name, 'src/main.rt' if self.name == PROGRAM else 'src/lib.rt']
+        words += [word for it in ['std', *self.of_kit] for word in ['--extern', f'{it}={KIT}/rlibs/{it}.rlib']]
+        words += [word for it in self.direct for word in ['--extern', f'{it.name}={it.made}']]
+        words += ['-L', f'dependency={KIT}/rlibs', '-L', f'dependency={self.rlibs}', *LOGIC]
+        words += ['--links', f'{self.name}=', '--jobs', str(jobs), '-o', self.made]
+        return [f'{KIT}/bin/rattle', 'build', *words, *(TOOLCHAIN if self.name == PROGRAM else ['--statements'])]
+
+    def prove(self, jobs, niceness):
+        """Proves and builds the crate. Returns whether it is proved."""
+        if self.is_proved():
+            return True
+        found = self.sum()
+        with open(f'{self.root}/out/{self.name}.log', 'wb') as log:
+            how = {'cwd': self.folder, 'stdin': subprocess.DEVNULL, 'stdout': log, 'stderr': log}
+            ended = subprocess.run(['nice', '-n', str(niceness), *self.words(jobs)], **how)
+            if ended.returncode == 0 and self.name == PROGRAM:
+                ended = subprocess.run(linking(self.made, f'{self.root}/out/{self.name}'), **how)
+        if ended.returncode == 0:
+            with open(f'{self.made}.sum', 'w') as it:
+                it.write(found)
+        return ended.returncode == 0
+
+
+def linking(made, program):
+    return [f'{KIT}/bin/rattle-link', '--target', 'x86_64-unknown-linux-gnu', *TOOLCHAIN, '-o', program, made,
+            f'{KIT}/c/libos_c.a', f'{KIT}/c/liblibc_c.a']
 
 
 def files_of(folder):
     return [f'{at}/{name}' for at, _, names in os.walk(folder) for name in names]
-
-
-def link(file, to):
-    os.makedirs(os.path.dirname(to), exist_ok=True)
-    try:
-        os.link(file, to)
-    except OSError:
-        shutil.copy2(file, to)
 
 
 def crates_of(root):
@@ -82,9 +93,8 @@ def crates_of(root):
     crates = {}
     with open(f'{root}/crates.txt') as text:
         for name, words in re.findall(r'^(\w+):(.*)', text.read(), re.M):
-            direct = [crates[word] for word in words.split() if word in crates]
-            below = {crate.name: crate for it in direct for crate in [*it.below, it]}
-            crates[name] = Crate(root, name, list(below.values()))
+            words = words.split()
+            crates[name] = Crate(root, name, [crates[it] for it in words if it in crates], [it for it in words if it not in crates])
     found = [*crates[PROGRAM].below, crates[PROGRAM]]
     for crate in reversed(found):
         for below in crate.below:
@@ -98,11 +108,12 @@ def prove_all(crates):
     left, proved, running, began = sorted(crates, key=lambda it: -it.chain), set(), {}, time.monotonic()
     with ThreadPoolExecutor(processors) as pool:
         while left or running:
+            longest = max(it.chain for it in [*left, *running.values()])
             for crate in [it for it in left if proved.issuperset(it.below)][: processors - len(running)]:
-                # the crate that most others wait for takes all processors, and each other one half of them
-                jobs = processors if crate is left[0] else (processors + 1) // 2
+                # of the processors, a crate gets as many as what waits for it is long, and comes before shorter ones
+                share = crate.chain / longest
                 left.remove(crate)
-                running[pool.submit(crate.prove, jobs)] = crate
+                running[pool.submit(crate.prove, max(1, int(processors * share)), round(10 - 10 * share))] = crate
             for ended in wait(running, return_when=FIRST_COMPLETED).done:
                 crate = running.pop(ended)
                 if not ended.result():
@@ -131,8 +142,8 @@ def show_failure(crate):
 
 
 def main(root):
+    os.makedirs(f'{root}/out/rlibs', exist_ok=True)
     failed = prove_all(crates_of(root))
-    shutil.rmtree(f'{root}/out/trees', ignore_errors=True)
     if failed:
         show_failure(failed)
     return 1 if failed else 0

@@ -21,7 +21,7 @@ use std::marker::Model;
 
 /// The images of a program: one for each node that its text names, in its order. A contract sees them as
 /// the list of the nodes' names with their images.
-#[derive(Debug, Drop)]
+#[derive(Drop)]
 pub struct Images {
     images: IndexMap<Node, Image>,
 }

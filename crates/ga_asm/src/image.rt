@@ -6,7 +6,7 @@ use indexmap::IndexMap;
 use std::marker::Model;
 
 /// The words of a node, as they lie in its RAM from address 0 on: 1 to 64 words of 18 bits.
-#[derive(Debug, Drop)]
+#[derive(Drop)]
 pub struct Image {
     pub(crate) words: Vec<Word18>,
     pub(crate) code_len: usize,

@@ -5,7 +5,7 @@ ghost use Rattle.ga_chip.specs.Chip.{no_counts};
 use ga_place::Side;
 
 /// A number for each side.
-#[derive(Clone, Copy, Debug, PartialEq, Eq)]
+#[derive(Clone, Copy)]
 pub(crate) struct Counts {
     pub right: u64,
     pub down: u64,

@@ -2,7 +2,7 @@ ghost use Rattle.std.specs.Prelude.{◌≡◌, ℕ, ◌<◌, ◌≤◌, ◌==◌
 ghost use Rattle.ga_chip.specs.Awake.{is_in};
 
 /// A set of nodes, by their places in order of name.
-#[derive(Clone, Copy, Debug, PartialEq, Eq)]
+#[derive(Clone, Copy)]
 pub(crate) struct NodeSet {
     // A bit for each place, those of the first 64 in the first word.
     words: [u64; 3],

@@ -6,7 +6,7 @@ use ga_place::{CellId, Node, Side, cell, neighbour};
 use std::alloc::{AllocError, Global};
 
 /// What a node shares with its neighbour at a side.
-#[derive(Clone, Copy, Debug, PartialEq, Eq)]
+#[derive(Clone, Copy)]
 pub(crate) struct Port {
     /// The cell that the node reads.
     pub reads: CellId,
@@ -17,7 +17,7 @@ pub(crate) struct Port {
 }
 
 /// The ports of a node, one for each side at which it has a neighbour.
-#[derive(Clone, Copy, Debug, PartialEq, Eq)]
+#[derive(Clone, Copy)]
 pub(crate) struct Ports {
     // In the order of the sides.
     by_side: [Option<Port>; 4],

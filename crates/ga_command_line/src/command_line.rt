@@ -1,5 +1,5 @@
 ghost use Rattle.std.specs.Prelude.{◌≡◌, IfErr, IfOk, false, map};
-ghost use Rattle.clap.specs.Words.{app_of, kind_of, subcommand_rows_of};
+ghost use Rattle.clap.specs.Words.{App, app_of, kind_of, subcommand_rows_of};
 ghost use Rattle.clap.specs.declared.error.kind.ErrorKind.TheVariants.{OutOfMemory};
 ghost use Rattle.ga_command_line.specs.declared.command_line.LineError.TheVariants.{Memory};
 ghost use Rattle.ga_command_line.specs.Command.{IsCommandOf, has_globals, linked};
@@ -100,14 +100,14 @@ fn refused(alloc: Global, kind: ErrorKind, message: &str) -> Result<clap::Error,
 fn command<'a>(alloc: Global) -> Result<Command<'a>, AllocError>
     ensures { IfOk result (IsCommandOf bench_command) }
 {
-    let command = bare_command(alloc)?;
-    let command = link(command, one::command(alloc)?)?;
-    let command = link(command, asm::command(alloc)?)?;
-    let command = link(command, dis::command(alloc)?)?;
-    let command = link(command, boot::command(alloc)?)?;
-    let command = link(command, run::command(alloc)?)?;
-    let command = link(command, debug::command(alloc)?)?;
-    link(command, replay::command(alloc)?)
+    let command = bare_command(alloc);
+    let command = link(command, one::command(alloc));
+    let command = link(command, asm::command(alloc));
+    let command = link(command, dis::command(alloc));
+    let command = link(command, boot::command(alloc));
+    let command = link(command, run::command(alloc));
+    let command = link(command, debug::command(alloc));
+    link(command, replay::command(alloc))
 }
 
 /// The command without its subcommands.
@@ -124,14 +124,20 @@ fn bare_command<'a>(alloc: Global) -> Result<Command<'a>, AllocError>
     Ok(command)
 }
 
-/// The command with one more subcommand.
+/// The command with one more subcommand, where both were made: what made neither answers its refusal.
 #[tactic(auto, unfolding(crate::specs::Command::linked))]
-fn link<'a>(command: Command<'a>, subcommand: Command<'a>) -> Result<Command<'a>, AllocError>
-    requires command { has_globals command ≡ false }
-    requires subcommand { has_globals subcommand ≡ false }
-    ensures { IfOk result (IsCommandOf (linked (app_of command.entry) (app_of subcommand.entry))) }
+fn link<'a>(
+    command: Result<Command<'a>, AllocError>,
+    subcommand: Result<Command<'a>, AllocError>,
+) -> Result<Command<'a>, AllocError>
+    requires command { IfOk command (λ made. has_globals made ≡ false) }
+    requires subcommand { IfOk subcommand (λ made. has_globals made ≡ false) }
+    ensures plain { IfOk result (λ made. has_globals made ≡ false) }
+    ensures linked { (app linked_to : App) → IfOk command.entry (IsCommandOf app) → IfOk subcommand.entry (IsCommandOf linked_to)
+        → IfOk result (IsCommandOf (linked app linked_to)) }
 {
-    command.subcommand(subcommand)
+    let command = command?;
+    command.subcommand(subcommand?)
 }
 
 const STATUS_HELP: &str = "\

@@ -11,7 +11,7 @@ use ga_place::{Node, Side};
 use itoa::Buffer;
 
 /// What is done to a chip.
-#[derive(Clone, Copy, Debug, PartialEq, Eq)]
+#[derive(Clone, Copy)]
 pub enum Action {
     /// An address becomes a breakpoint of a node.
     Break { node: Node, address: Address },
@@ -26,7 +26,7 @@ pub enum Action {
 }
 
 /// What an action answers.
-#[derive(Clone, Copy, Debug, PartialEq, Eq)]
+#[derive(Clone, Copy)]
 pub enum Answer {
     /// It was done.
     Done,

@@ -1,7 +1,7 @@
 use std::marker::Model;
 
 /// An address of nine bits. A contract sees it as its number.
-#[derive(Clone, Copy, Debug, PartialEq, Eq)]
+#[derive(Clone, Copy)]
 pub struct Address {
     number: u16,
 }

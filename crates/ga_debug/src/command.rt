@@ -12,7 +12,7 @@ use crate::word::{Verb, View, address_of, count_of, node_of, side_of, verb_of, v
 use ga_place::{Node, Side};
 
 /// A command of a session.
-#[derive(Clone, Copy, Debug, PartialEq, Eq)]
+#[derive(Clone, Copy)]
 pub enum Command {
     /// Something is done to the chip.
     Act(Action),

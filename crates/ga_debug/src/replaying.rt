@@ -16,7 +16,7 @@ use ga_chip::{Chip, Outcome};
 use std::alloc::Global;
 
 /// What is wrong with a line of commands, with its number.
-#[derive(Clone, Copy, Debug, PartialEq, Eq)]
+#[derive(Clone, Copy)]
 pub enum LineError {
     /// The command is refused.
     Bad(u64, DebugError),

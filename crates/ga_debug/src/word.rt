@@ -6,7 +6,7 @@ use ga_chip::Outcome;
 use ga_place::{Node, Side};
 
 /// A command that does something to the chip.
-#[derive(Clone, Copy, Debug, PartialEq, Eq)]
+#[derive(Clone, Copy)]
 pub enum Verb {
     Break,
     Clear,
@@ -16,7 +16,7 @@ pub enum Verb {
 }
 
 /// A command that shows something of a node.
-#[derive(Clone, Copy, Debug, PartialEq, Eq)]
+#[derive(Clone, Copy)]
 pub enum View {
     Regs,
     Mem,

@@ -2,7 +2,7 @@ use ga_pack::Packed;
 use ga_word::Word18;
 
 /// What a word of a node is.
-#[derive(Clone, Debug, PartialEq, Eq, Hash, Drop)]
+#[derive(Debug, PartialEq, Eq, Drop)]
 pub enum Item {
     /// A word that is code: its opcodes, the destination of the last one, and its spare bits.
     Code(Packed),

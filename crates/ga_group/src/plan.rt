@@ -9,7 +9,7 @@ use std::marker::Model;
 
 /// Which nodes each worker tries: at least one worker, at least one node for each, and no node twice. A contract
 /// sees the list of the workers' groups, each a list of names.
-#[derive(Debug, Drop)]
+#[derive(Drop)]
 pub struct Plan {
     groups: Vec<Vec<Node>>,
 }

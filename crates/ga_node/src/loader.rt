@@ -17,7 +17,7 @@ const MORE: u32 = 0xAE;
 
 /// What the loader of a booting node keeps of the frame that comes in: its completion, the address of its
 /// next word, how many of its words are left, and the word that it took and has still to post.
-#[derive(Clone, Debug, Drop)]
+#[derive(Drop)]
 pub(crate) struct Loader {
     pub(crate) completion: Word18,
     pub(crate) transfer: Word18,

@@ -6,7 +6,7 @@ use std::marker::Model;
 
 /// The eight words of a stack below its registers, as a ring. A contract sees their list, the first
 /// item first.
-#[derive(Clone, Debug, Drop)]
+#[derive(Drop)]
 pub struct Stack {
     words: [Word18; 8],
     first: u8,

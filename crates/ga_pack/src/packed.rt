@@ -2,7 +2,7 @@ use arrayvec::ArrayVec;
 use ga_word::Op;
 
 /// The instructions of one word.
-#[derive(Clone, Debug, PartialEq, Eq, Hash, Drop)]
+#[derive(Debug, PartialEq, Eq, Drop)]
 pub struct Packed {
     /// The opcodes in the order in which they are run: four, or fewer where the last one takes a
     /// destination.

@@ -8,7 +8,7 @@ use std::marker::Model;
 
 /// A way through the chip: nodes, the first at an edge, each other one a neighbour of the node before it,
 /// and no node twice. A contract sees the list of their names.
-#[derive(Debug, Drop)]
+#[derive(Drop)]
 pub struct Route {
     nodes: Vec<Node>,
 }

@@ -12,7 +12,7 @@ use std::marker::Model;
 ///
 /// Cells are numbered from 0 to 523 by their writer's name, and those of one writer by side: right, down,
 /// left, up. A contract sees a cell as its number.
-#[derive(Clone, Copy, Debug, PartialEq, Eq, PartialOrd, Ord, Hash)]
+#[derive(Clone, Copy, Debug, PartialEq, Eq)]
 pub struct CellId {
     number: u16,
 }

@@ -8,7 +8,7 @@ use bitflags::{Flag, Flags, bitflag_items};
 ///
 /// Both nodes give a port that they share one name: east is right in even columns and left in odd
 /// ones, and north is down in even rows and up in odd ones.
-#[derive(Clone, Copy, Debug, PartialEq, Eq, PartialOrd, Ord, Hash)]
+#[derive(Clone, Copy, Debug, PartialEq, Eq)]
 pub enum Side {
     /// The east in even columns, and the west in odd ones.
     Right,
@@ -102,7 +102,7 @@ pub fn side_to(node: Node, other: Node) -> Option<Side>
 
 /// A set of sides, by the bits that stand for them in a port address: right 80, down 40, left 20 and
 /// up 10. Its operations are those of `bitflags::Flags`.
-#[derive(Clone, Copy, Debug, PartialEq, Eq, PartialOrd, Ord, Hash)]
+#[derive(Clone, Copy, Debug, PartialEq, Eq)]
 pub struct Sides(u8);
 
 bitflag_items! {

@@ -15,7 +15,7 @@ pub enum Value {
 }
 
 /// A bracketed word with a destination.
-#[derive(Debug, PartialEq, Eq, Drop)]
+#[derive(PartialEq, Eq, Drop)]
 pub struct TransferWord {
     /// The opcodes before the one that takes the destination.
     pub ops: ArrayVec<Op, 4>,
@@ -26,7 +26,7 @@ pub struct TransferWord {
 }
 
 /// What a section is made of. (The texts are this project's own: profile.)
-#[derive(Debug, PartialEq, Eq, Drop)]
+#[derive(PartialEq, Eq, Drop)]
 pub enum Item {
     /// An opcode that takes no destination, and is neither `@p` nor `!p`.
     Instruction(Op),

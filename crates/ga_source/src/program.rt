@@ -22,7 +22,7 @@ use std::marker::Model;
 
 /// The program of a text: a section for each node that the text names, in its order. A contract sees
 /// it as the list of its sections, with the places of their items.
-#[derive(Debug, Drop)]
+#[derive(Drop)]
 pub struct Program<'a> {
     // The places of the items are found in it.
     pub(crate) text: &'a str,

@@ -6,7 +6,7 @@ use crate::item::Item;
 use crate::name::Name;
 
 /// The items of a node, and the names of its labels, each in the text's order.
-#[derive(Debug, Drop)]
+#[derive(Drop)]
 pub struct Section {
     pub items: Vec<Item>,
     pub labels: Vec<Name>,

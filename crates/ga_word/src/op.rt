@@ -6,7 +6,7 @@ use std::fmt;
 
 /// The 32 opcodes of the F18A, in the order of their codes and under the names that its reference
 /// gives them.
-#[derive(Clone, Copy, Debug, Default, PartialEq, Eq, PartialOrd, Ord, Hash)]
+#[derive(Clone, Copy, Debug, Default, PartialEq, Eq)]
 pub enum Op {
     /// `;` sets P to R and pops R.
     Return,

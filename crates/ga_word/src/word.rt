@@ -7,7 +7,7 @@ use std::fmt;
 use std::marker::Model;
 
 /// A word of 18 bits. A contract sees it as its number, from 0 to 3FFFF.
-#[derive(Clone, Copy, Debug, PartialEq, Eq, PartialOrd, Ord, Hash)]
+#[derive(Clone, Copy, Debug, PartialEq, Eq)]
 pub struct Word18 {
     number: u32,
 }
