@@ -13,74 +13,76 @@ fn image(images: &Images, name: u16) -> Result<&Image, Fail> {
     Ok(images.images().get(&node(name)?).ok_or("no image")?)
 }
 
-fn numbers(alloc: Global, image: &Image) -> Result<Vec<u32>, Fail> {
-    let mut numbers = Vec::new(alloc);
-    for word in image.words() {
-        numbers.push(word.get())?;
-    }
-    Ok(numbers)
+/// Whether the image of a node has these words.
+fn has_words(alloc: Global, text: &str, name: u16, numbers: &[u32]) -> Result<bool, Fail> {
+    let images = assembled(alloc, text)?;
+    let words = image(&images, name)?.words();
+    Ok(
+        words.len() == numbers.len()
+            && words
+                .iter()
+                .zip(numbers)
+                .all(|(word, number)| word.get() == *number),
+    )
 }
 
-/// The fault of a text of node 000 on one line.
-fn at(kind: AsmErrorKind, column: usize) -> Result<Option<AsmError>, Fail> {
-    Ok(Some(AsmError {
+/// Whether a text of node 000 on one line is refused for this at this column.
+fn is_refused(alloc: Global, text: &str, kind: AsmErrorKind, column: usize) -> Result<bool, Fail> {
+    let told = AsmError {
         kind,
         node: node(0)?,
         line: 1,
         column,
-    }))
+    };
+    Ok(fault(alloc, text)? == Some(told))
 }
 
 #[test]
 fn words_of_items(rt: HostRuntime) -> Result<(), Fail> {
-    let alloc = rt.alloc();
     let cases = [
-        ("node 709 .", vec![in alloc; 0x2C9B2]?),
-        ("node 709 dup dup dup dup", vec![in alloc; 0x24D93]?),
-        (
-            "node 709 dup dup dup drop",
-            vec![in alloc; 0x24D92, 0x3A9B2]?,
-        ),
-        ("node 709 jump right", vec![in alloc; 0x101D5]?),
-        ("node 709 call $001", vec![in alloc; 0x12001]?),
-        ("node 709 dup jump $02A", vec![in alloc; 0x2572A]?),
-        ("node 709 dup drop jump $002", vec![in alloc; 0x24242]?),
-        ("node 709 dup jump right", vec![in alloc; 0x249B2, 0x101D5]?),
+        ("node 709 .", [0x2C9B2].as_slice()),
+        ("node 709 dup dup dup dup", &[0x24D93]),
+        ("node 709 dup dup dup drop", &[0x24D92, 0x3A9B2]),
+        ("node 709 jump right", &[0x101D5]),
+        ("node 709 call $001", &[0x12001]),
+        ("node 709 dup jump $02A", &[0x2572A]),
+        ("node 709 dup drop jump $002", &[0x24242]),
+        ("node 709 dup jump right", &[0x249B2, 0x101D5]),
         (
             "node 709 main: $5 $7 + @b",
-            vec![in alloc; 0x05DF2, 0x00005, 0x00007, 0x009B2]?,
+            &[0x05DF2, 0x00005, 0x00007, 0x009B2],
         ),
     ];
     for (text, words) in cases {
-        let images = assembled(alloc, text)?;
-        let image = image(&images, 709)?;
-        assert_eq!(rt; numbers(alloc, image)?, words, "{text}");
-        assert_eq!(rt; image.code_len(), image.words().len(), "{text}");
-        assert_eq!(rt; image.entry(), 0, "{text}");
+        assert!(rt; has_words(rt.alloc(), text, 709, words)?, "{text}");
+        assert!(rt; is_code_from_0(rt.alloc(), text, 709)?, "{text}");
     }
     Ok(())
 }
 
+/// Whether all words of a node are code, which begins at address 000.
+fn is_code_from_0(alloc: Global, text: &str, name: u16) -> Result<bool, Fail> {
+    let images = assembled(alloc, text)?;
+    let image = image(&images, name)?;
+    Ok(image.code_len() == image.words().len() && image.entry() == 0)
+}
+
 #[test]
 fn label_in_another_page(rt: HostRuntime) -> Result<(), Fail> {
-    let alloc = rt.alloc();
-    let front = "node 000 [ . ] [ . ] back: [ . ] [ . ] [ . ] [ . ] [ . ] [ . ]";
-    let free = format!(in alloc; "{front} dup drop jump back")?;
-    let images = assembled(alloc, free.as_str())?;
-    let words = numbers(alloc, image(&images, 0)?)?;
-    assert_eq!(rt; words.get(8).copied(), Some(0x242B2));
-    assert_eq!(rt; words.get(9).copied(), Some(0x10002));
-    let bracketed = format!(in alloc; "{front} [ dup drop jump back ]")?;
-    assert_eq!(rt;
-        fault(alloc, bracketed.as_str())?,
-        at(AsmErrorKind::OutOfReach, 80)?
-    );
+    let free = "node 000 [ . ] [ . ] back: [ . ] [ . ] [ . ] [ . ] [ . ] [ . ] dup drop jump back";
+    let filler = 0x2C9B2;
+    let words = [
+        filler, filler, filler, filler, filler, filler, filler, filler, 0x242B2, 0x10002,
+    ];
+    assert!(rt; has_words(rt.alloc(), free, 0, &words)?);
+    let bracketed =
+        "node 000 [ . ] [ . ] back: [ . ] [ . ] [ . ] [ . ] [ . ] [ . ] [ dup drop jump back ]";
+    assert!(rt; is_refused(rt.alloc(), bracketed, AsmErrorKind::OutOfReach, 80)?);
     Ok(())
 }
 
 #[test]
 fn faults(rt: HostRuntime) -> Result<(), Fail> {
-    let alloc = rt.alloc();
     let cases = [
         ("node 000 jump x", AsmErrorKind::UndefinedLabel, 15),
         ("node 000 unext", AsmErrorKind::UnextAlone, 10),
@@ -92,13 +94,18 @@ fn faults(rt: HostRuntime) -> Result<(), Fail> {
         ("node 000 dup x: unext", AsmErrorKind::UnextAlone, 17),
     ];
     for (text, kind, column) in cases {
-        assert_eq!(rt; fault(alloc, text)?, at(kind, column)?, "{text}");
+        assert!(rt; is_refused(rt.alloc(), text, kind, column)?, "{text}");
     }
-    let told = fault(alloc, "node 000 jump x")?.ok_or("accepted")?;
-    assert!(rt; told.to_string(alloc)?.as_str() == "000 1:15 UndefinedLabel");
-    let second = fault(alloc, "node 113 dup\nnode 008 dup\n  unext jump x\n")?.ok_or("accepted")?;
-    assert!(rt; second.to_string(alloc)?.as_str() == "008 3:14 UndefinedLabel");
+    let second = "node 113 dup\nnode 008 dup\n  unext jump x\n";
+    assert!(rt; is_told(rt.alloc(), "node 000 jump x", "000 1:15 UndefinedLabel")?);
+    assert!(rt; is_told(rt.alloc(), second, "008 3:14 UndefinedLabel")?);
     Ok(())
+}
+
+/// Whether the fault of a text is told so.
+fn is_told(alloc: Global, text: &str, line: &str) -> Result<bool, Fail> {
+    let told = fault(alloc, text)?.ok_or("accepted")?;
+    Ok(told.to_string(alloc)?.as_str() == line)
 }
 
 #[test]
@@ -108,52 +115,35 @@ fn full_and_overfull_node(rt: HostRuntime) -> Result<(), Fail> {
     for _ in 0..64u32 {
         text.push_str(" [ . ]")?;
     }
-    let images = assembled(alloc, text.as_str())?;
-    assert_eq!(rt; image(&images, 0)?.words().len(), 64);
+    assert!(rt; has_words(alloc, text.as_str(), 0, &[0x2C9B2; 64])?);
     text.push_str(" [ . ]")?;
-    assert_eq!(rt;
-        fault(alloc, text.as_str())?,
-        at(AsmErrorKind::TooLong, 394)?
-    );
+    assert!(rt; is_refused(alloc, text.as_str(), AsmErrorKind::TooLong, 394)?);
     Ok(())
 }
 
 #[test]
 fn names_defined_later(rt: HostRuntime) -> Result<(), Fail> {
-    let alloc = rt.alloc();
     let text = "node 000 [ jump b ] [ dup jump b ] [ dup drop jump b ] b: dup";
-    let images = assembled(alloc, text)?;
-    let words = numbers(alloc, image(&images, 0)?)?;
-    assert_eq!(rt;
-        words.as_slice(),
-        [0x10003, 0x25703, 0x24243, 0x249B2].as_slice()
-    );
+    let words = [0x10003, 0x25703, 0x24243, 0x249B2];
+    assert!(rt; has_words(rt.alloc(), text, 0, &words)?);
     let far = "node 000 [ dup drop jump b ] [ . ] [ . ] [ . ] [ . ] [ . ] [ . ] [ . ] b: dup";
-    assert_eq!(rt; fault(alloc, far)?, at(AsmErrorKind::OutOfReach, 26)?);
+    assert!(rt; is_refused(rt.alloc(), far, AsmErrorKind::OutOfReach, 26)?);
     // the first pass is over all items before the second one begins
-    let both = format!(in alloc; "{far} jump c")?;
-    assert_eq!(rt;
-        fault(alloc, both.as_str())?,
-        at(AsmErrorKind::UndefinedLabel, 84)?
-    );
+    let both =
+        "node 000 [ dup drop jump b ] [ . ] [ . ] [ . ] [ . ] [ . ] [ . ] [ . ] b: dup jump c";
+    assert!(rt; is_refused(rt.alloc(), both, AsmErrorKind::UndefinedLabel, 84)?);
     Ok(())
 }
 
 #[test]
 fn labels_data_and_entry(rt: HostRuntime) -> Result<(), Fail> {
-    let alloc = rt.alloc();
-    let images = assembled(
-        alloc,
-        "node 708 dup main: drop data table: , $3FFFF , main end:\nnode 001 .",
-    )?;
+    let text = "node 708 dup main: drop data table: , $3FFFF , main end:\nnode 001 .";
+    let words = [0x249B2, 0x3A9B2, 0x3FFFF, 0x00001];
+    assert!(rt; has_words(rt.alloc(), text, 708, &words)?);
+    let images = assembled(rt.alloc(), text)?;
     assert_eq!(rt; images.images().len(), 2);
     let image = image(&images, 708)?;
-    assert_eq!(rt;
-        numbers(alloc, image)?.as_slice(),
-        [0x249B2, 0x3A9B2, 0x3FFFF, 0x00001].as_slice()
-    );
-    assert_eq!(rt; image.code_len(), 2);
-    assert_eq!(rt; image.entry(), 1);
+    assert_eq!(rt; (image.code_len(), image.entry()), (2, 1));
     for (name, address) in [("main", 1), ("table", 2), ("end", 4)] {
         assert_eq!(rt; image.labels().get(name).copied(), Some(address), "{name}");
     }
@@ -162,7 +152,6 @@ fn labels_data_and_entry(rt: HostRuntime) -> Result<(), Fail> {
 
 #[test]
 fn labels_at_each_slot(rt: HostRuntime) -> Result<(), Fail> {
-    let alloc = rt.alloc();
     let cases = [
         ("node 000 x: dup jump x", [0x25700].as_slice(), 0),
         ("node 000 dup x: jump x", &[0x249B2, 0x10001], 1),
@@ -172,12 +161,16 @@ fn labels_at_each_slot(rt: HostRuntime) -> Result<(), Fail> {
         ("node 000 jump x x:", &[0x10001], 1),
     ];
     for (text, words, address) in cases {
-        let images = assembled(alloc, text)?;
-        let image = image(&images, 0)?;
-        assert_eq!(rt; numbers(alloc, image)?.as_slice(), words, "{text}");
-        assert_eq!(rt; image.labels().get("x").copied(), Some(address), "{text}");
+        assert!(rt; has_words(rt.alloc(), text, 0, words)?, "{text}");
+        assert!(rt; has_label_at(rt.alloc(), text, "x", address)?, "{text}");
     }
     Ok(())
+}
+
+/// Whether node 000 has a label at this address.
+fn has_label_at(alloc: Global, text: &str, label: &str, address: u8) -> Result<bool, Fail> {
+    let images = assembled(alloc, text)?;
+    Ok(image(&images, 0)?.labels().get(label).copied() == Some(address))
 }
 
 /// A section for each node, each of 64 words.
