@@ -4,11 +4,11 @@
     prove.py ROOT
 
 Status: 0 where all is proved, 1 where a crate is not; what is said of it goes to standard error, and the whole log
-of each crate to out/NAME.log. The libraries are left in out/rlibs, and the program is out/ga_bench.
+of each crate to out/NAME.log. A crate's library is left in crates/NAME/out/rlib, and the program in crates/ga_bench/out.
 
-A library is built with what it states and without its proofs, as the gate builds it: what stands on it then takes
-two thirds of the time. `rt lib` has no word for that, so the toolchain's own program `rattle` is called here. A build
-that was broken off goes on with the crates that were not done.
+A library is built with what it states and without its proofs, as the gate builds it, so that what stands on it has
+less to load. `rt lib` has no word for that, and lets no two crates be proved side by side that stand on one, so the
+toolchain's own program `rattle` is called here. A build that was broken off goes on with the crates that weren't done.
 """
 import hashlib
 import os
@@ -20,28 +20,31 @@ import time
 from concurrent.futures import FIRST_COMPLETED, ThreadPoolExecutor, wait
 
 PROGRAM = 'ga_bench'
-SOURCES = ('src', 'specs', 'proofs')
+# What a crate takes before its first function, and for what it stands on, as so many bytes of code.
+PRICE = 13_000
 KIT = os.path.dirname(subprocess.run(['rt', 'doc'], capture_output=True, text=True, check=True).stdout.strip())
 LOGIC = ['--antt-project', f'{KIT}/rattle/logic/antt-project.json', '--logic-built', f'{KIT}/logic_built']
 TOOLCHAIN = ['--toolchain', f'{KIT}/toolchain']
 
 
 class Crate:
-    """A crate: those of the repository and of the toolchain that it names, all of the repository below it, and the
-    size of the longest chain of crates from it up."""
+    """A crate, those of the repository and of the toolchain that it names, and all of the repository below it."""
 
     def __init__(self, root, name, direct, of_kit):
         self.root, self.name, self.direct, self.of_kit = root, name, direct, of_kit
         self.below = list({it.name: it for crate in direct for it in [*crate.below, crate]}.values())
-        self.folder, self.rlibs = f'{root}/crates/{name}', f'{root}/out/rlibs'
-        self.made = f'{root}/out/{name}.o' if name == PROGRAM else f'{self.rlibs}/{name}.rlib'
-        self.files = sorted(file for part in SOURCES for file in files_of(f'{self.folder}/{part}'))
-        self.size = self.chain = sum(map(os.path.getsize, self.files))
+        self.folder = f'{root}/crates/{name}'
+        self.out = f'{self.folder}/out' if name == PROGRAM else f'{self.folder}/out/rlib'
+        self.made = f'{self.out}/{name}.{"o" if name == PROGRAM else "rlib"}'
+        # how long the proof of the longest chain of crates from this one up takes, as bytes of code
+        self.size = self.chain = PRICE + sum(map(os.path.getsize, files_of(f'{self.folder}/src')))
+        self.sum = self.sum_of_sources()
 
-    def sum(self):
+    def sum_of_sources(self):
         """The sum of all that the crate is made from."""
-        found = hashlib.sha256(repr([it.sum() for it in self.direct] + self.of_kit).encode())
-        for file in [f'{KIT}/WHAT', *self.files]:
+        found = hashlib.sha256(repr([self.of_kit, [it.sum for it in self.direct]]).encode())
+        sources = [file for part in ('src', 'specs', 'proofs') for file in files_of(f'{self.folder}/{part}')]
+        for file in [f'{KIT}/WHAT', *sorted(sources)]:
             with open(file, 'rb') as it:
                 found.update(f'{os.path.relpath(file, self.root)}\0'.encode() + it.read())
         return found.hexdigest()
@@ -49,39 +52,37 @@ class Crate:
     def is_proved(self):
         """Whether what is there was made from what the crate is now."""
         try:
-            with open(f'{self.made}.sum') as it:
-                return os.path.exists(self.made) and it.read() == self.sum()
+            with open(f'{self.out}/sum') as it:
+                return os.path.exists(self.made) and it.read() == self.sum
         except OSError:
             return False
 
-    def words(self, jobs):
-        """The call that proves the crate, and builds it."""
+    def prove(self, jobs, niceness):
+        """Proves and builds the crate, where that isn't done. Returns whether it is proved."""
+        calls = [] if self.is_proved() else [['nice', '-n', str(niceness), *self.building(jobs)]]
+        if calls and self.name != PROGRAM:
+            shutil.rmtree(self.out, ignore_errors=True)
+        os.makedirs(self.out, exist_ok=True)
+        calls += [self.linking()] if self.name == PROGRAM else []
+        with open(f'{self.root}/out/{self.name}.log', 'wb') as log:
+            for call in calls:
+                if subprocess.run(call, cwd=self.folder, stdin=subprocess.DEVNULL, stdout=log, stderr=log).returncode:
+                    return False
+        with open(f'{self.out}/sum', 'w') as it:
+            it.write(self.sum)
+        return True
+
+    def building(self, jobs):
         words = ['--crate-name', self.name, 'src/main.rt' if self.name == PROGRAM else 'src/lib.rt']
         words += [word for it in ['std', *self.of_kit] for word in ['--extern', f'{it}={KIT}/rlibs/{it}.rlib']]
         words += [word for it in self.direct for word in ['--extern', f'{it.name}={it.made}']]
-        words += ['-L', f'dependency={KIT}/rlibs', '-L', f'dependency={self.rlibs}', *LOGIC]
-        words += ['--links', f'{self.name}=', '--jobs', str(jobs), '-o', self.made]
+        words += [word for it in [f'{KIT}/rlibs', *[it.out for it in self.below]] for word in ['-L', f'dependency={it}']]
+        words += [*LOGIC, '--links', f'{self.name}=', '--jobs', str(jobs), '-o', self.made]
         return [f'{KIT}/bin/rattle', 'build', *words, *(TOOLCHAIN if self.name == PROGRAM else ['--statements'])]
 
-    def prove(self, jobs, niceness):
-        """Proves and builds the crate. Returns whether it is proved."""
-        if self.is_proved():
-            return True
-        found = self.sum()
-        with open(f'{self.root}/out/{self.name}.log', 'wb') as log:
-            how = {'cwd': self.folder, 'stdin': subprocess.DEVNULL, 'stdout': log, 'stderr': log}
-            ended = subprocess.run(['nice', '-n', str(niceness), *self.words(jobs)], **how)
-            if ended.returncode == 0 and self.name == PROGRAM:
-                ended = subprocess.run(linking(self.made, f'{self.root}/out/{self.name}'), **how)
-        if ended.returncode == 0:
-            with open(f'{self.made}.sum', 'w') as it:
-                it.write(found)
-        return ended.returncode == 0
-
-
-def linking(made, program):
-    return [f'{KIT}/bin/rattle-link', '--target', 'x86_64-unknown-linux-gnu', *TOOLCHAIN, '-o', program, made,
-            f'{KIT}/c/libos_c.a', f'{KIT}/c/liblibc_c.a']
+    def linking(self):
+        words = ['--target', 'x86_64-unknown-linux-gnu', *TOOLCHAIN, '-o', f'{self.out}/{self.name}', self.made]
+        return [f'{KIT}/bin/rattle-link', *words, f'{KIT}/c/libos_c.a', f'{KIT}/c/liblibc_c.a']
 
 
 def files_of(folder):
@@ -94,7 +95,8 @@ def crates_of(root):
     with open(f'{root}/crates.txt') as text:
         for name, words in re.findall(r'^(\w+):(.*)', text.read(), re.M):
             words = words.split()
-            crates[name] = Crate(root, name, [crates[it] for it in words if it in crates], [it for it in words if it not in crates])
+            direct = [crates[it] for it in words if it in crates]
+            crates[name] = Crate(root, name, direct, [it for it in words if it not in crates])
     found = [*crates[PROGRAM].below, crates[PROGRAM]]
     for crate in reversed(found):
         for below in crate.below:
@@ -110,7 +112,7 @@ def prove_all(crates):
         while left or running:
             longest = max(it.chain for it in [*left, *running.values()])
             for crate in [it for it in left if proved.issuperset(it.below)][: processors - len(running)]:
-                # of the processors, a crate gets as many as what waits for it is long, and comes before shorter ones
+                # the longer the chain that waits for a crate, the more processors it gets, and the sooner
                 share = crate.chain / longest
                 left.remove(crate)
                 running[pool.submit(crate.prove, max(1, int(processors * share)), round(10 - 10 * share))] = crate
@@ -142,7 +144,6 @@ def show_failure(crate):
 
 
 def main(root):
-    os.makedirs(f'{root}/out/rlibs', exist_ok=True)
     failed = prove_all(crates_of(root))
     if failed:
         show_failure(failed)
