@@ -57,9 +57,9 @@ class Crate:
         except OSError:
             return False
 
-    def prove(self, jobs, niceness):
+    def prove(self, jobs):
         """Proves and builds the crate, where that isn't done. Returns whether it is proved."""
-        calls = [] if self.is_proved() else [['nice', '-n', str(niceness), *self.building(jobs)]]
+        calls = [] if self.is_proved() else [self.building(jobs)]
         if calls and self.name != PROGRAM:
             shutil.rmtree(self.out, ignore_errors=True)
         os.makedirs(self.out, exist_ok=True)
@@ -105,19 +105,23 @@ def crates_of(root):
 
 
 def prove_all(crates):
-    """Proves the crates, each once those below it are proved. Returns the first that is not proved, if one isn't."""
+    """Proves the crates, each once those below it are proved. Returns the first that is not proved, if one isn't.
+
+    One process more than there are processors works at once, since each loads what a crate stands on. Of the crates that
+    can be proved, the one with the longest chain gets all that are free but one, and each other a single one."""
     processors = len(os.sched_getaffinity(0))
     left, proved, running, began = sorted(crates, key=lambda it: -it.chain), set(), {}, time.monotonic()
-    with ThreadPoolExecutor(processors) as pool:
+    with ThreadPoolExecutor(processors + 1) as pool:
         while left or running:
-            longest = max(it.chain for it in [*left, *running.values()])
-            for crate in [it for it in left if proved.issuperset(it.below)][: processors - len(running)]:
-                # the longer the chain that waits for a crate, the more processors it gets, and the sooner
-                share = crate.chain / longest
-                left.remove(crate)
-                running[pool.submit(crate.prove, max(1, int(processors * share)), round(10 - 10 * share))] = crate
+            ready = [it for it in left if proved.issuperset(it.below)]
+            for crate in ready:
+                free = processors + 1 - sum(jobs for _, jobs in running.values())
+                if free > 0:
+                    jobs = 1 if crate is not ready[0] else max(1, free - (len(ready) > 1))
+                    left.remove(crate)
+                    running[pool.submit(crate.prove, jobs)] = crate, jobs
             for ended in wait(running, return_when=FIRST_COMPLETED).done:
-                crate = running.pop(ended)
+                crate, _ = running.pop(ended)
                 if not ended.result():
                     wait(running)
                     return crate
