@@ -1,14 +1,19 @@
-# Which build of the program is there, whether it is current, and how a new one is made. The commands
-# ga-bench and test read this file, with the repository's absolute path in `root`.
+# Which build of the program is there, whether it is current, and how it is made so: from the release, or by a
+# build. The commands ga-bench, test and scripts/release read this file, with the repository's absolute path in
+# `root`.
 #
-#   out/ga-bench   the built program: a copy of what a proved build left in crates/ga_bench/out
+#   out/ga-bench   the program: unpacked from the release, or a copy of what a proved build left in crates/ga_bench/out
 #   out/stamp      the sum of the sources that it was built from; its time is from before they were read
+#   out/unpacked   there where the program is from the release
+#   out/green      the sum of the sources on which ./test passed last
 #   out/NAME.log   what the last build said of a crate
-#   out/lock       held by whoever builds
+#   out/lock       held by whoever makes the program
+#   release/       the program of a green ./test, packed, and a text that says of which sources
 
 out=$root/out
 program=$out/ga-bench
 stamp=$out/stamp
+release=$root/release/ga-bench
 
 say() {
     printf 'ga-bench: %s\n' "$*" >&2
@@ -21,15 +26,21 @@ sources_sum() (
         printf 'crates.txt\0'
         find crates \( -name out -o -name must-fail \) -prune -o -type f \
             \( -path 'crates/*/src/*' -o -path 'crates/*/specs/*' -o -path 'crates/*/proofs/*' \) -print0
-    } | LC_ALL=C sort -z | xargs -0 sha256sum | sha256sum
+    } | LC_ALL=C sort -z | xargs -0 sha256sum | sum_of
 )
 
-# Whether the built program is that of the sources as they are now. Most often a look at the times is
+# The SHA-256 of what is read.
+sum_of() {
+    sha256sum | cut -d ' ' -f 1
+}
+
+# Whether the program is that of the sources as they are now. Most often a look at the times is
 # enough: no file and no folder has changed since the stamp. (The time of a file's last change of any
 # kind can't be set back, and a file that is added, moved or removed changes its folder.) Else the texts
 # decide, and where they are the same, as after a git checkout and back, the stamp gets a new time.
 is_current() {
     [ -x "$program" ] && [ -f "$stamp" ] || return 1
+    [ "${GA_BENCH_BUILD:-}" = 1 ] && [ -f "$out/unpacked" ] && return 1
     changed=$(cd "$root" && find crates.txt crates \( -name out -o -name must-fail \) -prune \
         -o -cnewer "$stamp" -print -quit 2>&1) && [ -z "$changed" ] && return 0
     seen=$out/seen.$$
@@ -43,16 +54,13 @@ is_current() {
     return $is_same
 }
 
-# Waits until no other call builds here. The lock goes when this process ends, however it ends.
+# Waits until no other call makes the program here. The lock goes when this process ends, however it ends.
 lock() {
-    if ! mkdir -p "$out" || ! { true >>"$out/lock"; } 2>/dev/null; then
-        say "cannot write to $out"
-        return 1
-    fi
+    mkdir -p "$out" 2>/dev/null && { true >>"$out/lock"; } 2>/dev/null || return 1
     exec 9>>"$out/lock"
     command -v flock >/dev/null 2>&1 || return 0
     if ! flock -n 9; then
-        say 'another call is building here: waiting for it'
+        say 'another call is making the program here: waiting for it'
         flock 9
     fi
 }
@@ -61,35 +69,95 @@ unlock() {
     exec 9>&-
 }
 
-# Before a build: notes the time and the sources. The caller holds the lock.
-begin_build() {
+# Before the program is made: notes the time and the sources. The caller holds the lock.
+begin() {
     true >"$out/begun" && begun_sum=$(sources_sum)
 }
 
-# After a proved build: makes it the built program, or fails where the sources have changed since it began.
-end_build() {
-    cp "$root/crates/ga_bench/out/ga_bench" "$out/new" || return 1
+# Makes a copy of this file the program, or fails where the sources have changed since it was begun.
+put_in_place() {
+    cp "$1" "$out/new" || return 1
     [ "$(sources_sum)" = "$begun_sum" ] || return 1
     rm -f "$stamp"
     mv -f "$out/new" "$program" && printf '%s\n' "$begun_sum" >"$out/new" &&
         touch -r "$out/begun" "$out/new" && mv -f "$out/new" "$stamp"
 }
 
-# Makes the built program current. Statuses: 69 without the toolchain, 70 where the build failed.
-build() {
-    if ! command -v rt >/dev/null 2>&1; then
-        say 'the program is not built yet, and the toolchain is missing: no command rt on PATH'
-        return 69
+# What the text of the release says behind a word and a colon.
+released() {
+    sed -n "s/^$1: //p" "$release.txt"
+}
+
+# Unpacks the release into this file, where it is of the sources with this sum, whole, and starts on this machine.
+# Else `why` says what is wrong with it, and the status is 1.
+unpack() {
+    if [ "${GA_BENCH_BUILD:-}" = 1 ]; then
+        why='not used, since GA_BENCH_BUILD is 1'
+    elif [ ! -f "$release.gz" ] || [ ! -f "$release.txt" ]; then
+        why='missing'
+    elif [ "$2" != "$(released sources)" ]; then
+        why='of other sources'
+    elif ! command -v gzip >/dev/null 2>&1; then
+        why='not unpacked, since no command gzip is on PATH'
+    elif ! gzip -dc <"$release.gz" 2>/dev/null >"$1" || [ "$(sum_of <"$1")" != "$(released program)" ]; then
+        why='damaged'
+    elif ! chmod +x "$1" || ! "$1" --version </dev/null >/dev/null 2>&1; then
+        why="not one that starts on this machine (it wants Linux on x86-64 with glibc $(released glibc))"
+    else
+        return 0
     fi
-    lock || return 70
+    rm -f "$1"
+    return 1
+}
+
+# Makes the program current: from the release, or else by a build. Statuses: 69 without the toolchain, 70 where
+# the build failed.
+make_current() {
+    if ! lock; then
+        unpack_elsewhere
+        return
+    fi
     if is_current; then
         unlock
         return 0
     fi
+    begin || return 70
+    if unpack "$out/unpacking" "$begun_sum"; then
+        true >"$out/unpacked"
+        put_in_place "$out/unpacking" || return 70
+        rm -f "$out/unpacking"
+        say 'this is the release of these sources; GA_BENCH_BUILD=1 ./ga-bench proves and builds it anew'
+        unlock
+        return 0
+    fi
+    say "the release is $why"
+    build
+}
+
+# Where nothing can be written here: unpacks the release into a temporary folder, which is gone before it starts.
+unpack_elsewhere() {
+    if folder=$(mktemp -d) && unpack "$folder/ga-bench" "$(sources_sum)"; then
+        exec 8<"$folder/ga-bench"
+        rm -rf "$folder"
+        program=/proc/self/fd/8
+        return 0
+    fi
+    rm -rf "$folder"
+    say "cannot write to $out, and the release is ${why:-not unpacked}: copy this folder to where it can be written to"
+    return 70
+}
+
+# Proves and builds the program. The caller holds the lock.
+build() {
+    if ! command -v rt >/dev/null 2>&1; then
+        say 'so the program is to be built, and the toolchain is missing: no command rt on PATH'
+        return 69
+    fi
     say 'the program is proved and built first, since it is new or its sources changed: this takes minutes, once'
     while :; do
-        begin_build && python3 "$root/scripts/prove.py" "$root" 9>&- || return 70
-        end_build && break
+        begin && python3 "$root/scripts/prove.py" "$root" 9>&- || return 70
+        rm -f "$out/unpacked"
+        put_in_place "$root/crates/ga_bench/out/ga_bench" && break
         if [ ! -f "$root/crates/ga_bench/out/ga_bench" ] || [ "$(sources_sum)" = "$begun_sum" ]; then
             say "the built program can't be put into $out"
             return 70

@@ -91,11 +91,14 @@ pub encodable : (ops : List Op) (dest : Option ℕ) (spare : ℕ) → pack_fault
 unfolding pack_fault
 encodable [] (Some dest) spare h = absurd (cc)
 encodable [] None spare h = absurd (cc)
-encodable (a ∷ []) (Some dest) spare h = some0 a dest spare (grind (arith, common_steps)) (grind (arith, common_steps)) (grind (arith, common_steps))
+encodable (a ∷ []) (Some dest) spare h =
+    let parts = no_fault_parts (a ∷ []) (Some dest) spare h in some0 a dest spare parts.0 (ltb-true dest 1024 parts.2) (ltb-true spare 8 (and_parts _ _ parts.3).0)
 encodable (a ∷ []) None spare h = absurd (cc)
 encodable (a ∷ b ∷ []) (Some dest) spare h =
-    let none : spare ≡ 0 = grind (arith, common_steps) in
-    rw none (some1 a b dest (grind (arith, common_steps)) (grind (arith, common_steps)) (grind (arith, common_steps)))
+    let parts = no_fault_parts (a ∷ b ∷ []) (Some dest) spare h in
+    let none : spare ≡ 0 = zero_spare (a ∷ b ∷ []) spare refl parts.3 in
+    let shape = and_parts (not (takes_dest a)) (takes_dest b) parts.0 in
+    rw none (some1 a b dest (not-true (takes_dest a) shape.0) shape.1 (ltb-true dest 256 parts.2))
 encodable (a ∷ b ∷ []) None spare h = absurd (cc)
 encodable (a ∷ b ∷ c ∷ []) (Some dest) spare h =
     let parts = no_fault_parts (a ∷ b ∷ c ∷ []) (Some dest) spare h in
