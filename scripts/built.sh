@@ -5,7 +5,7 @@
 #   out/ga-bench   the program: unpacked from the release, or a copy of what a proved build left in crates/ga_bench/out
 #   out/stamp      the sum of the sources that it was built from; its time is from before they were read
 #   out/unpacked   there where the program is from the release
-#   out/green      the sum of the sources on which ./test passed last
+#   out/green      of the last ./test, where it passed: the sums of the sources and of the program, and the toolchain
 #   out/NAME.log   what the last build said of a crate
 #   out/lock       held by whoever makes the program
 #   release/       the program of a green ./test, packed, and a text that says of which sources
@@ -71,16 +71,28 @@ unlock() {
 
 # Before the program is made: notes the time and the sources. The caller holds the lock.
 begin() {
-    true >"$out/begun" && begun_sum=$(sources_sum)
+    true >"$out/begun" && begun_sum=$(sources_sum) && return 0
+    say 'the sources cannot be read: a command sha256sum on PATH and space for the folder out are needed'
+    return 1
+}
+
+# Whether no source has changed since it was begun, nor been changed and put back.
+is_as_begun() {
+    touched=$(cd "$root" && find crates.txt crates \( -name out -o -name must-fail \) -prune \
+        -o -type f ! -name '*.md' -cnewer "$out/begun" -print -quit 2>&1) && [ -z "$touched" ] && [ "$(sources_sum)" = "$begun_sum" ]
 }
 
 # Makes a copy of this file the program, or fails where the sources have changed since it was begun.
 put_in_place() {
-    cp "$1" "$out/new" || return 1
-    [ "$(sources_sum)" = "$begun_sum" ] || return 1
+    cp "$1" "$out/new.$$" && is_as_begun || return 1
     rm -f "$stamp"
-    mv -f "$out/new" "$program" && printf '%s\n' "$begun_sum" >"$out/new" &&
-        touch -r "$out/begun" "$out/new" && mv -f "$out/new" "$stamp"
+    mv -f "$out/new.$$" "$program" && printf '%s\n' "$begun_sum" >"$out/new.$$" &&
+        touch -r "$out/begun" "$out/new.$$" && mv -f "$out/new.$$" "$stamp"
+}
+
+# What is noted of a ./test that passed.
+green() {
+    printf '%s %s %s\n' "$(sources_sum)" "$(sum_of <"$program")" "$(rt version)"
 }
 
 # What the text of the release says behind a word and a colon.
@@ -122,13 +134,17 @@ make_current() {
         return 0
     fi
     begin || return 70
-    if unpack "$out/unpacking" "$begun_sum"; then
+    if unpack "$out/unpacking.$$" "$begun_sum"; then
         true >"$out/unpacked"
-        put_in_place "$out/unpacking" || return 70
-        rm -f "$out/unpacking"
-        say 'this is the release of these sources; GA_BENCH_BUILD=1 ./ga-bench proves and builds it anew'
-        unlock
-        return 0
+        put_in_place "$out/unpacking.$$"
+        made=$?
+        rm -f "$out/unpacking.$$"
+        if [ $made = 0 ]; then
+            say 'this is the release of these sources; GA_BENCH_BUILD=1 ./ga-bench proves and builds it anew'
+            unlock
+            return 0
+        fi
+        why='not put in place, since the sources changed or out has no space'
     fi
     say "the release is $why"
     build
@@ -155,10 +171,12 @@ build() {
     fi
     say 'the program is proved and built first, since it is new or its sources changed: this takes minutes, once'
     while :; do
-        begin && python3 "$root/scripts/prove.py" "$root" 9>&- || return 70
-        rm -f "$out/unpacked"
-        put_in_place "$root/crates/ga_bench/out/ga_bench" && break
-        if [ ! -f "$root/crates/ga_bench/out/ga_bench" ] || [ "$(sources_sum)" = "$begun_sum" ]; then
+        begin && python3 "$root/scripts/prove.py" "$root" || return 70
+        if put_in_place "$root/crates/ga_bench/out/ga_bench"; then
+            rm -f "$out/unpacked"
+            break
+        fi
+        if is_as_begun; then
             say "the built program can't be put into $out"
             return 70
         fi

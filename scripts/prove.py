@@ -10,6 +10,7 @@ A library is built with what it states and without its proofs, as the gate build
 less to load. `rt lib` has no word for that, and lets no two crates be proved side by side that stand on one, so the
 toolchain's own program `rattle` is called here. A build that was broken off goes on with the crates that weren't done.
 """
+import contextlib
 import hashlib
 import os
 import re
@@ -19,6 +20,7 @@ import sys
 import time
 from concurrent.futures import FIRST_COMPLETED, ThreadPoolExecutor, wait
 
+BEGAN = time.time()
 PROGRAM = 'ga_bench'
 # What a crate takes before its first function, and for what it stands on, as so many bytes of code.
 PRICE = 13_000
@@ -36,6 +38,7 @@ class Crate:
         self.folder = f'{root}/crates/{name}'
         self.out = f'{self.folder}/out' if name == PROGRAM else f'{self.folder}/out/rlib'
         self.made = f'{self.out}/{name}.{"o" if name == PROGRAM else "rlib"}'
+        self.sources = sorted(file for part in ('src', 'specs', 'proofs') for file in files_of(f'{self.folder}/{part}'))
         # how long the proof of the longest chain of crates from this one up takes, as bytes of code
         self.size = self.chain = PRICE + sum(map(os.path.getsize, files_of(f'{self.folder}/src')))
         self.sum = self.sum_of_sources()
@@ -43,8 +46,7 @@ class Crate:
     def sum_of_sources(self):
         """The sum of all that the crate is made from."""
         found = hashlib.sha256(repr([self.of_kit, [it.sum for it in self.direct]]).encode())
-        sources = [file for part in ('src', 'specs', 'proofs') for file in files_of(f'{self.folder}/{part}')]
-        for file in [f'{KIT}/WHAT', *sorted(sources)]:
+        for file in [f'{KIT}/WHAT', *self.sources]:
             with open(file, 'rb') as it:
                 found.update(f'{os.path.relpath(file, self.root)}\0'.encode() + it.read())
         return found.hexdigest()
@@ -60,16 +62,22 @@ class Crate:
     def prove(self, jobs):
         """Proves and builds the crate, where that isn't done. Returns whether it is proved."""
         calls = [] if self.is_proved() else [self.building(jobs)]
-        if calls and self.name != PROGRAM:
+        calls += [self.linking()] if self.name == PROGRAM else []
+        if not calls:
+            return True
+        if self.name != PROGRAM:
             shutil.rmtree(self.out, ignore_errors=True)
         os.makedirs(self.out, exist_ok=True)
-        calls += [self.linking()] if self.name == PROGRAM else []
+        with contextlib.suppress(OSError):
+            os.remove(f'{self.out}/sum')
         with open(f'{self.root}/out/{self.name}.log', 'wb') as log:
             for call in calls:
                 if subprocess.run(call, cwd=self.folder, stdin=subprocess.DEVNULL, stdout=log, stderr=log).returncode:
                     return False
-        with open(f'{self.out}/sum', 'w') as it:
-            it.write(self.sum)
+        # a source that was changed meanwhile, and perhaps put back, was read as nobody knows what
+        if all(os.stat(file).st_ctime < BEGAN for file in self.sources):
+            with open(f'{self.out}/sum', 'w') as it:
+                it.write(self.sum)
         return True
 
     def building(self, jobs):
