@@ -16,20 +16,17 @@ fn named(alloc: Global, words: &[&str]) -> Result<Job, Fail> {
 fn reads_command_lines(rt: HostRuntime) -> Result<(), Fail> {
     let alloc = rt.alloc();
     for (text, tries) in [("0", 0), ("5", 5), ("1000000", 1_000_000)] {
-        assert_eq!(rt;
-            named(alloc, &["ga-bench", "one", text])?,
-            Job::One { tries }
-        );
+        assert!(rt; named(alloc, &["ga-bench", "one", text])? == Job::One { tries });
     }
-    assert_eq!(rt; named(alloc, &["ga-bench", "asm"])?, Job::Asm);
-    assert_eq!(rt; named(alloc, &["ga-bench", "debug"])?, Job::Debug);
-    assert_eq!(rt; named(alloc, &["ga-bench", "replay"])?, Job::Replay);
+    assert!(rt; named(alloc, &["ga-bench", "asm"])? == Job::Asm);
+    assert!(rt; named(alloc, &["ga-bench", "debug"])? == Job::Debug);
+    assert!(rt; named(alloc, &["ga-bench", "replay"])? == Job::Replay);
     for (words, code) in [
         (["ga-bench", "dis"].as_slice(), None),
         (&["ga-bench", "dis", "--code", "0"], Some(0)),
         (&["ga-bench", "dis", "--code=64"], Some(64)),
     ] {
-        assert_eq!(rt; named(alloc, words)?, Job::Dis { code });
+        assert!(rt; named(alloc, words)? == Job::Dis { code });
     }
     Ok(())
 }
@@ -39,10 +36,7 @@ fn reads_routes(rt: HostRuntime) -> Result<(), Fail> {
     let alloc = rt.alloc();
     for text in ["708,709", "", "any text"] {
         let route = String::from_str(alloc, text)?;
-        assert_eq!(rt;
-            named(alloc, &["ga-bench", "boot", text])?,
-            Job::Boot { route }
-        );
+        assert!(rt; named(alloc, &["ga-bench", "boot", text])? == Job::Boot { route });
     }
     for (words, workers, turns) in [
         (&["ga-bench", "run", "708", "1", "0"], 1, 0),
@@ -58,7 +52,7 @@ fn reads_routes(rt: HostRuntime) -> Result<(), Fail> {
             workers,
             turns,
         };
-        assert_eq!(rt; named(alloc, words)?, run);
+        assert!(rt; named(alloc, words)? == run);
     }
     Ok(())
 }
@@ -108,7 +102,7 @@ fn refuses_command_lines(rt: HostRuntime) -> Result<(), Fail> {
     ];
     for (words, kind) in table {
         match job(alloc, words) {
-            Err(LineError::Parse(error)) => assert_eq!(rt; error.kind(), kind, "{words:?}"),
+            Err(LineError::Parse(error)) => assert!(rt; error.kind() == kind, "{words:?}"),
             _ => return Err("no error of the line".into()),
         }
     }

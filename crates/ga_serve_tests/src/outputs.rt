@@ -44,10 +44,9 @@ fn answers_lines(rt: HostRuntime) -> Result<(), Fail> {
             let mut reader = source_of(input.as_bytes(), most);
             let mut writer = sink_of(rt.alloc(), most);
             let outcome = serve(&rt, &mut reader, &mut writer, &job);
-            assert_eq!(rt; status(&outcome), 0);
-            assert_eq!(rt;
-                writer.taken.as_slice(),
-                text.as_bytes(),
+            assert!(rt; status(&outcome) == 0);
+            assert!(rt;
+                writer.taken.as_slice() == text.as_bytes(),
                 "{most} at a call"
             );
         }
@@ -65,8 +64,8 @@ fn boots_a_route(rt: HostRuntime) -> Result<(), Fail> {
     let mut writer = sink_of(alloc, 8192);
     let mut reader = source_of(b"node 709 .", 8192);
     let outcome = serve(&rt, &mut reader, &mut writer, &Job::Boot { route });
-    assert_eq!(rt; status(&outcome), 0);
-    assert_eq!(rt; writer.taken.as_slice(), text.as_bytes());
+    assert!(rt; status(&outcome) == 0);
+    assert!(rt; writer.taken.as_slice() == text.as_bytes());
     Ok(())
 }
 
@@ -100,8 +99,8 @@ fn run_two_nodes(rt: HostRuntime) -> Result<(), Fail> {
         };
         let mut writer = sink_of(alloc, 8192);
         let mut reader = source_of(TWO_NODES.as_bytes(), 8192);
-        assert_eq!(rt; status(&serve(&rt, &mut reader, &mut writer, &job)), 0);
-        assert_eq!(rt; writer.taken.as_slice(), TWO_NODES_RUN.as_bytes());
+        assert!(rt; status(&serve(&rt, &mut reader, &mut writer, &job)) == 0);
+        assert!(rt; writer.taken.as_slice() == TWO_NODES_RUN.as_bytes());
     }
     Ok(())
 }
@@ -125,6 +124,6 @@ fn served(
 fn composes(rt: HostRuntime) {
     let mut output = Vec::new(rt.alloc());
     let outcome = served(&rt, &Job::One { tries: 5 }, WORDS.as_bytes(), &mut output);
-    assert_eq!(rt; outcome, Ok(()));
-    assert_eq!(rt; output.as_slice(), LINE.as_bytes());
+    assert!(rt; outcome == Ok(()));
+    assert!(rt; output.as_slice() == LINE.as_bytes());
 }

@@ -1,8 +1,9 @@
 //! Routes boot on the chip: of each node the memory is its image, and it has started.
 use ga_asm::{Images, assemble};
 use ga_chip::Chip;
+use ga_debug::booted;
 use ga_node::Stop;
-use ga_path::{Route, boot};
+use ga_path::Route;
 use ga_place::{Node, Side};
 use ga_source::parse;
 use std::alloc::Global;
@@ -20,18 +21,16 @@ fn snake(alloc: Global, count: u16) -> Result<Vec<Node>, Fail> {
     Ok(nodes)
 }
 
-/// Images of 64 words, no two alike, which begin with `@b . . .`: a read of io, at which the node stops.
-fn full_images(alloc: Global, nodes: &[Node]) -> Result<Images, Fail> {
+/// A text in which each node has 64 words, no two alike, which begin with `@b . . .`: a read of io, at which it stops.
+fn full_text(alloc: Global, nodes: &[Node]) -> Result<String, Fail> {
     let mut text = String::new(alloc);
     for node in nodes {
         writeln!(text, "node {node} [ @b . . . ] data")?;
         for word in 1..64u32 {
-            let number = u32::from(node.name()) * 64 + word;
-            writeln!(text, ", {number}")?;
+            writeln!(text, ", {}", u32::from(node.name()) * 64 + word)?;
         }
     }
-    let program = parse(alloc, &text)?;
-    Ok(assemble(alloc, &program)?)
+    Ok(text)
 }
 
 /// Turns of all sides again and again, until nothing moves. How many tries were `Moved`.
@@ -60,23 +59,23 @@ fn are_booted(chip: &Chip, images: &Images) -> bool {
     true
 }
 
+/// Boots so many nodes, and answers how many tries were `Moved` until all stood still, where all are booted.
+fn boots(alloc: Global, count: u16) -> Result<Option<u64>, Fail> {
+    let nodes = snake(alloc, count)?;
+    let text = full_text(alloc, &nodes)?;
+    let images = assemble(alloc, &parse(alloc, &text)?)?;
+    let mut chip = booted(alloc, &Route::new(alloc, &nodes)?, &images)?;
+    let moved = run(&mut chip);
+    Ok(if are_booted(&chip, &images) {
+        Some(moved)
+    } else {
+        None
+    })
+}
+
 #[test]
 fn snakes_boot(rt: HostRuntime) -> Result<(), Fail> {
-    let alloc = rt.alloc();
-    for (count, all_moves) in [(2, None), (10, None), (144, Some(3_393_739))] {
-        let nodes = snake(alloc, count)?;
-        let images = full_images(alloc, &nodes)?;
-        let mut stream = boot(alloc, &Route::new(alloc, &nodes)?, &images)?;
-        stream.load.extend_from_slice(&stream.start)?;
-        let mut chip = Chip::reset(alloc)?;
-        let root = *nodes.first().ok_or("no root")?;
-        chip.give_stream(root, stream.load).map_err(|_| "refused")?;
-        let moved = run(&mut chip);
-        assert!(rt; are_booted(&chip, &images), "{count} nodes");
-        assert!(rt;
-            all_moves.is_none_or(|all| all == moved),
-            "{count} nodes: {moved}"
-        );
-    }
+    assert!(rt; boots(rt.alloc(), 2)?.is_some() && boots(rt.alloc(), 10)?.is_some());
+    assert!(rt; boots(rt.alloc(), 144)? == Some(3_393_739));
     Ok(())
 }

@@ -1,5 +1,6 @@
-use crate::shared::{packed, word};
+use crate::shared::packed;
 use ga_pack::{PackError, Packed, decode, encode, followers};
+use ga_test_values::word;
 use ga_word::Op;
 use std::test::Fail;
 
@@ -30,7 +31,7 @@ fn filler_words(rt: HostRuntime) -> Result<(), Fail> {
     ];
     for (packed, number) in &table {
         let word = encode(packed).map(|word| word.get());
-        assert_eq!(rt; word, Ok(*number), "the word of {packed:?}");
+        assert!(rt; word == Ok(*number), "the word of {packed:?}");
     }
     Ok(())
 }
@@ -52,10 +53,9 @@ fn destinations_by_slot(rt: HostRuntime) -> Result<(), Fail> {
     ];
     for (packed, number) in &table {
         let made = encode(packed).map(|word| word.get());
-        assert_eq!(rt; made, Ok(*number), "the word of {packed:?}");
-        assert_eq!(rt;
-            decode(word(*number)?),
-            *packed,
+        assert!(rt; made == Ok(*number), "the word of {packed:?}");
+        assert!(rt;
+            decode(word(*number)?) == *packed,
             "the reading of {number:05X}"
         );
     }
@@ -77,7 +77,7 @@ fn refuses_by_name(rt: HostRuntime) -> Result<(), Fail> {
         (packed(&[Op::Dup, Op::Jump], Some(0), 1), PackError::Spare),
     ];
     for (packed, error) in &table {
-        assert_eq!(rt; encode(packed), Err(*error), "the fault of {packed:?}");
+        assert!(rt; encode(packed) == Err(*error), "the fault of {packed:?}");
     }
     Ok(())
 }
@@ -87,7 +87,7 @@ fn encode_gives_each_word_back(rt: HostRuntime) -> Result<(), Fail> {
     for number in 0..1 << 18 {
         let word = word(number)?;
         let again = encode(&decode(word));
-        assert_eq!(rt; again, Ok(word), "{number:05X}");
+        assert!(rt; again == Ok(word), "{number:05X}");
     }
     Ok(())
 }
@@ -100,7 +100,7 @@ fn counts_followers(rt: HostRuntime) -> Result<(), Fail> {
         (packed(&[Op::FetchP, Op::Jump], Some(0), 0), 1),
     ];
     for (packed, count) in &table {
-        assert_eq!(rt; followers(packed), *count, "the followers of {packed:?}");
+        assert!(rt; followers(packed) == *count, "the followers of {packed:?}");
     }
     Ok(())
 }
@@ -129,9 +129,11 @@ fn reads_words(rt: HostRuntime) -> Result<(), Fail> {
     ];
     for (number, ops, dest, spare) in table {
         let packed = decode(word(number)?);
-        assert_eq!(rt; packed.ops.as_slice(), ops, "opcodes of {number:05X}");
-        assert_eq!(rt; packed.dest, dest, "destination of {number:05X}");
-        assert_eq!(rt; packed.spare, spare, "spare bits of {number:05X}");
+        assert!(rt; packed.ops.as_slice() == ops, "opcodes of {number:05X}");
+        assert!(rt;
+            packed.dest == dest && packed.spare == spare,
+            "the rest of {number:05X}"
+        );
     }
     Ok(())
 }

@@ -1,9 +1,9 @@
-use crate::shared::{node, word};
 use arrayvec::ArrayVec;
 use ga_source::{
     Item, ItemPlace, Name, Place, SourceError, SourceErrorKind, Token, TransferWord, Value, parse,
     tokens,
 };
+use ga_test_values::{node, word};
 use ga_word::Op;
 use std::alloc::Global;
 use std::test::Fail;
@@ -93,7 +93,7 @@ fn source_faults(rt: HostRuntime) -> Result<(), Fail> {
         ("\u{FEFF}node 000 dup", SourceErrorKind::BadToken, 1),
     ];
     for (text, kind, column) in cases {
-        assert_eq!(rt; fault(rt.alloc(), text), at(kind, 1, column));
+        assert!(rt; fault(rt.alloc(), text) == at(kind, 1, column));
     }
     Ok(())
 }
@@ -114,7 +114,7 @@ fn faults_at_the_end(rt: HostRuntime) -> Result<(), Fail> {
         ("node 000 \\ é€\u{1D11E}", SourceErrorKind::Empty, 1, 15),
     ];
     for (text, kind, line, column) in cases {
-        assert_eq!(rt; fault(rt.alloc(), text), at(kind, line, column));
+        assert!(rt; fault(rt.alloc(), text) == at(kind, line, column));
     }
     Ok(())
 }
@@ -122,15 +122,9 @@ fn faults_at_the_end(rt: HostRuntime) -> Result<(), Fail> {
 #[test]
 fn lines(rt: HostRuntime) -> Result<(), Fail> {
     let crlf = "node 000\r\ndup\r\n\tfoo\r\n";
-    assert_eq!(rt;
-        fault(rt.alloc(), crlf),
-        at(SourceErrorKind::BadToken, 3, 2)
-    );
+    assert!(rt; fault(rt.alloc(), crlf) == at(SourceErrorKind::BadToken, 3, 2));
     let comments = "\\ é€\u{1D11E} node\nnode 000 \\ dup\n  dup ]";
-    assert_eq!(rt;
-        fault(rt.alloc(), comments),
-        at(SourceErrorKind::BadToken, 3, 7)
-    );
+    assert!(rt; fault(rt.alloc(), comments) == at(SourceErrorKind::BadToken, 3, 7));
     Ok(())
 }
 
@@ -139,7 +133,7 @@ fn every_node_once(rt: HostRuntime) -> Result<(), Fail> {
     let alloc = rt.alloc();
     let text = sections_of_all_nodes(alloc)?;
     let program = parse(alloc, text.as_str())?;
-    assert_eq!(rt; program.sections().len(), 144);
+    assert!(rt; program.sections().len() == 144);
     let cases = [
         ("node", SourceErrorKind::BadNode, 5),
         ("node dup", SourceErrorKind::BadNode, 6),
@@ -148,7 +142,7 @@ fn every_node_once(rt: HostRuntime) -> Result<(), Fail> {
     ];
     for (more, kind, column) in cases {
         let longer = format!(in alloc; "{text}{more}")?;
-        assert_eq!(rt; fault(alloc, longer.as_str()), at(kind, 145, column));
+        assert!(rt; fault(alloc, longer.as_str()) == at(kind, 145, column));
     }
     Ok(())
 }
@@ -209,7 +203,7 @@ fn items_of_sections(rt: HostRuntime) -> Result<(), Fail> {
     let alloc = rt.alloc();
     let program = parse(alloc, TWO_NODES)?;
     let sections = program.sections();
-    assert_eq!(rt; sections.len(), 2);
+    assert!(rt; sections.len() == 2);
     let section = sections.get(&node(8)?).ok_or("no section")?;
     let expected = expected_items(alloc)?;
     assert!(rt; section.items == expected);
@@ -293,16 +287,16 @@ fn tokens_of_texts(rt: HostRuntime) -> Result<(), Fail> {
         (13, 16, 1, 8),
         (25, 28, 2, 2),
     ];
-    assert_eq!(rt; mixed.len(), places.len());
+    assert!(rt; mixed.len() == places.len());
     for (token, (start, end, line, column)) in mixed.iter().zip(places) {
-        assert_eq!(rt;
-            *token,
-            Token {
-                start,
-                end,
-                line,
-                column
-            }
+        assert!(rt;
+            *token
+                == Token {
+                    start,
+                    end,
+                    line,
+                    column
+                }
         );
     }
     Ok(())

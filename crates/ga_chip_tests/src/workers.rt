@@ -1,8 +1,8 @@
-use crate::chips::{WRITE_12_RIGHT, chip_with};
-use crate::shared::node;
-use ga_chip::{Outcome, Try};
+use crate::chips::{WRITE_12_RIGHT, chip_with, outcome};
+use ga_chip::Outcome;
 use ga_group::{Gate, Plan, PlanError, RunError, run_workers};
 use ga_place::{Node, Side};
+use ga_test_values::{node, nodes};
 use std::alloc::Global;
 use std::sync::atomic::{AtomicU64, Ordering};
 use std::test::Fail;
@@ -33,24 +33,23 @@ fn plan(alloc: Global, names: &[&[u16]]) -> Result<Plan, Fail> {
 
 #[test]
 fn refusals_by_name(rt: HostRuntime) -> Result<(), Fail> {
+    let [node_708, node_001] = nodes(&[708, 1])?;
     let cases: [(&[&[u16]], PlanError); 4] = [
         (&[], PlanError::NoWorker),
         (&[&[708], &[]], PlanError::Empty(1)),
-        (&[&[708], &[709, 708], &[]], PlanError::Repeated(node(708)?)),
-        (&[&[1, 1], &[708]], PlanError::Repeated(node(1)?)),
+        (&[&[708], &[709, 708], &[]], PlanError::Repeated(node_708)),
+        (&[&[1, 1], &[708]], PlanError::Repeated(node_001)),
     ];
     for (names, fault) in cases {
         let (found, back) = Plan::new(groups(rt.alloc(), names)?).err().ok_or("a plan")?;
-        assert!(rt; found == fault);
-        assert!(rt; back == groups(rt.alloc(), names)?);
+        assert!(rt; found == fault && back == groups(rt.alloc(), names)?);
     }
-    let chip = chip_with(rt.alloc(), 708, &WRITE_12_RIGHT)?;
+    let chip = chip_with(rt.alloc(), node_708, &WRITE_12_RIGHT)?;
     let plan = plan(rt.alloc(), &[&[708]])?;
     let (fault, back) = run_workers(&rt, chip, &plan, 1 << 40, &Open)
         .err()
         .ok_or("a run")?;
-    assert!(rt; fault == RunError::TooManyTurns);
-    assert!(rt; back.state(node(708)?).steps() == 0);
+    assert!(rt; fault == RunError::TooManyTurns && back.state(node_708).steps() == 0);
     Ok(())
 }
 
@@ -64,37 +63,38 @@ fn a_plan_gives_its_groups_back(rt: HostRuntime) -> Result<(), Fail> {
 
 #[test]
 fn a_word_crosses_between_two_workers(rt: HostRuntime) -> Result<(), Fail> {
-    let chip = chip_with(rt.alloc(), 708, &WRITE_12_RIGHT)?;
+    let [node_708, node_709] = nodes(&[708, 709])?;
+    let chip = chip_with(rt.alloc(), node_708, &WRITE_12_RIGHT)?;
     let plan = plan(rt.alloc(), &[&[708], &[709]])?;
     // Seven steps of 708 post the word; the side right comes again at turn 8, where 709 looks at it.
     let Ok(chip) = run_workers(&rt, chip, &plan, 8, &Open) else {
         return Err("refused".into());
     };
-    assert!(rt; chip.ledger(node(708)?, Side::Right).pending == 1);
+    assert!(rt; chip.ledger(node_708, Side::Right).pending == 1);
     let Ok(chip) = run_workers(&rt, chip, &plan, 1, &Open) else {
         return Err("refused".into());
     };
-    assert!(rt; chip.ledger(node(708)?, Side::Right).read == 1);
-    assert!(rt; chip.state(node(709)?).word().get() == 0x00012);
+    assert!(rt; chip.ledger(node_708, Side::Right).read == 1);
+    assert!(rt; chip.state(node_709).word().get() == 0x00012);
     Ok(())
 }
 
 #[test]
 fn break_and_pass(rt: HostRuntime) -> Result<(), Fail> {
-    let mut chip = chip_with(rt.alloc(), 0, &[0x048B2, 0x00003, 0x2D1B2, 0x10000])?;
+    let node_000 = node(0)?;
+    let mut chip = chip_with(rt.alloc(), node_000, &[0x048B2, 0x00003, 0x2D1B2, 0x10000])?;
     let plan = plan(rt.alloc(), &[&[1], &[0]])?;
-    chip.set_break(node(0)?, 0x003);
-    let held = Try {
-        node: node(0)?,
-        side: Side::Right,
-    };
+    chip.set_break(node_000, 0x003);
     for steps in [16, 34] {
         for turns in [100, 7] {
-            chip = run_workers(&rt, chip, &plan, turns, &Open).map_err(|_| "refused")?;
-            assert!(rt; chip.state(node(0)?).steps() == steps);
-            assert!(rt; chip.attempt(held) == Outcome::Held);
+            let Ok(next) = run_workers(&rt, chip, &plan, turns, &Open) else {
+                return Err("refused".into());
+            };
+            chip = next;
+            assert!(rt; chip.state(node_000).steps() == steps);
+            assert!(rt; outcome(&mut chip, node_000, Side::Right) == Outcome::Held);
         }
-        chip.pass_break(node(0)?).map_err(|_| "not held")?;
+        chip.pass_break(node_000)?;
     }
     Ok(())
 }
@@ -119,7 +119,8 @@ impl Gate for Watching {
 
 #[test]
 fn the_gate_is_called_before_the_tries(rt: HostRuntime) -> Result<(), Fail> {
-    let chip = chip_with(rt.alloc(), 708, &WRITE_12_RIGHT)?;
+    let node_708 = node(708)?;
+    let chip = chip_with(rt.alloc(), node_708, &WRITE_12_RIGHT)?;
     let plan = plan(rt.alloc(), &[&[708], &[700]])?;
     let gate = Watching {
         calls: AtomicU64::new(0),
@@ -128,7 +129,10 @@ fn the_gate_is_called_before_the_tries(rt: HostRuntime) -> Result<(), Fail> {
     let Ok(_) = run_workers(&rt, chip, &plan, 20, &gate) else {
         return Err("refused".into());
     };
-    assert!(rt; gate.calls.load(Ordering::SeqCst) == 40);
-    assert!(rt; gate.strange.load(Ordering::SeqCst) == 0);
+    let (calls, strange) = (
+        gate.calls.load(Ordering::SeqCst),
+        gate.strange.load(Ordering::SeqCst),
+    );
+    assert!(rt; calls == 40 && strange == 0);
     Ok(())
 }

@@ -1,5 +1,5 @@
-use crate::shared::{TWO_HOPS, word, words};
 use ga_frame::{Frame, FrameError, read_frames, write_frame};
+use ga_test_values::{TWO_HOPS, word, words};
 use ga_word::Word18;
 use std::alloc::Global;
 use std::test::Fail;
@@ -40,7 +40,7 @@ fn frame_faults(rt: HostRuntime) -> Result<(), Fail> {
         (&[0x001B5, 0x00141, 0x00009], FrameError::BadAddress(0)),
     ];
     for (numbers, fault) in table {
-        assert_eq!(rt; read(alloc, numbers)?.err(), Some(fault));
+        assert!(rt; read(alloc, numbers)?.err() == Some(fault));
     }
     Ok(())
 }
@@ -51,7 +51,7 @@ fn frames_of_words(rt: HostRuntime) -> Result<(), Fail> {
     let Ok(empty) = read(alloc, &[0x001B5, 0x00000, 0x00000])? else {
         return Err("one frame without words")?;
     };
-    assert_eq!(rt; empty.len(), 1);
+    assert!(rt; empty.len() == 1);
     let Ok(frames) = read(alloc, &TWO_HOPS)? else {
         return Err("four frames")?;
     };
@@ -69,7 +69,7 @@ fn frames_of_words(rt: HostRuntime) -> Result<(), Fail> {
         (0x0AE, 0x1D5, 7),
         (0x1B5, 0x000, 0),
     ];
-    assert_eq!(rt; heads.as_slice(), wanted.as_slice());
+    assert!(rt; heads.as_slice() == wanted.as_slice());
     Ok(())
 }
 
@@ -97,7 +97,7 @@ fn written_frame(rt: HostRuntime) -> Result<(), Fail> {
     let nops = word(0x2C9B2)?;
     let frame = write_frame(alloc, word(0x0AE)?, word(0)?, &[nops])?;
     let wanted = words(alloc, &[0x000AE, 0x00000, 0x00001, 0x2C9B2])?;
-    assert_eq!(rt; frame.as_slice(), wanted.as_slice());
+    assert!(rt; frame.as_slice() == wanted.as_slice());
     Ok(())
 }
 
@@ -109,9 +109,9 @@ fn longest_frame(rt: HostRuntime) -> Result<(), Fail> {
         words.push(Word18::default())?;
     }
     let frame = write_frame(alloc, word(0x1B5)?, word(0)?, &words)?;
-    assert_eq!(rt; frame.len(), 0x4_0002);
+    assert!(rt; frame.len() == 0x4_0002);
     words.push(Word18::default())?;
     let refused = write_frame(alloc, word(0x1B5)?, word(0)?, &words);
-    assert_eq!(rt; refused.err(), Some(FrameError::TooLong));
+    assert!(rt; refused.err() == Some(FrameError::TooLong));
     Ok(())
 }

@@ -1,5 +1,6 @@
-use crate::shared::{packed, word, words};
+use crate::shared::packed;
 use ga_disasm::{Item, items, print};
+use ga_test_values::{word, words};
 use ga_word::Op;
 use std::alloc::Global;
 use std::test::Fail;
@@ -8,7 +9,7 @@ use std::test::Fail;
 fn items_and_print(rt: HostRuntime) -> Result<(), Fail> {
     let alloc = rt.alloc();
     let words = words(alloc, &[0x0_5872, 0x2_C9B2, 0x0_0001])?;
-    assert_eq!(rt; words.len(), 3);
+    assert!(rt; words.len() == 3);
     let items = items(alloc, &words, 2)?;
     let worked = [
         Item::Code(packed(
@@ -19,7 +20,7 @@ fn items_and_print(rt: HostRuntime) -> Result<(), Fail> {
         Item::Follower(word(0x2_C9B2)?),
         Item::Data(word(0x0_0001)?),
     ];
-    assert_eq!(rt; items.as_slice(), worked.as_slice());
+    assert!(rt; items.as_slice() == worked.as_slice());
     let text = print(alloc, &items)?;
     let lines = "[ @p !+ unext . ]\n, $2C9B2\ndata\n, $00001\n";
     assert!(rt; text.as_str() == lines);

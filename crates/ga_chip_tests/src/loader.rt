@@ -1,6 +1,6 @@
-use crate::shared::{node, word};
 use ga_node::{Need, NodeState, Place, Stop};
 use ga_place::Side;
+use ga_test_values::{node, word};
 use std::test::Fail;
 
 /// A booting node 000 to which these words came in.
@@ -27,22 +27,18 @@ fn header_and_memory(rt: HostRuntime) -> Result<(), Fail> {
         (&frame, Place::Completion),
     ] {
         let state = given(words)?;
-        assert_eq!(rt; (state.place(), state.need()), (place, Need::Input));
-        assert_eq!(rt; state.steps(), words.len() as u64);
+        assert!(rt; state.place() == place && state.need() == Need::Input);
+        assert!(rt; state.steps() == words.len() as u64);
     }
     // from 03F the address goes on in the mirror of memory
     let state = given(&frame)?;
-    assert_eq!(rt; state.ram()[0x3F].get(), 0x2C9B2);
-    assert_eq!(rt; state.ram()[0].get(), 0x12345);
+    assert!(rt; state.ram()[0x3F].get() == 0x2C9B2);
+    assert!(rt; state.ram()[0].get() == 0x12345);
     // no register but P has changed
-    assert_eq!(rt;
-        (state.p(), state.a().get(), state.b(), state.r().get()),
-        (0x195, 0, 0x15D, 0)
+    assert!(rt;
+        state.p() == 0x195 && state.a().get() == 0 && state.b() == 0x15D && state.r().get() == 0
     );
-    assert_eq!(rt;
-        (state.s().get(), state.t().get(), state.io().get()),
-        (0, 0, 0)
-    );
+    assert!(rt; state.s().get() == 0 && state.t().get() == 0 && state.io().get() == 0);
     Ok(())
 }
 
@@ -55,12 +51,9 @@ fn ends(rt: HostRuntime) -> Result<(), Fail> {
         &[0x000AE, 0, 0, 0x3F405, 0x3015D, 1, 7],
     ] {
         let state = given(frame)?;
-        assert_eq!(rt;
-            (state.place(), state.p(), state.need()),
-            (Place::Fetch, 5, Need::Own)
-        );
-        assert_eq!(rt; state.steps(), frame.len() as u64);
-        assert_eq!(rt; state.io().get(), if frame.len() == 3 { 0 } else { 7 });
+        assert!(rt; state.place() == Place::Fetch && state.p() == 5 && state.need() == Need::Own);
+        assert!(rt; state.steps() == frame.len() as u64);
+        assert!(rt; state.io().get() == if frame.len() == 3 { 0 } else { 7 });
     }
     Ok(())
 }
@@ -69,20 +62,17 @@ fn ends(rt: HostRuntime) -> Result<(), Fail> {
 fn port(rt: HostRuntime) -> Result<(), Fail> {
     let mut state = given(&[0x000AE, 0x001D5, 2])?;
     for (number, place) in [(0x2C9B2, Place::Body), (0x12345, Place::Completion)] {
-        assert_eq!(rt; state.need(), Need::Input);
+        assert!(rt; state.need() == Need::Input);
         state.step_input(word(number)?);
-        assert_eq!(rt; state.need(), Need::Post(Side::Right, word(number)?));
+        assert!(rt; state.need() == Need::Post(Side::Right, word(number)?));
         assert!(rt; !state.try_own());
         state.step_posted();
-        assert_eq!(rt;
-            (state.need(), state.place()),
-            (Need::Check(Side::Right), Place::Body)
-        );
-        assert_eq!(rt; state.waiting(), Some(Side::Right));
+        assert!(rt; state.need() == Need::Check(Side::Right) && state.place() == Place::Body);
+        assert!(rt; state.waiting() == Some(Side::Right));
         state.step_checked();
-        assert_eq!(rt; (state.need(), state.place()), (Need::Input, place));
+        assert!(rt; state.need() == Need::Input && state.place() == place);
     }
-    assert_eq!(rt; state.steps(), 9);
+    assert!(rt; state.steps() == 9);
     Ok(())
 }
 
@@ -96,14 +86,10 @@ fn stops(rt: HostRuntime) -> Result<(), Fail> {
     ] {
         // a count of 0 ends the frame without a look at the address
         let ended = given(&[0x000AE, transfer, 0])?;
-        assert_eq!(rt; ended.need(), Need::Input, "{stop}");
+        assert!(rt; ended.need() == Need::Input, "{stop}");
         let mut state = given(&[0x000AE, transfer, 1])?;
-        assert_eq!(rt; state.need(), Need::Stopped(stop), "{stop}");
-        assert_eq!(rt;
-            (state.stop(), state.try_own()),
-            (Some(stop), false),
-            "{stop}"
-        );
+        assert!(rt; state.need() == Need::Stopped(stop), "{stop}");
+        assert!(rt; state.stop() == Some(stop) && !state.try_own(), "{stop}");
     }
     Ok(())
 }

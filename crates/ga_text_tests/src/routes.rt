@@ -1,6 +1,7 @@
-use crate::shared::{assembled, node};
+use crate::shared::assembled;
 use ga_frame::read_frames;
 use ga_path::{Boot, BootError, NamesError, Route, RouteError, boot, read_nodes};
+use ga_test_values::node;
 use ga_word::Word18;
 use std::alloc::Global;
 use std::test::Fail;
@@ -91,7 +92,7 @@ fn stream_is_frames(rt: HostRuntime) -> Result<(), Fail> {
     for frame in &frames {
         lengths.push(frame.words.len())?;
     }
-    assert_eq!(rt; lengths.as_slice(), [15, 0, 7, 0].as_slice());
+    assert!(rt; lengths.as_slice() == [15, 0, 7, 0].as_slice());
     Ok(())
 }
 
@@ -103,13 +104,12 @@ fn names_of_nodes(rt: HostRuntime) -> Result<(), Fail> {
     for node in &nodes {
         names.push(node.name())?;
     }
-    assert_eq!(rt; names.as_slice(), [708, 0, 717].as_slice());
+    assert!(rt; names.as_slice() == [708, 0, 717].as_slice());
     for text in [
         "", ",", "708,", ",708", "708,,709", "708;709", "708 709", "8", "0708", "718", "999", "70a",
     ] {
-        assert_eq!(rt;
-            read_nodes(alloc, text).err(),
-            Some(NamesError::BadNames),
+        assert!(rt;
+            read_nodes(alloc, text).err() == Some(NamesError::BadNames),
             "{text}"
         );
     }
@@ -128,12 +128,12 @@ fn refusals_by_name(rt: HostRuntime) -> Result<(), Fail> {
         (&[708, 708], RouteError::NotNeighbour(1)),
         (&[708, 709, 708, 101], RouteError::Repeated(2)),
     ] {
-        assert_eq!(rt; route(alloc, names)?.err(), Some(fault));
+        assert!(rt; route(alloc, names)?.err() == Some(fault));
     }
     let short = route(alloc, &[708, 709])?.ok().ok_or("no route")?;
     let images = assembled(alloc, "node 709 . node 710 . node 711 .")?;
     let unreached = BootError::Unreached(node(710)?);
-    assert_eq!(rt; boot(alloc, &short, &images).err(), Some(unreached));
+    assert!(rt; boot(alloc, &short, &images).err() == Some(unreached));
     Ok(())
 }
 
@@ -148,13 +148,13 @@ fn longest_route(rt: HostRuntime) -> Result<(), Fail> {
         names.push(row * 100 + if row % 2 == 0 { column } else { 17 - column })?;
     }
     let route = route(alloc, &names)?.ok().ok_or("no route")?;
-    assert_eq!(rt; route.nodes().len(), 144);
+    assert!(rt; route.nodes().len() == 144);
     let boot = boot(alloc, &route, &assembled(alloc, "node 717 .")?)
         .ok()
         .ok_or("no boot")?;
     // the far end: its jump, six words to fill its memory, and the close; each of 142 others: a jump, a pump
     // and the close; then both frames' headers
-    assert_eq!(rt; boot.load.len(), 8 + 142 * 7 + 6);
-    assert_eq!(rt; boot.start.len(), 1 + 142 * 6 + 6);
+    assert!(rt; boot.load.len() == 8 + 142 * 7 + 6);
+    assert!(rt; boot.start.len() == 1 + 142 * 6 + 6);
     Ok(())
 }

@@ -1,16 +1,19 @@
-use crate::chips::{chip_with, reset};
+use ga_chip::Chip;
 use ga_debug::{DebugError, ReplayError, Session, begin, replay};
 use ga_path::RouteError;
+use ga_test_values::{array, node};
 use std::alloc::Global;
 use std::test::Fail;
 
 fn session(alloc: Global) -> Result<Session, Fail> {
-    Ok(Session::new(reset(alloc)?))
+    Ok(Session::new(Chip::reset(alloc)?))
 }
 
 /// A session over a chip with words in a node.
 fn placed(alloc: Global, name: u16, numbers: &[u32]) -> Result<Session, Fail> {
-    Ok(Session::new(chip_with(alloc, name, numbers)?))
+    let mut chip = Chip::reset(alloc)?;
+    chip.place(node(name)?, &array::<64>(numbers)?, 0)?;
+    Ok(Session::new(chip))
 }
 
 /// Whether a session gives this reply.
@@ -90,9 +93,8 @@ fn first_bad_words(rt: HostRuntime) -> Result<(), Fail> {
         ("pass 000", DebugError::NotHeld),
     ];
     for (line, fault) in table {
-        assert_eq!(rt;
-            refusal(&mut session, rt.alloc(), line),
-            Some(fault),
+        assert!(rt;
+            refusal(&mut session, rt.alloc(), line) == Some(fault),
             "at {line}"
         );
     }
@@ -138,12 +140,9 @@ try 000 r = held
 pass 000
 try 000 r = moved
 ";
-    assert_eq!(rt; replay(alloc, text(alloc, HEAD, commands)?.as_str()), Ok(3));
+    assert!(rt; replay(alloc, text(alloc, HEAD, commands)?.as_str()) == Ok(3));
     let wrong = "break 000 003\nturn 20 = 16\ntry 000 r = waits\npass 000\n";
-    assert_eq!(rt;
-        replay(alloc, text(alloc, HEAD, wrong)?.as_str()),
-        Err(ReplayError::Differs(9))
-    );
+    assert!(rt; replay(alloc, text(alloc, HEAD, wrong)?.as_str()) == Err(ReplayError::Differs(9)));
     Ok(())
 }
 
@@ -163,7 +162,7 @@ fn faults_of_heads(rt: HostRuntime) -> Result<(), Fail> {
         ),
     ];
     for (text, fault) in table {
-        assert_eq!(rt; replay(rt.alloc(), text), Err(fault), "at {text}");
+        assert!(rt; replay(rt.alloc(), text) == Err(fault), "at {text}");
     }
     let source = "profile 1\nroute 710\nnode 000 # .\ngo\n";
     assert!(rt; matches!(replay(rt.alloc(), source), Err(ReplayError::Source(_))));
@@ -192,9 +191,8 @@ fn faults_of_lines(rt: HostRuntime) -> Result<(), Fail> {
     for (line, fault) in table {
         let commands = text(alloc, "\nturn 1 = 000000001\n\n", line)?;
         let whole = text(alloc, HEAD, commands.as_str())?;
-        assert_eq!(rt;
-            replay(alloc, whole.as_str()),
-            Err(ReplayError::Bad(10, fault)),
+        assert!(rt;
+            replay(alloc, whole.as_str()) == Err(ReplayError::Bad(10, fault)),
             "at {line}"
         );
     }

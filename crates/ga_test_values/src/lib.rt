@@ -1,11 +1,8 @@
-//! What the tests of several subjects are made of.
+//! What the tests of several crates are made of.
+#![tactic(auto)]
 
-use arrayvec::ArrayVec;
-use ga_asm::{Images, assemble};
-use ga_pack::Packed;
 use ga_place::Node;
-use ga_source::parse;
-use ga_word::{Op, Word18};
+use ga_word::Word18;
 use std::alloc::Global;
 use std::test::Fail;
 
@@ -17,10 +14,12 @@ pub const TWO_HOPS: [u32; 34] = [
     0x101B5, 0x001B5, 0x00000, 0x00000,
 ];
 
+/// The word with this number; a test fails where it has more than 18 bits.
 pub fn word(number: u32) -> Result<Word18, Fail> {
     Ok(Word18::new(number).ok_or("more than 18 bits")?)
 }
 
+/// The words with these numbers.
 pub fn words(alloc: Global, numbers: &[u32]) -> Result<Vec<Word18>, Fail> {
     let mut words = Vec::new(alloc);
     for number in numbers {
@@ -29,34 +28,25 @@ pub fn words(alloc: Global, numbers: &[u32]) -> Result<Vec<Word18>, Fail> {
     Ok(words)
 }
 
-/// The memory of a node that begins with these words, and is 0 behind them.
-pub fn memory(numbers: &[u32]) -> Result<[Word18; 64], Fail> {
-    let mut words = [Word18::default(); 64];
+/// An array of words, such as a node's memory, that begins with these numbers and is 0 behind them.
+pub fn array<const N: usize>(numbers: &[u32]) -> Result<[Word18; N], Fail> {
+    let mut words = [Word18::default(); N];
     for (word, number) in words.iter_mut().zip(numbers) {
         *word = self::word(*number)?;
     }
     Ok(words)
 }
 
+/// The node with this name; a test fails where there is none.
 pub fn node(name: u16) -> Result<Node, Fail> {
     Ok(Node::new(name).ok_or("no such node")?)
 }
 
-/// Opcodes, of which the first four count, with a destination and spare bits.
-pub fn packed(ops: &[Op], dest: Option<u16>, spare: u8) -> Packed {
-    let mut all = ArrayVec::new();
-    for op in ops {
-        let _full = all.try_push(*op);
+/// The nodes with these names.
+pub fn nodes<const N: usize>(names: &[u16; N]) -> Result<[Node; N], Fail> {
+    let mut nodes = [node(0)?; N];
+    for (node, name) in nodes.iter_mut().zip(names.iter()) {
+        *node = self::node(*name)?;
     }
-    Packed {
-        ops: all,
-        dest,
-        spare,
-    }
-}
-
-/// The images of a source text.
-pub fn assembled(alloc: Global, text: &str) -> Result<Images, Fail> {
-    let program = parse(alloc, text).map_err(|_| "no program")?;
-    Ok(assemble(alloc, &program).map_err(|_| "no images")?)
+    Ok(nodes)
 }

@@ -1,12 +1,12 @@
-use crate::shared::{self, node, word};
 use ga_node::{Need, NodeState, Place, Stop};
 use ga_place::{Side, Sides};
+use ga_test_values::{array, node, word};
 use ga_word::{Op, Word18};
 use std::test::Fail;
 
 /// Node 000 with these words at the front of its memory, after as many tries.
 fn run(numbers: &[u32], tries: u32) -> Result<NodeState, Fail> {
-    let mut state = NodeState::loaded(node(0)?, &shared::memory(numbers)?, 0);
+    let mut state = NodeState::loaded(node(0)?, &array::<64>(numbers)?, 0);
     for _ in 0..tries {
         let _moved = state.try_own();
     }
@@ -66,7 +66,7 @@ fn stack_order(rt: HostRuntime) -> Result<(), Fail> {
         (32, 9),
     ];
     for (tries, t) in before_each_drop {
-        assert_eq!(rt; run(&numbers, tries)?.t().get(), t, "after {tries}");
+        assert!(rt; run(&numbers, tries)?.t().get() == t, "after {tries}");
     }
     Ok(())
 }
@@ -126,7 +126,7 @@ fn before(op: Op, place: Place, dest: u32, registers: Registers) -> Result<NodeS
     let [p, r, t, s, a] = registers;
     let word_with = packed(op, place, dest)?;
     let from = if p < 0x80 { (p + 0x7F) % 0x80 } else { p };
-    let mut words = shared::memory(&[0x10A00])?;
+    let mut words = array::<64>(&[0x10A00])?;
     words[63] = word(0x10A3F)?;
     if p < 0x80 {
         words[(from % 0x40) as usize] = word_with;
@@ -264,15 +264,15 @@ fn opcodes(rt: HostRuntime) -> Result<(), Fail> {
         let op = Op::from_name(field(row, 0)?).ok_or("no opcode")?;
         let mut state = before(op, place(field(row, 1)?)?, number(row, 2)?, five(row, 3)?)?;
         let steps = state.steps();
-        assert_eq!(rt; state.need(), Need::Own, "{row}");
+        assert!(rt; state.need() == Need::Own, "{row}");
         state.step_own();
-        assert_eq!(rt; registers(&state), five(row, 8)?, "{row}");
-        assert_eq!(rt; state.place(), place(field(row, 13)?)?, "{row}");
-        assert_eq!(rt; state.steps().checked_sub(steps), Some(1), "{row}");
+        assert!(rt; registers(&state) == five(row, 8)?, "{row}");
+        assert!(rt; state.place() == place(field(row, 13)?)?, "{row}");
+        assert!(rt; state.steps().checked_sub(steps) == Some(1), "{row}");
     }
     let mut state = before(Op::BStore, Place::Slot0, 0, [5, 9, 0x3FE5D, 2, 3])?;
     assert!(rt; state.try_own());
-    assert_eq!(rt; state.b(), 0x05D);
+    assert!(rt; state.b() == 0x05D);
     Ok(())
 }
 
@@ -313,8 +313,8 @@ fn memory(rt: HostRuntime) -> Result<(), Fail> {
         let mut state = before(op, Place::Slot0, 0, start)?;
         assert!(rt; state.try_own(), "{row}");
         let end = [number(row, 4)?, 9, number(row, 3)?, 1, number(row, 5)?];
-        assert_eq!(rt; registers(&state), end, "{row}");
-        assert_eq!(rt; state.place(), Place::Slot1, "{row}");
+        assert!(rt; registers(&state) == end, "{row}");
+        assert!(rt; state.place() == Place::Slot1, "{row}");
     }
     for row in WRITES.lines() {
         let op = Op::from_name(field(row, 0)?).ok_or("no opcode")?;
@@ -322,11 +322,11 @@ fn memory(rt: HostRuntime) -> Result<(), Fail> {
         let mut state = before(op, Place::Slot0, 0, start)?;
         assert!(rt; state.try_own(), "{row}");
         let end = [number(row, 3)?, 9, 2, 0x11, number(row, 4)?];
-        assert_eq!(rt; registers(&state), end, "{row}");
+        assert!(rt; registers(&state) == end, "{row}");
         let holds = [state.ram()[0], state.ram()[63], state.io()].map(|word| word.get());
         let held = [number(row, 5)?, number(row, 6)?, number(row, 7)?];
-        assert_eq!(rt; holds, held, "{row}");
-        assert_eq!(rt; state.place(), Place::Slot1, "{row}");
+        assert!(rt; holds == held, "{row}");
+        assert!(rt; state.place() == Place::Slot1, "{row}");
     }
     Ok(())
 }
@@ -336,16 +336,10 @@ fn multiply_step(rt: HostRuntime) -> Result<(), Fail> {
     // `@p a! @p .` 5 3, `@p . . .` 0, `@p push . .` 17, `+* unext . .`
     let numbers = [0x04A12, 5, 3, 0x049B2, 0, 0x048B2, 17, 0x351B2];
     let once = run(&numbers, 17)?;
-    assert_eq!(rt;
-        (once.t().get(), once.s().get(), once.a().get()),
-        (1, 3, 0x20002)
-    );
+    assert!(rt; once.t().get() == 1 && once.s().get() == 3 && once.a().get() == 0x20002);
     let all = run(&numbers, 52)?;
-    assert_eq!(rt;
-        (all.t().get(), all.s().get(), all.a().get()),
-        (0, 3, 0x0000F)
-    );
-    assert_eq!(rt; (all.place(), all.r().get()), (Place::Slot2, 0));
+    assert!(rt; all.t().get() == 0 && all.s().get() == 3 && all.a().get() == 0x0000F);
+    assert!(rt; all.place() == Place::Slot2 && all.r().get() == 0);
     Ok(())
 }
 
@@ -369,16 +363,15 @@ fn stops(rt: HostRuntime) -> Result<(), Fail> {
     ];
     for (numbers, steps, stop) in table {
         let mut state = run(numbers, 9)?;
-        assert_eq!(rt; state.need(), Need::Stopped(stop));
-        assert_eq!(rt;
-            (state.stop(), state.steps()),
-            (Some(stop), steps),
+        assert!(rt; state.need() == Need::Stopped(stop));
+        assert!(rt;
+            state.stop() == Some(stop) && state.steps() == steps,
             "to {stop}"
         );
         assert!(rt; !state.try_own(), "at {stop}");
-        assert_eq!(rt; state.steps(), steps, "at {stop}");
+        assert!(rt; state.steps() == steps, "at {stop}");
     }
-    assert_eq!(rt; run(&[0x2C9B2], 5)?.stop(), None);
+    assert!(rt; run(&[0x2C9B2], 5)?.stop().is_none());
     Ok(())
 }
 
@@ -386,22 +379,15 @@ fn stops(rt: HostRuntime) -> Result<(), Fail> {
 fn ports(rt: HostRuntime) -> Result<(), Fail> {
     // `jump right`: the node fetches at the port, and then `@p` takes a literal there
     let mut state = run(&[0x101D5], 9)?;
-    assert_eq!(rt;
-        (state.need(), state.steps()),
-        (Need::Take(Sides::RIGHT), 2)
-    );
+    assert!(rt; state.need() == Need::Take(Sides::RIGHT) && state.steps() == 2);
     state.step_took(Side::Right, word(0x049B2)?);
-    assert_eq!(rt;
-        (state.word().get(), state.p(), state.place()),
-        (0x049B2, 0x1D5, Place::Slot0)
+    assert!(rt;
+        state.word().get() == 0x049B2 && state.p() == 0x1D5 && state.place() == Place::Slot0
     );
-    assert_eq!(rt; state.need(), Need::Take(Sides::RIGHT));
+    assert!(rt; state.need() == Need::Take(Sides::RIGHT));
     state.step_took(Side::Right, word(0x155)?);
-    assert_eq!(rt;
-        (state.t().get(), state.p(), state.place()),
-        (0x155, 0x1D5, Place::Slot1)
-    );
-    assert_eq!(rt; state.steps(), 4);
+    assert!(rt; state.t().get() == 0x155 && state.p() == 0x1D5 && state.place() == Place::Slot1);
+    assert!(rt; state.steps() == 4);
     // `@+`, `@b` and `@` at several ports
     for op in [Op::FetchPlus, Op::FetchB, Op::Fetch] {
         let mut state = before(op, Place::Slot0, 0, [5, 9, 1, 2, 0x001A5])?;
@@ -411,8 +397,8 @@ fn ports(rt: HostRuntime) -> Result<(), Fail> {
         assert!(rt; sides.has(Side::Up) && sides.has(Side::Left), "{op:?}");
         assert!(rt; !state.try_own());
         state.step_took(Side::Up, word(0x155)?);
-        assert_eq!(rt; registers(&state), [5, 9, 0x155, 1, 0x001A5], "{op:?}");
-        assert_eq!(rt; state.place(), Place::Slot1);
+        assert!(rt; registers(&state) == [5, 9, 0x155, 1, 0x001A5], "{op:?}");
+        assert!(rt; state.place() == Place::Slot1);
     }
     Ok(())
 }
@@ -426,27 +412,18 @@ fn posts(rt: HostRuntime) -> Result<(), Fail> {
         (Op::Store, 5, 0x001D5),
     ] {
         let mut state = before(op, Place::Slot0, 0, [p, 9, 0x155, 2, a])?;
-        assert_eq!(rt; state.need(), Need::Post(Side::Right, word(0x155)?));
-        assert_eq!(rt; (state.try_own(), state.waiting()), (false, None));
+        assert!(rt; state.need() == Need::Post(Side::Right, word(0x155)?));
+        assert!(rt; !state.try_own() && state.waiting().is_none());
         let steps = state.steps();
         // it pops the word, and an address of a port stays
         state.step_posted();
-        assert_eq!(rt; registers(&state), [p, 9, 2, 0x11, a], "{op:?}");
-        assert_eq!(rt;
-            (state.need(), state.place()),
-            (Need::Check(Side::Right), Place::Slot0)
-        );
-        assert_eq!(rt;
-            (state.try_own(), state.waiting()),
-            (false, Some(Side::Right))
-        );
+        assert!(rt; registers(&state) == [p, 9, 2, 0x11, a], "{op:?}");
+        assert!(rt; state.need() == Need::Check(Side::Right) && state.place() == Place::Slot0);
+        assert!(rt; !state.try_own() && state.waiting() == Some(Side::Right));
         state.step_checked();
-        assert_eq!(rt; registers(&state), [p, 9, 2, 0x11, a], "{op:?}");
-        assert_eq!(rt; (state.need(), state.place()), (Need::Own, Place::Slot1));
-        assert_eq!(rt;
-            (state.waiting(), state.steps().checked_sub(steps)),
-            (None, Some(2))
-        );
+        assert!(rt; registers(&state) == [p, 9, 2, 0x11, a], "{op:?}");
+        assert!(rt; state.need() == Need::Own && state.place() == Place::Slot1);
+        assert!(rt; state.waiting().is_none() && state.steps().checked_sub(steps) == Some(2));
     }
     Ok(())
 }
@@ -455,31 +432,28 @@ fn posts(rt: HostRuntime) -> Result<(), Fail> {
 fn posts_what_the_caller_names(rt: HostRuntime) -> Result<(), Fail> {
     let mut state = before(Op::Store, Place::Slot0, 0, [5, 9, 0x155, 2, 0x1D5])?;
     let post = word(0x155)?;
-    assert_eq!(rt; state.need(), Need::Post(Side::Right, post));
+    assert!(rt; state.need() == Need::Post(Side::Right, post));
     state.step_post(Side::Right, post);
-    assert_eq!(rt; registers(&state), [5, 9, 2, 0x11, 0x1D5]);
-    assert_eq!(rt; state.need(), Need::Check(Side::Right));
+    assert!(rt; registers(&state) == [5, 9, 2, 0x11, 0x1D5]);
+    assert!(rt; state.need() == Need::Check(Side::Right));
     Ok(())
 }
 
 #[test]
 fn readers(rt: HostRuntime) -> Result<(), Fail> {
     let reset = NodeState::reset(node(0)?);
-    assert_eq!(rt; reset.node().name(), 0);
-    assert_eq!(rt; (reset.p(), reset.b(), reset.steps()), (0x195, 0x15D, 0));
+    assert!(rt; reset.node().name() == 0);
+    assert!(rt; reset.p() == 0x195 && reset.b() == 0x15D && reset.steps() == 0);
     // `@p @p a! .` with literals 7 and 9
     let state = run(&[0x05DAA, 7, 9], 4)?;
-    assert_eq!(rt; (state.word().get(), state.a().get()), (0x05DAA, 9));
-    assert_eq!(rt;
-        (state.s().get(), state.t().get(), state.r().get()),
-        (0, 7, 0)
-    );
-    assert_eq!(rt; state.io().get(), 0);
-    assert_eq!(rt; state.waiting(), None);
-    assert_eq!(rt; state.data_stack().map(|word| word.get()), [0; 8]);
-    assert_eq!(rt; state.return_stack().map(|word| word.get()), [0; 8]);
+    assert!(rt; state.word().get() == 0x05DAA && state.a().get() == 9);
+    assert!(rt; state.s().get() == 0 && state.t().get() == 7 && state.r().get() == 0);
+    assert!(rt; state.io().get() == 0);
+    assert!(rt; state.waiting().is_none());
+    assert!(rt; state.data_stack().map(|word| word.get()) == [0; 8]);
+    assert!(rt; state.return_stack().map(|word| word.get()) == [0; 8]);
     let ram = state.ram();
-    assert_eq!(rt; (ram[1].get(), ram[3].get()), (7, 0));
+    assert!(rt; ram[1].get() == 7 && ram[3].get() == 0);
     Ok(())
 }
 
@@ -487,9 +461,9 @@ fn readers(rt: HostRuntime) -> Result<(), Fail> {
 fn a_fetch_is_left_out(rt: HostRuntime) -> Result<(), Fail> {
     let mut state = run(&[0x2C9B2], 0)?;
     assert!(rt; !state.try_step(false));
-    assert_eq!(rt; (state.place(), state.steps()), (Place::Fetch, 0));
+    assert!(rt; state.place() == Place::Fetch && state.steps() == 0);
     assert!(rt; state.try_step(true));
     assert!(rt; state.try_step(false));
-    assert_eq!(rt; (state.place(), state.steps()), (Place::Slot1, 2));
+    assert!(rt; state.place() == Place::Slot1 && state.steps() == 2);
     Ok(())
 }

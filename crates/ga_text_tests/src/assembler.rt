@@ -1,12 +1,12 @@
-use crate::shared::{assembled, node};
+use crate::shared::assembled;
 use ga_asm::{AsmError, AsmErrorKind, Image, Images, assemble};
 use ga_source::parse;
+use ga_test_values::node;
 use std::alloc::Global;
 use std::test::Fail;
 
 fn fault(alloc: Global, text: &str) -> Result<Option<AsmError>, Fail> {
-    let program = parse(alloc, text).map_err(|_| "no program")?;
-    Ok(assemble(alloc, &program).err())
+    Ok(assemble(alloc, &parse(alloc, text)?).err())
 }
 
 fn image(images: &Images, name: u16) -> Result<&Image, Fail> {
@@ -141,11 +141,14 @@ fn labels_data_and_entry(rt: HostRuntime) -> Result<(), Fail> {
     let words = [0x249B2, 0x3A9B2, 0x3FFFF, 0x00001];
     assert!(rt; has_words(rt.alloc(), text, 708, &words)?);
     let images = assembled(rt.alloc(), text)?;
-    assert_eq!(rt; images.images().len(), 2);
+    assert!(rt; images.images().len() == 2);
     let image = image(&images, 708)?;
-    assert_eq!(rt; (image.code_len(), image.entry()), (2, 1));
+    assert!(rt; image.code_len() == 2 && image.entry() == 1);
     for (name, address) in [("main", 1), ("table", 2), ("end", 4)] {
-        assert_eq!(rt; image.labels().get(name).copied(), Some(address), "{name}");
+        assert!(rt;
+            image.labels().get(name).copied() == Some(address),
+            "{name}"
+        );
     }
     Ok(())
 }
@@ -195,9 +198,9 @@ fn all_nodes_full(rt: HostRuntime) -> Result<(), Fail> {
     let alloc = rt.alloc();
     let text = full_sections(alloc)?;
     let images = assembled(alloc, text.as_str())?;
-    assert_eq!(rt; images.images().len(), 144);
+    assert!(rt; images.images().len() == 144);
     let last = image(&images, 717)?;
-    assert_eq!(rt; last.words().len(), 64);
-    assert_eq!(rt; last.code_len(), 0);
+    assert!(rt; last.words().len() == 64);
+    assert!(rt; last.code_len() == 0);
     Ok(())
 }

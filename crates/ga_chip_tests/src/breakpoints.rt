@@ -1,0 +1,122 @@
+use crate::chips::{give, moves, outcome, place};
+use ga_chip::{Chip, ChipError, Outcome};
+use ga_node::Stop;
+use ga_place::{Node, Side};
+use ga_test_values::{node, nodes};
+use std::test::Fail;
+
+/// Four times round `. unext`, and the same again from the start, by a jump at address 3.
+const ROUNDS: [u32; 4] = [0x048B2, 0x00003, 0x2D1B2, 0x10000];
+
+/// Whether a pass is refused as NotHeld.
+fn refuses_pass(chip: &mut Chip, node: Node) -> bool {
+    chip.pass_break(node) == Err(ChipError::NotHeld)
+}
+
+#[test]
+fn break_and_pass(rt: HostRuntime) -> Result<(), Fail> {
+    let [node_000, node_001] = nodes(&[0, 1])?;
+    let mut chip = Chip::reset(rt.alloc())?;
+    place(&mut chip, node_000, &ROUNDS)?;
+    chip.set_break(node_000, 3);
+    assert!(rt; moves(&mut chip, node_000, Side::Right, 100) == 16);
+    for side in [Side::Right, Side::Down, Side::Left, Side::Up] {
+        assert!(rt; outcome(&mut chip, node_000, side) == Outcome::Held);
+    }
+    assert!(rt; refuses_pass(&mut chip, node_001));
+    chip.pass_break(node_000)?;
+    assert!(rt; refuses_pass(&mut chip, node_000));
+    assert!(rt; moves(&mut chip, node_000, Side::Up, 100) == 18);
+    assert!(rt; outcome(&mut chip, node_000, Side::Up) == Outcome::Held);
+    assert!(rt; chip.state(node_000).steps() == 34 && chip.state(node_001).steps() == 0);
+    Ok(())
+}
+
+#[test]
+fn a_breakpoint_and_a_pass_outlive_what_a_node_is_given(rt: HostRuntime) -> Result<(), Fail> {
+    let [node_000, node_001] = nodes(&[0, 1])?;
+    let mut chip = Chip::reset(rt.alloc())?;
+    chip.set_break(node_000, 0);
+    place(&mut chip, node_000, &ROUNDS)?;
+    assert!(rt; outcome(&mut chip, node_000, Side::Right) == Outcome::Held);
+    chip.pass_break(node_000)?;
+    place(&mut chip, node_000, &ROUNDS)?;
+    // the pass ends with the first fetch, and the jump leads back to 0
+    assert!(rt; moves(&mut chip, node_000, Side::Right, 100) == 18);
+    assert!(rt; outcome(&mut chip, node_000, Side::Right) == Outcome::Held);
+    chip.set_break(node_001, 3);
+    give(
+        rt.alloc(),
+        &mut chip,
+        node_001,
+        &[0x00003, 0x00000, 0x00000],
+    )?;
+    assert!(rt; moves(&mut chip, node_001, Side::Right, 100) == 3);
+    assert!(rt; outcome(&mut chip, node_001, Side::Right) == Outcome::Held);
+    Ok(())
+}
+
+#[test]
+fn breakpoints_are_addresses(rt: HostRuntime) -> Result<(), Fail> {
+    let node_000 = node(0)?;
+    // to 043, the same word of memory as 003; to 003; and to 203, which stops the node
+    for (jump, held, stop) in [
+        (0x10043, false, None),
+        (0x10003, true, None),
+        (0x10203, false, Some(Stop::Extended)),
+    ] {
+        let mut chip = Chip::reset(rt.alloc())?;
+        place(&mut chip, node_000, &[jump, 0x2C9B2, 0x2C9B2, 0x2C9B2])?;
+        chip.set_break(node_000, 3);
+        assert!(rt; moves(&mut chip, node_000, Side::Right, 2) == 2);
+        let is_held = outcome(&mut chip, node_000, Side::Right) == Outcome::Held;
+        assert!(rt; is_held == held && chip.state(node_000).stop() == stop);
+        assert!(rt; refuses_pass(&mut chip, node_000) == !held);
+    }
+    Ok(())
+}
+
+#[test]
+fn a_turn_goes_over_held_nodes(rt: HostRuntime) -> Result<(), Fail> {
+    let [node_000, node_001, node_002] = nodes(&[0, 1, 2])?;
+    let mut chip = Chip::reset(rt.alloc())?;
+    for node in [node_000, node_001, node_002] {
+        place(&mut chip, node, &[0x10000])?;
+    }
+    chip.set_break(node_001, 0);
+    for _ in 0..4 {
+        assert!(rt; chip.turn(Side::Right) == 2);
+    }
+    // a pass wakes the node for one fetch and its jump
+    chip.pass_break(node_001)?;
+    for moved in [3, 3, 2] {
+        assert!(rt; chip.turn(Side::Right) == moved);
+    }
+    // and without the breakpoint it goes on
+    chip.clear_break(node_001, 0);
+    assert!(rt; chip.turn(Side::Right) == 3 && chip.turn(Side::Right) == 3);
+    assert!(rt; chip.state(node_001).steps() == 4);
+    Ok(())
+}
+
+#[test]
+fn a_pass_stays_until_the_next_fetch(rt: HostRuntime) -> Result<(), Fail> {
+    let node_000 = node(0)?;
+    let mut chip = Chip::reset(rt.alloc())?;
+    place(&mut chip, node_000, &[0x2C9B2, 0x10000])?;
+    chip.set_break(node_000, 0);
+    chip.set_break(node_000, 1);
+    chip.pass_break(node_000)?;
+    // set and cleared where it stands, and set again
+    chip.set_break(node_000, 0);
+    chip.clear_break(node_000, 0);
+    chip.set_break(node_000, 0);
+    assert!(rt; moves(&mut chip, node_000, Side::Right, 100) == 5);
+    assert!(rt; chip.state(node_000).p() == 1);
+    // a pass that no breakpoint needs any more ends all the same
+    chip.pass_break(node_000)?;
+    chip.clear_break(node_000, 1);
+    assert!(rt; moves(&mut chip, node_000, Side::Right, 100) == 2);
+    assert!(rt; outcome(&mut chip, node_000, Side::Right) == Outcome::Held);
+    Ok(())
+}

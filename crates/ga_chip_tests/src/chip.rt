@@ -1,0 +1,297 @@
+use crate::chips::{WRITE_12_RIGHT, give, moves, outcome, place};
+use ga_chip::{Chip, ChipError, Ledger, Outcome, Try};
+use ga_node::Stop;
+use ga_place::Side;
+use ga_test_values::{TWO_HOPS, array, node, nodes, words};
+use std::alloc::Global;
+use std::test::Fail;
+
+fn ledger(written: u64, read: u64, pending: u8) -> Ledger {
+    Ledger {
+        written,
+        read,
+        pending,
+    }
+}
+
+#[test]
+fn one_word_through_a_port(rt: HostRuntime) -> Result<(), Fail> {
+    let [node_708, node_709, node_700] = nodes(&[708, 709, 700])?;
+    let mut chip = Chip::reset(rt.alloc())?;
+    place(&mut chip, node_708, &WRITE_12_RIGHT)?;
+    assert!(rt; moves(&mut chip, node_708, Side::Right, 7) == 7);
+    for _ in 0..100 {
+        assert!(rt; outcome(&mut chip, node_708, Side::Right) == Outcome::Waits);
+    }
+    assert!(rt; chip.ledger(node_708, Side::Right) == ledger(1, 0, 1));
+    assert!(rt; outcome(&mut chip, node_709, Side::Down) == Outcome::Waits);
+    assert!(rt; outcome(&mut chip, node_709, Side::Right) == Outcome::Moved);
+    assert!(rt; chip.state(node_709).word().get() == 0x00012);
+    assert!(rt; chip.ledger(node_708, Side::Right) == ledger(1, 1, 0));
+    assert!(rt; outcome(&mut chip, node_708, Side::Right) == Outcome::Moved);
+    // The word is run: `@b` reads io.
+    assert!(rt; outcome(&mut chip, node_709, Side::Right) == Outcome::Stopped);
+    assert!(rt; chip.ledger(node_700, Side::Up) == ledger(0, 0, 0));
+    Ok(())
+}
+
+#[test]
+fn sleepers_are_woken(rt: HostRuntime) -> Result<(), Fail> {
+    let [node_708, node_709] = nodes(&[708, 709])?;
+    let mut chip = Chip::reset(rt.alloc())?;
+    place(&mut chip, node_708, &WRITE_12_RIGHT)?;
+    for _ in 0..6 {
+        assert!(rt; chip.turn(Side::Right) == 1);
+    }
+    // 708 posts its word to the right, where 709 doesn't look yet.
+    assert!(rt; chip.turn(Side::Down) == 1);
+    for _ in 0..3 {
+        assert!(rt; chip.turn(Side::Down) == 0);
+    }
+    // 709 takes it, so that 708 goes on in the next turn.
+    assert!(rt; chip.turn(Side::Right) == 1);
+    assert!(rt; chip.ledger(node_708, Side::Right) == ledger(1, 1, 0));
+    assert!(rt; chip.turn(Side::Down) == 1);
+    assert!(rt; chip.state(node_708).steps() == 8 && chip.state(node_709).steps() == 1);
+    Ok(())
+}
+
+#[test]
+fn sleepers_are_left_alone(rt: HostRuntime) -> Result<(), Fail> {
+    let [node_708, node_709] = nodes(&[708, 709])?;
+    let mut chip = Chip::reset(rt.alloc())?;
+    place(&mut chip, node_708, &WRITE_12_RIGHT)?;
+    let writer = Try {
+        node: node_708,
+        side: Side::Down,
+    };
+    let reader = Try {
+        node: node_709,
+        side: Side::Right,
+    };
+    // 709 looks in vain, and is left alone until 708 has posted its word with the seventh step.
+    for _ in 0..6 {
+        assert!(rt; !chip.attempt_moves(reader) && chip.attempt_moves(writer));
+    }
+    assert!(rt; !chip.attempt_moves(reader) && chip.attempt_moves(writer));
+    assert!(rt; !chip.attempt_moves(writer) && chip.attempt_moves(reader));
+    assert!(rt; chip.attempt_moves(writer));
+    assert!(rt; chip.state(node_708).steps() == 8 && chip.state(node_709).steps() == 1);
+    Ok(())
+}
+
+#[test]
+fn a_chip_stands_still(rt: HostRuntime) -> Result<(), Fail> {
+    let [node_708, node_000] = nodes(&[708, 0])?;
+    let mut chip = Chip::reset(rt.alloc())?;
+    place(&mut chip, node_708, &WRITE_12_RIGHT)?;
+    assert!(rt; !chip.is_still());
+    // 709 takes the word of 708, and both go on until they stop
+    for _ in 0..32 {
+        let _moved = chip.turn(Side::Right);
+    }
+    assert!(rt; chip.is_still());
+    assert!(rt; chip.turn(Side::Up) == 0 && chip.turn(Side::Left) == 0);
+    place(&mut chip, node_000, &WRITE_12_RIGHT)?;
+    assert!(rt; !chip.is_still());
+    Ok(())
+}
+
+/// T of 709 after a take at a side, where 708 has written 12 to its right and 609 has written 34 down, each
+/// by seven tries in an order, and 709 has made three.
+fn taken(alloc: Global, order: &[u16], side: Side) -> Result<u32, Fail> {
+    let [node_709, node_708, node_609] = nodes(&[709, 708, 609])?;
+    let mut chip = Chip::reset(alloc)?;
+    place(&mut chip, node_708, &WRITE_12_RIGHT)?;
+    place(&mut chip, node_609, &[0x05DA2, 0x00034, 0x00115, 0x089B2])?;
+    place(&mut chip, node_709, &[0x04A0A, 0x001B5])?;
+    for name in order {
+        let writer = if *name == 708 { node_708 } else { node_609 };
+        let _outcome = outcome(&mut chip, writer, Side::Right);
+    }
+    let _moved = moves(&mut chip, node_709, Side::Left, 3);
+    let _outcome = outcome(&mut chip, node_709, side);
+    Ok(chip.state(node_709).t().get())
+}
+
+#[test]
+fn two_writers_one_multiport(rt: HostRuntime) -> Result<(), Fail> {
+    let orders = [
+        [
+            708, 708, 708, 708, 708, 708, 708, 609, 609, 609, 609, 609, 609, 609,
+        ],
+        [
+            609, 609, 609, 609, 609, 609, 609, 708, 708, 708, 708, 708, 708, 708,
+        ],
+        [
+            609, 708, 609, 708, 609, 708, 609, 708, 609, 708, 609, 708, 609, 708,
+        ],
+        [
+            708, 708, 609, 609, 609, 708, 609, 708, 708, 708, 609, 609, 708, 609,
+        ],
+    ];
+    for order in orders {
+        assert!(rt; taken(rt.alloc(), &order, Side::Right)? == 0x00012);
+        assert!(rt; taken(rt.alloc(), &order, Side::Down)? == 0x00034);
+        assert!(rt; taken(rt.alloc(), &order, Side::Left)? == 0);
+    }
+    Ok(())
+}
+
+#[test]
+fn both_neighbours_write_at_once(rt: HostRuntime) -> Result<(), Fail> {
+    let [node_708, node_709] = nodes(&[708, 709])?;
+    let mut chip = Chip::reset(rt.alloc())?;
+    place(&mut chip, node_708, &WRITE_12_RIGHT)?;
+    place(&mut chip, node_709, &[0x05DA2, 0x00034, 0x001D5, 0x089B2])?;
+    for node in [node_708, node_709] {
+        assert!(rt; moves(&mut chip, node, Side::Right, 7) == 7);
+    }
+    for side in [Side::Right, Side::Down, Side::Left, Side::Up] {
+        assert!(rt; chip.turn(side) == 0);
+        assert!(rt; outcome(&mut chip, node_708, side) == Outcome::Waits);
+        assert!(rt; outcome(&mut chip, node_709, side) == Outcome::Waits);
+    }
+    assert!(rt; chip.ledger(node_708, Side::Right) == ledger(1, 0, 1));
+    assert!(rt; chip.ledger(node_709, Side::Right) == ledger(1, 0, 1));
+    Ok(())
+}
+
+#[test]
+fn stops(rt: HostRuntime) -> Result<(), Fail> {
+    let node_000 = node(0)?;
+    let table = [
+        ([0x05DA2, 0x00001, 0x001A5, 0x089B2], 6, Stop::MultiWrite),
+        ([0x009B2, 0, 0, 0], 1, Stop::IoRead),
+        ([0x100AA, 0, 0, 0], 2, Stop::Rom),
+        ([0x10141, 0, 0, 0], 2, Stop::Unmapped),
+    ];
+    for (numbers, steps, stop) in table {
+        let mut chip = Chip::reset(rt.alloc())?;
+        place(&mut chip, node_000, &numbers)?;
+        assert!(rt; moves(&mut chip, node_000, Side::Right, 100) == steps);
+        assert!(rt; outcome(&mut chip, node_000, Side::Down) == Outcome::Stopped);
+        let state = chip.state(node_000);
+        assert!(rt; state.stop() == Some(stop) && state.steps() == u64::from(steps));
+    }
+    Ok(())
+}
+
+#[test]
+fn multiply_step(rt: HostRuntime) -> Result<(), Fail> {
+    let node_000 = node(0)?;
+    let numbers = [
+        0x04A12, 5, 3, 0x049B2, 0, 0x345D1, 0x345D1, 0x345D1, 0x345D1, 0x345B2,
+    ];
+    for (tries, t, a) in [(10, 0, 5), (12, 1, 0x20002), (33, 0, 0x0000F)] {
+        let mut chip = Chip::reset(rt.alloc())?;
+        place(&mut chip, node_000, &numbers)?;
+        assert!(rt; moves(&mut chip, node_000, Side::Right, tries) == tries);
+        let state = chip.state(node_000);
+        assert!(rt; state.t().get() == t && state.a().get() == a);
+    }
+    Ok(())
+}
+
+#[test]
+fn stack_order(rt: HostRuntime) -> Result<(), Fail> {
+    let node_000 = node(0)?;
+    let numbers = [
+        0x05D17, 1, 2, 3, 4, 0x05D17, 5, 6, 7, 8, 0x05D12, 9, 10, 11, 0x3A2EA, 0x3A2EA, 0x3A2EA,
+        0x3A2B2,
+    ];
+    let mut chip = Chip::reset(rt.alloc())?;
+    place(&mut chip, node_000, &numbers)?;
+    let one = Try {
+        node: node_000,
+        side: Side::Right,
+    };
+    chip.run(&[one; 16]);
+    // Drops stand in slots 0 to 2, so behind three of them there is a `.` and a fetch.
+    for (t, tries) in [
+        (11, 1),
+        (10, 1),
+        (9, 3),
+        (8, 1),
+        (7, 1),
+        (6, 3),
+        (5, 1),
+        (4, 1),
+        (3, 3),
+        (2, 1),
+        (9, 0),
+    ] {
+        assert!(rt; chip.state(node_000).t().get() == t);
+        assert!(rt; moves(&mut chip, node_000, Side::Right, tries) == tries);
+    }
+    Ok(())
+}
+
+#[test]
+fn placed_anew_until_it_begins(rt: HostRuntime) -> Result<(), Fail> {
+    let node_708 = node(708)?;
+    let mut chip = Chip::reset(rt.alloc())?;
+    assert!(rt; chip.turn(Side::Right) == 0);
+    place(&mut chip, node_708, &[0x2C9B2])?;
+    place(&mut chip, node_708, &WRITE_12_RIGHT)?;
+    assert!(rt; chip.turn(Side::Right) == 1);
+    let again = chip.place(node_708, &array::<1>(&[0x2C9B2])?, 1);
+    assert!(rt; again == Err(ChipError::Begun));
+    assert!(rt; chip.state(node_708).p() == 1);
+    assert!(rt; moves(&mut chip, node_708, Side::Right, 100) == 6);
+    Ok(())
+}
+
+#[test]
+fn boot_two_hops(rt: HostRuntime) -> Result<(), Fail> {
+    let [node_708, node_710, node_709] = nodes(&[708, 710, 709])?;
+    let mut chip = Chip::reset(rt.alloc())?;
+    give(rt.alloc(), &mut chip, node_708, &TWO_HOPS)?;
+    for _ in 0..1000 {
+        for side in [Side::Right, Side::Down, Side::Left, Side::Up] {
+            let _moved = chip.turn(side);
+        }
+    }
+    let loaded = chip.state(node_710);
+    assert!(rt; loaded.stop() == Some(Stop::IoRead) && loaded.p() == 2);
+    assert!(rt; loaded.ram() == array::<64>(&[0x2C9B2])?.as_slice());
+    // the edge node and the one on the way went idle
+    assert!(rt; chip.state(node_708).p() == 0x1B5 && chip.state(node_709).p() == 0x1B5);
+    assert!(rt; chip.turn(Side::Right) == 0);
+    Ok(())
+}
+
+#[test]
+fn streams_refused_by_name(rt: HostRuntime) -> Result<(), Fail> {
+    let [node_000, node_001, node_017, node_101, node_708] = nodes(&[0, 1, 17, 101, 708])?;
+    let alloc = rt.alloc();
+    let mut chip = Chip::reset(alloc)?;
+    give(alloc, &mut chip, node_708, &TWO_HOPS)?;
+    place(&mut chip, node_000, &[0x2C9B2])?;
+    assert!(rt; moves(&mut chip, node_000, Side::Right, 1) == 1);
+    for (node, fault) in [
+        (node_101, ChipError::NotEdge),
+        (node_708, ChipError::AlreadyGiven),
+        (node_000, ChipError::Begun),
+    ] {
+        let Err((refused, back)) = chip.give_stream(node, words(alloc, &TWO_HOPS)?) else {
+            return Err("given")?;
+        };
+        assert!(rt; refused == fault && back.len() == 34);
+    }
+    // a node with a stream is given no words, before its first step and after
+    for _ in 0..2 {
+        assert!(rt; chip.place(node_708, &[], 0) == Err(ChipError::AlreadyGiven));
+        assert!(rt; moves(&mut chip, node_708, Side::Up, 1) == 1);
+    }
+    // a node that was placed and made no step is given a stream
+    place(&mut chip, node_001, &[0x2C9B2])?;
+    give(alloc, &mut chip, node_001, &[0x00003, 0x00000, 0x00000])?;
+    assert!(rt; moves(&mut chip, node_001, Side::Up, 3) == 3);
+    assert!(rt; chip.state(node_001).p() == 3);
+    // without words left it waits
+    give(alloc, &mut chip, node_017, &[0x000AE])?;
+    assert!(rt; moves(&mut chip, node_017, Side::Up, 9) == 1);
+    assert!(rt; outcome(&mut chip, node_017, Side::Up) == Outcome::Waits);
+    Ok(())
+}

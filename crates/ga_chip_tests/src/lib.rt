@@ -1,0 +1,20 @@
+//! The tests of nodes and of the chip, in one file for each subject.
+//!
+//! A crate that has no test of its own is proved once by the gate, and one with tests twice. So the tests stand here,
+//! and this crate has nothing else.
+#![tactic(auto)]
+
+#[cfg(test)]
+mod breakpoints;
+#[cfg(test)]
+mod chip;
+#[cfg(test)]
+mod chips;
+#[cfg(test)]
+mod dumps;
+#[cfg(test)]
+mod loader;
+#[cfg(test)]
+mod node;
+#[cfg(test)]
+mod workers;

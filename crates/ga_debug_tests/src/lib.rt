@@ -1,0 +1,12 @@
+//! The tests of what takes both images and a chip: boots, rings and sessions, in one file for each.
+//!
+//! A crate that has no test of its own is proved once by the gate, and one with tests twice. So the tests stand here,
+//! and this crate has nothing else.
+#![tactic(auto)]
+
+#[cfg(test)]
+mod boots;
+#[cfg(test)]
+mod rings;
+#[cfg(test)]
+mod sessions;
