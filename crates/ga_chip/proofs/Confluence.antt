@@ -3,7 +3,7 @@
 use Rattle.std.proofs.Common.{◌≡◌, ℕ, ◌+◌, arith, length-append, List, [], ◌∷◌, ◌++◌, ◌⊎◌, inl, inr, take, length, ◌≤◌, flat_map, slice_get, option_map, Option, Some, None, refl, sym, ap, ap₂, ◌∙◌, subst, append_assoc, append-nil}
 use Rattle.std.proofs.lemmas.Option.{same_Some, slice_get-map}
 use Rattle.std.proofs.lemmas.List.Concat.{flat_map-append}
-use Rattle.std.proofs.lemmas.List.{take-append-le, nil_from_length}
+use Rattle.std.proofs.lemmas.List.{append_cancel_left, take-append-le, nil_from_length}
 use Rattle.std.specs.Option.{option_to_list}
 use Rattle.ga_place.specs.Side.{one_side}
 use Rattle.ga_place.specs.Node.{IsNodeName}
@@ -15,7 +15,7 @@ use Rattle.ga_node.specs.declared.need.Need.TheVariants as need
 use Rattle.ga_place.specs.Cell.{index_of, read_cell}
 use Rattle.ga_chip.specs.Part.{input_of, Part, Asks, Nothing, Own, Feed, Post, Check, Take, asks_by, picked_by, picked_of}
 use Rattle.ga_chip.specs.Chip.{Chip, part_of, pending, found_by}
-use Rattle.ga_chip.specs.Run.{words_left, piece_of, pieces, Event, happened, ran, Move, move_in, moves, moves_of, posted_by, taken_by, written_words, taken_words, sides_of, node_after}
+use Rattle.ga_chip.specs.Run.{words_left, piece_of, pieces, Event, happened, ran, Move, move_in, moves, moves_of, posted_by, taken_by, fed_after, fed_words, written_words, taken_words, sides_of, node_after}
 use Rattle.ga_chip.specs.Legal.{IsLegal, DifferInBreaks, unbroken}
 use Rattle.ga_chip.specs.Laws.{AgreesWith, Confluence}
 use Rattle.ga_chip.proofs.Lists.{agree_left, agree_right, agree_flat_map, agree_front, agree_after, agree_first, agree_push}
@@ -25,7 +25,7 @@ use Rattle.ga_chip.proofs.Events.{replay}
 use Rattle.ga_chip.proofs.Kept.{has_name, legal_ran}
 use Rattle.ga_chip.proofs.Runs.{moves-append, moves_of-append, stand_ran, part_first, flow_ran, posts, takes, posts_ran, takes_ran, HasWriter, HasReader, written_or_none, taken_or_none}
 use Rattle.ga_chip.proofs.Moments.{Makes, makes_event, moment, one_at_most}
-use Rattle.ga_chip.proofs.Streams.{fed_moves, fed_now}
+use Rattle.ga_chip.proofs.Streams.{fed_moves, fed_now, fed_ran}
 use Rattle.ga_chip.proofs.NodeAfter.{stands_after_moves}
 
 -- by the same need, sides that agree are the same
@@ -223,6 +223,12 @@ nodes_agree one two events others name k here there legal legal' differ agree e 
     let b = stands_after_moves two others name k there legal' f in
     a.stands ∙ ap₂ replay (alike_first one two name a.part b.part differ a.there b.there) (take_agree k (moves_of name (moves one events)) (moves_of name (moves two others)) agree a.many b.many) ∙ sym b.stands
 
+fed_agree : (one two : Chip) (events others : List Event) (name k : ℕ) (here there : State) → IsLegal one → IsLegal two → AgreesWith (moves_of name (moves one events)) (moves_of name (moves two others)) → node_after one events name k ≡ Some here → node_after two others name k ≡ Some there → fed_after one events name k ≡ fed_after two others name k
+fed_agree one two events others name k here there legal legal' agree e f =
+    let a = stands_after_moves one events name k here legal e in
+    let b = stands_after_moves two others name k there legal' f in
+    ap fed_moves (take_agree k (moves_of name (moves one events)) (moves_of name (moves two others)) agree a.many b.many)
+
 none_left : (m n : ℕ) → m ≡ m + n → n ≡ 0
 none_left m n e = omega arith
 
@@ -234,9 +240,9 @@ agree_long : {A : Type 0} (xs ys : List A) → AgreesWith xs ys → length xs �
 agree_long xs ys (inl (rest, e)) h = sym (append-nil xs) ∙ ap (λ l. xs ++ l) (sym (nil_from_length rest (none_left (length xs) (length rest) (h ∙ ap (λ l. length l) e ∙ length-append xs rest)))) ∙ sym e
 agree_long xs ys (inr (rest, e)) h = e ∙ ap (λ l. ys ++ l) (nil_from_length rest (none_left (length ys) (length rest) (sym h ∙ ap (λ l. length l) e ∙ length-append ys rest))) ∙ append-nil ys
 
--- and so at the ends of two runs, where its steps are equal
-ends_agree : (one two : Chip) (events others : List Event) (name : ℕ) (p q : Part) → IsLegal one → IsLegal two → DifferInBreaks one two → AgreesWith (moves_of name (moves one events)) (moves_of name (moves two others)) → part_of (ran one events) name ≡ Some p → part_of (ran two others) name ≡ Some q → p.state.steps ≡ q.state.steps → p.state ≡ q.state
-ends_agree one two events others name p q legal legal' differ agree here there steps =
+-- a node that ends with equally many steps made the same moves
+same_moves : (one two : Chip) (events others : List Event) (name : ℕ) (p q : Part) → IsLegal one → IsLegal two → DifferInBreaks one two → AgreesWith (moves_of name (moves one events)) (moves_of name (moves two others)) → part_of (ran one events) name ≡ Some p → part_of (ran two others) name ≡ Some q → p.state.steps ≡ q.state.steps → moves_of name (moves one events) ≡ moves_of name (moves two others)
+same_moves one two events others name p q legal legal' differ agree here there steps =
     let first = part_first one events name p legal here in
     let first' = part_first two others name q legal' there in
     let run = stand_ran one events name first.0 legal first.1 in
@@ -246,8 +252,18 @@ ends_agree one two events others name p q legal legal' differ agree here there s
     let start : first.0.state ≡ first'.0.state = alike_first one two name first.0 first'.0 differ first.1 first'.1 in
     let many : first'.0.state.steps + length (moves_of name (moves one events)) ≡ first'.0.state.steps + length (moves_of name (moves two others)) =
     ap (λ s. s.steps + length (moves_of name (moves one events))) (sym start) ∙ sym run.steps ∙ ap (λ x. x.state.steps) (sym p_is) ∙ steps ∙ ap (λ x. x.state.steps) q_is ∙ run'.steps in
-    let same : moves_of name (moves one events) ≡ moves_of name (moves two others) = agree_long (moves_of name (moves one events)) (moves_of name (moves two others)) agree (same_rest first'.0.state.steps _ _ many) in
-    ap (λ p. p.state) p_is ∙ run.stands ∙ ap₂ replay start same ∙ sym run'.stands ∙ ap (λ p. p.state) (sym q_is)
+    agree_long (moves_of name (moves one events)) (moves_of name (moves two others)) agree (same_rest first'.0.state.steps _ _ many)
+
+-- the same words are left of a stream to which equal words came, after equal moves
+same_left : (one two : Chip) (events others : List Event) (name : ℕ) (p q : Part) → IsLegal one → IsLegal two → DifferInBreaks one two → moves_of name (moves one events) ≡ moves_of name (moves two others) → part_of (ran one events) name ≡ Some p → part_of (ran two others) name ≡ Some q → pieces name events ≡ pieces name others → words_left p.stream ≡ words_left q.stream
+same_left one two events others name p q legal legal' differ same here there given =
+    let first = part_first one events name p legal here in
+    let first' = part_first two others name q legal' there in
+    append_cancel_left (fed_words two others name) (words_left p.stream) (words_left q.stream)
+    (ap (λ ms. fed_moves ms ++ words_left p.stream) (sym same)
+    ∙ sym (fed_ran one events name first.0 p legal first.1 here)
+    ∙ ap₂ (λ s l. words_left s ++ l) (stream_first one two name first.0 first'.0 differ first.1 first'.1) given
+    ∙ fed_ran two others name first'.0 q legal' first'.1 there)
 
 -- each cell has the same words written and taken
 written_agree : (one two : Chip) (events others : List Event) (cell : ℕ) → IsLegal one → IsLegal two → ((name : ℕ) → AgreesWith (moves_of name (moves one events)) (moves_of name (moves two others))) → AgreesWith (written_words one events cell) (written_words two others cell)
@@ -274,9 +290,13 @@ taken_agree one two events others cell legal legal' agree = by (taken_or_none on
 pub confluence : Confluence
 confluence one two events others legal legal' differ sides given =
     let agree : (name : ℕ) → AgreesWith (moves_of name (moves one events)) (moves_of name (moves two others)) = moves_agree one two events others legal legal' differ sides given in
+    let same : (name : ℕ) (p q : Part) → part_of (ran one events) name ≡ Some p → part_of (ran two others) name ≡ Some q → p.state.steps ≡ q.state.steps → moves_of name (moves one events) ≡ moves_of name (moves two others) = λ name p q here there steps. same_moves one two events others name p q legal legal' differ (agree name) here there steps in
     record {
       nodes = λ name k here there e f. nodes_agree one two events others name k here there legal legal' differ (agree name) e f;
-      ends = λ name p q here there steps. ends_agree one two events others name p q legal legal' differ (agree name) here there steps;
+      fed = λ name k here there e f. fed_agree one two events others name k here there legal legal' (agree name) e f;
+      ends = λ name p q here there steps. alike_later one two events others name p q legal legal' differ (same name p q here there steps) here there;
+      ends_fed = λ name p q here there steps. ap fed_moves (same name p q here there steps);
+      left = λ name p q here there steps given. same_left one two events others name p q legal legal' differ (same name p q here there steps) here there given;
       written = λ cell. written_agree one two events others cell legal legal' agree;
       taken = λ cell. taken_agree one two events others cell legal legal' agree;
     }

@@ -14,10 +14,10 @@ use Rattle.ga_chip.specs.declared.outcome.Outcome.TheVariants.{Moved, Waits, Hel
 use Rattle.ga_chip.specs.Part.{Part, count_at, Asks, Nothing, asks, asks_by, picked_by, after}
 use Rattle.ga_chip.specs.Chip.{Chip, part_of, found_by, cells_after, tried, tried_at}
 use Rattle.ga_chip.specs.Chip.{with_changed}
-use Rattle.ga_chip.specs.Run.{Event, Try, SetBreak, ClearBreak, PassBreak, Piece, break_set, break_cleared, break_passed, words_left, piece_come, piece_of, happened, Move, if_moved, move_at, move_in, posted_by, taken_by, moves_of}
+use Rattle.ga_chip.specs.Run.{Event, Try, SetBreak, ClearBreak, PassBreak, Piece, break_set, break_cleared, break_passed, words_left, piece_come, piece_of, happened, Move, if_moved, move_at, move_in, fed_by, posted_by, taken_by, moves_of}
 use Rattle.ga_chip.proofs.Lists.{get-set_here, get-set_else}
 use Rattle.ga_place.proofs.Cells.{one_place}
-use Rattle.ga_chip.proofs.Parts.{Fits, asks_fits, moved_asks, stand_after, stands_after, fed_of, feeds_after, name_after, written_after, read_after, Quiet, quiet_after, steps_after, Passed, passed_after, counts_after}
+use Rattle.ga_chip.proofs.Parts.{Fits, asks_fits, moved_asks, stand_after, stands_after, feeds_after, name_after, written_after, read_after, Quiet, quiet_after, steps_after, Passed, passed_after, counts_after}
 
 -- An event that changes one node's part, as a try or a use of its breakpoints does: the part after it, what was asked
 -- for and found, and what came of it.
@@ -41,7 +41,7 @@ pub record Does (chip : Chip) (event : Event) : Type 0 where
   pub stands : next.state ≡ stand_after asked found part.state
   pub named : next.state.node ≡ part.state.node
   pub elsewhere : (other : ℕ) → (other ≡ name → ⊥) → piece_of other event ≡ []
-  pub fed : words_left part.stream ++ piece_of name event ≡ fed_of asked ++ words_left next.stream
+  pub fed : words_left part.stream ++ piece_of name event ≡ fed_by asked ++ words_left next.stream
   pub wrote : (at : Side) (cell : ℕ) → cell_of part.state.node at ≡ Some cell → count_at at next.written ≡ count_at at part.written + length (posted_by cell asked)
   pub took : (at : Side) (cell : ℕ) → IsNodeName part.state.node → read_cell part.state.node at ≡ Some cell → count_at at next.read ≡ count_at at part.read + length (taken_by cell asked found)
   pub steps : (at : Side) → count_at at part.written ≤ part.state.steps → count_at at next.written ≤ next.state.steps

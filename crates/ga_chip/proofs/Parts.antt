@@ -17,7 +17,7 @@ use Rattle.ga_place.specs.Cell.{cell_of, read_cell}
 use Rattle.ga_chip.specs.declared.outcome.Outcome.TheVariants.{Moved}
 use Rattle.ga_chip.specs.declared.counts.Counts.{Counts}
 use Rattle.ga_chip.specs.Part.{Part, count_at, counted, Asks, Nothing, Own, Feed, Post, Check, Take, asks, asks_by, asks_if, held_by, is_held, looked_at, take_of, take_from, post_to, check_of, input_of, picked_of, picked_by, rest_of, after, after_asked}
-use Rattle.ga_chip.specs.Run.{posted_by, taken_by, words_left}
+use Rattle.ga_chip.specs.Run.{fed_by, posted_by, taken_by, words_left}
 use Rattle.ga_place.proofs.Cells.{one_writer, one_reader, same_bit}
 use Rattle.ga_node.proofs.Rows.{step_node, step_steps}
 
@@ -225,17 +225,12 @@ pub read_after : (part : Part) (side : Side) (found : Option ℕ) (at : Side) (c
 unfolding after
 read_after part side found at cell named here = read_asked (asks part side) found part at cell named (asks_fits part side) here
 
--- the word that a try is fed
-abbrev pub fed_of : Asks → List ℕ
-fed_of (Feed word) = word ∷ []
-fed_of _ = []
-
 -- What isn't Moved posts nothing, takes nothing, and leaves the node as it stands.
 pub record Quiet (q : Asks) (found : Option ℕ) : Type 0 where
   pub posts : (cell : ℕ) → posted_by cell q ≡ []
   pub takes : (cell : ℕ) → taken_by cell q found ≡ []
   pub stays : (at : State) → stand_after q found at ≡ at
-  pub feeds : fed_of q ≡ []
+  pub feeds : fed_by q ≡ []
 
 quiet_asked : (q : Asks) (found : Option ℕ) (part : Part) → ((after_asked q found part).0 ≡ Moved → ⊥) → Quiet q found
 quiet_asked (Nothing outcome) found part still = record { posts = λ cell. refl; takes = λ cell. refl; stays = λ at. refl; feeds = refl }
@@ -318,7 +313,7 @@ stream_by _ stream = stream
 
 -- a try is fed the next word of the stream
 abbrev pub Feeds : Asks → Option (List ℕ) → Type 0
-Feeds q stream = words_left stream ≡ fed_of q ++ words_left (stream_by q stream)
+Feeds q stream = words_left stream ≡ fed_by q ++ words_left (stream_by q stream)
 
 feeds_take : (name : ℕ) (side : Side) (at : Option ℕ) (stream : Option (List ℕ)) → Feeds (take_of side at) stream
 feeds_take name side (Some cell) stream = refl
@@ -367,6 +362,6 @@ stream_asked (Check side cell) (Some word) part = refl
 stream_asked (Take side cell) None part = refl
 stream_asked (Take side cell) (Some word) part = refl
 
-pub feeds_after : (part : Part) (side : Side) (found : Option ℕ) → words_left part.stream ≡ fed_of (asks part side) ++ words_left (after part side found).1.stream
+pub feeds_after : (part : Part) (side : Side) (found : Option ℕ) → words_left part.stream ≡ fed_by (asks part side) ++ words_left (after part side found).1.stream
 unfolding asks after
-feeds_after part side found = feeds_if (is_held part) part side ∙ ap (λ s. fed_of (asks part side) ++ words_left s) (sym (stream_asked (asks part side) found part))
+feeds_after part side found = feeds_if (is_held part) part side ∙ ap (λ s. fed_by (asks part side) ++ words_left s) (sym (stream_asked (asks part side) found part))

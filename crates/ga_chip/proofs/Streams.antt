@@ -8,21 +8,21 @@ use Rattle.ga_chip.specs.declared.outcome.Outcome.{Outcome}
 use Rattle.ga_chip.specs.declared.outcome.Outcome.TheVariants.{Moved, Waits, Held, Stopped}
 use Rattle.ga_chip.specs.Part.{Part, Feed, picked_by}
 use Rattle.ga_chip.specs.Chip.{Chip, part_of}
-use Rattle.ga_chip.specs.Run.{words_left, piece_of, pieces, if_moved, Event, Move, happened, ran, move_in, moves, moves_of}
+use Rattle.ga_chip.specs.Run.{words_left, piece_of, pieces, if_moved, Event, Move, happened, ran, move_in, moves, moves_of, fed_by}
 use Rattle.ga_chip.specs.Legal.{IsLegal}
-use Rattle.ga_chip.proofs.Parts.{fed_of, Feeds, stream_by, feeds_by}
+use Rattle.ga_chip.proofs.Parts.{Feeds, stream_by, feeds_by}
 use Rattle.ga_chip.proofs.Events.{Does, DoesNothing, does, part_here, part_else, moves_here, moves_else}
 use Rattle.ga_chip.proofs.Kept.{legal_kept}
 use Rattle.ga_chip.proofs.Runs.{moves_of-append, part_first}
 use Rattle.ga_chip.proofs.Moments.{Makes}
 
 abbrev pub fed_moves : List Move → List ℕ
-fed_moves ms = flat_map (λ move. fed_of move.asked) ms
+fed_moves ms = flat_map (λ move. fed_by move.asked) ms
 
-fed_once : (chip : Chip) (event : Event) (d : Does chip event) → fed_moves (move_in chip event) ≡ fed_of d.asked
+fed_once : (chip : Chip) (event : Event) (d : Does chip event) → fed_moves (move_in chip event) ≡ fed_by d.asked
 fed_once chip event d = ap fed_moves d.makes ∙ by d.outcome refl
   where
-    by : (o : Outcome) → d.outcome ≡ o → fed_moves (if_moved d.outcome (record { node = d.name; asked = d.asked; found = d.found; picked = picked_by (need_of d.part.state) d.side })) ≡ fed_of d.asked
+    by : (o : Outcome) → d.outcome ≡ o → fed_moves (if_moved d.outcome (record { node = d.name; asked = d.asked; found = d.found; picked = picked_by (need_of d.part.state) d.side })) ≡ fed_by d.asked
     by Moved e = rw e (append-nil _)
     by Waits e = rw e (sym (d.quiet (λ g. cc)).feeds)
     by Held e = rw e (sym (d.quiet (λ g. cc)).feeds)
@@ -55,7 +55,7 @@ fed_ran chip (event ∷ events) name part now legal there there' =
     ∙ append_assoc (fed_moves (moves_of name (move_in chip event))) (words_left next.0.stream) (pieces name events)
     ∙ ap (λ l. fed_moves (moves_of name (move_in chip event)) ++ l) (fed_ran (happened chip event) events name next.0 now (legal_kept chip event legal) next.1 there')
     ∙ sym (append_assoc (fed_moves (moves_of name (move_in chip event))) (fed_moves (moves_of name (moves (happened chip event) events))) (words_left now.stream))
-    ∙ ap (λ l. l ++ words_left now.stream) (sym (flat_map-append (λ move. fed_of move.asked) (moves_of name (move_in chip event)) (moves_of name (moves (happened chip event) events))) ∙ ap fed_moves (sym (moves_of-append name (move_in chip event) (moves (happened chip event) events))))
+    ∙ ap (λ l. l ++ words_left now.stream) (sym (flat_map-append (λ move. fed_by move.asked) (moves_of name (move_in chip event)) (moves_of name (moves (happened chip event) events))) ∙ ap fed_moves (sym (moves_of-append name (move_in chip event) (moves (happened chip event) events))))
 
 -- the word that a move is fed, among the words of the stream
 pub record FedNow (chip : Chip) (events : List Event) (name w : ℕ) : Type 0 where

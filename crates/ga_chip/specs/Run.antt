@@ -1,5 +1,5 @@
 -- Runs of the chip along a list of events, and the words written and taken in them.
-use Rattle.std.specs.Prelude.{ℕ, zero, suc, ◌%◌, ◌==◌, Bool, true, false, ◌||◌, set, slice_index_or, if◌then◌else◌, List, [], ◌∷◌, ◌++◌, map, Option, Some, None}
+use Rattle.std.specs.Prelude.{ℕ, zero, suc, ◌%◌, ◌==◌, Bool, true, false, ◌||◌, set, slice_index_or, if◌then◌else◌, List, [], ◌∷◌, ◌++◌, map, take, Option, Some, None}
 use Rattle.std.specs.List.{filter, flat_map, range_with_len}
 use Rattle.ga_place.specs.Side.{SIDES}
 use Rattle.ga_place.specs.declared.side.Side.{Side}
@@ -10,7 +10,7 @@ use Rattle.ga_place.specs.Cell.{name_at}
 use Rattle.ga_chip.specs.declared.outcome.Try as asked
 use Rattle.ga_chip.specs.declared.outcome.Outcome.{Outcome}
 use Rattle.ga_chip.specs.declared.outcome.Outcome.TheVariants.{Moved, Waits, Held, Stopped}
-use Rattle.ga_chip.specs.Part.{Part, Asks, Nothing, Post, Take, asks, after, picked_by}
+use Rattle.ga_chip.specs.Part.{Part, Asks, Nothing, Feed, Post, Take, asks, after, picked_by}
 use Rattle.ga_chip.specs.Chip.{Chip, part_of, state_of, found_by, tried, with_changed}
 
 -- What happens to a chip. Each event names a node.
@@ -139,12 +139,24 @@ abbrev pub taken_by : ℕ → Asks → Option ℕ → List ℕ
 taken_by cell (Take side at) (Some word) = if at == cell then word ∷ [] else []
 taken_by cell _ _ = []
 
+-- the word that a try takes of its node's stream
+abbrev pub fed_by : Asks → List ℕ
+fed_by (Feed word) = word ∷ []
+fed_by _ = []
+
 -- the words posted in a run at a cell, in order, and those taken from it
 abbrev pub written_words : Chip → List Event → ℕ → List ℕ
 written_words chip events cell = flat_map (λ move. posted_by cell move.asked) (moves chip events)
 
 abbrev pub taken_words : Chip → List Event → ℕ → List ℕ
 taken_words chip events cell = flat_map (λ move. taken_by cell move.asked move.found) (moves chip events)
+
+-- the words that a node takes of its stream in a run, in order, and those of its first k moves
+abbrev pub fed_words : Chip → List Event → ℕ → List ℕ
+fed_words chip events name = flat_map (λ move. fed_by move.asked) (moves_of name (moves chip events))
+
+abbrev pub fed_after : Chip → List Event → ℕ → ℕ → List ℕ
+fed_after chip events name k = flat_map (λ move. fed_by move.asked) (take k (moves_of name (moves chip events)))
 
 -- the sides of a node's takes of several sides in a run
 abbrev pub sides_of : Chip → List Event → ℕ → List Side

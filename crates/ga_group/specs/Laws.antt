@@ -5,7 +5,7 @@ use Rattle.ga_chip.specs.Part.{Part}
 use Rattle.ga_chip.specs.Chip.{Chip, part_of}
 use Rattle.ga_chip.specs.Laws.{Agree, AgreesWith}
 use Rattle.ga_chip.specs.Legal.{DifferInBreaks, IsLegal}
-use Rattle.ga_chip.specs.Run.{ran, sides_of, tries_of}
+use Rattle.ga_chip.specs.Run.{ran, sides_of, tries_of, words_left}
 use Rattle.ga_group.specs.Plan.{Groups}
 use Rattle.ga_group.specs.Workers.{IsWorkersRun}
 
@@ -17,11 +17,17 @@ pub record AreAlike (one two : Chip) (tries others : List Try) : Type 0 where
   pub chips : DifferInBreaks one two
   pub sides : (name : ℕ) → AgreesWith (sides_of one (tries_of tries) name) (sides_of two (tries_of others) name)
 
+-- a node has the same state at two chips, and the same words left of its stream
+pub record IsAlike (here there : Part) : Type 0 where
+  pub state : here.state ≡ there.state
+  pub stream : words_left here.stream ≡ words_left there.stream
+
 -- two chips have a node alike, where it has made equally many steps
 abbrev pub LeaveAlike : Chip → Chip → Type 0
-LeaveAlike one two = (name : ℕ) (here there : Part) → part_of one name ≡ Some here → part_of two name ≡ Some there → here.state.steps ≡ there.state.steps → here.state ≡ there.state
+LeaveAlike one two = (name : ℕ) (here there : Part) → part_of one name ≡ Some here → part_of two name ≡ Some there → here.state.steps ≡ there.state.steps → IsAlike here there
 
--- Any two runs of workers, by whatever plans and over however many turns, go alike, and so do their ends.
+-- Two runs of workers that may be compared, by whatever plans and over however many turns, go alike, and leave each
+-- node alike where it has made equally many steps.
 abbrev pub PlansAgree : Type 0
 PlansAgree = (one two next other : Chip) (plan another : Groups) (turns more : ℕ) (run : IsWorkersRun one plan turns next) (again : IsWorkersRun two another more other) → AreAlike one two run.tries again.tries → Agree one two (tries_of run.tries) (tries_of again.tries) × LeaveAlike next other
 
