@@ -124,8 +124,7 @@ fn error_at(
 ///
 /// Items outside brackets are packed in order, each in the next slot of the last word where it fits, and else
 /// in slot 0 of a word of its own. A node has 64 words at most, and a fault is that of the first node in the
-/// text's order that has one. It fails as `Memory` only where memory is refused. It takes time in proportion
-/// to the program, if hashing spreads the names of its labels.
+/// text's order that has one. It fails as `Memory` only where memory is refused.
 pub fn assemble(alloc: Global, program: &Program<'_>) -> Result<Images, AsmError>
     ensures images { IfOk result (λ images. IsAssembled program.now images) }
     // they are the only images of the program

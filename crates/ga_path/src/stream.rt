@@ -14,8 +14,7 @@ use std::alloc::Global;
 /// without at its idle address. (The words are this project's own: profile.)
 ///
 /// A node that has an image and isn't on the route is refused as [`BootError::Unreached`], the first in the
-/// images' order. It fails as [`BootError::Memory`] only where memory is refused. It takes time in proportion
-/// to the words, if hashing spreads the names of the nodes.
+/// images' order. It fails as [`BootError::Memory`] only where memory is refused.
 pub fn boot(alloc: Global, route: &Route, images: &Images) -> Result<Boot, BootError>
     ensures load { IfOk result (λ boot. boot.load.items ≡ load_of images.now route.now) }
     ensures start { IfOk result (λ boot. boot.start.items ≡ start_of images.now route.now) }

@@ -71,7 +71,7 @@ impl<T: Drop> From<AllocFailed<T>> for SourceErrorKind {
 }
 
 /// The first fault of a text, at the place of the token that it is told at, which may be the text's
-/// end; or that memory was refused, at the place of the token at which it was.
+/// end; or that memory was refused, at a place that says nothing.
 #[derive(Clone, Copy, Debug, PartialEq, Eq)]
 pub struct SourceError {
     pub kind: SourceErrorKind,

@@ -24,8 +24,7 @@ pub struct ItemPlace {
 
 impl<'a> Program<'a> {
     /// Where the items of a section stand in the text, in their order. The section is told by its number,
-    /// from 0; a section that there isn't has no items. It fails only where memory is refused, and takes
-    /// time in proportion to the text.
+    /// from 0; a section that there isn't has no items. It fails only where memory is refused.
     pub fn places(&self, alloc: Global, section: usize) -> Result<Vec<ItemPlace>, AllocError>
         ensures { IfOk result (λ places. map item_place_of places.items ≡ map item_place (items_at self.now section)) }
     {
