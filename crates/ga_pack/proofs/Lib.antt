@@ -9,6 +9,7 @@ pub mod OneFault
 pub mod OneLayout
 pub mod OneReading
 pub mod OneSource
+pub mod OneTextFault
 mod OpcodeTable
 pub mod Packable
 pub mod Placed

@@ -9,7 +9,7 @@ use Rattle.ga_pack.specs.Model.Text.{Place}
 use Rattle.ga_pack.proofs.OneLayout.{one_standing}
 
 -- one list cut at two items: at one place, or the one cut lies in front of the other
-data Cuts {X : Type 0} (front : List X) (x : X) (front' : List X) (x' : X) : Type 0 where
+pub data Cuts {X : Type 0} (front : List X) (x : X) (front' : List X) (x' : X) : Type 0 where
   here : front ≡ front' → x ≡ x' → Cuts front x front' x'
   nearer : (mid : List X) → front' ≡ front ++ x ∷ mid → Cuts front x front' x'
   farther : (mid : List X) → front ≡ front' ++ x' ∷ mid → Cuts front x front' x'
@@ -19,7 +19,7 @@ more_cuts y (here e same) = here (ap (λ t. y ∷ t) e) same
 more_cuts y (nearer mid e) = nearer mid (ap (λ t. y ∷ t) e)
 more_cuts y (farther mid e) = farther mid (ap (λ t. y ∷ t) e)
 
-cuts : {X : Type 0} (front : List X) (x : X) (back front' : List X) (x' : X) (back' : List X) → front ++ x ∷ back ≡ front' ++ x' ∷ back' → Cuts front x front' x'
+pub cuts : {X : Type 0} (front : List X) (x : X) (back front' : List X) (x' : X) (back' : List X) → front ++ x ∷ back ≡ front' ++ x' ∷ back' → Cuts front x front' x'
 cuts [] x back [] x' back' e = here refl (cc)
 cuts [] x back (y ∷ front') x' back' e = nearer front' (let same : x ≡ y = cc in ap (λ t. t ∷ front') (sym same))
 cuts (y ∷ front) x back [] x' back' e = farther front (let same : y ≡ x' = cc in ap (λ t. t ∷ front) same)

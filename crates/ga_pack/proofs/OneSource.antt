@@ -1,11 +1,11 @@
 -- A list of tokens is spelled by one program at most.
-use Rattle.std.proofs.Common.{◌≡◌, ◌∙◌, ℕ, suc, true, false, List, [], ◌∷◌, ◌++◌, length, Option, Some, None, refl, sym, ap, subst}
+use Rattle.std.proofs.Common.{◌≡◌, ◌∙◌, ℕ, suc, true, false, List, [], ◌∷◌, ◌++◌, length, Option, Some, None, refl, sym, ap}
 use Rattle.std.specs.Prelude.{◌&&◌, ◌||◌, ◌==◌, ◌^◌, nat_lt, not}
 use Rattle.std.proofs.lemmas.Bool.{and_parts, not-true}
 use Rattle.ga_word.specs.declared.op.Op.{Op}
 use Rattle.ga_word.specs.Op.{fits_slot3, takes_dest}
 use Rattle.ga_pack.specs.Followers.{is_followed}
-use Rattle.ga_pack.specs.Model.Token.{Token, op, number, name, label, node, node_name, align, data_part, open_mark, close_mark, comma, slash, end}
+use Rattle.ga_pack.specs.Model.Token.{Token, op, close_mark}
 use Rattle.ga_pack.specs.Model.Program.{IsProgram, PlacedSection, placed_sections, tokens_of}
 use Rattle.ga_pack.specs.Model.Text.{places_of}
 use Rattle.ga_pack.specs.Model.Source.{Value, Number, Label, Item, Instruction, Transfer, Literal, Here, Align, Word, WordTo, Plain, Data, Section, Before, Items, Sections, Source, after, dest_bound, is_below, is_item, is_spare, item_tokens, items_tokens, op_tokens, spare_tokens, stand_from, start, text_tokens, value_token}

@@ -11,15 +11,15 @@ ends_behind : (t : Token) (front : List Token) (last : Token) → ends_in_node (
 ends_behind t [] last = refl
 ends_behind t (u ∷ front) last = refl
 
-no_cut : (front : List Token) (t : Token) (rest : List Token) → [] ≡ front ++ t ∷ rest → ⊥
+pub no_cut : (front : List Token) (t : Token) (rest : List Token) → [] ≡ front ++ t ∷ rest → ⊥
 no_cut [] t rest e = cc
 no_cut (u ∷ front) t rest e = cc
 
 -- what stands behind some tokens of a text is the text's end, or what further tokens are written as
-abbrev GoesOnBy : List Token → Token → List Token → Type 0
+abbrev pub GoesOnBy : List Token → Token → List Token → Type 0
 GoesOnBy front t rest = (rest ≡ []) ⊎ ((texts : List (List ℕ)) × (rest ≡ meanings (ends_in_node (front ++ t ∷ [])) texts))
 
-cut_tokens : (behind : Bool) (texts : List (List ℕ)) (front : List Token) (t : Token) (rest : List Token) → meanings behind texts ≡ front ++ t ∷ rest → GoesOnBy front t rest
+pub cut_tokens : (behind : Bool) (texts : List (List ℕ)) (front : List Token) (t : Token) (rest : List Token) → meanings behind texts ≡ front ++ t ∷ rest → GoesOnBy front t rest
 unfolding meanings
 cut_tokens behind [] [] t rest e = inl (cc)
 cut_tokens behind [] (u ∷ front) t rest e = absurd (no_cut front t rest (cc))

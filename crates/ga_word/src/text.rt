@@ -1,4 +1,4 @@
-ghost use Rattle.std.specs.Prelude.{◌≡◌, ℕ, ◌<◌, Ok, Err, Some, ◌∷◌, [], ◌++◌, IfOk, string_bytes};
+ghost use Rattle.std.specs.Prelude.{◌≡◌, ℕ, ◌<◌, ◌≤◌, ◌+◌, Ok, Err, Some, ◌∷◌, [], ◌++◌, IfOk, IsOk, OnErr, string_bytes, string_capacity, string_len};
 ghost use Rattle.ga_word.specs.Hex.{hex_digits};
 ghost use Rattle.ga_word.specs.Text.{text_of_words, words_of_text};
 ghost use Rattle.ga_word.specs.declared.text.WordsError.TheVariants.{BadWord, Memory};
@@ -40,9 +40,10 @@ pub fn words_text(alloc: Global, words: &[Word18]) -> Result<String, AllocError>
 }
 
 /// Adds the text of words to a text, as [`words_text`] gives it. It fails only where memory is refused,
-/// and a part may be added then.
+/// and the text is as it was then.
 pub fn push_words(text: &mut String, words: &[Word18]) -> Result<(), AllocError>
-    ensures { IfOk result (λ done. string_bytes text.new ≡ string_bytes text.old ++ text_of_words words.now) }
+    ensures text { IfOk result (λ done. string_bytes text.new ≡ string_bytes text.old ++ text_of_words words.now) }
+    ensures unchanged { OnErr result (string_bytes text.new ≡ string_bytes text.old) }
 {
     text.reserve(6 * words.len())?;
     for (place, word) in words.iter().enumerate() {
@@ -52,10 +53,13 @@ pub fn push_words(text: &mut String, words: &[Word18]) -> Result<(), AllocError>
     Ok(())
 }
 
-/// Adds the digits of a word, and the ASCII byte behind them.
+/// Adds the digits of a word, and the ASCII byte behind them. It takes no memory where there is room for six bytes.
 fn push_word(text: &mut String, word: Word18, end: u8) -> Result<(), AllocError>
     requires { end < 128 }
-    ensures { IfOk result (λ done. string_bytes text.new ≡ string_bytes text.old ++ hex_digits 5 word ++ end ∷ []) }
+    ensures room { string_len text.old + 6 ≤ string_capacity text.old → IsOk result }
+    ensures capacity { string_capacity text.old ≤ string_capacity text.new }
+    ensures len { IfOk result (λ done. string_len text.new ≡ string_len text.old + 6) }
+    ensures text { IfOk result (λ done. string_bytes text.new ≡ string_bytes text.old ++ hex_digits 5 word ++ end ∷ []) }
 {
     let [first, second, third, fourth, fifth] = hex5(word);
     let digits = [first, second, third, fourth, fifth, end];
