@@ -8,4 +8,5 @@ mod LayingSteps
 mod MakingSteps
 mod Groups
 mod Sections
+mod OneAnswer
 mod WorkedImages

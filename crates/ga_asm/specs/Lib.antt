@@ -3,3 +3,4 @@ pub mod Image
 pub mod Layout
 pub mod Making
 pub mod Assembling
+pub mod Text

@@ -7,7 +7,9 @@ mod image;
 mod layout;
 mod making;
 mod slots;
+mod text;
 
 pub use assembling::{Images, assemble};
 pub use error::{AsmError, AsmErrorKind};
 pub use image::Image;
+pub use text::{TextError, assemble_text};
