@@ -8,5 +8,5 @@ mod LayingSteps
 mod MakingSteps
 mod Groups
 mod Sections
-mod OneAnswer
+pub mod OneAnswer
 mod WorkedImages

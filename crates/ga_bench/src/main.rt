@@ -1,10 +1,15 @@
 //! The bench of the GA144: each subcommand reads one input and writes one text.
 #![tactic(auto)]
 
+ghost use Rattle.std.specs.Prelude.{IfErr, IfOk, List, map, string_bytes};
+ghost use Rattle.ga_command_line.specs.CommandLine.{InRange, IsJobOf, IsRight};
+ghost use Rattle.ga_bench.specs.Status.{IsStatusOf};
+
 use clap::error::ErrorKind::InvalidValue;
 use ga_command_line::{Job, LineError, job, refusal};
 use ga_jobs::ServeError;
 use ga_serve::{serve, status};
+use std::alloc::Global;
 use std::io::ErrorKind::OutOfMemory;
 use std::process::ExitCode;
 use std::rt::Env;
@@ -12,12 +17,19 @@ use std::thread::Threads;
 use std::{env, io};
 
 fn main(rt: HostRuntime) -> ExitCode {
-    ExitCode::from(serve_arguments(&rt))
+    let job = job_of_arguments(&rt);
+    ExitCode::from(serve_line(&rt, job))
 }
 
-/// Runs the job that the arguments name, on standard input and output. Answers the exit status.
-fn serve_arguments<R: Env + AllocGlobal + Input + Print + Eprint + Threads>(rt: &R) -> u8 {
-    let outcome = match job_of_arguments(rt) {
+/// Runs the job that a command line names, on standard input and output, or tells why it names none. Answers the exit
+/// status.
+fn serve_line<R: AllocGlobal + Input + Print + Eprint + Threads>(
+    rt: &R,
+    job: Result<Job, LineError>,
+) -> u8
+    ensures { IsStatusOf job result }
+{
+    let outcome = match job {
         Ok(job) => serve(rt, &mut rt.reader(), &mut io::writer(rt), &job),
         Err(LineError::Memory) => Err(ServeError::Memory),
         Err(LineError::Parse(error)) => match error.print(rt) {
@@ -33,15 +45,25 @@ fn serve_arguments<R: Env + AllocGlobal + Input + Print + Eprint + Threads>(rt: 
     status(&outcome)
 }
 
-/// The job that the arguments of the program name.
-fn job_of_arguments<R: Env + AllocGlobal>(rt: &R) -> Result<Job, LineError> {
+/// The job that the arguments of the program name. The kit tells nothing of the arguments, so no more than this is stated.
+fn job_of_arguments<R: Env + AllocGlobal>(rt: &R) -> Result<Job, LineError>
+    ensures { IfOk result InRange }
+{
     let alloc = rt.alloc();
-    let arguments = match env::args(rt) {
-        Ok(arguments) => arguments,
-        Err(error) if error.kind() == OutOfMemory => return Err(LineError::Memory),
-        Err(_) => return Err(refusal(alloc, InvalidValue, "an argument is not UTF-8")),
-    };
-    let arguments: Vec<String> = arguments.collect(alloc)?;
-    let words: Vec<&str> = arguments.iter().map(|word| word.as_str()).collect(alloc)?;
+    match env::args(rt) {
+        Ok(arguments) => job_of_words(alloc, &arguments.collect(alloc)?),
+        Err(error) if error.kind() == OutOfMemory => Err(LineError::Memory),
+        Err(_) => Err(refusal(alloc, InvalidValue, "an argument is not UTF-8")),
+    }
+}
+
+/// The job that the words of a command line name, of which the first is the program's name.
+fn job_of_words(alloc: Global, words: &[String]) -> Result<Job, LineError>
+    ensures in_range { IfOk result InRange }
+    ensures named { IfOk result (IsJobOf (map string_bytes words.now)) }
+    // Right words are refused only for want of memory.
+    ensures right { IfErr result (λ error. (job : Job) → IsRight (map string_bytes words.now) job → error ≡ LineError.Memory) }
+{
+    let words: Vec<&str> = words.iter().map(|word| word.as_str()).collect(alloc)?;
     job(alloc, &words)
 }

@@ -5,3 +5,5 @@ pub mod Passing
 pub mod Room
 pub mod Sources
 pub mod Heads
+pub mod OneReplay
+mod WorkedSessions

@@ -1,21 +1,15 @@
 -- The chip after the head of a replay text.
 use Rattle.std.specs.Prelude.{◌≡◌, ◌⊎◌, ℕ, List, [], ◌∷◌, ◌++◌, get_or, Option, Some, None, Result, Ok, Err}
-use Rattle.ga_pack.specs.Model.LayoutFault.{AsmKind, ProgramFault}
-use Rattle.ga_pack.specs.Model.Program.{IsFault, IsProgram, PlacedSection}
-use Rattle.ga_pack.specs.Model.Token.{SourceKind}
-use Rattle.ga_source.specs.declared.error.SourceError.{SourceError}
-use Rattle.ga_source.specs.Error as source
-use Rattle.ga_asm.specs.declared.error.AsmError.{AsmError}
-use Rattle.ga_asm.specs.Assembling.{IsAssembled}
-use Rattle.ga_asm.specs.Error as assembly
+use Rattle.ga_asm.specs.Text.{HasImages, IsTextFault}
+use Rattle.ga_asm.specs.declared.text.TextError.{TextError}
 use Rattle.ga_chip.specs.Chip.{Chip, placed, refusal, reset_chip, stream_refusal, streamed, unless_refused}
 use Rattle.ga_path.specs.Route.{route_fault}
 use Rattle.ga_path.specs.Stream.{Images, load_of, start_of, unreached}
 use Rattle.ga_path.specs.declared.error.BootError.TheVariants.{Unreached}
 use Rattle.ga_path.specs.declared.error.RouteError.{RouteError}
 use Rattle.ga_debug.specs.declared.replay_error.ReplayError.{ReplayError}
-use Rattle.ga_debug.specs.declared.replay_error.ReplayError.TheVariants.{Asm, Boot, Source}
-use Rattle.ga_debug.specs.Fault.{fault_of_route}
+use Rattle.ga_debug.specs.declared.replay_error.ReplayError.TheVariants.{Boot}
+use Rattle.ga_debug.specs.Fault.{fault_of_route, fault_of_text}
 use Rattle.ga_debug.specs.Head.{Head, Loading, head_in}
 
 -- each image is placed in its node, with its entry
@@ -46,30 +40,12 @@ abbrev pub chip_of : Loading → Images → Result Chip ReplayError
 chip_of None images = Ok (all_placed images reset_chip)
 chip_of (Some nodes) images = routed (route_fault nodes) nodes images
 
--- the first fault of a text, or of its program
-pub record IsSourceFault (text : List ℕ) (fault : ReplayError) : Type 0 where
-  pub error : SourceError
-  pub kind : SourceKind
-  pub told : fault ≡ Source error
-  pub kind_is : source.kind_of error.kind ≡ Some kind
-  pub first : IsFault text kind (source.error_place error)
-
-pub record IsAsmFault (program : List PlacedSection) (fault : ReplayError) : Type 0 where
-  pub error : AsmError
-  pub kind : AsmKind
-  pub told : fault ≡ Asm error
-  pub kind_is : assembly.kind_of error.kind ≡ Some kind
-  pub first : ProgramFault program error.node (assembly.error_place error) kind
-
--- the images of a source text, or its first fault: of the text, or else of its program
-abbrev pub IsImagesOf : List ℕ → Result Images ReplayError → Type 0
-IsImagesOf text (Ok images) = (program : List PlacedSection) × IsProgram text program × IsAssembled program images
-IsImagesOf text (Err fault) = IsSourceFault text fault ⊎ ((program : List PlacedSection) × IsProgram text program × IsAsmFault program fault)
-
 -- the chip that a head leads to, or its first fault: of the source, of the assembly, of the route, of the boot
 abbrev pub IsChipOf : Head → Result Chip ReplayError → Type 0
-IsChipOf head (Ok chip) = (images : Images) × IsImagesOf head.source (Ok images) × (chip_of head.loading images ≡ Ok chip)
-IsChipOf head (Err fault) = IsImagesOf head.source (Err fault) ⊎ ((images : Images) × IsImagesOf head.source (Ok images) × (chip_of head.loading images ≡ Err fault))
+IsChipOf head (Ok chip) = (images : Images) × HasImages head.source images × (chip_of head.loading images ≡ Ok chip)
+IsChipOf head (Err fault) =
+    ((error : TextError) × IsTextFault head.source error × (fault_of_text error ≡ fault))
+    ⊎ ((images : Images) × HasImages head.source images × (chip_of head.loading images ≡ Err fault))
 
 -- The chip after the head of a text, with the head; or the first fault.
 abbrev pub IsBegun : List ℕ → Result (Chip × Head) ReplayError → Type 0

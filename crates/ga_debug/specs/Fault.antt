@@ -1,11 +1,7 @@
 -- The faults of a replay text, by the faults of its parts.
 use Rattle.std.specs.Prelude.{◌≡◌, Result, Ok, Err}
-use Rattle.ga_source.specs.declared.error.SourceError.{SourceError}
-use Rattle.ga_source.specs.declared.error.SourceErrorKind.{SourceErrorKind}
-use Rattle.ga_source.specs.declared.error.SourceErrorKind.TheVariants as source
-use Rattle.ga_asm.specs.declared.error.AsmError.{AsmError}
-use Rattle.ga_asm.specs.declared.error.AsmErrorKind.{AsmErrorKind}
-use Rattle.ga_asm.specs.declared.error.AsmErrorKind.TheVariants as assembly
+use Rattle.ga_asm.specs.declared.text.TextError.{TextError}
+use Rattle.ga_asm.specs.declared.text.TextError.TheVariants as text
 use Rattle.ga_path.specs.declared.error.BootError.{BootError}
 use Rattle.ga_path.specs.declared.error.BootError.TheVariants as boot
 use Rattle.ga_path.specs.declared.error.NamesError.{NamesError}
@@ -15,13 +11,10 @@ use Rattle.ga_path.specs.declared.error.RouteError.TheVariants as route
 use Rattle.ga_debug.specs.declared.replay_error.ReplayError.{ReplayError}
 use Rattle.ga_debug.specs.declared.replay_error.ReplayError.TheVariants.{Asm, BadRoute, Boot, Memory, Route, Source}
 
-abbrev pub fault_of_source : SourceErrorKind → SourceError → ReplayError
-fault_of_source source.Memory error = Memory
-fault_of_source kind error = Source error
-
-abbrev pub fault_of_asm : AsmErrorKind → AsmError → ReplayError
-fault_of_asm assembly.Memory error = Memory
-fault_of_asm kind error = Asm error
+abbrev pub fault_of_text : TextError → ReplayError
+fault_of_text (text.Source error) = Source error
+fault_of_text (text.Asm error) = Asm error
+fault_of_text text.Memory = Memory
 
 abbrev pub fault_of_names : NamesError → ReplayError
 fault_of_names names.BadNames = BadRoute

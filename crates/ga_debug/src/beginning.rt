@@ -1,24 +1,27 @@
 ghost use Rattle.std.specs.Prelude.{◌≡◌, ℕ, IfErr, IfOk, None, Some};
+ghost use Rattle.ga_asm.specs.Text.{AtMostOne};
 ghost use Rattle.ga_path.specs.Stream.{IsBootFault, unreached};
-ghost use Rattle.ga_debug.specs.Begin.{IsBeginning, IsChipOf, IsImagesOf, booted, chip_of};
+ghost use Rattle.ga_debug.specs.Begin.{IsBeginning, IsChipOf, booted, chip_of};
 ghost use Rattle.ga_debug.specs.Fault.{Answers, Gives};
 ghost use Rattle.ga_debug.specs.HeadView.{head_view};
 
 use crate::head::{Head, head_of};
 use crate::replay_error::ReplayError;
 use crate::session::Session;
-use ga_asm::{Images, assemble};
+use ga_asm::{Images, assemble_text};
 use ga_chip::Chip;
 use ga_path::{BootError, Route, boot};
 use ga_place::Node;
-use ga_source::parse;
 use std::alloc::Global;
 
 /// A session over the chip that the head of a replay text leads to, and the number of its line `go`, counted
 /// from 1; or the first fault. What stands behind the line `go` isn't looked at. It fails as
 /// [`ReplayError::Memory`] only where memory is refused. (The texts are this project's own: profile.)
+#[tactic(auto, using(crate::proofs::OneReplay::one_beginning))]
 pub fn begin(alloc: Global, text: &str) -> Result<(Session, u64), ReplayError>
-    ensures { Answers (λ begun. begun) (IsBeginning text.now) result }
+    ensures begun { Answers (λ begun. begun) (IsBeginning text.now) result }
+    // a text has one beginning, or one first fault
+    ensures only { AtMostOne (IsBeginning text.now) }
 {
     let head = head_of(alloc, text)?;
     let chip = chip_after(alloc, &head)?;
@@ -29,21 +32,11 @@ pub fn begin(alloc: Global, text: &str) -> Result<(Session, u64), ReplayError>
 pub fn chip_after(alloc: Global, head: &Head<'_>) -> Result<Chip, ReplayError>
     ensures { Answers (λ chip. chip) (IsChipOf (head_view head.now)) result }
 {
-    let images = images_of(alloc, head.source.as_str())?;
+    let images = assemble_text(alloc, head.source.as_str())?;
     match &head.nodes {
         None => all_placed(alloc, &images),
         Some(nodes) => routed(alloc, nodes, &images),
     }
-}
-
-/// The images of a source text.
-#[inline(never)]
-fn images_of(alloc: Global, source: &str) -> Result<Images, ReplayError>
-    ensures { Answers (λ images. images) (IsImagesOf source.now) result }
-{
-    let program = parse(alloc, source)?;
-    let images = assemble(alloc, &program)?;
-    Ok(images)
 }
 
 /// A chip with each image in its node.

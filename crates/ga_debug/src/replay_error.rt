@@ -1,11 +1,11 @@
 ghost use Rattle.std.specs.Prelude.{◌≡◌};
-ghost use Rattle.ga_debug.specs.Fault.{fault_of_asm, fault_of_boot, fault_of_names, fault_of_route, fault_of_source};
+ghost use Rattle.ga_debug.specs.Fault.{fault_of_boot, fault_of_names, fault_of_route, fault_of_text};
 ghost use Rattle.ga_debug.specs.declared.replay_error.ReplayError.TheVariants.{Memory};
 
 use crate::error::DebugError;
-use ga_asm::{AsmError, AsmErrorKind};
+use ga_asm::{AsmError, TextError};
 use ga_path::{BootError, NamesError, RouteError};
-use ga_source::{SourceError, SourceErrorKind};
+use ga_source::SourceError;
 use std::alloc::{AllocError, AllocFailed};
 use thiserror::Error;
 
@@ -45,24 +45,14 @@ pub enum ReplayError {
     Memory,
 }
 
-impl From<SourceError> for ReplayError {
-    ghost from_gives = { λ error fault. fault ≡ fault_of_source error.kind error };
+impl From<TextError> for ReplayError {
+    ghost from_gives = { λ error fault. fault ≡ fault_of_text error };
 
-    fn from(error: SourceError) -> ReplayError {
-        match error.kind {
-            SourceErrorKind::Memory => ReplayError::Memory,
-            _ => ReplayError::Source(error),
-        }
-    }
-}
-
-impl From<AsmError> for ReplayError {
-    ghost from_gives = { λ error fault. fault ≡ fault_of_asm error.kind error };
-
-    fn from(error: AsmError) -> ReplayError {
-        match error.kind {
-            AsmErrorKind::Memory => ReplayError::Memory,
-            _ => ReplayError::Asm(error),
+    fn from(error: TextError) -> ReplayError {
+        match error {
+            TextError::Source(fault) => ReplayError::Source(fault),
+            TextError::Asm(fault) => ReplayError::Asm(fault),
+            TextError::Memory => ReplayError::Memory,
         }
     }
 }

@@ -1,4 +1,5 @@
 ghost use Rattle.std.specs.Prelude.{◌≡◌, ◌+◌, ◌<◌, ◌≤◌, ◌^◌, IfErr, IfOk, Err, Ok, length};
+ghost use Rattle.ga_asm.specs.Text.{AtMostOne};
 ghost use Rattle.ga_debug.specs.Fault.{Answers};
 ghost use Rattle.ga_debug.specs.Line.{fault_of_line};
 ghost use Rattle.ga_debug.specs.Pieces.{pieces_left};
@@ -40,8 +41,11 @@ impl From<LineError> for ReplayError {
 /// line by line [`ReplayError::Bad`] where the command is refused and [`ReplayError::Differs`] where something
 /// else came of it. It fails as [`ReplayError::Memory`] only where memory is refused, and takes time in
 /// proportion to the text, the tries and the turns. (The texts are this project's own: profile.)
+#[tactic(auto, using(crate::proofs::OneReplay::one_replayed))]
 pub fn replay(alloc: Global, text: &str) -> Result<u64, ReplayError>
-    ensures { Answers (λ count. count) (IsReplayed text.now) result }
+    ensures replayed { Answers (λ count. count) (IsReplayed text.now) result }
+    // a text has one count, or one first fault
+    ensures only { AtMostOne (IsReplayed text.now) }
 {
     let head = head_of(alloc, text)?;
     let chip = chip_after(alloc, &head)?;

@@ -9,17 +9,13 @@ use Rattle.std.proofs.lemmas.List.Elements.{All-cons, All-nil}
 use Rattle.std.proofs.lemmas.Str.{is_utf8-from_IsUtf8}
 use Rattle.ga_word.specs.Hex.{hex_number, is_word_text, word_of}
 use Rattle.ga_word.specs.Text.{word_onto, words_from, words_of_text}
-use Rattle.ga_pack.specs.Model.Layout.{Labels}
-use Rattle.ga_pack.specs.Model.LayoutFault.{ProgramFault}
-use Rattle.ga_pack.specs.Model.Program.{IsFault, IsProgram, PlacedSection}
 use Rattle.ga_asm.specs.Assembling.{IsAssembled}
-use Rattle.ga_asm.specs.Image.{ImageView, entry_of}
+use Rattle.ga_asm.specs.Image.{ImageView}
+use Rattle.ga_asm.specs.Text.{HasImages}
 use Rattle.ga_disasm.specs.Source.{FitNode, IsSourceOf}
-use Rattle.ga_source.specs.Error.{error_place as source_place}
-use Rattle.ga_asm.specs.Error.{error_place as asm_place}
 use Rattle.ga_jobs.specs.Asm.{IsAsmOutput, images_text}
 use Rattle.ga_jobs.specs.Dis.{AssemblesTo, plain_image}
-use Rattle.ga_jobs.specs.Source.{IsImagesIn, IsProgramIn}
+use Rattle.ga_jobs.proofs.OneOutput.{one_asm_output}
 use Rattle.ga_jobs.specs.Text.{counted, text_in, words_after, words_found, words_in}
 use Rattle.ga_jobs.specs.declared.fault.ServeError.{ServeError}
 use Rattle.ga_jobs.specs.declared.fault.ServeError.TheVariants.{Input, Words}
@@ -86,14 +82,6 @@ fit_node input words code_len e within =
 
 -- ---- a source text of words is assembled to them
 
-same_image : (image : ImageView) (words : List ℕ) (code_len : ℕ) → image.words ≡ words → image.code_len ≡ code_len → image.labels ≡ [] → image.entry ≡ entry_of image.labels → image ≡ plain_image words code_len
-same_image image words code_len is code labels entry =
-    let none : image.entry ≡ 0 = entry ∙ ap entry_of labels in
-    ap (λ (t : List ℕ). record image { words = t }) is
-    ∙ ap (λ (t : ℕ). record { words = words; code_len = t; entry = image.entry; labels = image.labels }) code
-    ∙ ap (λ (t : ℕ). record { words = words; code_len = code_len; entry = t; labels = image.labels }) none
-    ∙ ap (λ (t : Labels). record { words = words; code_len = code_len; entry = 0; labels = t }) labels
-
 module _ (text words : List ℕ) (code_len : ℕ) (utf8 : IsUtf8 text) (source : IsSourceOf text words code_len) where
   is_text : text_in text ≡ Ok text
   is_text = ap (λ (b : Bool). if b then Ok text else Err (Input BadText)) (is_utf8-from_IsUtf8 text utf8)
@@ -101,44 +89,18 @@ module _ (text words : List ℕ) (code_len : ℕ) (utf8 : IsUtf8 text) (source :
   abbrev image : ImageView
   image = plain_image words code_len
 
-  is_program : IsProgramIn text (Ok (source.section ∷ []))
-  is_program = (text, is_text, source.program_is)
-
   assembled : IsAssembled (source.section ∷ []) ((0, image) ∷ [])
   unfolding IsAssembled
   assembled = (sym source.node_is, record { laid = source.laid; entry_is = refl }, tt)
 
-  one_image : (images : List (ℕ × ImageView)) → IsAssembled (source.section ∷ []) images → images ≡ (0, image) ∷ []
-  unfolding IsAssembled
-  one_image [] made = absurd made
-  one_image (i ∷ j ∷ images) made = absurd made.2
-  one_image (i ∷ []) made =
-      let only = source.only i.1.words i.1.labels i.1.code_len made.1.laid in
-      let same = same_image i.1 words code_len only.0 only.2 only.1 made.1.entry_is in
-      ap (λ (n : ℕ). (n, i.1) ∷ []) (made.0 ∙ source.node_is) ∙ ap (λ (v : ImageView). (0, v) ∷ []) same
+  has_images : HasImages text ((0, image) ∷ [])
+  has_images = record { program = source.section ∷ []; program_is = source.program_is; faultless = source.no_program_fault; assembled = assembled }
 
-  one_program : (program : List PlacedSection) → IsProgramIn text (Ok program) → program ≡ source.section ∷ []
-  one_program program (text', is, program_is) =
-      let same : text' ≡ text = cc (is, is_text) in source.only_program program (subst (λ (t : List ℕ). IsProgram t program) same program_is)
-
-  no_fault : (fault : ServeError) → IsImagesIn text (Err fault) → ⊥
-  no_fault fault (inl (inl refused)) = cc (refused, is_text)
-  no_fault fault (inl (inr (text', is, refused))) =
-      let same : text' ≡ text = cc (is, is_text) in
-      source.no_source_fault refused.kind (source_place refused.error) (subst (λ (t : List ℕ). IsFault t refused.kind (source_place refused.error)) same refused.first)
-  no_fault fault (inr (program, is, refused)) =
-      let same = one_program program is in
-      source.no_program_fault refused.error.node (asm_place refused.error) refused.kind
-      (subst (λ (p : List PlacedSection). ProgramFault p refused.error.node (asm_place refused.error) refused.kind) same refused.first)
-
-  only : (answer : Result (List ℕ) ServeError) → IsAsmOutput text answer → answer ≡ Ok (images_text ((0, image) ∷ []))
-  only (Ok written) (images, (program, is, made), same) =
-      let all = one_image images (subst (λ (p : List PlacedSection). IsAssembled p images) (one_program program is) made) in
-      ap Ok (same ∙ ap images_text all)
-  only (Err fault) refused = absurd (no_fault fault refused)
+  written : IsAsmOutput text (Ok (images_text ((0, image) ∷ [])))
+  written = ((0, image) ∷ [], (text, is_text, has_images), refl)
 
   pub assembles : AssemblesTo text words code_len
-  assembles = record { written = ((0, image) ∷ [], (source.section ∷ [], is_program, assembled), refl); only = only }
+  assembles = record { written = written; only = λ answer is. one_asm_output text answer (Ok (images_text ((0, image) ∷ []))) is written }
 
 -- the same of the words of an input
 pub again : (input words words' text : List ℕ) (code : Option ℕ) (code_len : ℕ) → words_in input ≡ Ok words → words_in input ≡ Ok words' → code_len ≡ unwrap_or code (length words) → code_len ≤ length words

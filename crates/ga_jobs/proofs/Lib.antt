@@ -1,5 +1,6 @@
 mod Replies
 mod Dealing
 mod Faults
+pub mod OneOutput
 mod Again
 mod WorkedOutputs

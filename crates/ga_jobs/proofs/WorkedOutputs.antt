@@ -15,8 +15,18 @@ use Rattle.ga_node.specs.Slot.{row, step}
 use Rattle.ga_asm.specs.Image.{ImageView}
 use Rattle.ga_path.specs.declared.error.BootError.TheVariants.{Unreached}
 use Rattle.ga_path.specs.declared.error.RouteError.TheVariants.{NotNeighbour}
+use Rattle.ga_place.specs.Cell.{all_cells, cell_of}
+use Rattle.ga_chip.specs.Chip.{reset_chip, tried}
+use Rattle.ga_chip.specs.Part.{after, asks}
+use Rattle.ga_chip.specs.Run.{happened}
+use Rattle.ga_group.specs.declared.error.PlanError.TheVariants.{Empty}
+use Rattle.ga_debug.specs.Command.{arguments, command_first, command_in}
+use Rattle.ga_debug.specs.Pieces.{pieces}
+use Rattle.ga_jobs.specs.Asm.{image_line, images_text}
+use Rattle.ga_jobs.specs.Debug.{replies_to}
+use Rattle.ga_jobs.specs.Run.{dealt, plan_by}
 use Rattle.ga_jobs.specs.declared.fault.RouteFault.TheVariants.{BadRoute, Nodes}
-use Rattle.ga_jobs.specs.declared.fault.ServeError.TheVariants.{Boot, Input, Route, Words}
+use Rattle.ga_jobs.specs.declared.fault.ServeError.TheVariants.{Boot, Input, Plan, Route, Words}
 use Rattle.ga_jobs.specs.declared.fault.InputFault.TheVariants.{BadText}
 use Rattle.ga_jobs.specs.declared.fault.WordsFault.TheVariants as words
 use Rattle.ga_jobs.specs.Boot.{part_text, text_by}
@@ -74,3 +84,21 @@ no_route = refl
 
 not_reached : text_by ((710, one_word) ∷ []) (route_in (codes "708,709")) ≡ Err (Boot (Unreached 710))
 not_reached = refl
+
+-- two images, one with its entry and the code in front of its data
+images_of_two : images_text ((708, one_word) ∷ (709, record { words = 0x05872 ∷ 0x2C9B2 ∷ 0x00001 ∷ []; code_len = 2; entry = 1; labels = [] }) ∷ [])
+    ≡ codes "node 708 entry 000 code 1 words 1\n2C9B2\nnode 709 entry 001 code 2 words 3\n05872 2C9B2 00001\n"
+unfolding image_line one_word hex_digits digits
+images_of_two = refl
+
+-- the nodes of a route go round the workers
+dealt_to_two : dealt 2 (708 ∷ 709 ∷ 710 ∷ []) ≡ (708 ∷ 710 ∷ []) ∷ (709 ∷ []) ∷ []
+dealt_to_two = refl
+
+too_many_workers : plan_by (dealt 3 (708 ∷ 709 ∷ [])) ≡ Err (Plan (Empty 2))
+too_many_workers = refl
+
+-- an empty line is no command, and one that is refused changes nothing
+replies_to_three : replies_to reset_chip (codes "pass 709" ∷ [] ∷ codes "halt" ∷ codes "break 709 003" ∷ []) ≡ codes "refused NotHeld\nrefused BadCommand\nok\n"
+unfolding command_in command_first arguments pieces happened tried after asks need_of reset_chip cell_of all_cells
+replies_to_three = refl

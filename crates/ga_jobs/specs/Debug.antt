@@ -3,12 +3,13 @@ use Rattle.std.specs.Prelude.{◌≡◌, ℕ, List, [], ◌∷◌, ◌++◌, cod
 use Rattle.ga_chip.specs.Chip.{Chip}
 use Rattle.ga_debug.specs.declared.error.DebugError.{DebugError}
 use Rattle.ga_debug.specs.declared.error.DebugError.TheVariants.{BadAddress, BadCommand, BadCount, BadNode, BadSide, Memory, NotHeld}
+use Rattle.ga_debug.specs.declared.replay_error.ReplayError.{ReplayError}
 use Rattle.ga_debug.specs.Begin.{IsBeginning}
 use Rattle.ga_debug.specs.Head.{lines_of}
 use Rattle.ga_debug.specs.Session.{after_line, reply_to}
 use Rattle.ga_jobs.specs.declared.fault.ServeError.{ServeError}
-use Rattle.ga_jobs.specs.Replay.{IsReplayFault}
-use Rattle.ga_jobs.specs.Text.{text_in}
+use Rattle.ga_jobs.specs.Fault.{fault_of_replay}
+use Rattle.ga_jobs.specs.Text.{IsInText}
 
 abbrev pub fault_name : DebugError → List ℕ
 fault_name BadCommand = codes "BadCommand"
@@ -36,8 +37,11 @@ replies_to chip ([] ∷ lines) = replies_to chip lines
 replies_to chip ((c ∷ line) ∷ lines) =
     replied (reply_to (c ∷ line) chip) ++ replies_to (after_reply (reply_to (c ∷ line) chip) (c ∷ line) chip) lines
 
--- what `debug` may write for an input, or its first fault: the commands stand behind the line `go`
+-- the replies to the commands of a text, which stand behind the line `go`, or the first fault in front of them
+abbrev pub IsReplies : List ℕ → Result (List ℕ) ReplayError → Type 0
+IsReplies text (Ok replies) = (chip : Chip) × (line : ℕ) × IsBeginning text (Ok (chip, line)) × (replies ≡ replies_to chip (drop line (lines_of text)))
+IsReplies text (Err error) = IsBeginning text (Err error)
+
+-- what `debug` may write for an input, or its first fault
 abbrev pub IsDebugOutput : List ℕ → Result (List ℕ) ServeError → Type 0
-IsDebugOutput input (Ok output) =
-    (text : List ℕ) × (chip : Chip) × (line : ℕ) × (text_in input ≡ Ok text) × IsBeginning text (Ok (chip, line)) × (output ≡ replies_to chip (drop line (lines_of text)))
-IsDebugOutput input (Err fault) = IsReplayFault (λ text error. IsBeginning text (Err error)) input fault
+IsDebugOutput input answer = IsInText fault_of_replay IsReplies input answer

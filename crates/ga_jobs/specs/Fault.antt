@@ -2,12 +2,8 @@
 use Rattle.std.specs.Prelude.{◌≡◌, Result, Ok, Err}
 use Rattle.ga_word.specs.declared.text.WordsError.{WordsError}
 use Rattle.ga_word.specs.declared.text.WordsError.TheVariants as words
-use Rattle.ga_source.specs.declared.error.SourceError.{SourceError}
-use Rattle.ga_source.specs.declared.error.SourceErrorKind.{SourceErrorKind}
-use Rattle.ga_source.specs.declared.error.SourceErrorKind.TheVariants as source
-use Rattle.ga_asm.specs.declared.error.AsmError.{AsmError}
-use Rattle.ga_asm.specs.declared.error.AsmErrorKind.{AsmErrorKind}
-use Rattle.ga_asm.specs.declared.error.AsmErrorKind.TheVariants as assembly
+use Rattle.ga_asm.specs.declared.text.TextError.{TextError}
+use Rattle.ga_asm.specs.declared.text.TextError.TheVariants as text
 use Rattle.ga_debug.specs.declared.replay_error.ReplayError.{ReplayError}
 use Rattle.ga_debug.specs.declared.replay_error.ReplayError.TheVariants as replay
 use Rattle.ga_path.specs.declared.error.BootError.{BootError}
@@ -27,13 +23,10 @@ fault_of_words (words.BadWord index) = Words (BadWord index)
 fault_of_words words.Memory = Memory
 
 -- the fault of a source text, or of its program
-abbrev pub fault_of_source : SourceErrorKind → SourceError → ServeError
-fault_of_source source.Memory error = Memory
-fault_of_source kind error = Source error
-
-abbrev pub fault_of_asm : AsmErrorKind → AsmError → ServeError
-fault_of_asm assembly.Memory error = Memory
-fault_of_asm kind error = Asm error
+abbrev pub fault_of_text : TextError → ServeError
+fault_of_text (text.Source error) = Source error
+fault_of_text (text.Asm error) = Asm error
+fault_of_text text.Memory = Memory
 
 -- the fault of a text that doesn't name nodes, of nodes that are no route, and of a node that isn't on the route
 abbrev pub fault_of_names : NamesError → ServeError

@@ -1,4 +1,5 @@
 ghost use Rattle.std.specs.Prelude.{◌≡◌, ◌++◌, ◌^◌, ◌<◌, IfOk, Some, string_bytes};
+ghost use Rattle.ga_asm.specs.Text.{AtMostOne};
 ghost use Rattle.ga_word.specs.Hex.{hex_digits};
 ghost use Rattle.ga_jobs.specs.Asm.{IsAsmOutput, image_line, image_text, images_text};
 ghost use Rattle.ga_jobs.specs.Fault.{Answers};
@@ -16,8 +17,11 @@ use std::fmt::Write;
 const IMAGE_LENGTH: usize = 36 + 64 * 6;
 
 /// The images of the nodes of the input, which is source text, as text.
+#[tactic(auto, using(crate::proofs::OneOutput::one_asm_output))]
 pub fn output(alloc: Global, input: &[u8]) -> Result<String, ServeError>
-    ensures { Answers string_bytes (IsAsmOutput input.now) result }
+    ensures output { Answers string_bytes (IsAsmOutput input.now) result }
+    // an input has one output, or one first fault
+    ensures only { AtMostOne (IsAsmOutput input.now) }
 {
     let images = images_of(alloc, input)?;
     let text = text_of_images(alloc, &images)?;

@@ -1,4 +1,5 @@
 ghost use Rattle.std.specs.Prelude.{◌≡◌, ◌++◌, IfOk, string_bytes};
+ghost use Rattle.ga_asm.specs.Text.{AtMostOne};
 ghost use Rattle.ga_jobs.specs.Boot.{IsBootOutput, part_text, text_by};
 ghost use Rattle.ga_jobs.specs.Fault.{Answers, Gives};
 ghost use Rattle.ga_jobs.specs.Route.{route_in};
@@ -12,8 +13,11 @@ use std::alloc::{AllocError, Global};
 use std::fmt::Write;
 
 /// Both parts of the boot stream of a route and of the input, which is source text, as text.
+#[tactic(auto, using(crate::proofs::OneOutput::one_boot_output))]
 pub fn output(alloc: Global, route: &str, input: &[u8]) -> Result<String, ServeError>
-    ensures { Answers string_bytes (IsBootOutput route.now input.now) result }
+    ensures output { Answers string_bytes (IsBootOutput route.now input.now) result }
+    // an input has one output, or one first fault
+    ensures only { AtMostOne (IsBootOutput route.now input.now) }
 {
     let images = images_of(alloc, input)?;
     boot_text(alloc, route, &images)

@@ -1,4 +1,5 @@
 ghost use Rattle.std.specs.Prelude.{◌≡◌, ◌++◌, IfOk, drop, string_bytes};
+ghost use Rattle.ga_asm.specs.Text.{AtMostOne};
 ghost use Rattle.ga_debug.specs.Head.{lines_of};
 ghost use Rattle.ga_debug.specs.Session.{reply_to};
 ghost use Rattle.ga_jobs.specs.Debug.{IsDebugOutput, after_reply, fault_name, replied, replies_to};
@@ -11,8 +12,11 @@ use std::alloc::{AllocError, Global};
 use std::fmt::Write;
 
 /// The replies to the commands of the input, which is a replay text, as text.
+#[tactic(auto, using(crate::proofs::OneOutput::one_debug_output))]
 pub fn output(alloc: Global, input: &[u8]) -> Result<String, ServeError>
-    ensures { Answers string_bytes (IsDebugOutput input.now) result }
+    ensures output { Answers string_bytes (IsDebugOutput input.now) result }
+    // an input has one output, or one first fault
+    ensures only { AtMostOne (IsDebugOutput input.now) }
 {
     let text = text_of(input)?;
     let (session, line) = begin(alloc, text)?;

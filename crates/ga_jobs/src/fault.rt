@@ -1,13 +1,13 @@
 ghost use Rattle.std.specs.Prelude.{◌≡◌};
-ghost use Rattle.ga_jobs.specs.Fault.{fault_of_asm, fault_of_boot, fault_of_names, fault_of_replay, fault_of_route, fault_of_source, fault_of_words};
+ghost use Rattle.ga_jobs.specs.Fault.{fault_of_boot, fault_of_names, fault_of_replay, fault_of_route, fault_of_text, fault_of_words};
 ghost use Rattle.ga_jobs.specs.declared.fault.ServeError.TheVariants.{Memory, Plan};
 
-use ga_asm::{AsmError, AsmErrorKind};
+use ga_asm::{AsmError, TextError};
 use ga_debug::ReplayError;
 use ga_group::PlanError;
 use ga_path::{BootError, NamesError, RouteError};
 use ga_place::Node;
-use ga_source::{SourceError, SourceErrorKind};
+use ga_source::SourceError;
 use ga_word::WordsError;
 use std::alloc::{AllocError, AllocFailed};
 use thiserror::Error;
@@ -91,24 +91,14 @@ impl From<WordsError> for ServeError {
     }
 }
 
-impl From<SourceError> for ServeError {
-    ghost from_gives = { λ error fault. fault ≡ fault_of_source error.kind error };
+impl From<TextError> for ServeError {
+    ghost from_gives = { λ error fault. fault ≡ fault_of_text error };
 
-    fn from(error: SourceError) -> ServeError {
-        match error.kind {
-            SourceErrorKind::Memory => ServeError::Memory,
-            _ => ServeError::Source(error),
-        }
-    }
-}
-
-impl From<AsmError> for ServeError {
-    ghost from_gives = { λ error fault. fault ≡ fault_of_asm error.kind error };
-
-    fn from(error: AsmError) -> ServeError {
-        match error.kind {
-            AsmErrorKind::Memory => ServeError::Memory,
-            _ => ServeError::Asm(error),
+    fn from(error: TextError) -> ServeError {
+        match error {
+            TextError::Source(fault) => ServeError::Source(fault),
+            TextError::Asm(fault) => ServeError::Asm(fault),
+            TextError::Memory => ServeError::Memory,
         }
     }
 }

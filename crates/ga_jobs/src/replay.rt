@@ -1,4 +1,5 @@
 ghost use Rattle.std.specs.Prelude.{string_bytes};
+ghost use Rattle.ga_asm.specs.Text.{AtMostOne};
 ghost use Rattle.ga_jobs.specs.Fault.{Answers};
 ghost use Rattle.ga_jobs.specs.Replay.{IsReplayOutput};
 
@@ -8,8 +9,11 @@ use std::alloc::Global;
 use std::fmt::Write;
 
 /// How many stated outcomes of the input, which is a replay text, were compared, as text.
+#[tactic(auto, using(crate::proofs::OneOutput::one_replay_output))]
 pub fn output(alloc: Global, input: &[u8]) -> Result<String, ServeError>
-    ensures { Answers string_bytes (IsReplayOutput input.now) result }
+    ensures output { Answers string_bytes (IsReplayOutput input.now) result }
+    // an input has one output, or one first fault
+    ensures only { AtMostOne (IsReplayOutput input.now) }
 {
     let count = ga_debug::replay(alloc, text_of(input)?)?;
     let mut text = String::new(alloc);

@@ -1,25 +1,15 @@
 ghost use Rattle.ga_jobs.specs.Fault.{Answers};
-ghost use Rattle.ga_jobs.specs.Source.{IsImagesIn, IsProgramIn};
+ghost use Rattle.ga_jobs.specs.Source.{IsImagesIn};
 
 use crate::fault::ServeError;
 use crate::text::text_of;
-use ga_asm::{Images, assemble};
-use ga_source::{Program, parse};
+use ga_asm::{Images, assemble_text};
 use std::alloc::Global;
-
-/// The program of an input that is source text.
-pub fn program_of(alloc: Global, input: &[u8]) -> Result<Program<'_>, ServeError>
-    ensures { Answers (λ program. program) (IsProgramIn input.now) result }
-{
-    let program = parse(alloc, text_of(input)?)?;
-    Ok(program)
-}
 
 /// The images of the nodes of an input that is source text.
 pub fn images_of(alloc: Global, input: &[u8]) -> Result<Images, ServeError>
     ensures { Answers (λ images. images) (IsImagesIn input.now) result }
 {
-    let program = program_of(alloc, input)?;
-    let images = assemble(alloc, &program)?;
+    let images = assemble_text(alloc, text_of(input)?)?;
     Ok(images)
 }

@@ -1,5 +1,6 @@
 -- What a job may answer to the bytes that it reads: a text, or the first fault.
 use Rattle.std.specs.Prelude.{◌≡◌, ℕ, List, length, nat_lt, MatchBool, Result, Err, string_bytes}
+use Rattle.ga_asm.specs.Text.{AtMostOne}
 use Rattle.ga_command_line.specs.declared.request.Job.{Job}
 use Rattle.ga_command_line.specs.declared.request.Job.TheVariants.{One, Asm, Dis, Boot, Run, Debug, Replay}
 use Rattle.ga_jobs.specs.declared.fault.ServeError.{ServeError}
@@ -26,3 +27,8 @@ IsJobOutput Replay input answer = IsReplayOutput input answer
 -- What the program may answer to an input: more than 1,048,576 bytes are too long.
 abbrev pub IsOutput : Job → List ℕ → Result (List ℕ) ServeError → Type 0
 IsOutput job input answer = MatchBool (nat_lt 1048576 (length input)) (answer ≡ Err (Input TooLong)) (IsJobOutput job input answer)
+
+-- Two outputs of a job for one input are equal, but for the job `run`, where the order of tries is free.
+abbrev pub HasOneOutput : Job → List ℕ → Type 0
+HasOneOutput (Run route workers turns) input = Unit {0}
+HasOneOutput job input = AtMostOne (IsOutput job input)

@@ -1,14 +1,36 @@
 ghost use Rattle.std.specs.Prelude.{string_bytes};
 ghost use Rattle.ga_jobs.specs.Fault.{Answers};
-ghost use Rattle.ga_serve.specs.Answer.{IsJobOutput};
+ghost use Rattle.ga_serve.specs.Answer.{HasOneOutput, IsJobOutput, IsOutput};
 
 use ga_command_line::Job;
-use ga_jobs::{ServeError, asm, boot, debug, dis, one, replay, run};
+use ga_jobs::{InputFault, ServeError, asm, boot, debug, dis, one, replay, run};
 use std::thread::Threads;
 
-/// What a job writes for an input.
+/// The most bytes that an input may have.
+pub const INPUT_LIMIT: usize = 1_048_576;
+
+/// What a job answers to bytes in memory: its output, or the first fault of the input. An input of more than 1,048,576
+/// bytes is refused as `Input(TooLong)`. It reads nothing and writes nothing, so it fails neither as `Read` nor as
+/// `Write`, and as `Memory` only where memory is refused. (The jobs are this project's own: profile.)
+#[tactic(auto, using(crate::proofs::OneOutput::one_output))]
+pub fn answer<Rt: AllocGlobal + Threads>(
+    rt: &Rt,
+    job: &Job,
+    input: &[u8],
+) -> Result<String, ServeError>
+    ensures answer { Answers string_bytes (IsOutput job.now input.now) result }
+    // in a run the order of tries is free; every other job has one output for an input, or one first fault
+    ensures only { HasOneOutput job.now input.now }
+{
+    if input.len() > INPUT_LIMIT {
+        return Err(ServeError::Input(InputFault::TooLong));
+    }
+    output(rt, job, input)
+}
+
+/// What a job writes for an input that is not too long.
 #[tactic(auto, unfolding(crate::specs::Answer::IsJobOutput))]
-pub fn output<Rt: AllocGlobal + Threads>(
+fn output<Rt: AllocGlobal + Threads>(
     rt: &Rt,
     job: &Job,
     input: &[u8],

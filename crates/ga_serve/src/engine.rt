@@ -1,9 +1,10 @@
-ghost use Rattle.std.specs.Prelude.{◌≡◌, ◌≢◌, IfErr, IfSome};
+ghost use Rattle.std.specs.Prelude.{◌≡◌, ◌≢◌, ℕ, List, IfErr, IfSome};
 ghost use Rattle.std.specs.Io.KnownBytes.{Keeps};
+ghost use Rattle.ga_serve.specs.Answer.{HasOneOutput};
 ghost use Rattle.ga_serve.specs.Reading.{ConsumesUpTo, ReadsFirst};
 ghost use Rattle.ga_serve.specs.Engine.{Serves, status_of};
 
-use crate::answer::output;
+use crate::answer::answer;
 use crate::reading::read_input;
 use crate::writing::write_output;
 use ga_command_line::Job;
@@ -17,6 +18,7 @@ use std::thread::Threads;
 /// The first fault is answered. `Read` and `Input(TooLong)` come while the input is read, the faults of
 /// the input in the order of the job's output, and `Write` last; a front of the output may then have
 /// been written. `Memory` comes where memory was refused, before anything is written.
+#[tactic(auto, using(crate::proofs::OneOutput::one_output))]
 pub fn serve<Rt: AllocGlobal + Threads, R: Read, W: Write>(
     rt: &Rt,
     reader: &mut R,
@@ -30,11 +32,12 @@ pub fn serve<Rt: AllocGlobal + Threads, R: Read, W: Write>(
     ensures read_no_more { ConsumesUpTo 1048577 (R.remaining reader.old) (R.remaining reader.new) }
 
     // At any reader.
+    ensures only { (input : List ℕ) → HasOneOutput job.now input }
     ensures unwritten { IfErr result (λ fault. fault ≢ ServeError.Write
         → Keeps (W.contents writer.old) (W.contents writer.new)) }
 {
     let input = read_input(rt.alloc(), reader)?;
-    let text = output(rt, job, &input)?;
+    let text = answer(rt, job, &input)?;
     write_output(writer, text.as_bytes())
 }
 

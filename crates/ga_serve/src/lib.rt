@@ -6,4 +6,5 @@ mod engine;
 mod reading;
 mod writing;
 
+pub use crate::answer::answer;
 pub use crate::engine::{serve, status};

@@ -2,12 +2,10 @@ ghost use Rattle.std.specs.Prelude.{◌≡◌, ℕ, ◌+◌, ◌<◌, ◌≤◌,
 ghost use Rattle.std.specs.Io.KnownBytes.{Consumes, IsAtEnd};
 ghost use Rattle.ga_serve.specs.Reading.{ConsumesUpTo, ReadFails};
 
+use crate::answer::INPUT_LIMIT;
 use ga_jobs::{InputFault, ServeError};
 use std::alloc::Global;
 use std::io::{ErrorKind, Read};
-
-/// The most bytes that an input may have.
-const INPUT_LIMIT: usize = 1_048_576;
 
 /// The most calls of `read` that one input may take.
 const READS_LIMIT: u32 = 2_097_152;

@@ -4,8 +4,8 @@ ghost use Rattle.ga_serve.specs.Answer.{IsOutput};
 
 use crate::streams::{LINE, WORDS, sink_of, source_of};
 use ga_command_line::Job;
-use ga_jobs::ServeError;
-use ga_serve::{serve, status};
+use ga_jobs::{InputFault, ServeError};
+use ga_serve::{answer, serve, status};
 use std::test::Fail;
 use std::thread::Threads;
 
@@ -126,4 +126,15 @@ fn composes(rt: HostRuntime) {
     let outcome = served(&rt, &Job::One { tries: 5 }, WORDS.as_bytes(), &mut output);
     assert!(rt; outcome == Ok(()));
     assert!(rt; output.as_slice() == LINE.as_bytes());
+}
+
+#[test]
+fn answers_bytes_in_memory(rt: HostRuntime) -> Result<(), Fail> {
+    let text = answer(&rt, &Job::One { tries: 5 }, WORDS.as_bytes())?;
+    assert!(rt; text.as_str() == LINE);
+
+    let long = vec![in rt.alloc(); 0xFF; 1_048_577]?;
+    let fault = answer(&rt, &Job::Asm, &long).err();
+    assert!(rt; fault == Some(ServeError::Input(InputFault::TooLong)));
+    Ok(())
 }

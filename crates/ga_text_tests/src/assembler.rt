@@ -1,6 +1,6 @@
 use crate::shared::assembled;
-use ga_asm::{AsmError, AsmErrorKind, Image, Images, assemble};
-use ga_source::parse;
+use ga_asm::{AsmError, AsmErrorKind, Image, Images, TextError, assemble, assemble_text};
+use ga_source::{SourceError, SourceErrorKind, parse};
 use ga_test_values::node;
 use std::alloc::Global;
 use std::test::Fail;
@@ -202,5 +202,30 @@ fn all_nodes_full(rt: HostRuntime) -> Result<(), Fail> {
     let last = image(&images, 717)?;
     assert!(rt; last.words().len() == 64);
     assert!(rt; last.code_len() == 0);
+    Ok(())
+}
+
+/// A fault of the text comes before one of its program.
+#[test]
+fn texts_to_images(rt: HostRuntime) -> Result<(), Fail> {
+    let images = assemble_text(rt.alloc(), "node 709 main: $5 $7 + @b")?;
+    assert!(rt; image(&images, 709)?.words().len() == 4);
+
+    let token = SourceError {
+        kind: SourceErrorKind::BadToken,
+        line: 1,
+        column: 17,
+    };
+    let error = assemble_text(rt.alloc(), "node 000 jump x #").err();
+    assert!(rt; error == Some(TextError::Source(token)));
+
+    let name = AsmError {
+        kind: AsmErrorKind::UndefinedLabel,
+        node: node(0)?,
+        line: 1,
+        column: 15,
+    };
+    let error = assemble_text(rt.alloc(), "node 000 jump x").err();
+    assert!(rt; error == Some(TextError::Asm(name)));
     Ok(())
 }

@@ -1,0 +1,71 @@
+-- Two answers to one replay text are equal.
+use Rattle.std.proofs.Common.{◌≡◌, ◌∙◌, ◌+◌, inl, inr, ℕ, List, Result, Ok, Err, ap, subst, sym}
+use Rattle.ga_asm.specs.Text.{AtMostOne}
+use Rattle.ga_asm.proofs.OneAnswer.{one_answer}
+use Rattle.ga_chip.specs.Chip.{Chip}
+use Rattle.ga_debug.specs.Begin.{IsBeginning, IsBegun, IsChipOf}
+use Rattle.ga_debug.specs.Head.{Head, head_in}
+use Rattle.ga_debug.specs.Replay.{IsReplayed, IsReplayedFrom, lines_on, told}
+use Rattle.ga_debug.specs.declared.replay_error.ReplayError.{ReplayError}
+
+one_chip_of : (head : Head) → AtMostOne (IsChipOf head)
+one_chip_of head (Ok one) (Ok other) (images, p, made) (images', q, made') = cc (one_answer head.source (Ok images) (Ok images') p q)
+one_chip_of head (Ok one) (Err other) (images, p, made) (inl (error, q, told)) = absurd (cc (one_answer head.source (Ok images) (Err error) p q))
+one_chip_of head (Ok one) (Err other) (images, p, made) (inr (images', q, made')) = cc (one_answer head.source (Ok images) (Ok images') p q)
+one_chip_of head (Err one) (Ok other) (inl (error, p, told)) (images, q, made) = absurd (cc (one_answer head.source (Err error) (Ok images) p q))
+one_chip_of head (Err one) (Ok other) (inr (images, p, made)) (images', q, made') = cc (one_answer head.source (Ok images) (Ok images') p q)
+one_chip_of head (Err one) (Err other) (inl (error, p, told)) (inl (error', q, told')) = cc (one_answer head.source (Err error) (Err error') p q)
+one_chip_of head (Err one) (Err other) (inl (error, p, told)) (inr (images, q, made)) = absurd (cc (one_answer head.source (Err error) (Ok images) p q))
+one_chip_of head (Err one) (Err other) (inr (images, p, made)) (inl (error, q, told)) = absurd (cc (one_answer head.source (Ok images) (Err error) p q))
+one_chip_of head (Err one) (Err other) (inr (images, p, made)) (inr (images', q, made')) = cc (one_answer head.source (Ok images) (Ok images') p q)
+
+-- a text has one head
+one_head : (text : List ℕ) (one other : Head) → head_in text ≡ Ok one → head_in text ≡ Ok other → one ≡ other
+one_head text one other p q = cc
+
+one_begun : (text : List ℕ) → AtMostOne (IsBegun text)
+one_begun text (Ok (chip, head)) (Ok (chip', head')) (p, made) (q, made') =
+    let same = one_head text head head' p q in
+    cc (same, one_chip_of head' (Ok chip) (Ok chip') (subst (λ (h : Head). IsChipOf h (Ok chip)) same made) made')
+one_begun text (Ok (chip, head)) (Err other) (p, made) (inl q) = cc
+one_begun text (Ok (chip, head)) (Err other) (p, made) (inr (head', q, made')) =
+    let same = one_head text head head' p q in
+    absurd (cc (one_chip_of head' (Ok chip) (Err other) (subst (λ (h : Head). IsChipOf h (Ok chip)) same made) made'))
+one_begun text (Err one) (Ok (chip, head)) (inl p) (q, made) = cc
+one_begun text (Err one) (Ok (chip, head)) (inr (head', p, made')) (q, made) =
+    let same = one_head text head' head p q in
+    absurd (cc (one_chip_of head (Err one) (Ok chip) (subst (λ (h : Head). IsChipOf h (Err one)) same made') made))
+one_begun text (Err one) (Err other) (inl p) (inl q) = cc
+one_begun text (Err one) (Err other) (inl p) (inr (head, q, made)) = cc
+one_begun text (Err one) (Err other) (inr (head, p, made)) (inl q) = cc
+one_begun text (Err one) (Err other) (inr (head, p, made)) (inr (head', q, made')) =
+    let same = one_head text head head' p q in
+    cc (one_chip_of head' (Err one) (Err other) (subst (λ (h : Head). IsChipOf h (Err one)) same made) made')
+
+pub one_beginning : (text : List ℕ) → AtMostOne (IsBeginning text)
+one_beginning text (Ok (chip, line)) (Ok (chip', line')) (head, p, is) (head', q, is') =
+    let same : (chip, head) ≡ (chip', head') = cc (one_begun text (Ok (chip, head)) (Ok (chip', head')) p q) in
+    ap (λ (begun : Chip × Head). Ok (begun.0, line)) same ∙ ap (λ (l : ℕ). Ok (chip', l)) (sym is ∙ ap (λ (begun : Chip × Head). begun.1.line) same ∙ is')
+one_beginning text (Ok (chip, line)) (Err other) (head, p, is) q = absurd (cc (one_begun text (Ok (chip, head)) (Err other) p q))
+one_beginning text (Err one) (Ok (chip, line)) p (head, q, is) = absurd (cc (one_begun text (Err one) (Ok (chip, head)) p q))
+one_beginning text (Err one) (Err other) p q = cc (one_begun text (Err one) (Err other) p q)
+
+one_from : (text : List ℕ) → AtMostOne (IsReplayedFrom text)
+one_from text one other (chip, head, p, is) (chip', head', q, is') =
+    let same : (chip, head) ≡ (chip', head') = cc (one_begun text (Ok (chip, head)) (Ok (chip', head')) p q) in
+    sym is ∙ ap (λ (begun : Chip × Head). told (lines_on (begun.1.line + 1) 0 begun.0 begun.1.commands)) same ∙ is'
+
+-- a text that begins has no fault of its beginning
+begins : (text : List ℕ) (answer : Result ℕ ReplayError) (fault : ReplayError) → IsReplayedFrom text answer → IsBegun text (Err fault) → ⊥
+begins text answer fault (chip, head, p, is) q = cc (one_begun text (Ok (chip, head)) (Err fault) p q)
+
+pub one_replayed : (text : List ℕ) → AtMostOne (IsReplayed text)
+one_replayed text (Ok one) (Ok other) p q = one_from text (Ok one) (Ok other) p q
+one_replayed text (Ok one) (Err other) p (inl q) = absurd (begins text (Ok one) other p q)
+one_replayed text (Ok one) (Err other) p (inr q) = one_from text (Ok one) (Err other) p q
+one_replayed text (Err one) (Ok other) (inl p) q = absurd (begins text (Ok other) one q p)
+one_replayed text (Err one) (Ok other) (inr p) q = one_from text (Err one) (Ok other) p q
+one_replayed text (Err one) (Err other) (inl p) (inl q) = cc (one_begun text (Err one) (Err other) p q)
+one_replayed text (Err one) (Err other) (inl p) (inr q) = absurd (begins text (Err other) one q p)
+one_replayed text (Err one) (Err other) (inr p) (inl q) = absurd (begins text (Err one) other p q)
+one_replayed text (Err one) (Err other) (inr p) (inr q) = one_from text (Err one) (Err other) p q

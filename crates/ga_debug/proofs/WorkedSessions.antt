@@ -1,0 +1,113 @@
+-- What texts and commands come to, worked out by hand.
+use Rattle.std.proofs.Common.{◌≡◌, [], ◌∷◌, Some, None, Ok, Err, refl}
+use Rattle.std.specs.Prelude.{codes}
+use Rattle.ga_place.specs.Cell.{all_cells, cell_of}
+use Rattle.ga_place.specs.declared.side.Side.TheVariants.{Down}
+use Rattle.ga_node.specs.Need.{need_of}
+use Rattle.ga_chip.specs.Chip.{reset_chip, tried}
+use Rattle.ga_chip.specs.Part.{after, asks}
+use Rattle.ga_chip.specs.Run.{happened}
+use Rattle.ga_chip.specs.declared.outcome.Outcome.TheVariants.{Held}
+use Rattle.ga_debug.specs.declared.action.Action.TheVariants.{Break, Try, Turn}
+use Rattle.ga_debug.specs.declared.action.Answer.TheVariants.{Moved, Tried}
+use Rattle.ga_debug.specs.declared.command.Command.TheVariants.{Act, Show}
+use Rattle.ga_debug.specs.declared.error.DebugError.TheVariants.{BadAddress, BadCommand, BadCount, BadNode, BadSide, NotHeld}
+use Rattle.ga_debug.specs.declared.replay_error.ReplayError.TheVariants.{BadProfile, BadRoute, NoGo}
+use Rattle.ga_debug.specs.declared.replaying.LineError.TheVariants.{Bad, Differs}
+use Rattle.ga_debug.specs.declared.word.View.TheVariants.{Mem}
+use Rattle.ga_debug.specs.Command.{action_first, arguments, command_first, command_in}
+use Rattle.ga_debug.specs.Head.{head_in}
+use Rattle.ga_debug.specs.Pieces.{pieces}
+use Rattle.ga_debug.specs.Replay.{line_on, lines_on, stated, statement_in}
+use Rattle.ga_debug.specs.Session.{reply_to}
+use Rattle.ga_debug.specs.Words.{number_of}
+
+-- ---- heads
+
+a_head : head_in (codes "profile 1\nroute 708,709\nnode 709 .\n\ngo\ntry 709 r = waits") ≡ Ok (record { loading = Some (708 ∷ 709 ∷ []); source = codes "node 709 .\n\n"; line = 5; commands = codes "try 709 r = waits" ∷ [] })
+unfolding head_in pieces
+a_head = refl
+
+no_lines : head_in [] ≡ Err BadProfile
+unfolding head_in pieces
+no_lines = refl
+
+two_words : head_in (codes "profile 1\nroute 708 709\ngo") ≡ Err BadRoute
+unfolding head_in pieces
+two_words = refl
+
+-- a blank behind it, and the line is no `go`
+never_begins : head_in (codes "profile 1\nplace\nnode 000 .\ngo ") ≡ Err NoGo
+unfolding head_in pieces
+never_begins = refl
+
+-- ---- commands
+
+a_break : command_in (codes "break 709 1fF") ≡ Ok (Act (Break 709 0x1FF))
+unfolding command_in command_first arguments pieces
+a_break = refl
+
+a_view : command_in (codes "mem 000") ≡ Ok (Show Mem 0)
+unfolding command_in command_first arguments pieces
+a_view = refl
+
+most_turns : command_in (codes "turn 1000000") ≡ Ok (Act (Turn 1000000))
+unfolding command_in command_first arguments pieces number_of
+most_turns = refl
+
+too_many_turns : command_in (codes "turn 1000001") ≡ Err BadCount
+unfolding command_in command_first arguments pieces number_of
+too_many_turns = refl
+
+no_such_node : command_in (codes "break 720 200") ≡ Err BadNode
+unfolding command_in command_first arguments pieces
+no_such_node = refl
+
+tenth_bit : command_in (codes "break 717 200") ≡ Err BadAddress
+unfolding command_in command_first arguments pieces
+tenth_bit = refl
+
+capital : command_in (codes "try 709 R") ≡ Err BadSide
+unfolding command_in command_first arguments pieces
+capital = refl
+
+-- a blank at the end has an empty word behind it
+blank_behind : command_in (codes "regs 709 ") ≡ Err BadCommand
+unfolding command_in command_first arguments pieces
+blank_behind = refl
+
+-- ---- replies
+
+waits : reply_to (codes "try 709 r") reset_chip ≡ Ok (codes "waits")
+unfolding command_in command_first arguments pieces tried after asks need_of reset_chip cell_of all_cells
+waits = refl
+
+not_held : reply_to (codes "pass 709") reset_chip ≡ Err NotHeld
+unfolding command_in command_first arguments pieces tried after asks need_of reset_chip cell_of all_cells
+not_held = refl
+
+-- ---- what is stated
+
+a_statement : statement_in (codes "try 709 d = held") ≡ Ok (Try 709 Down, Tried Held)
+unfolding statement_in action_first arguments stated pieces
+a_statement = refl
+
+nine_digits : statement_in (codes "turn 1 = 000000002") ≡ Ok (Turn 1, Moved 2)
+unfolding statement_in action_first arguments stated pieces number_of
+nine_digits = refl
+
+ten_digits : statement_in (codes "turn 1 = 0000000002") ≡ Err BadCommand
+unfolding statement_in action_first arguments stated pieces number_of
+ten_digits = refl
+
+one_is_compared : lines_on 5 0 reset_chip (codes "break 709 003" ∷ [] ∷ codes "try 709 r = waits" ∷ []) ≡ Ok 1
+unfolding line_on statement_in action_first arguments stated pieces happened tried after asks need_of reset_chip cell_of all_cells
+one_is_compared = refl
+
+other_outcome : lines_on 5 0 reset_chip ([] ∷ codes "try 709 r = moved" ∷ codes "no command" ∷ []) ≡ Err (Differs 6)
+unfolding line_on statement_in action_first arguments stated pieces tried after asks need_of reset_chip cell_of all_cells
+other_outcome = refl
+
+nothing_stated : lines_on 5 0 reset_chip (codes "try 709 r" ∷ []) ≡ Err (Bad 5 BadCommand)
+unfolding line_on statement_in action_first arguments stated pieces
+nothing_stated = refl
