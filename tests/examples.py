@@ -1,0 +1,349 @@
+#!/usr/bin/env python3
+"""Runs the worked programs of examples/, and compares their data: tests/examples.py PROGRAM [NAME..]
+
+A worked program is a folder examples/NAME with four files:
+  NAME.source    the source text
+  NAME.debug     a session of `debug`, with this source in its head
+  NAME.replies   the replies to it
+  NAME.replay    a text of `replay`, with this source in its head
+Of each, or of those that are named, the session is done and compared with its replies, the replay text holds,
+both have the source, and the row of docs/EXAMPLES.md has the program's nodes, words and steps.
+
+Then the program is run with other data, at the limits of its range too, and what comes is compared with
+numbers that this file works out itself, apart from the bench: a product is Python's product.
+
+The last line that is printed is 'N passed, M failed', and the exit status is 0 where M is 0 and N isn't.
+"""
+import binascii
+import os
+import random
+import re
+import subprocess
+import sys
+from concurrent.futures import ThreadPoolExecutor
+
+SECONDS = 60
+ROOT = os.path.dirname(os.path.dirname(os.path.abspath(__file__)))
+ROW = [f"{node}" for node in range(708, 715)]
+RING = ["708", "709", "710", "711", "611", "610", "609", "608"]
+WORDS = 1 << 18
+NODES = [f"{row}{column:02}" for row in range(8) for column in range(18)]
+EDGES = [0, 1, 2, 3, 0xFFFF, 0x10000, 0x10001, 0x1FFFE, 0x1FFFF, 0x20000, 0x20001, 0x2FFFF, 0x30000, 0x30001, 0x3FFFE, 0x3FFFF]
+
+
+class Bench:
+    """The program under test, and the counts of the checks."""
+
+    def __init__(self, program):
+        self.program, self.passed, self.failures = os.path.abspath(program), 0, []
+
+    def run(self, arguments, text):
+        """Returns the lines that the program writes, and fails where its status isn't 0."""
+        ran = subprocess.run([self.program, *arguments.split()], input=text, capture_output=True, text=True, timeout=SECONDS)
+        if ran.returncode:
+            raise ValueError(f"{arguments}: status {ran.returncode}, {ran.stderr.strip()}")
+        return ran.stdout.splitlines()
+
+    def same(self, what, came, wanted):
+        if came == wanted:
+            self.passed += 1
+        else:
+            self.failures.append(f"{what}: wanted {shown(wanted)}, came {shown(came)}")
+
+    def images(self, source):
+        """Returns for each node the number of its words of code, and its words."""
+        found = {}
+        for line in self.run("asm", source):
+            if head := re.match(r"node (\d+) entry \w+ code (\d+) words \d+$", line):
+                found[head[1]] = words = (int(head[2]), [])
+            else:
+                words[1].extend(int(word, 16) for word in line.split())
+        return found
+
+    def session(self, head, source, commands):
+        """Returns the replies to the commands, on a chip with this source."""
+        return self.run("debug", "\n".join(["profile 1", head, source + "go", *commands, ""]))
+
+    def memories(self, head, source, commands, nodes):
+        """Returns the memory of each of these nodes behind the commands, which have one line of reply each."""
+        lines = self.session(head, source, [*commands, *(f"mem {node}" for node in nodes)])[len(commands):]
+        words = [int(word, 16) for line in lines for word in line.split()[1:]]
+        return {node: words[64 * at:64 * at + 64] for at, node in enumerate(nodes)}
+
+
+def shown(value):
+    text = "[" + " ".join(f"{it:05X}" if isinstance(it, int) else str(it) for it in value) + "]" if isinstance(value, (list, tuple)) else str(value)
+    return text if len(text) <= 300 else text[:297] + ".."
+
+
+def read(name, kind):
+    with open(f"{ROOT}/examples/{name}/{name}.{kind}", encoding="utf-8") as text:
+        return text.read()
+
+
+def field(line, name):
+    """Returns the hex number behind this name in the line of a node."""
+    return int(re.search(rf" {name} (\w+)", line)[1], 16)
+
+
+def with_words(source, label, words, node=None):
+    """Returns the source with these words behind a label of its data, in one node or in its only one."""
+    start = source.index(f"node {node}") if node else 0
+    lines = "".join(f"  , {word}\n" for word in words)
+    found = re.compile(rf"^{label}:\n(  ,.*\n)+", re.M).search(source, start)
+    return source[:found.start()] + f"{label}:\n{lines}" + source[found.end():]
+
+
+def on_all_nodes(bench, source, cases, turns, place):
+    """Runs a program of one node with many data, 144 at once; `place` puts the data of a case into the source.
+
+    Yields each case with the words of data that its node holds in the end.
+    """
+    code = [*bench.images(source).values()][0][0]
+    for at in range(0, len(cases), len(NODES)):
+        some = cases[at:at + len(NODES)]
+        text = "".join(place(re.sub(r"^node \d+", f"node {node}", source, flags=re.M), case) for node, case in zip(NODES, some))
+        memories = bench.memories("place", text, [f"turn {turns}", "turn 4"], NODES[:len(some)])
+        for node, case in zip(NODES, some):
+            yield case, memories[node][code:]
+
+
+def pulse(bench, source, chance):
+    """The pin is high for as many consecutive steps as the source states, and it is high once."""
+    for rounds in [0, 1, 2, 3, 96, 200]:
+        text = re.sub(r"(rounds:\n  , )\d+", rf"\g<1>{rounds}", source)
+        lines = bench.session("place", text, ["try 600 r", "regs 600"] * (rounds + 30))
+        pins = [field(line, "io") for line in lines[1::2]]
+        high = [at for at, pin in enumerate(pins) if pin == 0x30000]
+        bench.same(f"pulse of {rounds} rounds, its width", len(high), rounds + 4)
+        bench.same(f"pulse of {rounds} rounds, in one piece", high, list(range(high[0], high[0] + len(high))))
+        bench.same(f"pulse of {rounds} rounds, low before and after", {*pins[:high[0]]} | {*pins[high[-1] + 1:]}, {0, 0x20000})
+    text = re.sub(r"(rounds:\n  , )\d+", r"\g<1>$3FFFF", source)
+    widest = 0x40003
+    lines = bench.session("place", text, ["turn 9", "regs 600", f"turn {widest - 1}", "regs 600", "turn 1", "regs 600"])
+    bench.same("the widest pulse", [field(line, "io") for line in lines[1::2]], [0x30000, 0x30000, 0x20000])
+
+
+def crc(bench, source, chance):
+    """CRC-16 as Python's binascii has it, over lists of 1 to 42 words."""
+    lists = [[0], [0xFFFF], [0x3FFFF], [0] * 42, [0xFFFF] * 42, [0x3FFFF] * 42, [0x3132, 0x3334, 0x3536, 0x3738]]
+    lists += [[chance.randrange(WORDS) for _ in range(length)] for length in range(1, 43) for _ in range(4)]
+    place = lambda text, words: with_words(text, "list", [len(words) - 1, *words])
+    for words, data in on_all_nodes(bench, source, lists, 10000, place):
+        given = b"".join((word & 0xFFFF).to_bytes(2, "big") for word in words)
+        bench.same(f"CRC-16 of {shown(words)}", data[0], binascii.crc_hqx(given, 0xFFFF))
+    bench.same("CRC-16 of 12345678, as it is known", binascii.crc_hqx(b"12345678", 0xFFFF), 0xA12B)
+
+
+def product(bench, source, chance):
+    """Products of any two words without sign: all pairs at the edges, and others."""
+    pairs = [(first, second) for first in EDGES for second in EDGES]
+    pairs += [(chance.randrange(WORDS), chance.randrange(WORDS)) for _ in range(464)]
+    place = lambda text, pair: with_words(with_words(text, "first", [pair[0]]), "second", [pair[1]])
+    for (first, second), data in on_all_nodes(bench, source, pairs, 1000, place):
+        wanted = first * second
+        bench.same(f"{first:05X} times {second:05X}", data[:4], [first, second, wanted >> 18, wanted % WORDS])
+
+
+def division(bench, source, chance):
+    """Quotients and remainders in the whole range of divisors, and a dividend beyond it that goes wrong."""
+    cases = [
+        (high, low, divisor)
+        for divisor in [1, 2, 3, 0xFFFF, 0x10000, 0x10001, 0x1FFFE, 0x1FFFF, 0x20000]
+        for high in sorted({0, 1, divisor // 2, divisor - 2, divisor - 1})
+        if 0 <= high < divisor
+        for low in [0, 1, 0x1FFFF, 0x20000, 0x3FFFE, 0x3FFFF]
+    ]
+    for _ in range(300):
+        divisor = chance.choice([chance.randrange(1, 0x20001), chance.randrange(1, 1 << chance.randrange(1, 18))])
+        cases.append((chance.randrange(divisor), chance.randrange(WORDS), divisor))
+    place = lambda text, case: with_words(with_words(with_words(text, "high", case[:1]), "low", case[1:2]), "divisor", case[2:])
+    for (high, low, divisor), data in on_all_nodes(bench, source, cases, 2000, place):
+        wanted = [high, low, divisor, *divmod(high << 18 | low, divisor)]
+        bench.same(f"{high:05X} {low:05X} by {divisor:05X}", data[:5], wanted)
+    for (high, low, divisor), data in on_all_nodes(bench, source, [(0, 0, 0x20001)], 2000, place):
+        bench.same("the divisor 20001 is out of range", data[3:5] == [0, 0], False)
+
+
+def port_worker(bench, source, chance):
+    """The neighbour adds, stores and reads: the sums, and the word in its memory."""
+    code = bench.images(source)["708"][0]
+    cases = [(5, 7, 0x10, 0x2BCDE), (0x3FFFF, 1, 0, 0), (0x3FFFF, 0x3FFFF, 0x3F, 0x3FFFF), (0x20000, 0x20000, 0x3F, 1)]
+    cases += [tuple(chance.randrange(it) for it in (WORDS, WORDS, 64, WORDS)) for _ in range(20)]
+    for first, second, address, word in cases:
+        text = source.replace(", 5 , 7 , 0", f", {first} , {second} , 0").replace("$010", f"{address}").replace("$2BCDE", f"{word}")
+        memories = bench.memories("place", text, ["turn 1000", "turn 4"], ["708", "709"])
+        sent = memories["708"][code - 11:code]
+        what = f"sent {first:05X} {second:05X} {address:02X} {word:05X}"
+        bench.same(f"{what}, the sum", sent[4], (first + second) % WORDS)
+        bench.same(f"{what}, the word that came back", sent[10], word)
+        bench.same(f"{what}, the memory of 709", memories["709"], [word if at == address else 0 for at in range(64)])
+
+
+def moving_sum(bench, source, chance):
+    """Each sum is that of a number and the four before it."""
+    code = bench.images(source)["714"][0]
+    lists = [[7], [0x3FFFF] * 12, [1, 2, 3, 4, 5, 0x3FFFF, 0, 100]]
+    lists += [[chance.randrange(WORDS) for _ in range(length)] for length in (2, 4, 5, 6, 20, 50)]
+    for numbers in lists:
+        text = with_words(source, "numbers", [len(numbers) - 1, *numbers])
+        memory = bench.memories(f"route {','.join(ROW)}", text, ["turn 20000", "turn 4"], ["714"])["714"]
+        wanted = [sum(numbers[max(0, at - 4):at + 1]) % WORDS for at in range(len(numbers))]
+        bench.same(f"moving sums of {shown(numbers)}", memory[code:], wanted + [0] * (64 - code - len(wanted)))
+
+
+def sort(bench, source, chance):
+    """The nodes hold the words in order, by one worker and by three."""
+    lists = [[*range(7)], [*range(7)][::-1], [5] * 7, [0x1FFFF, 0x20000, 0, 0x3FFFF, 1, 0x20001, 0x1FFFE]]
+    lists += [[chance.choice(EDGES) for _ in range(7)] for _ in range(20)]
+    lists += [[chance.randrange(WORDS) for _ in range(7)] for _ in range(20)]
+    for words in lists:
+        text = with_words(source, "words", words)
+        for workers in (1, 3):
+            lines = bench.run(f"run {','.join(ROW)} {workers} 5000", text)
+            held = [field(line, "T") for line in lines if line.startswith("node")]
+            bench.same(f"sorted by {workers}: {shown(words)}", held, sorted(words))
+
+
+def queue(bench, source, chance):
+    """The words come out in order, and while nobody takes them the queue holds five and 708 waits with one."""
+    images = bench.images(source)
+    code, sent_at_boot = images["714"][0], 0
+    for length in (1, 3, 5, 6, 7, 20, 50):
+        words = [chance.randrange(WORDS) for _ in range(length)]
+        text = with_words(source, "words", [length - 1, *words])
+        takes = min(length, 2)
+        commands = ["break 714 004", "turn 5000"] + ["pass 714", "turn 1000"] * takes
+        memory = bench.memories(f"route {','.join(ROW)}", text, commands, ["714"])["714"]
+        bench.same(f"{takes} of {length} words taken", memory[code:], words[:takes] + [0] * (64 - code - takes))
+        lines = bench.session(f"route {','.join(ROW)}", text, [*commands, *(f"regs {node}" for node in ROW[:6])])
+        wait = [line.split("need ")[1] for line in lines[len(commands):]]
+        left = length - takes
+        held = ["check" if at >= 5 - left else "take" for at in range(5)]
+        bench.same(f"{left} words are held, the last ones foremost", wait[1:], held)
+        bench.same(f"708 with {left} words in the queue", wait[0], "check" if left > 5 else "take")
+        memory = bench.memories(f"route {','.join(ROW)}", text, ["turn 20000", "turn 4"], ["714"])["714"]
+        bench.same(f"{length} words through the queue", memory[code:], words + [0] * (64 - code - length))
+
+
+def side(node, neighbour):
+    """Returns the port to this neighbour, by the table of directions of docs/CHIP.md."""
+    (row, column), (to_row, to_column) = ((int(name[0]), int(name[1:])) for name in (node, neighbour))
+    if to_row == row and abs(to_column - column) == 1:
+        return "right" if (to_column > column) == (column % 2 == 0) else "left"
+    if to_column == column and abs(to_row - row) == 1:
+        return "down" if (to_row > row) == (row % 2 == 0) else "up"
+    raise ValueError(f"{node} and {neighbour} are no neighbours")
+
+
+def token(bench, source, chance):
+    """All 144 nodes stand on the ring, each at its place, and each counts itself; so from three other first nodes."""
+    ring = re.search(r"^route (.*)$", read("token", "debug"), re.M)[1].split(",")
+    bench.same("the nodes of the ring", sorted(ring), NODES)
+    head = source[:source.index("\nnode ") + 1]
+    for start in (0, 17, 52, 143):
+        way = ring[start:] + ring[:start]
+        text = head
+        for at, node in enumerate(way):
+            before, behind = way[at - 1], way[(at + 1) % len(way)]
+            work = "@ 1 + dup !b" if at else "1 !b @"
+            text += f"node {node}  {side(node, before)} a! {side(node, behind)} b!  {work}  jump warm\n"
+        if start == 0:
+            bench.same("the source of the token", source, text)
+        lines = bench.run(f"run {','.join(way)} 1 20000", text)
+        counts = [field(line, "T") for line in lines if line.startswith("node")]
+        bench.same(f"counts from {way[0]} on", counts, [144, *range(2, 145)])
+
+
+def delivered(ring, own):
+    """Returns what each node of the ring gets, in order, where each has one word to send, or 0."""
+    waiting, got = dict(zip(ring, own)), {node: [] for node in ring}
+    frame, still = 0, 0
+    at = 0                                  # the first node lets in an empty frame, and the second takes it
+    while still < len(ring):
+        at = (at + 1) % len(ring)
+        still = 0 if frame or waiting[ring[at]] else still + 1
+        if not frame:
+            frame, waiting[ring[at]] = waiting[ring[at]], 0
+        elif frame >> 12 == at + 1:
+            got[ring[at]].append(frame & 0xFFF)
+            frame = 0
+    return got
+
+
+def token_ring(bench, source, chance):
+    """Each word comes to the node that it is for, whoever sends it, and the nodes keep them in order."""
+    cases = [[0] * 8, [0, 0, 0, 0x1123, 0, 0, 0, 0], [at << 12 | 0x700 | at for at in range(1, 9)], [0x5000 | at for at in range(8)]]
+    cases += [[(at + 1) % 8 + 1 << 12 for at in range(8)], [0x8FFF] * 8]
+    cases += [[chance.choice([0, chance.randrange(1, 9) << 12 | chance.randrange(4096)]) for _ in range(8)] for _ in range(20)]
+    codes = {node: code for node, (code, _) in bench.images(source).items()}
+    for own in cases:
+        text = source
+        for node, word in zip(RING, own):
+            text = with_words(text, "own", [word], node)
+        memories = bench.memories(f"route {','.join(RING)}", text, ["turn 30000"], RING)
+        for node, wanted in delivered(RING, own).items():
+            code = codes[node]
+            held = memories[node][code:]
+            bench.same(f"{node} of {shown(own)}", held, [0, code + 2 + len(wanted), *wanted] + [0] * (62 - code - len(wanted)))
+
+
+DATA = [pulse, crc, product, division, port_worker, moving_sum, sort, queue, token, token_ring]
+
+
+def kept(bench, name):
+    """Compares the session, the replay text and the row of the page with the source."""
+    source, debug, replay = (read(name, kind) for kind in ("source", "debug", "replay"))
+    bench.same(f"{name}, replies", bench.run("debug", debug), read(name, "replies").splitlines())
+    states = len(re.findall(r" = ", replay.split("\ngo\n")[1]))
+    bench.same(f"{name}, replay", bench.run("replay", replay), [f"same {states}"])
+    for kind, text in (("debug", debug), ("replay", replay)):
+        head = text.split("\n", 2)
+        bench.same(f"{name}, the source in {name}.{kind}", head[0] == "profile 1" and head[2].split("\ngo\n")[0] + "\n", source)
+    images = bench.images(source)
+    steps = sum(map(int, re.findall(r"^turn \d+ = (\d+)$", replay, re.M))) + len(re.findall(r"^try .* = moved$", replay, re.M))
+    with open(f"{ROOT}/docs/EXAMPLES.md", encoding="utf-8") as page:
+        row = re.search(rf"^\| `{name}` \| (\d+) \| (\d+) \| (\d+)", page.read(), re.M)
+    bench.same(
+        f"{name}, its nodes, words and steps in docs/EXAMPLES.md",
+        row and [int(it) for it in row.groups()], [len(images), sum(len(words) for _, words in images.values()), steps],
+    )
+
+
+def check(program, name):
+    """Returns the checks of one program, done."""
+    bench = Bench(program)
+    for what in [lambda: kept(bench, name), *(lambda it=it: it(bench, read(name, "source"), random.Random(144)) for it in DATA if it.__name__ == name)]:
+        try:
+            what()
+        except (OSError, ValueError, LookupError, AttributeError, TypeError, subprocess.TimeoutExpired) as error:
+            bench.failures.append(f"{name}: {error!r}")
+    return bench
+
+
+def main(program, *names):
+    # The launcher unpacks or builds its program at the first call, and says so.
+    if subprocess.run([program, "--version"], stdin=subprocess.DEVNULL, capture_output=True).returncode:
+        print(f"{program} --version failed")
+        print("0 passed, 1 failed")
+        return 1
+    names = names or sorted(it for it in os.listdir(f"{ROOT}/examples") if os.path.exists(f"{ROOT}/examples/{it}/{it}.source"))
+    passed = failed = 0
+    with ThreadPoolExecutor(os.cpu_count()) as pool:
+        for name, bench in zip(names, pool.map(lambda name: check(program, name), names)):
+            for failure in bench.failures:
+                print(f"FAILED {failure}")
+            print(f"{name}: {bench.passed} passed, {len(bench.failures)} failed", flush=True)
+            passed, failed = passed + bench.passed, failed + len(bench.failures)
+    missing = {it.__name__ for it in DATA} - {*names} if len(sys.argv) == 2 else set()
+    for name in sorted(missing):
+        failed += 1
+        print(f"FAILED {name}: its folder isn't there")
+    print(f"{passed} passed, {failed} failed")
+    return 1 if failed or not passed else 0
+
+
+if __name__ == "__main__":
+    if len(sys.argv) < 2:
+        sys.exit(__doc__)
+    sys.exit(main(*sys.argv[1:]))
