@@ -28,6 +28,8 @@ ROW = [f"{node}" for node in range(708, 715)]
 RING = ["708", "709", "710", "711", "611", "610", "609", "608"]
 WORDS = 1 << 18
 NODES = [f"{row}{column:02}" for row in range(8) for column in range(18)]
+# Programs of which the session has one node more than the source, behind it: one that sends it something.
+MORE = {"echo"}
 EDGES = [0, 1, 2, 3, 0xFFFF, 0x10000, 0x10001, 0x1FFFE, 0x1FFFF, 0x20000, 0x20001, 0x2FFFF, 0x30000, 0x30001, 0x3FFFE, 0x3FFFF]
 
 
@@ -138,7 +140,7 @@ def crc(bench, source, chance):
 def product(bench, source, chance):
     """Products of any two words without sign: all pairs at the edges, and others."""
     pairs = [(first, second) for first in EDGES for second in EDGES]
-    pairs += [(chance.randrange(WORDS), chance.randrange(WORDS)) for _ in range(464)]
+    pairs += [(0x2F00D, 0x1ABCD)] + [(chance.randrange(WORDS), chance.randrange(WORDS)) for _ in range(463)]
     place = lambda text, pair: with_words(with_words(text, "first", [pair[0]]), "second", [pair[1]])
     for (first, second), data in on_all_nodes(bench, source, pairs, 1000, place):
         wanted = first * second
@@ -154,6 +156,7 @@ def division(bench, source, chance):
         if 0 <= high < divisor
         for low in [0, 1, 0x1FFFF, 0x20000, 0x3FFFE, 0x3FFFF]
     ]
+    cases.append((0x12, 0x34567, 0x1ABC))
     for _ in range(300):
         divisor = chance.choice([chance.randrange(1, 0x20001), chance.randrange(1, 1 << chance.randrange(1, 18))])
         cases.append((chance.randrange(divisor), chance.randrange(WORDS), divisor))
@@ -194,7 +197,7 @@ def moving_sum(bench, source, chance):
 
 def sort(bench, source, chance):
     """The nodes hold the words in order, by one worker and by three."""
-    lists = [[*range(7)], [*range(7)][::-1], [5] * 7, [0x1FFFF, 0x20000, 0, 0x3FFFF, 1, 0x20001, 0x1FFFE]]
+    lists = [[0x20000, 5, 0x3FFFF, 0, 0x1FFFF, 5, 0x10000], [*range(7)], [*range(7)][::-1], [5] * 7, [0x1FFFF, 0x20000, 0, 0x3FFFF, 1, 0x20001, 0x1FFFE]]
     lists += [[chance.choice(EDGES) for _ in range(7)] for _ in range(20)]
     lists += [[chance.randrange(WORDS) for _ in range(7)] for _ in range(20)]
     for words in lists:
@@ -207,10 +210,11 @@ def sort(bench, source, chance):
 
 def queue(bench, source, chance):
     """The words come out in order, and while nobody takes them the queue holds five and 708 waits with one."""
-    images = bench.images(source)
-    code, sent_at_boot = images["714"][0], 0
-    for length in (1, 3, 5, 6, 7, 20, 50):
-        words = [chance.randrange(WORDS) for _ in range(length)]
+    code = bench.images(source)["714"][0]
+    lists = [[0x11111, 0x22222, 0x33333, 0x04444, 0x15555, 0x26666, 0x37777, 0x08888, 0x19999, 0x2AAAA]]
+    lists += [[chance.randrange(WORDS) for _ in range(length)] for length in (1, 3, 5, 6, 7, 20, 50)]
+    for words in lists:
+        length = len(words)
         text = with_words(source, "words", [length - 1, *words])
         takes = min(length, 2)
         commands = ["break 714 004", "turn 5000"] + ["pass 714", "turn 1000"] * takes
@@ -273,7 +277,7 @@ def delivered(ring, own):
 
 def token_ring(bench, source, chance):
     """Each word comes to the node that it is for, whoever sends it, and the nodes keep them in order."""
-    cases = [[0] * 8, [0, 0, 0, 0x1123, 0, 0, 0, 0], [at << 12 | 0x700 | at for at in range(1, 9)], [0x5000 | at for at in range(8)]]
+    cases = [[0x30AB, 0x8111, 0, 0x1222, 0x4333, 0x1444, 0x2555, 0], [0] * 8, [0, 0, 0, 0x1123, 0, 0, 0, 0], [at << 12 | 0x700 | at for at in range(1, 9)], [0x5000 | at for at in range(8)]]
     cases += [[(at + 1) % 8 + 1 << 12 for at in range(8)], [0x8FFF] * 8]
     cases += [[chance.choice([0, chance.randrange(1, 9) << 12 | chance.randrange(4096)]) for _ in range(8)] for _ in range(20)]
     codes = {node: code for node, (code, _) in bench.images(source).items()}
@@ -288,7 +292,80 @@ def token_ring(bench, source, chance):
             bench.same(f"{node} of {shown(own)}", held, [0, code + 2 + len(wanted), *wanted] + [0] * (62 - code - len(wanted)))
 
 
-DATA = [pulse, crc, product, division, port_worker, moving_sum, sort, queue, token, token_ring]
+def registers(bench, head, source, turns, nodes):
+    """Returns the lines of these nodes after so many turns."""
+    return bench.session(head, source, [f"turn {turns}", *(f"regs {node}" for node in nodes)])[1:]
+
+
+def blinker(bench, source, chance):
+    """The pin is high and low by turns."""
+    lines = bench.session("place", source, ["break 600 009", "turn 20", "regs 600"] + ["pass 600", "turn 50000", "regs 600"] * 5)
+    bench.same("the pin at each wait", [field(line, "io") for line in lines[2::3]], [0x30000, 0x20000] * 3)
+
+
+def multiply(bench, source, chance):
+    """The lower word of a product is right for any two words."""
+    pairs = [(first, second) for first in EDGES for second in EDGES]
+    for at in range(0, len(pairs), len(NODES)):
+        some = [*zip(NODES, pairs[at:at + len(NODES)])]
+        text = "".join(source.replace("node 000", f"node {node}").replace("3 5 call", f"{first} {second} call") for node, (first, second) in some)
+        lines = registers(bench, "place", text, 200, [node for node, _ in some])
+        for line, (_, (first, second)) in zip(lines, some):
+            bench.same(f"{first:05X} times {second:05X}, lower word", field(line, "T"), first * second % WORDS)
+
+
+def echo(bench, source, chance):
+    """A neighbour that sends a word gets it back, and then the next one."""
+    for first, second in [(7, 8), (0, 0x3FFFF), (0x2ABCD, 0x15432)]:
+        other = f"node 709 right a! {first} ! @ {second} ! @ jump warm\n"
+        line = registers(bench, "place", source + other, 100, ["709"])[0]
+        bench.same(f"the echo of {first:05X} and {second:05X}", [field(line, "S"), field(line, "T")], [first, second])
+
+
+def fill(bench, source, chance):
+    """The follower stands over its word, and nothing else changes."""
+    memory = bench.memories("place", source, ["turn 20"], ["000"])["000"]
+    bench.same("the memory", memory, [0x2C9B2, 0x2C9B2, 1] + [0] * 61)
+
+
+def two_nodes(bench, source, chance):
+    """709 has 5 for each word that it has taken since the boot, which takes 12 words to load it and 1 to start it."""
+    for turns in (150, 200, 400, 1000):
+        lines = bench.session("route 708,709", source, [f"turn {turns}", "regs 709", "ports 708"])
+        taken = int(re.search(r"read (\d+)", lines[2])[1]) - 13
+        line = lines[1]
+        total = field(line, "T") + (field(line, "S") if "at slot1" in line else 0)
+        bench.same(f"after {turns} turns, some words were taken", taken > 0, True)
+        bench.same(f"after {turns} turns", total, 5 * taken % WORDS)
+
+
+def send(bench, source, chance):
+    """709 has the sum of what 708 sent."""
+    for number, times in [(7, 4), (0, 1), (0x3FFFF, 5), (0x20000, 2), (0x12345, 30)]:
+        text = source.replace("  7 !", f"  {number} !").replace("3 push", f"{times - 1} push")
+        line = registers(bench, "place", text, 1000, ["709"])[0]
+        bench.same(f"{times} times {number:05X}", field(line, "T"), number * times % WORDS)
+
+
+def sum_(bench, source, chance):
+    """The sum of two words, by one worker and by two."""
+    for first in EDGES[::3]:
+        for second in EDGES[::3]:
+            for workers in (1, 2):
+                lines = bench.run(f"run 708,709 {workers} 300", source.replace("$5 $7", f"{first} {second}"))
+                bench.same(f"{first:05X} and {second:05X}", field(lines[6], "T"), (first + second) % WORDS)
+
+
+def ring(bench, source, chance):
+    """Three nodes add 1 each, by one to four workers."""
+    for number in [1, 0, 0x3FFFF, 0x3FFFE, 0x12345]:
+        for workers in (1, 2, 3, 4):
+            lines = bench.run(f"run 708,709,609,608 {workers} 1000", source.replace("$1 !", f"{number} !"))
+            bench.same(f"{number:05X} by {workers}", field(lines[0], "T"), (number + 3) % WORDS)
+
+
+DATA = [blinker, multiply, echo, fill, two_nodes, send, sum_, ring]
+DATA += [pulse, crc, product, division, port_worker, moving_sum, sort, queue, token, token_ring]
 
 
 def kept(bench, name):
@@ -298,22 +375,22 @@ def kept(bench, name):
     states = len(re.findall(r" = ", replay.split("\ngo\n")[1]))
     bench.same(f"{name}, replay", bench.run("replay", replay), [f"same {states}"])
     for kind, text in (("debug", debug), ("replay", replay)):
-        head = text.split("\n", 2)
-        bench.same(f"{name}, the source in {name}.{kind}", head[0] == "profile 1" and head[2].split("\ngo\n")[0] + "\n", source)
+        first, _, head = text.split("\ngo\n")[0].split("\n", 2)
+        kept_source = head[:len(source)] if name in MORE else head + "\n"
+        bench.same(f"{name}, the source in {name}.{kind}", first == "profile 1" and kept_source, source)
     images = bench.images(source)
     steps = sum(map(int, re.findall(r"^turn \d+ = (\d+)$", replay, re.M))) + len(re.findall(r"^try .* = moved$", replay, re.M))
     with open(f"{ROOT}/docs/EXAMPLES.md", encoding="utf-8") as page:
         row = re.search(rf"^\| `{name}` \| (\d+) \| (\d+) \| (\d+)", page.read(), re.M)
-    bench.same(
-        f"{name}, its nodes, words and steps in docs/EXAMPLES.md",
-        row and [int(it) for it in row.groups()], [len(images), sum(len(words) for _, words in images.values()), steps],
-    )
+    words = sum(len(words) for _, words in images.values())
+    what = f"{name}, its nodes, words and steps in docs/EXAMPLES.md"
+    bench.same(what, row and " ".join(row.groups()), f"{len(images)} {words} {steps}")
 
 
 def check(program, name):
     """Returns the checks of one program, done."""
     bench = Bench(program)
-    for what in [lambda: kept(bench, name), *(lambda it=it: it(bench, read(name, "source"), random.Random(144)) for it in DATA if it.__name__ == name)]:
+    for what in [lambda: kept(bench, name), *(lambda it=it: it(bench, read(name, "source"), random.Random(144)) for it in DATA if it.__name__.strip("_") == name)]:
         try:
             what()
         except (OSError, ValueError, LookupError, AttributeError, TypeError, subprocess.TimeoutExpired) as error:
@@ -335,7 +412,7 @@ def main(program, *names):
                 print(f"FAILED {failure}")
             print(f"{name}: {bench.passed} passed, {len(bench.failures)} failed", flush=True)
             passed, failed = passed + bench.passed, failed + len(bench.failures)
-    missing = {it.__name__ for it in DATA} - {*names} if len(sys.argv) == 2 else set()
+    missing = {it.__name__.strip("_") for it in DATA} - {*names} if len(sys.argv) == 2 else set()
     for name in sorted(missing):
         failed += 1
         print(f"FAILED {name}: its folder isn't there")
