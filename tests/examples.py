@@ -314,6 +314,27 @@ def multiply(bench, source, chance):
             bench.same(f"{first:05X} times {second:05X}, lower word", field(line, "T"), first * second % WORDS)
 
 
+    multiply_range(bench, pairs + [(chance.randrange(WORDS), chance.randrange(WORDS)) for _ in range(608)])
+
+
+def multiply_range(bench, pairs):
+    """Eighteen multiply steps give the whole product just where docs/CHIP.md says so."""
+    for at in range(0, len(pairs), len(NODES)):
+        some = [*zip(NODES, pairs[at:at + len(NODES)])]
+        text = "".join(f"node {node} {second} a! {first} 0 17 push align . +* unext jump warm\n" for node, (first, second) in some)
+        lines = registers(bench, "place", text, 200, [node for node, _ in some])
+        for line, (_, (first, second)) in zip(lines, some):
+            signed = first - WORDS if first >= WORDS // 2 else first
+            sums = [signed * (second % (2 << bit)) >> bit for bit in range(18) if second >> bit & 1]
+            wanted = all(-WORDS // 2 <= it < WORDS // 2 for it in sums)
+            came = [field(line, "T"), field(line, "A")]
+            what = f"eighteen steps of {first:05X} and {second:05X}"
+            bench.same(f"{what} are right", came == [(signed * second >> 18) % WORDS, signed * second % WORDS], wanted)
+            bench.same(f"{what}, the lower word", came[1], signed * second % WORDS)
+            if abs(signed) <= 0x10000:
+                bench.same(f"{what}, in the range", wanted, True)
+
+
 def echo(bench, source, chance):
     """A neighbour that sends a word gets it back, and then the next one."""
     for first, second in [(7, 8), (0, 0x3FFFF), (0x2ABCD, 0x15432)]:
