@@ -208,9 +208,22 @@ def sort(bench, source, chance):
             bench.same(f"sorted by {workers}: {shown(words)}", held, sorted(words))
 
 
+def sent_at_boot(images, route):
+    """Returns how many words each node of the route but the first is sent by the boot, as docs/GUIDE.md counts them."""
+    counts = [0]
+    for node in reversed(route[1:]):
+        counts.append(3 + (5 + len(images[node][1]) if node in images else 0) + (10 + counts[-1] if counts[-1] else 0))
+    return counts[:0:-1]
+
+
 def queue(bench, source, chance):
     """The words come out in order, and while nobody takes them the queue holds five and 708 waits with one."""
-    code = bench.images(source)["714"][0]
+    images = bench.images(source)
+    code = images["714"][0]
+    for text, found in ((source, images), ("node 710 . . . . .\nnode 714 7\n", bench.images("node 710 . . . . .\nnode 714 7\n"))):
+        commands = ["break 708 000", "turn 5000", *(f"ports {node}" for node in ROW[:-1])]
+        written = [int(it) for it in re.findall(r"written (\d+)", "\n".join(bench.session(f"route {','.join(ROW)}", text, commands)))]
+        bench.same("the words of the boot", [it for it in written if it], sent_at_boot(found, ROW))
     lists = [[0x11111, 0x22222, 0x33333, 0x04444, 0x15555, 0x26666, 0x37777, 0x08888, 0x19999, 0x2AAAA]]
     lists += [[chance.randrange(WORDS) for _ in range(length)] for length in (1, 3, 5, 6, 7, 20, 50)]
     for words in lists:
