@@ -30,7 +30,8 @@ WORDS = 1 << 18
 NODES = [f"{row}{column:02}" for row in range(8) for column in range(18)]
 # Programs of which the session has one node more than the source, behind it: one that sends it something.
 MORE = {"echo"}
-EDGES = [0, 1, 2, 3, 0xFFFF, 0x10000, 0x10001, 0x1FFFE, 0x1FFFF, 0x20000, 0x20001, 0x2FFFF, 0x30000, 0x30001, 0x3FFFE, 0x3FFFF]
+EDGES = [0, 1, 2, 3, 0xFFFF, 0x10000, 0x10001, 0x1FFFE, 0x1FFFF]
+EDGES += [0x20000, 0x20001, 0x2FFFF, 0x30000, 0x30001, 0x3FFFE, 0x3FFFF]
 
 
 class Bench:
@@ -74,7 +75,10 @@ class Bench:
 
 
 def shown(value):
-    text = "[" + " ".join(f"{it:05X}" if isinstance(it, int) else str(it) for it in value) + "]" if isinstance(value, (list, tuple)) else str(value)
+    if isinstance(value, (list, tuple)):
+        text = "[" + " ".join(f"{it:05X}" if isinstance(it, int) else str(it) for it in value) + "]"
+    else:
+        text = str(value)
     return text if len(text) <= 300 else text[:297] + ".."
 
 
@@ -174,7 +178,8 @@ def port_worker(bench, source, chance):
     cases = [(5, 7, 0x10, 0x2BCDE), (0x3FFFF, 1, 0, 0), (0x3FFFF, 0x3FFFF, 0x3F, 0x3FFFF), (0x20000, 0x20000, 0x3F, 1)]
     cases += [tuple(chance.randrange(it) for it in (WORDS, WORDS, 64, WORDS)) for _ in range(20)]
     for first, second, address, word in cases:
-        text = source.replace(", 5 , 7 , 0", f", {first} , {second} , 0").replace("$010", f"{address}").replace("$2BCDE", f"{word}")
+        text = source.replace(", 5 , 7 , 0", f", {first} , {second} , 0")
+        text = text.replace("$010", f"{address}").replace("$2BCDE", f"{word}")
         memories = bench.memories("place", text, ["turn 1000", "turn 4"], ["708", "709"])
         sent = memories["708"][code - 11:code]
         what = f"sent {first:05X} {second:05X} {address:02X} {word:05X}"
@@ -197,7 +202,9 @@ def moving_sum(bench, source, chance):
 
 def sort(bench, source, chance):
     """The nodes hold the words in order, by one worker and by three."""
-    lists = [[0x20000, 5, 0x3FFFF, 0, 0x1FFFF, 5, 0x10000], [*range(7)], [*range(7)][::-1], [5] * 7, [0x1FFFF, 0x20000, 0, 0x3FFFF, 1, 0x20001, 0x1FFFE]]
+    lists = [[0x20000, 5, 0x3FFFF, 0, 0x1FFFF, 5, 0x10000], [*range(7)], [*range(7)][::-1], [5] * 7]
+    lists += [[0x1FFFF, 0x20000, 0, 0x3FFFF, 1, 0x20001, 0x1FFFE]]
+    lists += [([0] * small + [0x3FFFF] * (7 - small))[::order] for small in range(1, 7) for order in (1, -1)]
     lists += [[chance.choice(EDGES) for _ in range(7)] for _ in range(20)]
     lists += [[chance.randrange(WORDS) for _ in range(7)] for _ in range(20)]
     for words in lists:
@@ -220,10 +227,11 @@ def queue(bench, source, chance):
     """The words come out in order, and while nobody takes them the queue holds five and 708 waits with one."""
     images = bench.images(source)
     code = images["714"][0]
-    for text, found in ((source, images), ("node 710 . . . . .\nnode 714 7\n", bench.images("node 710 . . . . .\nnode 714 7\n"))):
+    for text in (source, "node 710 . . . . .\nnode 714 7\n"):
         commands = ["break 708 000", "turn 5000", *(f"ports {node}" for node in ROW[:-1])]
-        written = [int(it) for it in re.findall(r"written (\d+)", "\n".join(bench.session(f"route {','.join(ROW)}", text, commands)))]
-        bench.same("the words of the boot", [it for it in written if it], sent_at_boot(found, ROW))
+        lines = bench.session(f"route {','.join(ROW)}", text, commands)
+        written = [int(it) for it in re.findall(r"written (\d+)", "\n".join(lines))]
+        bench.same("the words of the boot", [it for it in written if it], sent_at_boot(bench.images(text), ROW))
     lists = [[0x11111, 0x22222, 0x33333, 0x04444, 0x15555, 0x26666, 0x37777, 0x08888, 0x19999, 0x2AAAA]]
     lists += [[chance.randrange(WORDS) for _ in range(length)] for length in (1, 3, 5, 6, 7, 20, 50)]
     for words in lists:
@@ -290,9 +298,11 @@ def delivered(ring, own):
 
 def token_ring(bench, source, chance):
     """Each word comes to the node that it is for, whoever sends it, and the nodes keep them in order."""
-    cases = [[0x30AB, 0x8111, 0, 0x1222, 0x4333, 0x1444, 0x2555, 0], [0] * 8, [0, 0, 0, 0x1123, 0, 0, 0, 0], [at << 12 | 0x700 | at for at in range(1, 9)], [0x5000 | at for at in range(8)]]
+    cases = [[0x30AB, 0x8111, 0, 0x1222, 0x4333, 0x1444, 0x2555, 0], [0] * 8, [0, 0, 0, 0x1123, 0, 0, 0, 0]]
+    cases += [[at << 12 | 0x700 | at for at in range(1, 9)], [0x5000 | at for at in range(8)]]
     cases += [[(at + 1) % 8 + 1 << 12 for at in range(8)], [0x8FFF] * 8]
-    cases += [[chance.choice([0, chance.randrange(1, 9) << 12 | chance.randrange(4096)]) for _ in range(8)] for _ in range(20)]
+    word = lambda: chance.choice([0, chance.randrange(1, 9) << 12 | chance.randrange(4096)])
+    cases += [[word() for _ in range(8)] for _ in range(20)]
     codes = {node: code for node, (code, _) in bench.images(source).items()}
     for own in cases:
         text = source
@@ -321,7 +331,8 @@ def multiply(bench, source, chance):
     pairs = [(first, second) for first in EDGES for second in EDGES]
     for at in range(0, len(pairs), len(NODES)):
         some = [*zip(NODES, pairs[at:at + len(NODES)])]
-        text = "".join(source.replace("node 000", f"node {node}").replace("3 5 call", f"{first} {second} call") for node, (first, second) in some)
+        place = lambda node, pair: source.replace("node 000", f"node {node}").replace("3 5 call", "{} {} call".format(*pair))
+        text = "".join(place(*it) for it in some)
         lines = registers(bench, "place", text, 200, [node for node, _ in some])
         for line, (_, (first, second)) in zip(lines, some):
             bench.same(f"{first:05X} times {second:05X}, lower word", field(line, "T"), first * second % WORDS)
@@ -334,7 +345,8 @@ def multiply_range(bench, pairs):
     """Eighteen multiply steps give the whole product just where docs/CHIP.md says so."""
     for at in range(0, len(pairs), len(NODES)):
         some = [*zip(NODES, pairs[at:at + len(NODES)])]
-        text = "".join(f"node {node} {second} a! {first} 0 17 push align . +* unext jump warm\n" for node, (first, second) in some)
+        steps = "0 17 push align . +* unext jump warm\n"
+        text = "".join(f"node {node} {second} a! {first} {steps}" for node, (first, second) in some)
         lines = registers(bench, "place", text, 200, [node for node, _ in some])
         for line, (_, (first, second)) in zip(lines, some):
             signed = first - WORDS if first >= WORDS // 2 else first
@@ -424,9 +436,10 @@ def kept(bench, name):
 def check(program, name):
     """Returns the checks of one program, done."""
     bench = Bench(program)
-    for what in [lambda: kept(bench, name), *(lambda it=it: it(bench, read(name, "source"), random.Random(144)) for it in DATA if it.__name__.strip("_") == name)]:
+    checks = [lambda _, source, chance: kept(bench, name), *(it for it in DATA if it.__name__.strip("_") == name)]
+    for it in checks:
         try:
-            what()
+            it(bench, read(name, "source"), random.Random(144))
         except (OSError, ValueError, LookupError, AttributeError, TypeError, subprocess.TimeoutExpired) as error:
             bench.failures.append(f"{name}: {error!r}")
     return bench
