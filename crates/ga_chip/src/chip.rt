@@ -151,6 +151,7 @@ impl Chip {
     pub fn attempt(&mut self, what: Try) -> Outcome
         ensures chip { (result, self.new) ≡ tried self.old what.node what.side }
         ensures held { result ≡ Held ↔ IsHeld self.old what.node }
+        ensures unchanged { result ≢ Moved → self.new ≡ self.old }
     {
         self.attempt_at(index_of(what.node), what.side)
     }
@@ -161,6 +162,7 @@ impl Chip {
     pub fn attempt_moves(&mut self, what: Try) -> bool
         ensures chip { self.new ≡ (tried self.old what.node what.side).1 }
         ensures moved { result ≡ is_moved (tried self.old what.node what.side).0 }
+        ensures unchanged { result ≡ false → self.new ≡ self.old }
     {
         let index = index_of(what.node);
         if self.try_own_at(index) {
