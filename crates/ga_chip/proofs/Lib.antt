@@ -15,6 +15,7 @@ pub mod Placed
 pub mod Within
 pub mod Plain
 pub mod Turns
+pub mod Turning
 pub mod Bits
 pub mod Sharing
 pub mod Members

@@ -37,6 +37,10 @@ side_of_turn turn = slice_index_or SIDES (turn % 4) Right
 unfoldable pub turn_of : Side → List Event
 turn_of side = map (λ index. Try (name_at index) side) (range_with_len 0 144)
 
+-- so many turns, one after another
+unfoldable pub turns_of : ℕ → List Event
+turns_of count = flat_map (λ turn. turn_of (side_of_turn turn)) (range_with_len 0 count)
+
 abbrev pub is_hold : Asks → Bool
 is_hold (Nothing Held) = true
 is_hold _ = false

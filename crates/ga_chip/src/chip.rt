@@ -7,13 +7,13 @@ ghost use Rattle.ga_chip.specs.declared.error.ChipError.TheVariants.{NotHeld};
 ghost use Rattle.ga_chip.specs.declared.outcome.Outcome.TheVariants.{Held, Moved};
 ghost use Rattle.ga_chip.specs.Grow.{LedgersGrow};
 ghost use Rattle.ga_chip.specs.Legal.{IsLegal};
-ghost use Rattle.ga_chip.specs.Run.{ClearBreak, PassBreak, SetBreak, happened, is_moved, moved_by, moves, ran, tries_of, turn_of};
+ghost use Rattle.ga_chip.specs.Run.{ClearBreak, PassBreak, SetBreak, happened, is_moved, moved_by, moves, ran, tries_of, turn_of, turns_of};
 
 use crate::error::ChipError;
 use crate::ledger::Ledger;
 use crate::node_set::NodeSet;
 use crate::order::{index_of, node_at};
-use crate::outcome::{Outcome, Try};
+use crate::outcome::{Outcome, Try, side_of_turn};
 use crate::part::NodePart;
 use crate::port::{Ports, all_ports};
 use ga_node::NodeState;
@@ -199,14 +199,23 @@ impl Chip {
         }
     }
 
-    /// Whether all nodes are known to stand still: a turn then changes nothing, whatever its side. Where a node was
-    /// not tried since it could move, the answer is `false`.
-    #[inline]
-    pub fn is_still(&self) -> bool
-        ensures chip { (side : Side) → result ≡ true → ran self.now (turn_of side) ≡ self.now }
-        ensures moves { (side : Side) → result ≡ true → length (moves self.now (turn_of side)) ≡ 0 }
+    /// So many turns, with the sides right, down, left, up, and again. Answers how many tries were `Moved` in all.
+    /// Turns that would change nothing, since the chip stands still, are left out.
+    pub fn turns(&mut self, count: u32) -> u64
+        ensures chip { self.new ≡ ran self.old (turns_of count) }
+        ensures moved { result ≡ length (moves self.old (turns_of count)) }
+        ensures ledgers { LedgersGrow self.old self.new (turns_of count) }
     {
-        self.next_awake(0) >= 144
+        self.legal();
+        let mut moved = 0;
+        for turn in 0..u64::from(count) {
+            let steps = self.turn(side_of_turn(turn));
+            moved += u64::from(steps);
+            if steps == 0 && self.is_still() {
+                return moved;
+            }
+        }
+        moved
     }
 
     /// Each chip is legal: the numbers of its cells agree with what is pending in them. This call does nothing; a proof
@@ -242,6 +251,16 @@ impl Chip {
             read: self.parts[index_of(other)].read(side),
             pending: u8::from(self.cells[at.index()].is_some()),
         }
+    }
+
+    /// Whether all nodes are known to stand still: a turn then changes nothing, whatever its side. Where a node was
+    /// not tried since it could move, the answer is `false`.
+    #[inline]
+    fn is_still(&self) -> bool
+        ensures chip { (side : Side) → result ≡ true → ran self.now (turn_of side) ≡ self.now }
+        ensures moves { (side : Side) → result ≡ true → length (moves self.now (turn_of side)) ≡ 0 }
+    {
+        self.next_awake(0) >= 144
     }
 
     /// A turn that tries each node. As long as few of them sleep, that is faster than to go from one awake node to

@@ -82,18 +82,17 @@ fn sleepers_are_left_alone(rt: HostRuntime) -> Result<(), Fail> {
 
 #[test]
 fn a_chip_stands_still(rt: HostRuntime) -> Result<(), Fail> {
-    let [node_708, node_000] = nodes(&[708, 0])?;
+    let [node_708, node_709, node_000] = nodes(&[708, 709, 0])?;
     let mut chip = Chip::reset(rt.alloc())?;
     place(&mut chip, node_708, &WRITE_12_RIGHT)?;
-    assert!(rt; !chip.is_still());
-    // 709 takes the word of 708, and both go on until they stop
-    for _ in 0..32 {
-        let _moved = chip.turn(Side::Right);
-    }
-    assert!(rt; chip.is_still());
-    assert!(rt; chip.turn(Side::Up) == 0 && chip.turn(Side::Left) == 0);
+    assert!(rt; chip.turns(0) == 0 && chip.state(node_708).steps() == 0);
+    // 709 takes the word of 708, and stops: `@b` reads io. 708 goes on to its words of 0, and waits: `@b` reads 709.
+    assert!(rt; chip.turns(32) == 13);
+    assert!(rt; chip.turns(1000) == 0);
+    assert!(rt; chip.state(node_708).steps() == 12 && chip.state(node_709).steps() == 1);
+    // A node that is given words goes on.
     place(&mut chip, node_000, &WRITE_12_RIGHT)?;
-    assert!(rt; !chip.is_still());
+    assert!(rt; chip.turns(6) == 6 && chip.state(node_000).steps() == 6);
     Ok(())
 }
 

@@ -1,6 +1,5 @@
 pub mod Cutting
 pub mod Digits
-pub mod Turning
 pub mod Passing
 pub mod Room
 pub mod Sources

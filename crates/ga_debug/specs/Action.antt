@@ -1,11 +1,10 @@
 -- What an action answers, and the chip afterwards.
 use Rattle.std.specs.Prelude.{ℕ, ◌++◌, List, codes, length, Option, Some, None, Result, Ok, Err}
 use Rattle.std.specs.Fmt.{decimal}
-use Rattle.std.specs.List.{flat_map, range_with_len}
 use Rattle.ga_place.specs.declared.side.Side.TheVariants.{Right}
 use Rattle.ga_chip.specs.declared.error.ChipError.{ChipError}
 use Rattle.ga_chip.specs.Chip.{Chip, tried, unless_held}
-use Rattle.ga_chip.specs.Run.{Event, happened, moves, ran, side_of_turn, turn_of}
+use Rattle.ga_chip.specs.Run.{happened, moves, ran, turns_of}
 use Rattle.ga_chip.specs.Run as event
 use Rattle.ga_debug.specs.declared.action.Action.{Action}
 use Rattle.ga_debug.specs.declared.action.Action.TheVariants.{Break, Clear, Pass, Try, Turn}
@@ -14,10 +13,6 @@ use Rattle.ga_debug.specs.declared.action.Answer.TheVariants.{Done, Tried, Moved
 use Rattle.ga_debug.specs.declared.error.DebugError.{DebugError}
 use Rattle.ga_debug.specs.declared.error.DebugError.TheVariants.{NotHeld}
 use Rattle.ga_debug.specs.Words.{outcome_text}
-
--- the tries of so many turns
-unfoldable pub turns : ℕ → List Event
-turns count = flat_map (λ turn. turn_of (side_of_turn turn)) (range_with_len 0 count)
 
 -- a pass is refused where a try wouldn't be held
 abbrev pub passed : Option ChipError → Result Answer DebugError
@@ -30,7 +25,7 @@ answer_to (Break node at) chip = Ok Done
 answer_to (Clear node at) chip = Ok Done
 answer_to (Pass node) chip = passed (unless_held (tried chip node Right).0)
 answer_to (Try node side) chip = Ok (Tried (tried chip node side).0)
-answer_to (Turn count) chip = Ok (Moved (length (moves chip (turns count))))
+answer_to (Turn count) chip = Ok (Moved (length (moves chip (turns_of count))))
 
 -- the chip afterwards; a pass that is refused changes nothing
 abbrev pub after_action : Action → Chip → Chip
@@ -38,7 +33,7 @@ after_action (Break node at) chip = happened chip (event.SetBreak node at)
 after_action (Clear node at) chip = happened chip (event.ClearBreak node at)
 after_action (Pass node) chip = happened chip (event.PassBreak node)
 after_action (Try node side) chip = (tried chip node side).1
-after_action (Turn count) chip = ran chip (turns count)
+after_action (Turn count) chip = ran chip (turns_of count)
 
 -- an answer as text
 abbrev pub answer_text : Answer → List ℕ

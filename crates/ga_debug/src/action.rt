@@ -1,12 +1,11 @@
 ghost use Rattle.std.specs.Prelude.{◌≡◌, ◌∷◌, ◌≤◌, [], OnErr, string_bytes, length};
 ghost use Rattle.std.specs.String.{string_capacity, string_len};
-ghost use Rattle.ga_chip.specs.Run.{moves, ran};
-ghost use Rattle.ga_debug.specs.Action.{after_action, answer_text, answer_to, turns};
+ghost use Rattle.ga_debug.specs.Action.{after_action, answer_text, answer_to};
 ghost use Rattle.ga_debug.specs.Words.{outcome_text};
 
 use crate::address::Address;
 use crate::error::DebugError;
-use ga_chip::{Chip, Outcome, Try, side_of_turn};
+use ga_chip::{Chip, Outcome, Try};
 use ga_place::{Node, Side};
 use itoa::Buffer;
 
@@ -59,24 +58,8 @@ pub fn perform(chip: &mut Chip, action: Action) -> Result<Answer, DebugError>
             Err(_) => Err(DebugError::NotHeld),
         },
         Action::Try { node, side } => Ok(Answer::Tried(chip.attempt(Try { node, side }))),
-        Action::Turn { count } => Ok(Answer::Moved(turn_on(chip, count))),
+        Action::Turn { count } => Ok(Answer::Moved(chip.turns(count))),
     }
-}
-
-/// So many turns, with the sides right, down, left, up and again. Answers how many steps they made.
-fn turn_on(chip: &mut Chip, count: u32) -> u64
-    ensures chip { chip.new ≡ ran chip.old (turns count) }
-    ensures moved { result ≡ length (moves chip.old (turns count)) }
-{
-    let mut moved = 0;
-    for turn in 0..u64::from(count) {
-        let steps = chip.turn(side_of_turn(turn));
-        moved += u64::from(steps);
-        if steps == 0 && chip.is_still() {
-            return moved;
-        }
-    }
-    moved
 }
 
 /// An answer as text, in an empty text that has room for it.
