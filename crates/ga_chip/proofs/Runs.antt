@@ -3,6 +3,7 @@ use Rattle.std.proofs.Common.{◌≡◌, ℕ, ◌+◌, ◌==◌, Bool, true, fal
 use Rattle.std.proofs.lemmas.Option.{same_Some}
 use Rattle.std.specs.Prelude.{if◌then◌else◌}
 use Rattle.std.proofs.lemmas.Bool.{cases_eq, eqb-true}
+use Rattle.std.proofs.lemmas.List.{map-append}
 use Rattle.std.proofs.lemmas.List.Concat.{flat_map-append}
 use Rattle.std.proofs.lemmas.List.Elements.{filter-append}
 use Rattle.std.specs.Option.{option_to_list}
@@ -14,9 +15,10 @@ use Rattle.ga_node.specs.declared.need.Need.{Need}
 use Rattle.ga_place.specs.Cell.{cell_of, read_cell}
 use Rattle.ga_chip.specs.declared.outcome.Outcome.{Outcome}
 use Rattle.ga_chip.specs.declared.outcome.Outcome.TheVariants.{Moved, Waits, Held, Stopped}
+use Rattle.ga_chip.specs.declared.outcome.Try.{Try}
 use Rattle.ga_chip.specs.Part.{Part, Asks, Nothing, Own, Feed, Post, Check, Take, picked_by}
 use Rattle.ga_chip.specs.Chip.{Chip, part_of, pending}
-use Rattle.ga_chip.specs.Run.{Event, happened, ran, Move, if_moved, move_in, moves, moves_of, posted_by, taken_by, written_words, taken_words}
+use Rattle.ga_chip.specs.Run.{Event, happened, ran, Move, if_moved, move_in, moves, moves_of, posted_by, taken_by, tries_of, written_words, taken_words}
 use Rattle.ga_chip.specs.Legal.{IsLegal}
 use Rattle.ga_chip.proofs.Parts.{Fits, stand_after}
 use Rattle.ga_chip.proofs.Events.{Does, DoesNothing, does, Here, Else, part_from, part_here, part_else, moves_here, moves_else, replay, stand_once, steps_once}
@@ -26,6 +28,10 @@ use Rattle.ga_chip.proofs.Kept.{flow, posted_else, taken_elsewhere, has_name, le
 pub ran-append : (chip : Chip) (events more : List Event) → ran chip (events ++ more) ≡ ran (ran chip events) more
 ran-append chip [] more = refl
 ran-append chip (event ∷ events) more = ran-append (happened chip event) events more
+
+-- so tries, and more tries behind them, are one run of them all
+pub ran_more : (chip : Chip) (tries more : List Try) → ran chip (tries_of (tries ++ more)) ≡ ran (ran chip (tries_of tries)) (tries_of more)
+ran_more chip tries more = ap (ran chip) (map-append _ tries more) ∙ ran-append chip (tries_of tries) (tries_of more)
 
 pub moves-append : (chip : Chip) (events more : List Event) → moves chip (events ++ more) ≡ moves chip events ++ moves (ran chip events) more
 moves-append chip [] more = refl

@@ -6,15 +6,29 @@ use Rattle.std.proofs.lemmas.List.Concat.{flat_map-append}
 use Rattle.ga_node.specs.Need.{need_of}
 use Rattle.ga_chip.specs.declared.outcome.Outcome.{Outcome}
 use Rattle.ga_chip.specs.declared.outcome.Outcome.TheVariants.{Moved, Waits, Held, Stopped}
+use Rattle.ga_chip.specs.declared.outcome.Try.{Try}
 use Rattle.ga_chip.specs.Part.{Part, Feed, picked_by}
 use Rattle.ga_chip.specs.Chip.{Chip, part_of}
-use Rattle.ga_chip.specs.Run.{words_left, piece_of, pieces, if_moved, Event, Move, happened, ran, move_in, moves, moves_of, fed_by}
+use Rattle.ga_chip.specs.Laws.{AgreesWith}
+use Rattle.ga_chip.specs.Run.{words_left, piece_of, pieces, if_moved, Event, Move, happened, ran, move_in, moves, moves_of, fed_by, tries_of}
 use Rattle.ga_chip.specs.Legal.{IsLegal}
 use Rattle.ga_chip.proofs.Parts.{Feeds, stream_by, feeds_by}
 use Rattle.ga_chip.proofs.Events.{Does, DoesNothing, does, part_here, part_else, moves_here, moves_else}
 use Rattle.ga_chip.proofs.Kept.{legal_kept}
 use Rattle.ga_chip.proofs.Runs.{moves_of-append, part_first}
 use Rattle.ga_chip.proofs.Moments.{Makes}
+
+-- tries bring no words to a stream
+pub no_piece : (name : ℕ) (tries : List Try) → pieces name (tries_of tries) ≡ []
+no_piece name [] = refl
+no_piece name (one ∷ tries) = no_piece name tries
+
+-- so any two lists of tries bring the same
+pub same_pieces : (name : ℕ) (tries others : List Try) → pieces name (tries_of tries) ≡ pieces name (tries_of others)
+same_pieces name tries others = no_piece name tries ∙ sym (no_piece name others)
+
+pub pieces_agree : (tries others : List Try) (name : ℕ) → AgreesWith (pieces name (tries_of tries)) (pieces name (tries_of others))
+pieces_agree tries others name = inl ([], same_pieces name others tries ∙ sym (append-nil _))
 
 abbrev pub fed_moves : List Move → List ℕ
 fed_moves ms = flat_map (λ move. fed_by move.asked) ms

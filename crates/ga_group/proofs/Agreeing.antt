@@ -1,22 +1,15 @@
 -- Runs of workers go alike, since they are runs.
-use Rattle.std.proofs.Common.{◌≡◌, ◌∙◌, ℕ, List, [], ◌∷◌, ◌++◌, Some, inl, refl, sym, ap}
+use Rattle.std.proofs.Common.{◌≡◌, ◌∙◌, List, Some, refl, sym, ap}
 use Rattle.ga_chip.specs.declared.outcome.Try.{Try}
 use Rattle.ga_chip.specs.Chip.{Chip, part_of}
 use Rattle.ga_chip.specs.Laws.{Agree}
-use Rattle.ga_chip.specs.Run.{pieces, ran, tries_of}
+use Rattle.ga_chip.specs.Run.{ran, tries_of}
 use Rattle.ga_chip.proofs.Confluence.{confluence}
+use Rattle.ga_chip.proofs.Streams.{pieces_agree, same_pieces}
 use Rattle.ga_group.specs.Laws.{AreAlike, LeaveAlike, PlansAgree, RunAgrees}
 
--- tries bring no piece of a stream
-no_piece : (name : ℕ) (tries : List Try) → pieces name (tries_of tries) ≡ []
-no_piece name [] = refl
-no_piece name (one ∷ tries) = no_piece name tries
-
-same_pieces : (name : ℕ) (tries others : List Try) → pieces name (tries_of tries) ≡ pieces name (tries_of others)
-same_pieces name tries others = no_piece name tries ∙ sym (no_piece name others)
-
 agree : (one two : Chip) (tries others : List Try) → AreAlike one two tries others → Agree one two (tries_of tries) (tries_of others)
-agree one two tries others alike = confluence one two (tries_of tries) (tries_of others) alike.first alike.second alike.chips alike.sides (λ name. inl ([], no_piece name others ∙ sym (ap (λ l. l ++ []) (no_piece name tries))))
+agree one two tries others alike = confluence one two (tries_of tries) (tries_of others) alike.first alike.second alike.chips alike.sides (pieces_agree tries others)
 
 leave_alike : (one two next other : Chip) (tries others : List Try) → AreAlike one two tries others → next ≡ ran one (tries_of tries) → other ≡ ran two (tries_of others) → LeaveAlike next other
 leave_alike one two next other tries others alike is also name here there at then steps =

@@ -11,17 +11,13 @@ use Rattle.ga_chip.specs.declared.outcome.Outcome.{Outcome}
 use Rattle.ga_chip.specs.declared.outcome.Try.{Try}
 use Rattle.ga_chip.specs.Chip.{Chip, tried}
 use Rattle.ga_chip.specs.Run.{ran, side_of_turn, tries_of}
-use Rattle.ga_chip.proofs.Runs.{ran-append}
+use Rattle.ga_chip.proofs.Runs.{ran_more}
 use Rattle.ga_chip.proofs.Turns.{places_next, ran_next}
 use Rattle.ga_group.specs.Plan.{Groups, first_repeated, groups_in, plan_fault}
 use Rattle.ga_group.specs.Tries.{all_tries, group_tries, turn_tries}
 use Rattle.ga_group.specs.Workers.{IsWorkersRun, sides_of_turns, sides_tried}
 use Rattle.ga_group.proofs.Plans.{is_new, not_behind, once}
 use Rattle.ga_group.proofs.Walk.{groups_left, tries_left}
-
--- a run of some tries and then of more
-pub ran_more : (chip : Chip) (tries more : List Try) → ran chip (tries_of (tries ++ more)) ≡ ran (ran chip (tries_of tries)) (tries_of more)
-ran_more chip tries more = ap (ran chip) (map-append _ tries more) ∙ ran-append chip (tries_of tries) (tries_of more)
 
 pub tried_more : (name : ℕ) (tries more : List Try) → sides_tried name (tries ++ more) ≡ sides_tried name tries ++ sides_tried name more
 tried_more name tries more = ap (map (λ one. one.side)) (filter-append (λ one. one.node == name) tries more) ∙ map-append (λ one. one.side) _ _

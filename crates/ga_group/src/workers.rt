@@ -1,6 +1,7 @@
 ghost use Rattle.std.specs.Prelude.{◌≡◌, ◌≤◌, ◌<◌, ◌+◌, ◌*◌, ◌^◌, ℕ, All, IfErr, IfOk, None, OnOk, length};
 ghost use Rattle.std.specs.List.{concat};
 ghost use Rattle.ga_chip.specs.Chip.{IsHeld, part_of};
+ghost use Rattle.ga_chip.specs.Grow.{LedgersGrow};
 ghost use Rattle.ga_chip.specs.Legal.{IsLegal};
 ghost use Rattle.ga_chip.specs.Run.{ran, side_of_turn, tries_of};
 ghost use Rattle.ga_group.specs.Plan.{groups_in, plan_fault};
@@ -35,6 +36,7 @@ pub fn run_workers<R: Threads, G: Gate>(
 ) -> Result<Chip, (RunError, Chip)>
     ensures run { IfOk result (λ next. IsWorkersRun chip plan.now turns next) }
     ensures held { IfOk result (λ next. (name : ℕ) → IsHeld chip name → part_of next name ≡ part_of chip name) }
+    ensures ledgers { IfOk result (λ next. (run : IsWorkersRun chip plan.now turns next) → LedgersGrow chip next (tries_of run.tries)) }
     ensures accepted { OnOk result (turns < 2 ^ 40) }
     ensures refused { IfErr result (λ refused. refused ≡ (TooManyTurns, chip)) }
     ensures many { IfErr result (λ _. 2 ^ 40 ≤ turns) }

@@ -1,6 +1,8 @@
-use Rattle.std.proofs.Common.{◌≡◌, ◌∙◌, ap, arith}
+use Rattle.std.proofs.Common.{◌≡◌, ◌∙◌, ap, subst, sym, arith}
 use Rattle.ga_chip.specs.Chip.{part_of}
+use Rattle.ga_chip.specs.Grow.{LedgersGrow}
 use Rattle.ga_chip.specs.Run.{ran, side_of_turn, tries_of}
+use Rattle.ga_chip.proofs.Grow.{ledgers_grow}
 use Rattle.ga_chip.proofs.Holds.{held_stays}
 use Rattle.ga_group.specs.Tries.{all_tries, turn_tries}
 use Rattle.ga_group.proofs.Tries.{turn_next, workers_run}
@@ -20,3 +22,6 @@ returns-clause-run g c =
 
 pub returns-clause-held : goal.returns-clause-held
 returns-clause-held g c name held = ap (λ chip. part_of chip name) c.loop-turn.invariant.0 ∙ held_stays c.args.chip (all_tries c.args.plan.now c.loop-turn.turn) name held
+
+pub returns-clause-ledgers : goal.returns-clause-ledgers
+returns-clause-ledgers g c run = subst (λ z. LedgersGrow c.args.chip z (tries_of run.tries)) (sym run.leads) (ledgers_grow c.args.chip (tries_of run.tries) c.legal.ensures)
