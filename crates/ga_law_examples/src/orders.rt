@@ -1,0 +1,50 @@
+//! Runs in one thread.
+ghost use Rattle.std.specs.Prelude.{◌≡◌, ℕ, ◌++◌, All};
+ghost use Rattle.ga_place.specs.declared.side.Side.{Side};
+ghost use Rattle.ga_chip.specs.Laws.{AgreesWith};
+ghost use Rattle.ga_chip.specs.Legal.{DifferInBreaks};
+ghost use Rattle.ga_chip.specs.Run.{sides_of, taken_words, tries_of, written_words};
+ghost use Rattle.ga_group.specs.Laws.{LeaveAlike};
+
+use ga_chip::laws::confluence;
+use ga_chip::{Chip, Try};
+
+/// Makes tries of two chips that differ in breakpoints at most, of each in an order of its own. Takes of several sides
+/// are to name the same sides, as far as both go. Then a node that has made equally many steps ends alike, and each
+/// cell passes the same words, as far as both go.
+pub fn two_orders(one: &mut Chip, two: &mut Chip, order: &[Try], another: &[Try])
+    requires chips { DifferInBreaks one.old two.old }
+    requires sides { (name : ℕ) → AgreesWith (sides_of one.old (tries_of order.now) name) (sides_of two.old (tries_of another.now) name) }
+    ensures nodes { LeaveAlike one.new two.new }
+    ensures written { (cell : ℕ) → AgreesWith (written_words one.old (tries_of order.now) cell) (written_words two.old (tries_of another.now) cell) }
+    ensures taken { (cell : ℕ) → AgreesWith (taken_words one.old (tries_of order.now) cell) (taken_words two.old (tries_of another.now) cell) }
+{
+    one.legal();
+    two.legal();
+    confluence();
+    one.run(order);
+    two.run(another);
+}
+
+/// The same, where all tries name one side: then nothing has to be known of takes of several sides.
+pub fn one_side(one: &mut Chip, two: &mut Chip, order: &[Try], another: &[Try])
+    requires chips { DifferInBreaks one.old two.old }
+    requires named { (side : Side) × All (λ what. what.side ≡ side) order.now × All (λ what. what.side ≡ side) another.now }
+    ensures { LeaveAlike one.new two.new }
+{
+    two_orders(one, two, order, another);
+}
+
+/// The same as `two_orders`, where the first chip is run in two parts: runs one behind the other are one run along the tries of both.
+pub fn two_parts(one: &mut Chip, two: &mut Chip, front: &[Try], rest: &[Try], order: &[Try])
+    requires chips { DifferInBreaks one.old two.old }
+    requires sides { (name : ℕ) → AgreesWith (sides_of one.old (tries_of (front.now ++ rest.now)) name) (sides_of two.old (tries_of order.now) name) }
+    ensures { LeaveAlike one.new two.new }
+{
+    one.legal();
+    two.legal();
+    confluence();
+    one.run(front);
+    one.run(rest);
+    two.run(order);
+}
