@@ -75,6 +75,10 @@ workers_run chip next plan turns faultless is =
       leads = is;
     }
 
+-- two runs of workers, one behind the other, are one run along the tries of both
+pub runs_join : (chip next last : Chip) (plan another : Groups) (turns more : ℕ) (run : IsWorkersRun chip plan turns next) (again : IsWorkersRun next another more last) → last ≡ ran chip (tries_of (run.tries ++ again.tries))
+runs_join chip next last plan another turns more run again = again.leads ∙ ap (λ c. ran c (tries_of again.tries)) run.leads ∙ sym (ran_more chip run.tries again.tries)
+
 -- ---- one step of each loop
 
 pub try_next : (chip next : Chip) (side : Side) (group : List ℕ) (at node : ℕ) → at < length group → node ≡ slice_index_or group at node → next ≡ (tried chip node side).1

@@ -1,5 +1,5 @@
 //! Runs of workers.
-ghost use Rattle.std.specs.Prelude.{ℕ, ◌<◌, ◌^◌, IfSome, IsSome, List};
+ghost use Rattle.std.specs.Prelude.{ℕ, ◌++◌, ◌<◌, ◌^◌, IfSome, IsSome, List};
 ghost use Rattle.ga_chip.specs.Chip as model;
 ghost use Rattle.ga_chip.specs.Laws.{AgreesWith};
 ghost use Rattle.ga_chip.specs.Legal.{DifferInBreaks};
@@ -7,6 +7,7 @@ ghost use Rattle.ga_chip.specs.Run.{sides_of, tries_of};
 ghost use Rattle.ga_group.specs.Laws.{LeaveAlike};
 ghost use Rattle.ga_group.specs.Workers.{IsWorkersRun};
 
+use ga_chip::laws::confluence;
 use ga_chip::{Chip, Try};
 use ga_group::laws::plans_agree;
 use ga_group::{Gate, Plan, run_workers};
@@ -63,4 +64,33 @@ pub fn plan_beside_tries<R: Threads, G: Gate>(
     };
     two.run(tries);
     Some(next)
+}
+
+/// The same, where the first chip is run by one plan and then by another, over so many turns each: runs of workers, one
+/// behind the other, are one run along the tries of both.
+pub fn plan_behind_plan<R: Threads, G: Gate>(
+    rt: &R,
+    one: Chip,
+    two: &mut Chip,
+    plan: &Plan,
+    another: &Plan,
+    turns: u64,
+    tries: &[Try],
+    gate: &G,
+) -> Option<Chip>
+    requires chips { DifferInBreaks one two.old }
+    requires sides { (next last : model.Chip) (run : IsWorkersRun one plan.now turns next) (again : IsWorkersRun next another.now turns last) (name : ℕ) → AgreesWith (sides_of one (tries_of (run.tries ++ again.tries)) name) (sides_of two.old (tries_of tries.now) name) }
+    ensures nodes { IfSome result (λ last. LeaveAlike last two.new) }
+    ensures answered { turns < 2 ^ 40 → IsSome result }
+{
+    two.legal();
+    confluence();
+    let Ok(next) = run_workers(rt, one, plan, turns, gate) else {
+        return None;
+    };
+    let Ok(last) = run_workers(rt, next, another, turns, gate) else {
+        return None;
+    };
+    two.run(tries);
+    Some(last)
 }
