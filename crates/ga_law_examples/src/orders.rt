@@ -3,7 +3,7 @@ ghost use Rattle.std.specs.Prelude.{◌≡◌, ℕ, ◌++◌, All};
 ghost use Rattle.ga_place.specs.declared.side.Side.{Side};
 ghost use Rattle.ga_chip.specs.Laws.{AgreesWith};
 ghost use Rattle.ga_chip.specs.Legal.{DifferInBreaks};
-ghost use Rattle.ga_chip.specs.Run.{sides_of, taken_words, tries_of, written_words};
+ghost use Rattle.ga_chip.specs.Run.{ran, sides_of, taken_words, tries_of, written_words};
 ghost use Rattle.ga_group.specs.Laws.{LeaveAlike};
 
 use ga_chip::laws::confluence;
@@ -15,6 +15,8 @@ use ga_chip::{Chip, Try};
 pub fn two_orders(one: &mut Chip, two: &mut Chip, order: &[Try], another: &[Try])
     requires chips { DifferInBreaks one.old two.old }
     requires sides { (name : ℕ) → AgreesWith (sides_of one.old (tries_of order.now) name) (sides_of two.old (tries_of another.now) name) }
+    ensures first { one.new ≡ ran one.old (tries_of order.now) }
+    ensures second { two.new ≡ ran two.old (tries_of another.now) }
     ensures nodes { LeaveAlike one.new two.new }
     ensures written { (cell : ℕ) → AgreesWith (written_words one.old (tries_of order.now) cell) (written_words two.old (tries_of another.now) cell) }
     ensures taken { (cell : ℕ) → AgreesWith (taken_words one.old (tries_of order.now) cell) (taken_words two.old (tries_of another.now) cell) }
@@ -30,7 +32,9 @@ pub fn two_orders(one: &mut Chip, two: &mut Chip, order: &[Try], another: &[Try]
 pub fn one_side(one: &mut Chip, two: &mut Chip, order: &[Try], another: &[Try])
     requires chips { DifferInBreaks one.old two.old }
     requires named { (side : Side) × All (λ what. what.side ≡ side) order.now × All (λ what. what.side ≡ side) another.now }
-    ensures { LeaveAlike one.new two.new }
+    ensures first { one.new ≡ ran one.old (tries_of order.now) }
+    ensures second { two.new ≡ ran two.old (tries_of another.now) }
+    ensures nodes { LeaveAlike one.new two.new }
 {
     two_orders(one, two, order, another);
 }
@@ -39,7 +43,9 @@ pub fn one_side(one: &mut Chip, two: &mut Chip, order: &[Try], another: &[Try])
 pub fn two_parts(one: &mut Chip, two: &mut Chip, front: &[Try], rest: &[Try], order: &[Try])
     requires chips { DifferInBreaks one.old two.old }
     requires sides { (name : ℕ) → AgreesWith (sides_of one.old (tries_of (front.now ++ rest.now)) name) (sides_of two.old (tries_of order.now) name) }
-    ensures { LeaveAlike one.new two.new }
+    ensures first { one.new ≡ ran one.old (tries_of (front.now ++ rest.now)) }
+    ensures second { two.new ≡ ran two.old (tries_of order.now) }
+    ensures nodes { LeaveAlike one.new two.new }
 {
     one.legal();
     two.legal();

@@ -1,9 +1,9 @@
 //! Runs of workers.
-ghost use Rattle.std.specs.Prelude.{ℕ, ◌++◌, ◌<◌, ◌^◌, IfSome, IsSome, List};
+ghost use Rattle.std.specs.Prelude.{◌≡◌, ℕ, ◌++◌, ◌<◌, ◌^◌, IfSome, IsSome, None};
 ghost use Rattle.ga_chip.specs.Chip as model;
 ghost use Rattle.ga_chip.specs.Laws.{AgreesWith};
 ghost use Rattle.ga_chip.specs.Legal.{DifferInBreaks};
-ghost use Rattle.ga_chip.specs.Run.{sides_of, tries_of};
+ghost use Rattle.ga_chip.specs.Run.{ran, sides_of, tries_of};
 ghost use Rattle.ga_group.specs.Laws.{LeaveAlike};
 ghost use Rattle.ga_group.specs.Workers.{IsWorkersRun};
 
@@ -27,6 +27,8 @@ pub fn two_plans<R: Threads, G: Gate>(
 ) -> Option<(Chip, Chip)>
     requires chips { DifferInBreaks one two }
     requires sides { (next other : model.Chip) (run : IsWorkersRun one plan.now turns next) (again : IsWorkersRun two another.now turns other) (name : ℕ) → AgreesWith (sides_of one (tries_of run.tries) name) (sides_of two (tries_of again.tries) name) }
+    ensures first { IfSome result (λ ends. IsWorkersRun one plan.now turns ends.0) }
+    ensures second { IfSome result (λ ends. IsWorkersRun two another.now turns ends.1) }
     ensures nodes { IfSome result (λ ends. LeaveAlike ends.0 ends.1) }
     ensures answered { turns < 2 ^ 40 → IsSome result }
 {
@@ -54,8 +56,11 @@ pub fn plan_beside_tries<R: Threads, G: Gate>(
 ) -> Option<Chip>
     requires chips { DifferInBreaks one two.old }
     requires sides { (next : model.Chip) (run : IsWorkersRun one plan.now turns next) (name : ℕ) → AgreesWith (sides_of one (tries_of run.tries) name) (sides_of two.old (tries_of tries.now) name) }
+    ensures run { IfSome result (λ next. IsWorkersRun one plan.now turns next) }
+    ensures tries { IfSome result (λ _. two.new ≡ ran two.old (tries_of tries.now)) }
     ensures nodes { IfSome result (λ next. LeaveAlike next two.new) }
     ensures answered { turns < 2 ^ 40 → IsSome result }
+    ensures same { result ≡ None → two.new ≡ two.old }
 {
     two.legal();
     plans_agree();
@@ -80,8 +85,11 @@ pub fn plan_behind_plan<R: Threads, G: Gate>(
 ) -> Option<Chip>
     requires chips { DifferInBreaks one two.old }
     requires sides { (next last : model.Chip) (run : IsWorkersRun one plan.now turns next) (again : IsWorkersRun next another.now turns last) (name : ℕ) → AgreesWith (sides_of one (tries_of (run.tries ++ again.tries)) name) (sides_of two.old (tries_of tries.now) name) }
+    ensures runs { IfSome result (λ last. (next : model.Chip) × IsWorkersRun one plan.now turns next × IsWorkersRun next another.now turns last) }
+    ensures tries { IfSome result (λ _. two.new ≡ ran two.old (tries_of tries.now)) }
     ensures nodes { IfSome result (λ last. LeaveAlike last two.new) }
     ensures answered { turns < 2 ^ 40 → IsSome result }
+    ensures same { result ≡ None → two.new ≡ two.old }
 {
     two.legal();
     confluence();
