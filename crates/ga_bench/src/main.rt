@@ -11,6 +11,7 @@ use ga_jobs::ServeError;
 use ga_serve::{serve, status};
 use std::alloc::Global;
 use std::io::ErrorKind::OutOfMemory;
+use std::io::IsTerminal;
 use std::process::ExitCode;
 use std::rt::Env;
 use std::thread::Threads;
@@ -21,16 +22,24 @@ fn main(rt: HostRuntime) -> ExitCode {
     ExitCode::from(serve_line(&rt, job))
 }
 
-/// Runs the job that a command line names, on standard input and output, or tells why it names none. Answers the exit
-/// status.
+/// Runs the job that a command line names, on standard input and output, or tells why it names none. Who types the input
+/// is told what ends it. Answers the exit status.
 fn serve_line<R: AllocGlobal + Input + Print + Eprint + Threads>(
     rt: &R,
     job: Result<Job, LineError>,
 ) -> u8
+where
+    R::Reader: IsTerminal,
     ensures { IsStatusOf job result }
 {
     let outcome = match job {
-        Ok(job) => serve(rt, &mut rt.reader(), &mut io::writer(rt), &job),
+        Ok(job) => {
+            let mut reader = rt.reader();
+            if reader.is_terminal() {
+                let _ = eprintln!(rt; "ga-bench: reads from this terminal, until Ctrl-D at the beginning of a line");
+            }
+            serve(rt, &mut reader, &mut io::writer(rt), &job)
+        }
         Err(LineError::Memory) => Err(ServeError::Memory),
         Err(LineError::Parse(error)) => match error.print(rt) {
             _ if error.use_stderr() => return 2,
@@ -51,7 +60,10 @@ fn job_of_arguments<R: Env + AllocGlobal>(rt: &R) -> Result<Job, LineError>
 {
     let alloc = rt.alloc();
     match env::args(rt) {
-        Ok(arguments) => job_of_words(alloc, &arguments.collect(alloc)?),
+        Ok(arguments) => {
+            let words: Vec<String> = arguments.collect(alloc)?;
+            job_of_words(alloc, &words)
+        }
         Err(error) if error.kind() == OutOfMemory => Err(LineError::Memory),
         Err(_) => Err(refusal(alloc, InvalidValue, "an argument is not UTF-8")),
     }

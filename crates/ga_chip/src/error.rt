@@ -1,12 +1,18 @@
+use thiserror::Error;
+
 /// Why a chip refuses a call. It is left as it was.
-#[derive(Clone, Copy, Debug, PartialEq, Eq)]
+#[derive(Clone, Copy, Debug, PartialEq, Eq, Error)]
 pub enum ChipError {
     /// The node stands at no edge of the chip, so it can't be given a stream.
+    #[error("NotEdge")]
     NotEdge,
     /// The node was given a stream before.
+    #[error("AlreadyGiven")]
     AlreadyGiven,
     /// The node has made a step.
+    #[error("Begun")]
     Begun,
     /// A try of the node wouldn't be held at a breakpoint, so it can't be given a pass.
+    #[error("NotHeld")]
     NotHeld,
 }

@@ -6,11 +6,12 @@ use clap::Command;
 use std::alloc::{AllocError, Global};
 
 const HELP: &str = "\
-Reads source text: for each node `node`, its name in three digits, and its items. Writes for each
-node a line with its entry, how many of its words are code and how many there are, and its words,
-eight on a line.
+Reads source text from standard input: for each node `node`, its name in three digits, and its items.
+Writes for each node a line with its entry, how many of its words are code and how many there are, and
+its words, eight on a line.
 
-Example: echo 'node 709 main: $5 $7 + @b' | ga-bench asm";
+Example: echo 'node 709 main: $5 $7 + @b' | ga-bench asm
+More: Source text in docs/FORMATS.md";
 
 /// The subcommand `asm`.
 #[tactic(auto, unfolding(crate::specs::Asm::asm_command))]

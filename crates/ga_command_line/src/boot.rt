@@ -6,11 +6,13 @@ use clap::{Arg, Command};
 use std::alloc::{AllocError, Global};
 
 const HELP: &str = "\
-Reads source text, as asm does. Writes a line 'load' with a number and so many words, eight on a
-line, and 'start' in the same way: what the loader of the route's first node is to be given, so that
-each node of the route has its words in memory, and then starts.
+Reads source text from standard input, as asm does. Writes a line 'load' with a number and so many
+words, eight on a line, and 'start' in the same way: what the loader of the route's first node is to
+be given, so that each node of the route has its words in memory, and then starts. These are words for
+the loader of this bench's chip, and no bytes for a serial line.
 
-Example: echo 'node 709 .' | ga-bench boot 708,709";
+Example: echo 'node 709 .' | ga-bench boot 708,709
+More: Boot streams in docs/FORMATS.md";
 
 /// The subcommand `boot ROUTE`.
 #[tactic(auto, unfolding(crate::specs::Boot::boot_command))]

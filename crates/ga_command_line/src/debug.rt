@@ -6,14 +6,21 @@ use clap::Command;
 use std::alloc::{AllocError, Global};
 
 const HELP: &str = "\
-Reads a replay text, whose commands state nothing: the line 'profile 1', the line 'place' or 'route'
-and node names with commas between them, source text, the line 'go', and commands. Writes the reply
-to each command, or 'refused' and why, and goes on.
+Reads from standard input a replay text whose commands state nothing: the line 'profile 1', the line
+'place' or 'route' and node names with commas between them, source text, the line 'go', and commands.
+Writes the reply to each command, or 'refused' and why, and goes on.
 
-Commands: break NNN HHH, clear NNN HHH, pass NNN, try NNN SIDE, turn COUNT, regs NNN, mem NNN,
-ports NNN. SIDE is r, d, l or u, and COUNT goes to 1000000.
+  break NNN HHH   node NNN, three digits, is held before it fetches at address HHH, three hex digits
+  clear NNN HHH   it is held there no more
+  pass NNN        a node that is held makes its fetch
+  try NNN SIDE    one try of the node, for the side r, d, l or u where it reads at several ports
+  turn K          K turns, to 1000000: each tries all 144 nodes once, with the side right, down, left,
+                  up, and again, beginning with right. 'moved 0' of fewer than four turns doesn't show
+                  that all nodes stand still
+  regs NNN        the node's registers; mem NNN its memory, ports NNN the words that it has written
 
-Example: printf 'profile 1\\nplace\\nnode 000 .\\ngo\\nturn 4\\nregs 000\\n' | ga-bench debug";
+Example: printf 'profile 1\\nplace\\nnode 000 .\\ngo\\nturn 4\\nregs 000\\n' | ga-bench debug
+More: docs/GUIDE.md, and Sessions in docs/FORMATS.md";
 
 /// The subcommand `debug`.
 #[tactic(auto, unfolding(crate::specs::Debug::debug_command))]

@@ -13,12 +13,13 @@ use std::alloc::{AllocError, Global};
 const CODE_LIMIT: u32 = 64;
 
 const HELP: &str = "\
-Reads 1 to 64 words, each as five hex digits up to 3FFFF, between spaces, tabs and line ends, in at
-most 1048576 bytes. Writes a line 'node 000', and for each word a line: a word of code in brackets, and
-a follower of it or a word of data behind a comma. Where there is data, a line 'data' stands before it.
+Reads 1 to 64 words from standard input, each as five hex digits up to 3FFFF, between spaces, tabs
+and line ends. Writes a line 'node 000', and for each word a line: a word of code in brackets, and a
+follower of it or a word of data behind a comma. Where there is data, a line 'data' stands before it.
 It is source text, of which asm makes the same words.
 
-Example: echo 05872 2C9B2 00001 | ga-bench dis --code 2";
+Example: echo 05872 2C9B2 00001 | ga-bench dis --code 2
+More: Source text in docs/FORMATS.md";
 
 /// The subcommand `dis [--code N]`.
 #[tactic(auto, unfolding(crate::specs::Dis::dis_command))]

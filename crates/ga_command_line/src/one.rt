@@ -13,13 +13,14 @@ use std::alloc::{AllocError, Global};
 const TRIES_LIMIT: u32 = 1_000_000;
 
 const HELP: &str = "\
-Reads 1 to 64 words, each as five hex digits up to 3FFFF, between spaces, tabs and line ends, in at
-most 1048576 bytes. They stand in the memory of node 000 from address 000 on, where it begins.
+Reads 1 to 64 words from standard input, each as five hex digits up to 3FFFF, between spaces, tabs
+and line ends. They stand in the memory of node 000 from address 000 on, where it begins.
 A try is one step where the node needs nothing from outside, and else nothing.
 
 Writes one line: the registers of the node, its place, its steps, and its need for the next one.
 
-Example: echo 04A12 00005 00003 2C9B2 | ga-bench one 5";
+Example: echo 04A12 00005 00003 2C9B2 | ga-bench one 5
+More: docs/CHIP.md, and The line in docs/FORMATS.md";
 
 /// The subcommand `one TRIES`.
 #[tactic(auto, unfolding(crate::specs::One::one_command))]

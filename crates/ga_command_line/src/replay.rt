@@ -6,14 +6,18 @@ use clap::Command;
 use std::alloc::{AllocError, Global};
 
 const HELP: &str = "\
-Reads a replay text: the line 'profile 1', the line 'place' or 'route' and node names with commas
-between them, source text, the line 'go', and commands with what comes of them. Does the commands,
-and writes 'same' and how many stated outcomes were compared, where all of them hold.
+Reads from standard input a replay text: the line 'profile 1', the line 'place' or 'route' and node
+names with commas between them, source text, the line 'go', and commands with what comes of them.
+Does the commands, and writes 'same' and how many stated outcomes were compared, where all of them hold.
 
-Commands: break NNN HHH, clear NNN HHH, pass NNN, try NNN SIDE = OUTCOME, turn COUNT = STEPS. SIDE
-is r, d, l or u, OUTCOME is moved, waits, held or stopped, and COUNT goes to 1000000.
+  break NNN HHH, clear NNN HHH, pass NNN   as debug has them
+  try NNN SIDE = OUTCOME                   OUTCOME is moved, waits, held or stopped
+  turn K = STEPS                           STEPS is how many steps the turns make
 
-Example: printf 'profile 1\\nplace\\nnode 000 .\\ngo\\nturn 4 = 4\\n' | ga-bench replay";
+Steps, outcomes and breakpoints are compared, and no data: a session of debug shows data.
+
+Example: printf 'profile 1\\nplace\\nnode 000 .\\ngo\\nturn 4 = 4\\n' | ga-bench replay
+More: docs/GUIDE.md, and Replay texts in docs/FORMATS.md";
 
 /// The subcommand `replay`.
 #[tactic(auto, unfolding(crate::specs::Replay::replay_command))]

@@ -20,14 +20,17 @@ const WORKERS_LIMIT: u32 = 144;
 const TURNS_LIMIT: u32 = 1_000_000;
 
 const HELP: &str = "\
-Reads source text, as asm does. On a chip after reset, the first node of the route is given the boot
-stream that boot prints, and the nodes of the route are tried by workers: the first node by worker 0, the
-next by worker 1, and so on, and behind the last worker by worker 0 again. In each turn each worker tries
-each of its nodes once, with the side right, down, left, up, and again.
+Reads source text from standard input, as asm does. On a chip after reset, the first node of the route
+is given the boot stream that boot prints, and the nodes of the route are tried by workers: the first
+node by worker 0, the next by worker 1, and so on, and behind the last worker by worker 0 again. In each
+turn each worker tries each of its nodes once, with the side right, down, left, up, and again. Nodes off
+the route are never tried.
 
-Writes for each node of the route its registers and stacks, and the words that it has written.
+Writes for each node of the route its registers and stacks, and how many words it has written at each
+side, those of the boot too.
 
-Example: echo 'node 709 main: $5 $7 + @b' | ga-bench run 708,709 1 200";
+Example: echo 'node 709 main: $5 $7 + @b' | ga-bench run 708,709 1 200
+More: docs/GUIDE.md, and Dumps in docs/FORMATS.md";
 
 /// The subcommand `run ROUTE WORKERS TURNS`.
 #[tactic(auto, unfolding(crate::specs::Run::run_command))]

@@ -8,7 +8,7 @@ use Rattle.ga_jobs.specs.declared.fault.ServeError.{ServeError}
 use Rattle.ga_jobs.specs.declared.fault.ServeError.TheVariants.{Input}
 use Rattle.ga_jobs.specs.declared.fault.InputFault.TheVariants.{TooLong}
 use Rattle.ga_jobs.proofs.OneOutput.{one_asm_output, one_boot_output, one_debug_output, one_replay_output}
-use Rattle.ga_serve.specs.Answer.{HasOneOutput, IsJobOutput, IsOutput}
+use Rattle.ga_serve.specs.Answering.{HasOneOutput, IsJobOutput, IsOutput}
 
 -- an input that is too long has one fault
 within_limit : (job : Job) (input : List ℕ) → AtMostOne (IsJobOutput job input) → AtMostOne (IsOutput job input)

@@ -4,7 +4,7 @@ use Rattle.std.specs.Io.KnownBytes.{Appends, Keeps}
 use Rattle.ga_command_line.specs.declared.request.Job.{Job}
 use Rattle.ga_jobs.specs.declared.fault.ServeError.{ServeError}
 use Rattle.ga_jobs.specs.declared.fault.ServeError.TheVariants.{Read, Write, Memory}
-use Rattle.ga_serve.specs.Answer.{IsOutput}
+use Rattle.ga_serve.specs.Answering.{IsOutput}
 use Rattle.ga_serve.specs.Writing.{AppendsPart}
 
 -- What an answer says of the input and of the bytes that the writer holds, old and new. Where there is no

@@ -1,4 +1,4 @@
-pub mod Answer
+pub mod Answering
 pub mod Reading
 pub mod Writing
 pub mod Engine

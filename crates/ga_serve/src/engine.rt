@@ -1,10 +1,10 @@
 ghost use Rattle.std.specs.Prelude.{◌≡◌, ◌≢◌, ℕ, List, IfErr, IfSome};
 ghost use Rattle.std.specs.Io.KnownBytes.{Keeps};
-ghost use Rattle.ga_serve.specs.Answer.{HasOneOutput};
+ghost use Rattle.ga_serve.specs.Answering.{HasOneOutput};
 ghost use Rattle.ga_serve.specs.Reading.{ConsumesUpTo, ReadsFirst};
 ghost use Rattle.ga_serve.specs.Engine.{Serves, status_of};
 
-use crate::answer::answer;
+use crate::answering::answer;
 use crate::reading::read_input;
 use crate::writing::write_output;
 use ga_command_line::Job;

@@ -2,7 +2,7 @@ ghost use Rattle.std.specs.Prelude.{◌≡◌, ℕ, ◌+◌, ◌<◌, ◌≤◌,
 ghost use Rattle.std.specs.Io.KnownBytes.{Consumes, IsAtEnd};
 ghost use Rattle.ga_serve.specs.Reading.{ConsumesUpTo, ReadFails};
 
-use crate::answer::INPUT_LIMIT;
+use crate::answering::INPUT_LIMIT;
 use ga_jobs::{InputFault, ServeError};
 use std::alloc::Global;
 use std::io::{ErrorKind, Read};

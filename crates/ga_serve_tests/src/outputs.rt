@@ -1,6 +1,6 @@
 //! What jobs write.
 ghost use Rattle.std.specs.Prelude.{◌≡◌, ◌++◌, List, ℕ, Ok, OnOk};
-ghost use Rattle.ga_serve.specs.Answer.{IsOutput};
+ghost use Rattle.ga_serve.specs.Answering.{IsOutput};
 
 use crate::streams::{LINE, WORDS, sink_of, source_of};
 use ga_command_line::Job;

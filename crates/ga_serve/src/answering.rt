@@ -1,6 +1,6 @@
 ghost use Rattle.std.specs.Prelude.{string_bytes};
 ghost use Rattle.ga_jobs.specs.Fault.{Answers};
-ghost use Rattle.ga_serve.specs.Answer.{HasOneOutput, IsJobOutput, IsOutput};
+ghost use Rattle.ga_serve.specs.Answering.{HasOneOutput, IsJobOutput, IsOutput};
 
 use ga_command_line::Job;
 use ga_jobs::{InputFault, ServeError, asm, boot, debug, dis, one, replay, run};
@@ -29,7 +29,7 @@ pub fn answer<Rt: AllocGlobal + Threads>(
 }
 
 /// What a job writes for an input that is not too long.
-#[tactic(auto, unfolding(crate::specs::Answer::IsJobOutput))]
+#[tactic(auto, unfolding(crate::specs::Answering::IsJobOutput))]
 fn output<Rt: AllocGlobal + Threads>(
     rt: &Rt,
     job: &Job,

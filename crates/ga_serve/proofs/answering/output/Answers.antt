@@ -1,8 +1,8 @@
 use Rattle.std.proofs.Common.{string_bytes, subst, sym}
 use Rattle.ga_jobs.specs.Fault.{Answers}
 use Rattle.ga_jobs.specs.Run.{IsRunOutput}
-use Rattle.ga_serve.specs.Answer.{IsJobOutput}
-use Rattle.ga_serve.proofs.answer.output.Goals as goal
+use Rattle.ga_serve.specs.Answering.{IsJobOutput}
+use Rattle.ga_serve.proofs.answering.output.Goals as goal
 
 pub returns-in-Run : goal.returns-in-Run
 unfolding IsJobOutput
