@@ -1,7 +1,7 @@
 //! The bench of the GA144: each subcommand reads one input and writes one text.
 #![tactic(auto)]
 
-ghost use Rattle.std.specs.Prelude.{IfErr, IfOk, List, map, string_bytes};
+ghost use Rattle.std.specs.Prelude.{◌≡◌, IfErr, IfOk, map, string_bytes};
 ghost use Rattle.ga_command_line.specs.CommandLine.{InRange, IsJobOf, IsRight};
 ghost use Rattle.ga_bench.specs.Status.{IsStatusOf};
 
@@ -76,6 +76,11 @@ fn job_of_words(alloc: Global, words: &[String]) -> Result<Job, LineError>
     // Right words are refused only for want of memory.
     ensures right { IfErr result (λ error. (job : Job) → IsRight (map string_bytes words.now) job → error ≡ LineError.Memory) }
 {
-    let words: Vec<&str> = words.iter().map(|word| word.as_str()).collect(alloc)?;
-    job(alloc, &words)
+    let mut line = Vec::new(alloc);
+    for word in words {
+        if line.push(word.as_str()).is_err() {
+            return Err(LineError::Memory);
+        }
+    }
+    job(alloc, &line)
 }
