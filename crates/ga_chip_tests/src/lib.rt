@@ -13,6 +13,8 @@ mod chips;
 #[cfg(test)]
 mod dumps;
 #[cfg(test)]
+mod laws;
+#[cfg(test)]
 mod loader;
 #[cfg(test)]
 mod node;

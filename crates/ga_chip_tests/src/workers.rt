@@ -8,7 +8,7 @@ use std::sync::atomic::{AtomicU64, Ordering};
 use std::test::Fail;
 
 /// A gate that lets all through.
-struct Open;
+pub struct Open;
 
 impl Gate for Open {
     fn turn(&self, _worker: u32, _turn: u64, _moved: u64) {}
@@ -27,7 +27,8 @@ fn groups(alloc: Global, names: &[&[u16]]) -> Result<Vec<Vec<Node>>, Fail> {
     Ok(groups)
 }
 
-fn plan(alloc: Global, names: &[&[u16]]) -> Result<Plan, Fail> {
+/// A plan of groups of nodes, by their names.
+pub fn plan(alloc: Global, names: &[&[u16]]) -> Result<Plan, Fail> {
     Ok(Plan::new(groups(alloc, names)?).map_err(|_| "no plan")?)
 }
 

@@ -39,7 +39,8 @@ pub fn one_side(one: &mut Chip, two: &mut Chip, order: &[Try], another: &[Try])
     two_orders(one, two, order, another);
 }
 
-/// The same as `two_orders`, where the first chip is run in two parts: runs one behind the other are one run along the tries of both.
+/// The same as `two_orders`, where the first chip is run in two parts: runs one behind the other are one run along the
+/// tries of both.
 pub fn two_parts(one: &mut Chip, two: &mut Chip, front: &[Try], rest: &[Try], order: &[Try])
     requires chips { DifferInBreaks one.old two.old }
     requires sides { (name : ℕ) → AgreesWith (sides_of one.old (tries_of (front.now ++ rest.now)) name) (sides_of two.old (tries_of order.now) name) }

@@ -1,0 +1,103 @@
+//! Runs of two chips that the laws compare: 708 writes a word to 709.
+ghost use Rattle.std.specs.Prelude.{◌≡◌, IfOk};
+ghost use Rattle.ga_place.specs.declared.side.Side.TheVariants.{Right};
+
+use crate::chips::WRITE_12_RIGHT;
+use crate::workers::{Open, plan};
+use ga_chip::{Chip, Try};
+use ga_law_examples::{
+    one_side, plan_behind_plan, plan_beside_tries, two_orders, two_parts, two_plans,
+};
+use ga_place::{Node, Side};
+use ga_test_values::{array, node, nodes};
+use std::alloc::Global;
+use std::test::Fail;
+
+/// Two chips after reset with the same words in 708.
+fn two_chips(alloc: Global) -> Result<(Chip, Chip), Fail>
+    ensures { IfOk result (λ chips. chips.0 ≡ chips.1) }
+{
+    let node_708 = node(708)?;
+    let words = array::<64>(&WRITE_12_RIGHT)?;
+    let mut one = Chip::reset(alloc)?;
+    let mut two = Chip::reset(alloc)?;
+    one.place(node_708, &words, 0)?;
+    two.place(node_708, &words, 0)?;
+    Ok((one, two))
+}
+
+/// A try that names the right side.
+fn right(node: Node) -> Try
+    ensures { result.side ≡ Right }
+{
+    Try {
+        node,
+        side: Side::Right,
+    }
+}
+
+#[test]
+fn two_orders_of_one_side(rt: HostRuntime) -> Result<(), Fail> {
+    let [node_708, node_709] = nodes(&[708, 709])?;
+    let (mut one, mut two) = two_chips(rt.alloc())?;
+    let (w, r) = (right(node_708), right(node_709));
+    let order = [w, w, w, w, w, w, w, r, w];
+    let another = [r, w, w, w, w, w, w, w, r, r, w, w];
+    one_side(&mut one, &mut two, &order, &another);
+    assert!(rt; one.state(node_709).steps() == 1 && two.state(node_709).steps() == 1);
+    assert!(rt; one.state(node_709).word() == two.state(node_709).word());
+    assert!(rt; one.state(node_708).steps() == 8 && two.state(node_708).steps() == 9);
+    Ok(())
+}
+
+#[test]
+fn a_run_in_two_parts(rt: HostRuntime) -> Result<(), Fail> {
+    let [node_708, node_709] = nodes(&[708, 709])?;
+    let (mut one, mut two) = two_chips(rt.alloc())?;
+    let (w, r) = (right(node_708), right(node_709));
+    two_orders(&mut one, &mut two, &[w, w, w, w], &[w, w, w, w]);
+    assert!(rt; one.state(node_708).steps() == 4 && two.state(node_708).steps() == 4);
+    two_parts(&mut one, &mut two, &[w, w, w], &[r, w], &[w, w, w, r, w]);
+    assert!(rt; one.state(node_708).steps() == 8 && two.state(node_708).steps() == 8);
+    assert!(rt; one.state(node_709).steps() == 1 && two.state(node_709).steps() == 1);
+    Ok(())
+}
+
+// What takes of several sides name isn't known over turns, whatever the order of the workers: so there is no turn here.
+#[test]
+fn two_plans_over_no_turn(rt: HostRuntime) -> Result<(), Fail> {
+    let node_708 = node(708)?;
+    let (one, two) = two_chips(rt.alloc())?;
+    let together = plan(rt.alloc(), &[&[708, 709]])?;
+    let apart = plan(rt.alloc(), &[&[708], &[709]])?;
+    let (first, second) = two_plans(&rt, one, two, &together, &apart, 0, &Open).ok_or("refused")?;
+    assert!(rt; first.state(node_708).steps() == 0 && second.state(node_708).steps() == 0);
+    Ok(())
+}
+
+#[test]
+fn a_plan_beside_tries(rt: HostRuntime) -> Result<(), Fail> {
+    let node_708 = node(708)?;
+    let (one, mut two) = two_chips(rt.alloc())?;
+    let together = plan(rt.alloc(), &[&[708, 709]])?;
+    let tries = [right(node_708)];
+    let first = plan_beside_tries(&rt, one, &mut two, &together, 0, &tries, &Open).ok_or(
+        "refused",
+    )?;
+    assert!(rt; first.state(node_708).steps() == 0 && two.state(node_708).steps() == 1);
+    Ok(())
+}
+
+#[test]
+fn a_plan_behind_a_plan(rt: HostRuntime) -> Result<(), Fail> {
+    let node_708 = node(708)?;
+    let (one, mut two) = two_chips(rt.alloc())?;
+    let together = plan(rt.alloc(), &[&[708, 709]])?;
+    let apart = plan(rt.alloc(), &[&[708], &[709]])?;
+    let tries = [right(node_708)];
+    let first = plan_behind_plan(&rt, one, &mut two, &together, &apart, 0, &tries, &Open).ok_or(
+        "refused",
+    )?;
+    assert!(rt; first.state(node_708).steps() == 0 && two.state(node_708).steps() == 1);
+    Ok(())
+}
