@@ -1,9 +1,9 @@
 //! The bench of the GA144: each subcommand reads one input and writes one text.
 #![tactic(auto)]
 
-ghost use Rattle.std.specs.Prelude.{◌≡◌, IfErr, IfOk, map, string_bytes};
+ghost use Rattle.std.specs.Prelude.{◌≡◌, IfErr, IfOk, IfSome, map, string_bytes};
 ghost use Rattle.ga_command_line.specs.CommandLine.{InRange, IsJobOf, IsRight};
-ghost use Rattle.ga_bench.specs.Status.{IsStatusOf};
+ghost use Rattle.ga_bench.specs.Status.{HasServed, IsStatusOf};
 
 use clap::error::ErrorKind::InvalidValue;
 use ga_command_line::{Job, LineError, job, refusal};
@@ -11,7 +11,7 @@ use ga_jobs::ServeError;
 use ga_serve::{serve, status};
 use std::alloc::Global;
 use std::io::ErrorKind::OutOfMemory;
-use std::io::IsTerminal;
+use std::io::{IsTerminal, Read, Write};
 use std::process::ExitCode;
 use std::rt::Env;
 use std::thread::Threads;
@@ -19,27 +19,27 @@ use std::{env, io};
 
 fn main(rt: HostRuntime) -> ExitCode {
     let job = job_of_arguments(&rt);
-    ExitCode::from(serve_line(&rt, job))
+    let mut reader = rt.reader();
+    if job.is_ok() && reader.is_terminal() {
+        let _ = eprintln!(&rt; "ga-bench: reads from this terminal, until Ctrl-D at the beginning of a line");
+    }
+    ExitCode::from(serve_line(&rt, &mut reader, &mut io::writer(&rt), job))
 }
 
-/// Runs the job that a command line names, on standard input and output, or tells why it names none. Who types the input
-/// is told what ends it. Answers the exit status.
-fn serve_line<R: AllocGlobal + Input + Print + Eprint + Threads>(
-    rt: &R,
+/// Serves the job that a command line names, or tells why it names none. Answers the exit status.
+fn serve_line<Rt: AllocGlobal + Print + Eprint + Threads, R: Read, W: Write>(
+    rt: &Rt,
+    reader: &mut R,
+    writer: &mut W,
     job: Result<Job, LineError>,
 ) -> u8
-where
-    R::Reader: IsTerminal,
-    ensures { IsStatusOf job result }
+    ensures status { IsStatusOf job result }
+    // Where the reader and the writer tell their bytes, it is the status of what `serve` answers.
+    ensures served { IfOk job (λ job. IfSome (R.remaining reader.old) (λ input.
+        HasServed job input (W.contents writer.old) (W.contents writer.new) result)) }
 {
     let outcome = match job {
-        Ok(job) => {
-            let mut reader = rt.reader();
-            if reader.is_terminal() {
-                let _ = eprintln!(rt; "ga-bench: reads from this terminal, until Ctrl-D at the beginning of a line");
-            }
-            serve(rt, &mut reader, &mut io::writer(rt), &job)
-        }
+        Ok(job) => serve(rt, reader, writer, &job),
         Err(LineError::Memory) => Err(ServeError::Memory),
         Err(LineError::Parse(error)) => match error.print(rt) {
             _ if error.use_stderr() => return 2,

@@ -1,10 +1,14 @@
 -- What texts and commands come to, worked out by hand.
-use Rattle.std.proofs.Common.{◌≡◌, [], ◌∷◌, Some, None, Ok, Err, refl}
-use Rattle.std.specs.Prelude.{codes}
+use Rattle.std.proofs.Common.{◌≡◌, ℕ, List, [], ◌∷◌, Option, Some, None, Result, Ok, Err, length, take, refl}
+use Rattle.std.specs.Prelude.{codes, option_map}
+use Rattle.std.specs.Option.{option_map_or}
 use Rattle.ga_place.specs.Cell.{all_cells, cell_of}
 use Rattle.ga_place.specs.declared.side.Side.TheVariants.{Down}
 use Rattle.ga_node.specs.Need.{need_of}
-use Rattle.ga_chip.specs.Chip.{reset_chip, tried}
+use Rattle.ga_asm.specs.Image.{ImageView}
+use Rattle.ga_path.specs.declared.error.BootError.TheVariants.{Unreached}
+use Rattle.ga_path.specs.declared.error.RouteError.TheVariants.{NotNeighbour}
+use Rattle.ga_chip.specs.Chip.{Chip, part_of, placed, reset_chip, state_of, streamed, tried}
 use Rattle.ga_chip.specs.Part.{after, asks}
 use Rattle.ga_chip.specs.Run.{happened}
 use Rattle.ga_chip.specs.declared.outcome.Outcome.TheVariants.{Held}
@@ -12,7 +16,9 @@ use Rattle.ga_debug.specs.declared.action.Action.TheVariants.{Break, Try, Turn}
 use Rattle.ga_debug.specs.declared.action.Answer.TheVariants.{Moved, Tried}
 use Rattle.ga_debug.specs.declared.command.Command.TheVariants.{Act, Show}
 use Rattle.ga_debug.specs.declared.error.DebugError.TheVariants.{BadAddress, BadCommand, BadCount, BadNode, BadSide, NotHeld}
-use Rattle.ga_debug.specs.declared.replay_error.ReplayError.TheVariants.{BadProfile, BadRoute, NoGo}
+use Rattle.ga_debug.specs.declared.replay_error.ReplayError.{ReplayError}
+use Rattle.ga_debug.specs.declared.replay_error.ReplayError.TheVariants.{BadProfile, BadRoute, Boot, NoGo, Route}
+use Rattle.ga_debug.specs.Begin.{chip_of}
 use Rattle.ga_debug.specs.declared.replaying.LineError.TheVariants.{Bad, Differs}
 use Rattle.ga_debug.specs.declared.word.View.TheVariants.{Mem}
 use Rattle.ga_debug.specs.Command.{action_first, arguments, command_first, command_in}
@@ -40,6 +46,35 @@ two_words = refl
 never_begins : head_in (codes "profile 1\nplace\nnode 000 .\ngo ") ≡ Err NoGo
 unfolding head_in pieces
 never_begins = refl
+
+-- ---- what a head loads
+
+-- an image of one word, of which the words are in the node's memory
+one_word : ImageView
+one_word = record { words = 0x2C9B2 ∷ []; code_len = 1; entry = 0; labels = [] }
+
+ram_of : Result Chip ReplayError → ℕ → Option (List ℕ)
+ram_of (Ok chip) name = option_map (λ state. take 2 state.ram) (state_of chip name)
+ram_of (Err fault) name = None
+
+placed_709 : ram_of (chip_of None ((709, one_word) ∷ [])) 709 ≡ Some (0x2C9B2 ∷ 0 ∷ [])
+unfolding ram_of one_word placed reset_chip
+placed_709 = refl
+
+-- the first node of a route has the stream, of 14 words that load and 7 that start
+stream_of : Result Chip ReplayError → ℕ → Option ℕ
+stream_of (Ok chip) name = option_map (λ part. option_map_or length part.stream 0) (part_of chip name)
+stream_of (Err fault) name = None
+
+booted_708 : stream_of (chip_of (Some (708 ∷ 709 ∷ [])) ((709, one_word) ∷ [])) 708 ≡ Some 21
+unfolding stream_of one_word streamed reset_chip
+booted_708 = refl
+
+no_neighbour : chip_of (Some (708 ∷ 710 ∷ [])) [] ≡ Err (Route (NotNeighbour 1))
+no_neighbour = refl
+
+off_the_route : chip_of (Some (708 ∷ 709 ∷ [])) ((710, one_word) ∷ []) ≡ Err (Boot (Unreached 710))
+off_the_route = refl
 
 -- ---- commands
 
