@@ -1,5 +1,5 @@
 -- What the exit status tells of a command line.
-use Rattle.std.specs.Prelude.{◌≡◌, ◌≢◌, ◌≤◌, ◌↔◌, ℕ, List, Option, Result, Ok, Err}
+use Rattle.std.specs.Prelude.{◌≡◌, ◌≢◌, ◌≤◌, ◌↔◌, ℕ, List, Option, Result}
 use Rattle.clap.specs.Words.{kind_of}
 use Rattle.clap.specs.declared.error.Error.{Error}
 use Rattle.clap.specs.declared.error.kind.ErrorKind.TheVariants.{DisplayHelp, DisplayVersion}
@@ -13,11 +13,14 @@ use Rattle.ga_serve.specs.Engine.{Serves, status_of}
 abbrev pub IsWrong : Error → Type 0
 IsWrong error = (kind_of error ≢ DisplayHelp) × (kind_of error ≢ DisplayVersion)
 
--- The status of a job is 0, 1 or 3. A wrong line has 2 and no other line has it, and want of memory has 3.
-abbrev pub IsStatusOf : Result Job LineError → ℕ → Type 0
-IsStatusOf (Ok job) status = (answer : Result (Unit {0}) ServeError) × (status ≡ status_of answer)
-IsStatusOf (Err (Parse error)) status = ((status ≡ 2) ↔ IsWrong error) × (status ≤ 2)
-IsStatusOf (Err Memory) status = status ≡ 3
+-- The status of a wrong line is 2, and no other has it; it is 0 or 1 for help and the version, and 3 for want of memory.
+abbrev pub IsStatusOf : LineError → ℕ → Type 0
+IsStatusOf (Parse error) status = ((status ≡ 2) ↔ IsWrong error) × (status ≤ 2)
+IsStatusOf Memory status = status ≡ 3
+
+-- that of some answer to a job: 0, 1 or 3
+abbrev pub HasStatus : ℕ → Type 0
+HasStatus status = (answer : Result (Unit {0}) ServeError) × (status ≡ status_of answer)
 
 -- A job was served, for an input and the bytes that a writer holds, old and new, and the status is that of the answer.
 abbrev pub HasServed : Job → List ℕ → Option (List ℕ) → Option (List ℕ) → ℕ → Type 0

@@ -3,7 +3,7 @@
 
 ghost use Rattle.std.specs.Prelude.{◌≡◌, IfErr, IfOk, IfSome, map, string_bytes};
 ghost use Rattle.ga_command_line.specs.CommandLine.{InRange, IsJobOf, IsRight};
-ghost use Rattle.ga_bench.specs.Status.{HasServed, IsStatusOf};
+ghost use Rattle.ga_bench.specs.Status.{HasServed, HasStatus, IsStatusOf};
 
 use clap::error::ErrorKind::InvalidValue;
 use ga_command_line::{Job, LineError, job, refusal};
@@ -18,40 +18,55 @@ use std::thread::Threads;
 use std::{env, io};
 
 fn main(rt: HostRuntime) -> ExitCode {
-    let job = job_of_arguments(&rt);
     let mut reader = rt.reader();
-    if job.is_ok() && reader.is_terminal() {
-        let _ = eprintln!(&rt; "ga-bench: reads from this terminal, until Ctrl-D at the beginning of a line");
-    }
-    ExitCode::from(serve_line(&rt, &mut reader, &mut io::writer(&rt), job))
+    let status = match job_of_arguments(&rt) {
+        Ok(job) => {
+            if reader.is_terminal() {
+                let _ = eprintln!(&rt;
+                    "ga-bench: reads from this terminal, until Ctrl-D at the beginning of a line"
+                );
+            }
+            serve_job(&rt, &mut reader, &mut io::writer(&rt), &job)
+        }
+        Err(error) => refuse(&rt, error),
+    };
+    ExitCode::from(status)
 }
 
-/// Serves the job that a command line names, or tells why it names none. Answers the exit status.
-fn serve_line<Rt: AllocGlobal + Print + Eprint + Threads, R: Read, W: Write>(
+/// Serves a job, and tells why it could not be served. Answers the exit status.
+fn serve_job<Rt: AllocGlobal + Eprint + Threads, R: Read, W: Write>(
     rt: &Rt,
     reader: &mut R,
     writer: &mut W,
-    job: Result<Job, LineError>,
+    job: &Job,
 ) -> u8
-    ensures status { IsStatusOf job result }
+    ensures status { HasStatus result }
     // Where the reader and the writer tell their bytes, it is the status of what `serve` answers.
-    ensures served { IfOk job (λ job. IfSome (R.remaining reader.old) (λ input.
-        HasServed job input (W.contents writer.old) (W.contents writer.new) result)) }
+    ensures served { IfSome (R.remaining reader.old) (λ input.
+        HasServed job.now input (W.contents writer.old) (W.contents writer.new) result) }
 {
-    let outcome = match job {
-        Ok(job) => serve(rt, reader, writer, &job),
-        Err(LineError::Memory) => Err(ServeError::Memory),
-        Err(LineError::Parse(error)) => match error.print(rt) {
-            _ if error.use_stderr() => return 2,
-            Ok(()) => return 0,
-            Err(_) => Err(ServeError::Write),
-        },
-    };
+    let outcome = serve(rt, reader, writer, job);
     if let Err(fault) = &outcome {
         // Where this cannot be written either, the status still tells it.
         let _ = eprintln!(rt; "ga-bench: {fault}");
     }
     status(&outcome)
+}
+
+/// Tells why a command line names no job, or what it asks for in place of one. Answers the exit status.
+fn refuse<R: Print + Eprint>(rt: &R, error: LineError) -> u8
+    ensures { IsStatusOf error result }
+{
+    let fault = match error {
+        LineError::Memory => ServeError::Memory,
+        LineError::Parse(error) => match error.print(rt) {
+            _ if error.use_stderr() => return 2,
+            Ok(()) => return 0,
+            Err(_) => ServeError::Write,
+        },
+    };
+    let _ = eprintln!(rt; "ga-bench: {fault}");
+    status(&Err(fault))
 }
 
 /// The job that the arguments of the program name. The kit tells nothing of the arguments, so no more than this is stated.
