@@ -30,11 +30,7 @@ pub fn answer<Rt: AllocGlobal + Threads>(
 
 /// What a job writes for an input that is not too long.
 #[tactic(auto, unfolding(crate::specs::Answering::IsJobOutput))]
-fn output<Rt: AllocGlobal + Threads>(
-    rt: &Rt,
-    job: &Job,
-    input: &[u8],
-) -> Result<String, ServeError>
+fn output<Rt: AllocGlobal + Threads>(rt: &Rt, job: &Job, input: &[u8]) -> Result<String, ServeError>
     ensures { Answers string_bytes (IsJobOutput job.now input.now) result }
 {
     match job {
