@@ -6,7 +6,8 @@ use Rattle.ga_pack.specs.Model.Layout.{Labels, Shared, Alone, GroupWords, IsWord
 use Rattle.std.specs.List.{slice_get}
 use Rattle.std.specs.Option.{unwrap_or}
 use Rattle.std.specs.Prelude.{◌&&◌, nat_lt, if◌then◌else◌}
-use Rattle.ga_pack.specs.Model.Source.{Item, Literal, Transfer, Value, WordTo, dest_bound, is_below, is_item, is_spare, stand_from}
+use Rattle.ga_pack.specs.Model.Source.{Item, Literal, Transfer, Value, WordTo, is_below, is_item, is_spare, stand_from}
+use Rattle.ga_pack.specs.Slots.{dest_bound}
 use Rattle.ga_word.specs.Op.{takes_dest}
 use Rattle.std.proofs.lemmas.Bool.{and_parts, ltb-true}
 use Rattle.ga_source.specs.declared.item.Item as an

@@ -11,7 +11,8 @@ use Rattle.ga_word.specs.Op.{ends_word, takes_dest}
 use Rattle.ga_pack.specs.Followers.{followers, is_followed}
 use Rattle.ga_pack.specs.Model.Layout.{Labels, Group, Alone, Shared, Arranged, GroupWords, IsWord, Laid, Words, code_end, dest_in, filled, fits, is_loose, items_of, joins, labels_behind, last_dest, literals, number_of, op_of, ops_of, size, stand, with_fillers}
 use Rattle.ga_pack.specs.Model.Source as source
-use Rattle.ga_pack.specs.Model.Source.{Item, Value, Instruction, Transfer, Literal, Here, Align, Word, WordTo, Plain, Before, Items, Part, is_below, is_item, is_new, is_spare, dest_bound, part_after, stand_from, start}
+use Rattle.ga_pack.specs.Model.Source.{Item, Value, Instruction, Transfer, Literal, Here, Align, Word, WordTo, Plain, Before, Items, Part, is_below, is_item, is_new, is_spare, part_after, stand_from, start}
+use Rattle.ga_pack.specs.Slots.{dest_bound}
 use Rattle.ga_pack.proofs.Encoded.{reading_is}
 use Rattle.ga_pack.proofs.OneLayout.{joins_loose}
 use Rattle.ga_pack.proofs.Placed.{on_test}

@@ -6,8 +6,9 @@ use Rattle.std.proofs.lemmas.Grind.{common_steps}
 use Rattle.ga_word.specs.Op.{ends_word}
 use Rattle.ga_word.specs.declared.op.Op.{Op}
 use Rattle.ga_word.specs.declared.op.Op.TheVariants.{FetchP, Nop}
-use Rattle.ga_pack.specs.Model.Layout.{Labels, count_followed, fits, joins, may_reach, op_fits, p_behind, same_page, value_of}
+use Rattle.ga_pack.specs.Model.Layout.{Labels, count_followed, fits, joins, may_reach, p_behind, same_page, value_of}
 use Rattle.ga_pack.specs.Model.Source.{Item, Instruction, Transfer, Literal}
+use Rattle.ga_pack.specs.Slots.{op_fits}
 
 count-filler : (ops : List Op) → count_followed (ops ++ Nop ∷ []) ≡ count_followed ops
 count-filler [] = refl

@@ -10,9 +10,10 @@ use Rattle.ga_word.specs.declared.op.Op.{Op}
 use Rattle.ga_word.specs.declared.op.Op.TheVariants.{Nop}
 use Rattle.ga_word.specs.Op.{takes_dest}
 use Rattle.ga_pack.specs.Encoding.{pack_fault}
-use Rattle.ga_pack.specs.Model.Layout.{Labels, Group, Shared, Alone, Arranged, GroupWords, IsWord, Words, dest_in, filled, is_defined, items_of, labels_after, labels_behind, last_dest, code_end, literals, names_in, number_of, op_fits, ops_of, size, with_fillers}
+use Rattle.ga_pack.specs.Model.Layout.{Labels, Group, Shared, Alone, Arranged, GroupWords, IsWord, Words, dest_in, filled, is_defined, items_of, labels_after, labels_behind, last_dest, code_end, literals, names_in, number_of, ops_of, size, with_fillers}
 use Rattle.ga_pack.specs.Model.LayoutFault.{IsRight, Passed, fault_behind}
-use Rattle.ga_pack.specs.Model.Source.{Item, Value, Word, WordTo, Plain, dest_bound, is_below, is_item, is_spare, stand_from}
+use Rattle.ga_pack.specs.Model.Source.{Item, Value, Word, WordTo, Plain, is_below, is_item, is_spare, stand_from}
+use Rattle.ga_pack.specs.Slots.{dest_bound, op_fits}
 use Rattle.ga_pack.specs.Reading.{dest_after_slot0, dest_after_slot1, dest_after_slot2, no_dest}
 use Rattle.ga_pack.proofs.Encodable.{encodable}
 use Rattle.ga_pack.proofs.Encoded.{readable}

@@ -3,12 +3,13 @@ use Rattle.std.proofs.Common.{◌≡◌, ◌∙◌, ℕ, suc, true, false, List,
 use Rattle.std.specs.Prelude.{◌&&◌, ◌||◌, ◌==◌, ◌^◌, nat_lt, not}
 use Rattle.std.proofs.lemmas.Bool.{and_parts, not-true}
 use Rattle.ga_word.specs.declared.op.Op.{Op}
-use Rattle.ga_word.specs.Op.{fits_slot3, takes_dest}
+use Rattle.ga_word.specs.Op.{takes_dest}
 use Rattle.ga_pack.specs.Followers.{is_followed}
 use Rattle.ga_pack.specs.Model.Token.{Token, op, close_mark}
 use Rattle.ga_pack.specs.Model.Program.{IsProgram, PlacedSection, placed_sections, tokens_of}
 use Rattle.ga_pack.specs.Model.Text.{places_of}
-use Rattle.ga_pack.specs.Model.Source.{Value, Number, Label, Item, Instruction, Transfer, Literal, Here, Align, Word, WordTo, Plain, Data, Section, Before, Items, Sections, Source, after, dest_bound, is_below, is_item, is_spare, item_tokens, items_tokens, op_tokens, spare_tokens, stand_from, start, text_tokens, value_token}
+use Rattle.ga_pack.specs.Model.Source.{Value, Number, Label, Item, Instruction, Transfer, Literal, Here, Align, Word, WordTo, Plain, Data, Section, Before, Items, Sections, Source, after, is_below, is_item, is_spare, item_tokens, items_tokens, op_tokens, spare_tokens, stand_from, start, text_tokens, value_token}
+use Rattle.ga_pack.specs.Slots.{dest_bound, op_fits}
 
 -- the tokens behind an item, and the item, are those of another
 abbrev Same : Item → List Token → Item → List Token → Type 0
@@ -30,8 +31,8 @@ one_word (o ∷ ops) (p ∷ ops') rest rest' e =
 
 none_takes : (slot : ℕ) (o : Op) (ops : List Op) → stand_from slot (o ∷ ops) ≡ true → (takes_dest o ≡ false) × (stand_from (suc slot) ops ≡ true)
 none_takes slot o ops h =
-    let parts = and_parts (not (takes_dest o) && (nat_lt slot 3 || ((slot == 3) && fits_slot3 o))) (stand_from (suc slot) ops) h in
-    (not-true (takes_dest o) (and_parts (not (takes_dest o)) (nat_lt slot 3 || ((slot == 3) && fits_slot3 o)) parts.0).0, parts.1)
+    let parts = and_parts (not (takes_dest o) && op_fits slot o) (stand_from (suc slot) ops) h in
+    (not-true (takes_dest o) (and_parts (not (takes_dest o)) (op_fits slot o) parts.0).0, parts.1)
 
 -- opcodes in front of one that takes a destination
 one_front : (slot : ℕ) (ops ops' : List Op) (o o' : Op) (rest rest' : List Token) → stand_from slot ops ≡ true → stand_from slot ops' ≡ true → takes_dest o ≡ true → takes_dest o' ≡ true

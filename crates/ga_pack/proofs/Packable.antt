@@ -9,8 +9,9 @@ use Rattle.ga_word.specs.declared.op.Op.TheVariants.{Return, Execute, Nop}
 use Rattle.ga_word.specs.Op.{ends_word, takes_dest}
 use Rattle.ga_pack.specs.Encoding.{pack_fault}
 use Rattle.ga_pack.specs.Followers.{is_followed}
-use Rattle.ga_pack.specs.Model.Layout.{Labels, fits, is_unext, joins, last_dest, may_reach, number_of, op_fits, op_of, ops_of, p_behind, stand, value_of, with_fillers}
-use Rattle.ga_pack.specs.Model.Source.{Item, Instruction, Transfer, Literal, dest_bound, is_below, is_item}
+use Rattle.ga_pack.specs.Model.Layout.{Labels, fits, is_unext, joins, last_dest, may_reach, number_of, op_of, ops_of, p_behind, stand, value_of, with_fillers}
+use Rattle.ga_pack.specs.Model.Source.{Item, Instruction, Transfer, Literal, is_below, is_item}
+use Rattle.ga_pack.specs.Slots.{dest_bound, op_fits}
 use Rattle.ga_pack.specs.Reading.{dest_after_slot0, dest_after_slot1, dest_after_slot2, no_dest}
 use Rattle.ga_pack.proofs.Encoded.{readable}
 

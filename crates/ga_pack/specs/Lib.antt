@@ -3,3 +3,4 @@ pub mod Encoding
 pub mod Followers
 pub mod Model
 pub mod Reading
+pub mod Slots

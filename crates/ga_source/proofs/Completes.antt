@@ -3,7 +3,7 @@ use Rattle.std.proofs.Common.{◌≡◌, ◌⊎◌, inl, inr, ℕ, true, List, [
 use Rattle.ga_word.specs.declared.op.Op.{Op}
 use Rattle.ga_pack.specs.Model.Token.{Token, op, number, name, label, node, node_name, align, data_part, open_mark, close_mark, comma, slash, bad, end}
 use Rattle.ga_pack.specs.Model.Source.{Value, Item, Instruction, Transfer, Literal, Here, Align, Word, WordTo, Plain, Data, Section, Part, after, part_after, is_item, is_new, Items, Sections, Source, text_tokens, items_tokens, item_tokens, op_tokens, value_token, spare_tokens}
-use Rattle.ga_source.specs.Machine.{At, between, behind_op, behind_comma, in_word, behind_dest_op, behind_dest, behind_slash, behind_spare, Inside, State, nothing, naming, inside, finished, closed}
+use Rattle.ga_source.specs.inner.Machine.{At, between, behind_op, behind_comma, in_word, behind_dest_op, behind_dest, behind_slash, behind_spare, Inside, State, nothing, naming, inside, finished, closed}
 
 -- the open section goes on with these tokens, to the text's end
 abbrev pub Follows : Inside → List Token → List Section → Type 0

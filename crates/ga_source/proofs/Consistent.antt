@@ -1,14 +1,15 @@
 -- The machine keeps its labels those of its items, and its node apart from those that are done.
 use Rattle.std.proofs.Common.{◌≡◌, ℕ, zero, suc, Bool, true, false, List, [], ◌∷◌, ◌++◌, length, Option, Some, None, Result, Ok, Err, refl, sym, ap, ◌∙◌}
-use Rattle.std.specs.Prelude.{◌==◌, ◌&&◌, ◌||◌, ◌^◌, nat_lt, if◌then◌else◌}
+use Rattle.std.specs.Prelude.{◌==◌, ◌^◌, nat_lt, if◌then◌else◌}
 use Rattle.ga_word.specs.declared.op.Op.{Op}
-use Rattle.ga_word.specs.Op.{fits_slot3, takes_dest}
+use Rattle.ga_word.specs.Op.{takes_dest}
 use Rattle.ga_pack.specs.Followers.{is_followed}
 use Rattle.ga_pack.specs.Model.Layout.{names_in}
 use Rattle.ga_pack.specs.Model.Token.{SourceKind, Token, op, number, name, label, node, node_name, align, data_part, open_mark, close_mark, comma, slash, bad, end}
 use Rattle.ga_pack.specs.Model.Meaning.{is_reserved}
-use Rattle.ga_pack.specs.Model.Source.{Number, Label, Item, Instruction, Transfer, Literal, Here, Align, Word, WordTo, Plain, Data, Section, Part, Code, Behind, start, part_after, is_among, is_named, dest_bound, labels_with}
-use Rattle.ga_source.specs.Machine.{State, Inside, IsConsistent, between, behind_op, behind_comma, in_word, behind_dest_op, behind_dest, behind_slash, behind_spare, nothing, naming, inside, finished, take, take_first, take_between, added}
+use Rattle.ga_pack.specs.Model.Source.{Number, Label, Item, Instruction, Transfer, Literal, Here, Align, Word, WordTo, Plain, Data, Section, Part, Code, Behind, start, part_after, is_among, is_named, labels_with}
+use Rattle.ga_pack.specs.Slots.{dest_bound, op_fits}
+use Rattle.ga_source.specs.inner.Machine.{State, Inside, IsConsistent, between, behind_op, behind_comma, in_word, behind_dest_op, behind_dest, behind_slash, behind_spare, nothing, naming, inside, finished, take, take_first, take_between, added}
 use Rattle.ga_source.proofs.Steps.{on_test}
 
 -- the answer to a token keeps it
@@ -80,7 +81,7 @@ plain_consistent c (name s) k = by_part c (Plain (Label s)) (part_after c.before
 plain_consistent c t k = tt
 
 word_consistent : (c : Inside) (ops : List Op) (t : Token) → Open c → ConsistentBy (take (inside c (in_word ops)) t)
-word_consistent c ops (op o) k = by_if (takes_dest o) _ _ (by_if (nat_lt (length ops) 3) _ _ k tt) (by_if (nat_lt (length ops) 3 || ((length ops == 3) && fits_slot3 o)) _ _ k tt)
+word_consistent c ops (op o) k = by_if (takes_dest o) _ _ (by_if (nat_lt (length ops) 3) _ _ k tt) (by_if (op_fits (length ops) o) _ _ k tt)
 word_consistent c ops close_mark k = by_if (nat_lt 0 (length ops)) _ _ (by_part c (Word ops) (part_after c.before.part (Word ops)) k) tt
 word_consistent c ops t k = tt
 

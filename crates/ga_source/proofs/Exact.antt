@@ -1,19 +1,20 @@
 -- The parser accepts exactly the texts, and refuses at the first token that no text goes on with.
-use Rattle.std.proofs.Common.{◌≡◌, ◌⊎◌, inl, inr, ⊎_elim, ℕ, zero, suc, Bool, true, false, List, [], ◌∷◌, ◌++◌, length, Option, Some, None, Result, Ok, Err, refl, sym, ap, ◌∙◌, subst, append_assoc, arith}
+use Rattle.std.proofs.Common.{◌≡◌, ◌⊎◌, inl, inr, ⊎_elim, ℕ, zero, suc, Bool, true, false, List, [], ◌∷◌, ◌++◌, length, Option, Some, None, Ok, Err, refl, sym, ap, ◌∙◌, subst, append_assoc, arith}
 use Rattle.std.proofs.lemmas.Bool.{and_from, both_ways, lt-ltb}
 use Rattle.std.proofs.Math.Bool.{or-true}
 use Rattle.ga_pack.specs.Model.Meaning.{meanings, meaning_at, meaning_of}
-use Rattle.std.specs.Prelude.{codes, ◌==◌, ◌&&◌, ◌||◌, ◌^◌, nat_lt, if◌then◌else◌}
+use Rattle.std.specs.Prelude.{codes, ◌==◌, ◌||◌, ◌^◌, nat_lt, if◌then◌else◌}
 use Rattle.ga_word.specs.declared.op.Op.{Op}
 use Rattle.ga_word.specs.declared.op.Op.TheVariants.{Nop}
-use Rattle.ga_word.specs.Op.{fits_slot3, takes_dest}
-use Rattle.ga_pack.specs.Followers.{followers, is_followed}
-use Rattle.ga_pack.specs.Model.Token.{SourceKind, Token, op, number, name, label, node, node_name, data_part, close_mark, comma, slash, bad, end, is_node}
-use Rattle.ga_pack.specs.Model.Meaning.{is_reserved}
-use Rattle.ga_pack.specs.Model.Source.{Value, Number, Label, Item, Transfer, Word, WordTo, Plain, Data, Section, Part, Code, Behind, Before, start, part_after, is_item, is_new, Items, Sections, Source, items_tokens, stand_from, is_below, is_spare, dest_bound, is_among, is_named}
+use Rattle.ga_word.specs.Op.{takes_dest}
+use Rattle.ga_pack.specs.Followers.{followers}
+use Rattle.ga_pack.specs.Model.Token.{SourceKind, Token, op, number, node, node_name, data_part, close_mark, comma, end, is_node}
+use Rattle.ga_pack.specs.Model.Source.{Value, Number, Item, Transfer, Word, WordTo, Plain, Data, Section, Part, Code, Behind, Before, start, part_after, is_item, is_new, Items, Sections, Source, items_tokens, stand_from, is_below, is_spare}
 use Rattle.ga_pack.specs.Model.SourceFault.{Begins, GoesOn, ends_in_node}
-use Rattle.ga_source.specs.Machine.{At, between, behind_op, behind_comma, in_word, behind_dest_op, behind_dest, behind_slash, behind_spare, Inside, State, nothing, naming, inside, finished, closed, take, take_first, added, Good}
+use Rattle.ga_pack.specs.Slots.{dest_bound}
+use Rattle.ga_source.specs.inner.Machine.{At, between, behind_op, behind_comma, in_word, behind_dest_op, behind_dest, behind_slash, behind_spare, Inside, State, nothing, naming, inside, finished, closed, take, Good}
 use Rattle.ga_source.proofs.Completes.{Follows, Adds, Rest, Completes, with_item, nothing_more, led, led_back}
+use Rattle.ga_source.proofs.FaultKinds.{Shape}
 use Rattle.ga_source.proofs.Steps.{Right, take_right, on_test, is_word, is_word_to}
 
 -- ---- each state but `naming` has a completion
@@ -151,61 +152,7 @@ alive (inside c (behind_slash ops o v)) g = inr (inl (word_to_alive c (behind_sl
 alive (inside c (behind_spare ops o v k)) g = inr (inl (word_to_alive c (behind_spare ops o v k) ops o v (Some k) g.0 g.1 g.2 g.3 (and_from (length ops == 0) (nat_lt k 8) g.4 g.5) g.6 (λ ys. (codes "]" ∷ ys, λ b. (first_is b (codes "]") ys close_mark (close_is b) refl, refl)))))
 alive (finished q) g = inl (q, refl)
 
--- ---- only `node` leads to a name, and where `node` is refused the end is refused
-
-abbrev is_naming : Result State SourceKind → Bool
-is_naming (Ok (naming done seen)) = true
-is_naming _ = false
-
-either : (b : Bool) (x y : Result State SourceKind) → is_naming x ≡ false → is_naming y ≡ false → is_naming (if b then x else y) ≡ false
-either true x y e f = e
-either false x y e f = f
-
-with_part_no : (c : Inside) (i : Item) (o : Option Part) → is_naming (elim o [ None ↦ Err SourceKind.BadToken | Some p ↦ Ok (added c i p) ]) ≡ false
-with_part_no c i None = refl
-with_part_no c i (Some p) = refl
-
-first_not : (part : Part) (c : Inside) (t : Token) → is_naming (take_first part c t) ≡ false
-first_not Behind c comma = refl
-first_not Behind c _ = refl
-first_not (Code (suc n)) c comma = refl
-first_not (Code (suc n)) c data_part = refl
-first_not (Code (suc n)) c t = refl
-first_not (Code zero) c (op o) = either (takes_dest o) _ _ refl (either (is_followed o) _ _ refl refl)
-first_not (Code zero) c t = refl
-
-between_not : (c : Inside) (t : Token) → is_node t ≡ false → is_naming (take (inside c between) t) ≡ false
-between_not c (bad k) n = refl
-between_not c end n = either c.before.has_word _ _ refl refl
-between_not c node n = absurd (cc)
-between_not c (label s) n = either (is_reserved s) _ _ refl (either (is_among s c.before.labels) _ _ refl refl)
-between_not c t n = first_not c.before.part c t
-
-not_naming : (s : State) (t : Token) → is_node t ≡ false → is_naming (take s t) ≡ false
-not_naming nothing (bad k) n = refl
-not_naming nothing node n = absurd (cc)
-not_naming nothing t n = refl
-not_naming (naming done seen) (node_name m) n = either (is_named m seen) _ _ refl refl
-not_naming (naming done seen) t n = refl
-not_naming (inside c between) t n = between_not c t n
-not_naming (inside c (behind_op o)) (number m) n = either (nat_lt m (2 ^ 10)) _ _ refl refl
-not_naming (inside c (behind_op o)) t n = refl
-not_naming (inside c behind_comma) (number m) n = with_part_no c (Plain (Number m)) (part_after c.before.part (Plain (Number m)))
-not_naming (inside c behind_comma) (name s) n = with_part_no c (Plain (Label s)) (part_after c.before.part (Plain (Label s)))
-not_naming (inside c behind_comma) t n = refl
-not_naming (inside c (in_word ops)) (op o) n = either (takes_dest o) _ _ (either (nat_lt (length ops) 3) _ _ refl refl) (either (nat_lt (length ops) 3 || ((length ops == 3) && fits_slot3 o)) _ _ refl refl)
-not_naming (inside c (in_word ops)) close_mark n = either (nat_lt 0 (length ops)) _ _ (with_part_no c (Word ops) (part_after c.before.part (Word ops))) refl
-not_naming (inside c (in_word ops)) t n = refl
-not_naming (inside c (behind_dest_op ops o)) (number m) n = either (nat_lt m (dest_bound (length ops))) _ _ refl refl
-not_naming (inside c (behind_dest_op ops o)) t n = refl
-not_naming (inside c (behind_dest ops o v)) slash n = either (length ops == 0) _ _ refl refl
-not_naming (inside c (behind_dest ops o v)) close_mark n = with_part_no c (WordTo ops o v None) (part_after c.before.part (WordTo ops o v None))
-not_naming (inside c (behind_dest ops o v)) t n = refl
-not_naming (inside c (behind_slash ops o v)) (number k) n = either (nat_lt k 8) _ _ refl refl
-not_naming (inside c (behind_slash ops o v)) t n = refl
-not_naming (inside c (behind_spare ops o v k)) close_mark n = with_part_no c (WordTo ops o v (Some k)) (part_after c.before.part (WordTo ops o v (Some k)))
-not_naming (inside c (behind_spare ops o v k)) t n = refl
-not_naming (finished q) t n = refl
+-- ---- where `node` is refused the end is refused
 
 -- what stands in front of the name of a section: nothing, or a whole text
 node_led : (s s' : State) → Good s → take s node ≡ Ok s' → ((s ≡ nothing) × (s' ≡ naming [] [])) ⊎ ((p : List Section) × Completes s (end ∷ []) p)
@@ -268,31 +215,37 @@ node_last [] = refl
 node_last (t ∷ []) = refl
 node_last (t ∷ u ∷ ts) = node_last (u ∷ ts)
 
-named_goes : (front : List Token) (s : State) (t : Token) (done : List Section) (seen : List ℕ) → Stands front s → take s t ≡ Ok (naming done seen) → ((rest : List Token) (p : List Section) → Completes (naming done seen) rest p → Source ((front ++ t ∷ []) ++ rest) p) → GoesOn (front ++ t ∷ [])
+named_goes : (front : List Token) (s : State) (done : List Section) (seen : List ℕ) → Stands front s → take s node ≡ Ok (naming done seen) → ((rest : List Token) (p : List Section) → Completes (naming done seen) rest p → Source ((front ++ node ∷ []) ++ rest) p) → GoesOn (front ++ node ∷ [])
 unfolding GoesOn Begins Sections
-named_goes front s node done seen st e from = ⊎_elim
+named_goes front s done seen st e from = ⊎_elim
     (λ (a, b). inl (inr (first_texts, [] ++ record { name = 0; items = last_items (Code 0) } ∷ [], subst (λ x. Source ((front ++ node ∷ []) ++ meanings x first_texts) ([] ++ record { name = 0; items = last_items (Code 0) } ∷ [])) (sym (node_last front)) (from (meanings true first_texts) ([] ++ record { name = 0; items = last_items (Code 0) } ∷ []) (subst (λ x. Completes x (meanings true first_texts) ([] ++ record { name = 0; items = last_items (Code 0) } ∷ [])) (sym b) (record { name = 0; items = last_items (Code 0) }, [], first_tokens, (refl, last_right (Code 0) start refl, tt), refl))))))
     (λ (p, h). inr (front, p, refl, st.from (end ∷ []) p h))
     (node_led s (naming done seen) st.good e)
-named_goes front s t done seen st e from = absurd (both_ways (is_naming (take s t)) (not_naming s t refl) (ap is_naming e))
 
 whole_goes : (ts : List Token) (p : List Section) → Source ts p → GoesOn ts
 unfolding GoesOn Begins
 whole_goes ts p h = inl (inl (p, h))
 
-next_goes : (front : List Token) (s s' : State) (t : Token) → Stands front s → take s t ≡ Ok s' → Good s' → ((rest : List Token) (p : List Section) → Completes s' rest p → Source ((front ++ t ∷ []) ++ rest) p) → GoesOn (front ++ t ∷ [])
-next_goes front s s' t st e g from = go (alive s' g)
-  where
-    go : Goes s' → GoesOn (front ++ t ∷ [])
-    go (inl (p, f)) = whole_goes (front ++ t ∷ []) p (subst (λ x. Source x p) (nothing_more (front ++ t ∷ [])) (from [] p (subst (λ x. Completes x [] p) (sym f) (refl, refl))))
-    go (inr (inl a)) = begins (front ++ t ∷ []) s' from a
-    go (inr (inr (done, seen, f))) = named_goes front s t done seen st (e ∙ ap Ok f) (subst (λ x. (rest : List Token) (p : List Section) → Completes x rest p → Source ((front ++ t ∷ []) ++ rest) p) f from)
+-- The tokens are those that the state's shape tells: so only `node` leads to a name.
+module _ (front back : List Token) (s s' : State) (t : Token) (st : Stands front s) (shape : Shape s' (t ∷ back)) (e : take s t ≡ Ok s') where
+  right : Right s t (Ok s')
+  right = subst (λ x. Right s t x) e (take_right s t st.good)
 
-pub stands_next : (front : List Token) (s s' : State) (t : Token) → Stands front s → take s t ≡ Ok s' → Stands (front ++ t ∷ []) s'
-stands_next front s s' t st e =
-    let r : Right s t (Ok s') = subst (λ x. Right s t x) e (take_right s t st.good) in
-    let from : (rest : List Token) (p : List Section) → Completes s' rest p → Source ((front ++ t ∷ []) ++ rest) p = λ rest p h. subst (λ x. Source x p) (sym (regroup front t rest)) (st.from (t ∷ rest) p (r.2 rest p h)) in
-    record { good = r.0; goes = next_goes front s s' t st e r.0 from; to = λ rest p h. r.1 rest p (st.to (t ∷ rest) p (subst (λ x. Source x p) (regroup front t rest) h)); from = from }
+  from : (rest : List Token) (p : List Section) → Completes s' rest p → Source ((front ++ t ∷ []) ++ rest) p
+  from rest p h = subst (λ x. Source x p) (sym (regroup front t rest)) (st.from (t ∷ rest) p (right.2 rest p h))
+
+  goes : Goes s' → GoesOn (front ++ t ∷ [])
+  goes (inl (p, f)) = whole_goes (front ++ t ∷ []) p (subst (λ x. Source x p) (nothing_more (front ++ t ∷ [])) (from [] p (subst (λ x. Completes x [] p) (sym f) (refl, refl))))
+  goes (inr (inl a)) = begins (front ++ t ∷ []) s' from a
+  goes (inr (inr (done, seen, f))) =
+      let (r, same, b) = subst (λ x. Shape x (t ∷ back)) f shape in
+      let is : t ≡ node = cc in
+      let led = subst (λ x. (rest : List Token) (p : List Section) → Completes x rest p → Source ((front ++ t ∷ []) ++ rest) p) f from in
+      subst (λ u. GoesOn (front ++ u ∷ [])) (sym is)
+      (named_goes front s done seen st (ap (take s) (sym is) ∙ e ∙ ap Ok f) (subst (λ u. (rest : List Token) (p : List Section) → Completes (naming done seen) rest p → Source ((front ++ u ∷ []) ++ rest) p) is led))
+
+  pub stands_next : Stands (front ++ t ∷ []) s'
+  stands_next = record { good = right.0; goes = goes (alive s' right.0); to = λ rest p h. right.1 rest p (st.to (t ∷ rest) p (subst (λ x. Source x p) (regroup front t rest) h)); from = from }
 
 -- the two lists end alike
 last_same : (xs ys : List Token) (x y : Token) → xs ++ x ∷ [] ≡ ys ++ y ∷ [] → (xs ≡ ys) × (x ≡ y)

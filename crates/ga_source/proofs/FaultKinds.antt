@@ -1,14 +1,15 @@
 -- The kind of the parser's fault is that of the definition.
 use Rattle.std.proofs.Common.{◌≡◌, ℕ, zero, suc, Bool, true, false, List, [], ◌∷◌, ◌++◌, length, Some, None, Result, Ok, Err, refl, sym, ap, ◌∙◌, subst}
-use Rattle.std.specs.Prelude.{◌==◌, ◌&&◌, ◌||◌, ◌^◌, nat_lt, if◌then◌else◌}
+use Rattle.std.specs.Prelude.{◌==◌, ◌^◌, nat_lt, if◌then◌else◌}
 use Rattle.ga_word.specs.declared.op.Op.{Op}
-use Rattle.ga_word.specs.Op.{fits_slot3, takes_dest}
+use Rattle.ga_word.specs.Op.{takes_dest}
 use Rattle.ga_pack.specs.Followers.{followers, is_followed}
 use Rattle.ga_pack.specs.Model.Token.{SourceKind, Token, op, number, name, label, node, node_name, align, data_part, open_mark, close_mark, comma, slash, bad, end, is_node}
 use Rattle.ga_pack.specs.Model.Meaning.{is_reserved}
-use Rattle.ga_pack.specs.Model.Source.{Value, Number, Label, Item, Instruction, Transfer, Literal, Here, Align, Word, WordTo, Plain, Data, Section, Part, Code, Behind, start, part_after, dest_bound, is_among, is_named}
+use Rattle.ga_pack.specs.Model.Source.{Value, Number, Label, Item, Instruction, Transfer, Literal, Here, Align, Word, WordTo, Plain, Data, Section, Part, Code, Behind, start, part_after, is_among, is_named}
 use Rattle.ga_pack.specs.Model.SourceFault.{in_brackets, in_data, wants_value, kind_at, name_fault, bracket_fault, value_fault, item_fault}
-use Rattle.ga_source.specs.Machine.{At, between, behind_op, behind_comma, in_word, behind_dest_op, behind_dest, behind_slash, behind_spare, Inside, State, nothing, naming, inside, finished, closed, added, take, take_between, take_first, take_label, with_part, owed_fault, Good}
+use Rattle.ga_pack.specs.Slots.{dest_bound, op_fits}
+use Rattle.ga_source.specs.inner.Machine.{At, between, behind_op, behind_comma, in_word, behind_dest_op, behind_dest, behind_slash, behind_spare, Inside, State, nothing, naming, inside, finished, closed, added, take, take_between, take_first, take_label, with_part, owed_fault, Good}
 use Rattle.ga_source.proofs.Steps.{on_test}
 
 abbrev is_behind : Part → Bool
@@ -96,11 +97,11 @@ comma_shaped c u t r g rd = λ f. value_kind c behind_comma u t r rd refl rd.las
 
 word_shaped : (c : Inside) (ops : List Op) (u t : Token) (r : List Token) → Good (inside c (in_word ops)) → Read c (in_word ops) u r → Shaped (inside c (in_word ops)) (u ∷ r) t (take (inside c (in_word ops)) t)
 unfolding part_after
-word_shaped c ops u (op o) r g rd = on_test (takes_dest o) (λ b. Shaped (inside c (in_word ops)) (u ∷ r) (op o) (if b then (if nat_lt (length ops) 3 then Ok (inside c (behind_dest_op ops o)) else Err SourceKind.BadWord) else if nat_lt (length ops) 3 || ((length ops == 3) && fits_slot3 o) then Ok (inside c (in_word (ops ++ o ∷ []))) else Err SourceKind.BadWord))
+word_shaped c ops u (op o) r g rd = on_test (takes_dest o) (λ b. Shaped (inside c (in_word ops)) (u ∷ r) (op o) (if b then (if nat_lt (length ops) 3 then Ok (inside c (behind_dest_op ops o)) else Err SourceKind.BadWord) else if op_fits (length ops) o then Ok (inside c (in_word (ops ++ o ∷ []))) else Err SourceKind.BadWord))
     (λ takes. on_test (nat_lt (length ops) 3) (λ b. Shaped (inside c (in_word ops)) (u ∷ r) (op o) (if b then Ok (inside c (behind_dest_op ops o)) else Err SourceKind.BadWord))
     (λ e. (op o, u ∷ r, refl, record { no_node = refl; brackets = rd.brackets; part = rd.part; last = tt }))
     (λ e f. bracket_kind c (in_word ops) u (op o) r rd refl))
-    (λ none. on_test (nat_lt (length ops) 3 || ((length ops == 3) && fits_slot3 o)) (λ b. Shaped (inside c (in_word ops)) (u ∷ r) (op o) (if b then Ok (inside c (in_word (ops ++ o ∷ []))) else Err SourceKind.BadWord))
+    (λ none. on_test (op_fits (length ops) o) (λ b. Shaped (inside c (in_word ops)) (u ∷ r) (op o) (if b then Ok (inside c (in_word (ops ++ o ∷ []))) else Err SourceKind.BadWord))
     (λ e. (op o, u ∷ r, refl, record { no_node = refl; brackets = rd.brackets; part = rd.part; last = tt }))
     (λ e f. bracket_kind c (in_word ops) u (op o) r rd refl))
 word_shaped c ops u close_mark r g rd = on_test (nat_lt 0 (length ops)) (λ b. Shaped (inside c (in_word ops)) (u ∷ r) close_mark (if b then with_part c (Word ops) else Err SourceKind.BadWord))

@@ -15,8 +15,8 @@ use Rattle.ga_source.specs.declared.error.SourceErrorKind.TheVariants.{Memory}
 use Rattle.ga_source.specs.declared.parser.Part as standing
 use Rattle.ga_source.specs.declared.parser.Part.TheVariants as part
 use Rattle.ga_source.specs.Error.{kind_of}
-use Rattle.ga_source.specs.Machine.{State, Inside, take_first, with_part, added}
-use Rattle.ga_source.specs.Parser.{Answered, RefusedAs, part_of}
+use Rattle.ga_source.specs.inner.Machine.{State, Inside, take_first, with_part, added}
+use Rattle.ga_source.specs.inner.Parser.{Answered, RefusedAs, part_of}
 
 -- an item was added, as the parser's machine adds it
 pub answered_added : {A : Type 0} (c : Inside) (i : Item) (q : Part) (r : Result A SourceErrorKind) (s' : State)

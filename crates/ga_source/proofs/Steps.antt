@@ -1,14 +1,15 @@
 -- Each token that the parser takes keeps what completes its state, and each that it refuses completes nothing.
 use Rattle.std.proofs.Common.{◌≡◌, ◌⊎◌, inl, inr, ⊎_elim, ℕ, zero, suc, ◌+◌, Bool, true, false, List, [], ◌∷◌, ◌++◌, length, Option, Some, None, Result, Ok, Err, refl, sym, ap, ◌∙◌, subst, append_assoc, arith}
 use Rattle.std.proofs.lemmas.Bool.{and_parts, and_from, both_ways, not-true, not_from_false}
-use Rattle.std.specs.Prelude.{◌==◌, ◌&&◌, ◌||◌, ◌^◌, not, nat_lt, if◌then◌else◌}
+use Rattle.std.specs.Prelude.{◌==◌, ◌&&◌, ◌^◌, not, nat_lt, if◌then◌else◌}
 use Rattle.ga_word.specs.declared.op.Op.{Op}
-use Rattle.ga_word.specs.Op.{fits_slot3, takes_dest}
+use Rattle.ga_word.specs.Op.{takes_dest}
 use Rattle.ga_pack.specs.Followers.{followers, is_followed}
 use Rattle.ga_pack.specs.Model.Token.{SourceKind, Token, op, number, name, label, node, node_name, align, data_part, open_mark, close_mark, comma, slash, bad, end}
 use Rattle.ga_pack.specs.Model.Meaning.{is_reserved}
-use Rattle.ga_pack.specs.Model.Source.{Value, Number, Label, Item, Instruction, Transfer, Literal, Here, Align, Word, WordTo, Plain, Data, Section, Part, Code, Behind, start, part_after, is_item, is_new, Sections, Source, text_tokens, items_tokens, op_tokens, value_token, spare_tokens, stand_from, is_below, is_spare, dest_bound, is_among, is_named}
-use Rattle.ga_source.specs.Machine.{between, behind_op, behind_comma, in_word, behind_dest_op, behind_dest, behind_slash, behind_spare, Inside, State, nothing, naming, inside, finished, closed, added, take, take_between, take_first, take_op, take_label, take_slot, with_part, Good}
+use Rattle.ga_pack.specs.Model.Source.{Value, Number, Label, Item, Instruction, Transfer, Literal, Here, Align, Word, WordTo, Plain, Data, Section, Part, Code, Behind, start, part_after, is_item, is_new, Sections, Source, text_tokens, items_tokens, op_tokens, value_token, spare_tokens, stand_from, is_below, is_spare, is_among, is_named}
+use Rattle.ga_pack.specs.Slots.{dest_bound, op_fits}
+use Rattle.ga_source.specs.inner.Machine.{between, behind_op, behind_comma, in_word, behind_dest_op, behind_dest, behind_slash, behind_spare, Inside, State, nothing, naming, inside, finished, closed, added, take, take_between, take_first, take_op, take_label, take_slot, with_part, Good}
 use Rattle.ga_source.proofs.Completes.{Follows, Adds, Completes, Led, led, led_back, with_item, nothing_more}
 
 -- the answer to a token is right
@@ -92,46 +93,40 @@ behind_comma_right c t g = λ rest p (i, more, (v, e, f), a). no_value t v rest 
 
 -- ---- in brackets
 
-abbrev room : ℕ → Op → Bool
-room slot o = nat_lt slot 3 || ((slot == 3) && fits_slot3 o)
-
-abbrev stands : ℕ → Op → Bool
-stands slot o = not (takes_dest o) && room slot o
-
-stand_parts : (slot : ℕ) (o : Op) (ops : List Op) → stand_from slot (o ∷ ops) ≡ true → (takes_dest o ≡ false) × (room slot o ≡ true) × (stand_from (suc slot) ops ≡ true)
+stand_parts : (slot : ℕ) (o : Op) (ops : List Op) → stand_from slot (o ∷ ops) ≡ true → (takes_dest o ≡ false) × (op_fits slot o ≡ true) × (stand_from (suc slot) ops ≡ true)
 stand_parts slot o ops h =
-    let a = and_parts (not (takes_dest o) && room slot o) (stand_from (suc slot) ops) h in
-    let b = and_parts (not (takes_dest o)) (room slot o) a.0 in
+    let a = and_parts (not (takes_dest o) && op_fits slot o) (stand_from (suc slot) ops) h in
+    let b = and_parts (not (takes_dest o)) (op_fits slot o) a.0 in
     (not-true (takes_dest o) b.0, b.1, a.1)
 
-stand_made : (slot : ℕ) (o : Op) (ops : List Op) → takes_dest o ≡ false → room slot o ≡ true → stand_from (suc slot) ops ≡ true → stand_from slot (o ∷ ops) ≡ true
-stand_made slot o ops n r h = and_from (not (takes_dest o) && room slot o) (stand_from (suc slot) ops) (and_from (not (takes_dest o)) (room slot o) (not_from_false (takes_dest o) n) r) h
+stand_made : (slot : ℕ) (o : Op) (ops : List Op) → takes_dest o ≡ false → op_fits slot o ≡ true → stand_from (suc slot) ops ≡ true → stand_from slot (o ∷ ops) ≡ true
+stand_made slot o ops n r h = and_from (not (takes_dest o) && op_fits slot o) (stand_from (suc slot) ops) (and_from (not (takes_dest o)) (op_fits slot o) (not_from_false (takes_dest o) n) r) h
 
-stand_mid : (slot : ℕ) (ops : List Op) (o : Op) (later : List Op) → stand_from slot (ops ++ o ∷ later) ≡ true → (takes_dest o ≡ false) × (room (length ops + slot) o ≡ true)
+stand_mid : (slot : ℕ) (ops : List Op) (o : Op) (later : List Op) → stand_from slot (ops ++ o ∷ later) ≡ true → (takes_dest o ≡ false) × (op_fits (length ops + slot) o ≡ true)
 stand_mid slot [] o later h =
     let a = stand_parts slot o later h in
     let e : 0 + slot ≡ slot = omega arith in
-    (a.0, subst (λ n. room n o ≡ true) (sym e) a.1)
+    (a.0, subst (λ n. op_fits n o ≡ true) (sym e) a.1)
 stand_mid slot (x ∷ ops) o later h =
     let e : length ops + suc slot ≡ suc (length ops) + slot = omega arith in
     let ih = stand_mid (suc slot) ops o later (stand_parts slot x (ops ++ o ∷ later) h).2 in
-    (ih.0, subst (λ n. room n o ≡ true) e ih.1)
+    (ih.0, subst (λ n. op_fits n o ≡ true) e ih.1)
 
-stand_end : (slot : ℕ) (ops : List Op) (o : Op) → stand_from slot ops ≡ true → takes_dest o ≡ false → room (length ops + slot) o ≡ true → stand_from slot (ops ++ o ∷ []) ≡ true
+stand_end : (slot : ℕ) (ops : List Op) (o : Op) → stand_from slot ops ≡ true → takes_dest o ≡ false → op_fits (length ops + slot) o ≡ true → stand_from slot (ops ++ o ∷ []) ≡ true
 stand_end slot [] o h n r =
     let e : 0 + slot ≡ slot = omega arith in
-    stand_made slot o [] n (subst (λ n. room n o ≡ true) e r) refl
+    stand_made slot o [] n (subst (λ n. op_fits n o ≡ true) e r) refl
 stand_end slot (x ∷ ops) o h n r =
     let a = stand_parts slot x ops h in
     let e : suc (length ops) + slot ≡ length ops + suc slot = omega arith in
-    stand_made slot x (ops ++ o ∷ []) a.0 a.1 (stand_end (suc slot) ops o a.2 n (subst (λ n. room n o ≡ true) e r))
+    stand_made slot x (ops ++ o ∷ []) a.0 a.1 (stand_end (suc slot) ops o a.2 n (subst (λ n. op_fits n o ≡ true) e r))
 
 -- an opcode in a bracketed word stands in the first free slot
-next_op : (ops : List Op) (o : Op) (later : List Op) → stand_from 0 (ops ++ o ∷ later) ≡ true → (takes_dest o ≡ false) × (room (length ops) o ≡ true)
-next_op ops o later h = let e : length ops + 0 ≡ length ops = omega arith in let a = stand_mid 0 ops o later h in (a.0, subst (λ n. room n o ≡ true) e a.1)
+next_op : (ops : List Op) (o : Op) (later : List Op) → stand_from 0 (ops ++ o ∷ later) ≡ true → (takes_dest o ≡ false) × (op_fits (length ops) o ≡ true)
+next_op ops o later h = let e : length ops + 0 ≡ length ops = omega arith in let a = stand_mid 0 ops o later h in (a.0, subst (λ n. op_fits n o ≡ true) e a.1)
 
-pub one_more : (ops : List Op) (o : Op) → stand_from 0 ops ≡ true → takes_dest o ≡ false → room (length ops) o ≡ true → stand_from 0 (ops ++ o ∷ []) ≡ true
-one_more ops o h n r = let e : length ops ≡ length ops + 0 = omega arith in stand_end 0 ops o h n (subst (λ n. room n o ≡ true) e r)
+pub one_more : (ops : List Op) (o : Op) → stand_from 0 ops ≡ true → takes_dest o ≡ false → op_fits (length ops) o ≡ true → stand_from 0 (ops ++ o ∷ []) ≡ true
+one_more ops o h n r = let e : length ops ≡ length ops + 0 = omega arith in stand_end 0 ops o h n (subst (λ n. op_fits n o ≡ true) e r)
 
 -- what a right item says of its parts
 word_stands : (ops : List Op) → is_item (Word ops) ≡ true → (nat_lt 0 (length ops) ≡ true) × (stand_from 0 ops ≡ true)
@@ -189,7 +184,7 @@ joined : (ops : List Op) (o x : Op) (later : List Op) → o ≡ x → ops ++ x �
 joined ops o x later e = simp append_assoc (ap (λ y. ops ++ y ∷ later) (sym e))
 
 abbrev Slots : Inside → List Op → Op → List Token → List Section → Type 0
-Slots c ops o rest p = ((takes_dest o ≡ false) × (room (length ops) o ≡ true) × Completes (inside c (in_word (ops ++ o ∷ []))) rest p) ⊎ ((takes_dest o ≡ true) × (nat_lt (length ops) 3 ≡ true) × Completes (inside c (behind_dest_op ops o)) rest p)
+Slots c ops o rest p = ((takes_dest o ≡ false) × (op_fits (length ops) o ≡ true) × Completes (inside c (in_word (ops ++ o ∷ []))) rest p) ⊎ ((takes_dest o ≡ true) × (nat_lt (length ops) 3 ≡ true) × Completes (inside c (behind_dest_op ops o)) rest p)
 
 slot_led : (c : Inside) (ops : List Op) (o : Op) (rest : List Token) (p : List Section) → Completes (inside c (in_word ops)) (op o ∷ rest) p → Slots c ops o rest p
 slot_led c ops o rest p (i, more, inl ([], e, f), a) = absurd (cc)
@@ -198,7 +193,7 @@ slot_led c ops o rest p (i, more, inl (x ∷ later, e, f), a) =
     let r : rest ≡ op_tokens later (close_mark ∷ more) = cc in
     let f' : i ≡ Word ((ops ++ o ∷ []) ++ later) = f ∙ ap Word (joined ops o x later h) in
     let s = next_op ops x later (word_stands (ops ++ x ∷ later) (is_right c i (Word (ops ++ x ∷ later)) more p f a)).1 in
-    inl (subst (λ y. takes_dest y ≡ false) (sym h) s.0, subst (λ y. room (length ops) y ≡ true) (sym h) s.1, (i, more, inl (later, r, f'), a))
+    inl (subst (λ y. takes_dest y ≡ false) (sym h) s.0, subst (λ y. op_fits (length ops) y ≡ true) (sym h) s.1, (i, more, inl (later, r, f'), a))
 slot_led c ops o rest p (i, more, inr ([], x, v, k, e, f), a) =
     let h : o ≡ x = cc in
     let r : rest ≡ value_token v ∷ spare_tokens k more = cc in
@@ -210,7 +205,7 @@ slot_led c ops o rest p (i, more, inr (x ∷ later, y, v, k, e, f), a) =
     let r : rest ≡ op_tokens later (op y ∷ value_token v ∷ spare_tokens k more) = cc in
     let f' : i ≡ WordTo ((ops ++ o ∷ []) ++ later) y v k = f ∙ ap (λ z. WordTo z y v k) (joined ops o x later h) in
     let s = next_op ops x later (word_to_parts (ops ++ x ∷ later) y v k (is_right c i (WordTo (ops ++ x ∷ later) y v k) more p f a)).stands in
-    inl (subst (λ y. takes_dest y ≡ false) (sym h) s.0, subst (λ y. room (length ops) y ≡ true) (sym h) s.1, (i, more, inr (later, y, v, k, r, f'), a))
+    inl (subst (λ y. takes_dest y ≡ false) (sym h) s.0, subst (λ y. op_fits (length ops) y ≡ true) (sym h) s.1, (i, more, inr (later, y, v, k, r, f'), a))
 
 slot_back : (c : Inside) (ops : List Op) (o : Op) (rest : List Token) (p : List Section) → Completes (inside c (in_word (ops ++ o ∷ []))) rest p → Completes (inside c (in_word ops)) (op o ∷ rest) p
 slot_back c ops o rest p (i, more, inl (later, e, f), a) = (i, more, inl (o ∷ later, ap (λ x. op o ∷ x) e, f ∙ ap Word (sym (joined ops o o later refl))), a)
@@ -220,13 +215,13 @@ dest_back : (c : Inside) (ops : List Op) (o : Op) (rest : List Token) (p : List 
 dest_back c ops o rest p (i, more, (v, k, e, f), a) = (i, more, inr ([], o, v, k, ap (λ x. op o ∷ x) e, f ∙ ap (λ z. WordTo z o v k) (sym (nothing_more ops))), a)
 
 slot_right : (c : Inside) (ops : List Op) (o : Op) → Good (inside c (in_word ops)) → Right (inside c (in_word ops)) (op o) (take_slot c ops o)
-slot_right c ops o g = on_test (takes_dest o) (λ b. Right (inside c (in_word ops)) (op o) (if b then (if nat_lt (length ops) 3 then Ok (inside c (behind_dest_op ops o)) else Err SourceKind.BadWord) else if room (length ops) o then Ok (inside c (in_word (ops ++ o ∷ []))) else Err SourceKind.BadWord))
+slot_right c ops o g = on_test (takes_dest o) (λ b. Right (inside c (in_word ops)) (op o) (if b then (if nat_lt (length ops) 3 then Ok (inside c (behind_dest_op ops o)) else Err SourceKind.BadWord) else if op_fits (length ops) o then Ok (inside c (in_word (ops ++ o ∷ []))) else Err SourceKind.BadWord))
     (λ takes. on_test (nat_lt (length ops) 3) (λ b. Right (inside c (in_word ops)) (op o) (if b then Ok (inside c (behind_dest_op ops o)) else Err SourceKind.BadWord))
     (λ short. ((g.0, short, takes, g.1), λ rest p h. ⊎_elim (λ a. absurd (both_ways (takes_dest o) a.0 takes)) (λ a. a.2) (slot_led c ops o rest p h), dest_back c ops o))
     (λ long rest p h. ⊎_elim (λ a. both_ways (takes_dest o) a.0 takes) (λ a. both_ways (nat_lt (length ops) 3) long a.1) (slot_led c ops o rest p h)))
-    (λ none. on_test (room (length ops) o) (λ b. Right (inside c (in_word ops)) (op o) (if b then Ok (inside c (in_word (ops ++ o ∷ []))) else Err SourceKind.BadWord))
+    (λ none. on_test (op_fits (length ops) o) (λ b. Right (inside c (in_word ops)) (op o) (if b then Ok (inside c (in_word (ops ++ o ∷ []))) else Err SourceKind.BadWord))
     (λ fits. ((one_more ops o g.0 none fits, g.1), λ rest p h. ⊎_elim (λ a. a.2) (λ a. absurd (both_ways (takes_dest o) none a.0)) (slot_led c ops o rest p h), slot_back c ops o))
-    (λ full rest p h. ⊎_elim (λ a. both_ways (room (length ops) o) full a.1) (λ a. both_ways (takes_dest o) none a.0) (slot_led c ops o rest p h)))
+    (λ full rest p h. ⊎_elim (λ a. both_ways (op_fits (length ops) o) full a.1) (λ a. both_ways (takes_dest o) none a.0) (slot_led c ops o rest p h)))
 
 in_word_right : (c : Inside) (ops : List Op) (t : Token) → Good (inside c (in_word ops)) → Right (inside c (in_word ops)) t (take (inside c (in_word ops)) t)
 unfolding part_after

@@ -1,9 +1,7 @@
 pub mod Token
 pub mod Name
-pub mod Meaning
-pub mod Machine
 pub mod Error
 pub mod Item
 pub mod Section
-pub mod Parser
+pub mod inner
 pub mod Program

@@ -49,8 +49,8 @@ pub enum Item {
 }
 
 impl Item {
-    // Whether the item makes a word.
-    pub(crate) fn makes_word(&self) -> bool
+    /// Whether the item makes a word of its own: each does but a label, `align` and `data`.
+    pub fn makes_word(&self) -> bool
         ensures { result ≡ words.makes_word (item_of self.now) }
     {
         !matches!(self, Item::Label(_) | Item::Align | Item::Data)

@@ -1,10 +1,11 @@
-ghost use Rattle.std.specs.Prelude.{◌≡◌, ◌==◌, ◌^◌, ◌<◌, ◌≤◌, IfSome, length};
+ghost use Rattle.std.specs.Prelude.{◌≡◌, ◌≤◌, IfOk, IfSome, Some, length};
 ghost use Rattle.std.specs.List.{list_all};
 ghost use Rattle.std.specs.Option.{option_map};
 ghost use Rattle.ga_pack.specs.Model.Meaning as model;
 ghost use Rattle.ga_pack.specs.Model.Token.{label, name, node_name};
-ghost use Rattle.ga_source.specs.Meaning.{IsShort, meaning_of};
+ghost use Rattle.ga_source.specs.inner.Meaning.{IsShort, meaning_of, token_of};
 
+use crate::error::SourceErrorKind;
 use ga_place::Node;
 use ga_word::{Op, Word18};
 use std::str;
@@ -28,21 +29,18 @@ pub(crate) enum Meaning<'a> {
     CloseMark,
     Comma,
     Slash,
-    /// No token of the language.
-    BadToken,
-    /// A number over 3FFFF.
-    NumberRange,
 }
 
-/// What a token means that stands behind the token `node` or not.
+/// What a token means that stands behind the token `node` or not. A token that is none of the language, or
+/// a number over 3FFFF, is a fault wherever it stands.
 #[tactic(auto, unfolding(ga_pack::specs::Model::Meaning::meaning_at))]
-pub(crate) fn meaning_at(is_behind_node: bool, text: &[u8]) -> Meaning<'_>
-    ensures value { meaning_of result ≡ model.meaning_at is_behind_node text.now }
-    ensures short { IsShort (meaning_of result) }
+pub(crate) fn meaning_at(is_behind_node: bool, text: &[u8]) -> Result<Meaning<'_>, SourceErrorKind>
+    ensures value { token_of result ≡ Some (model.meaning_at is_behind_node text.now) }
+    ensures short { IfOk result (λ meaning. IsShort (meaning_of meaning)) }
 {
     if is_behind_node {
         if let Some(node) = node_named(text) {
-            return Meaning::NodeName(node);
+            return Ok(Meaning::NodeName(node));
         }
     }
     plain_meaning(text)
@@ -59,36 +57,36 @@ pub(crate) fn is_reserved(name: &str) -> bool
 
 /// What a token means, but for the name of a node.
 #[tactic(auto, unfolding(ga_pack::specs::Model::Meaning::meaning_of))]
-fn plain_meaning(text: &[u8]) -> Meaning<'_>
-    ensures value { meaning_of result ≡ model.meaning_of text.now }
-    ensures short { IsShort (meaning_of result) }
+fn plain_meaning(text: &[u8]) -> Result<Meaning<'_>, SourceErrorKind>
+    ensures value { token_of result ≡ Some (model.meaning_of text.now) }
+    ensures short { IfOk result (λ meaning. IsShort (meaning_of meaning)) }
 {
     // A comma stands in front of each word of data.
     if text == b",".as_slice() {
-        return Meaning::Comma;
+        return Ok(Meaning::Comma);
     }
     // Most numbers are hex, and nothing else begins with `$`.
     if let Some(number) = hex_numeral(text) {
         return ranged(number);
     }
     if let Some(op) = Op::from_bytes(text) {
-        return Meaning::Op(op);
+        return Ok(Meaning::Op(op));
     }
     if let Some(number) = number_named(text) {
-        return Meaning::Number(number);
+        return Ok(Meaning::Number(number));
     }
     if let Some(meaning) = fixed(text) {
-        return meaning;
+        return Ok(meaning);
     }
     if let Some(number) = numeral(10, text) {
         return ranged(number);
     }
     if let Some(name) = label_name(text) {
-        return Meaning::Label(name);
+        return Ok(Meaning::Label(name));
     }
     match name_in(text) {
-        Some(name) => Meaning::Name(name),
-        None => Meaning::BadToken,
+        Some(name) => Ok(Meaning::Name(name)),
+        None => Err(SourceErrorKind::BadToken),
     }
 }
 
@@ -128,14 +126,14 @@ fn fixed<'a>(text: &[u8]) -> Option<Meaning<'a>>
     Some(meaning)
 }
 
-/// A number that a word holds, or not.
-fn ranged<'a>(number: u32) -> Meaning<'a>
-    ensures value { meaning_of result ≡ model.ranged number }
-    ensures short { IsShort (meaning_of result) }
+/// A number, which a word has to hold.
+fn ranged<'a>(number: u32) -> Result<Meaning<'a>, SourceErrorKind>
+    ensures value { token_of result ≡ Some (model.ranged number) }
+    ensures short { IfOk result (λ meaning. IsShort (meaning_of meaning)) }
 {
     match Word18::new(number) {
-        Some(number) => Meaning::Number(number),
-        None => Meaning::NumberRange,
+        Some(number) => Ok(Meaning::Number(number)),
+        None => Err(SourceErrorKind::NumberRange),
     }
 }
 

@@ -1,29 +1,32 @@
 //! The parser: it takes one token at a time, and refuses the first with which no text goes on.
-ghost use Rattle.std.specs.Prelude.{◌≡◌, ◌+◌, ◌<◌, ◌≤◌, ◌++◌, ◌∷◌, [], length, map, false, not, IfOk, IfErr, OnOk, None, Some, List, ℕ, suc};
-ghost use Rattle.ga_pack.specs.Followers as counted;
+ghost use Rattle.std.specs.Prelude.{◌≡◌, ◌+◌, ◌<◌, ◌≤◌, ◌++◌, ◌∷◌, [], length, map, false, not, IfOk, IfErr, Ok, OnOk, None, Some, List, ℕ, suc};
 ghost use Rattle.ga_pack.specs.Model.Layout.{names_in};
 ghost use Rattle.ga_pack.specs.Model.Source as words;
 ghost use Rattle.ga_pack.specs.Model.Source.{Behind, Code, Label, Plain, Transfer, Word, WordTo, labels_with};
 ghost use Rattle.ga_pack.specs.Model.SourceFault as faults;
+ghost use Rattle.ga_pack.specs.Model.Meaning as model;
+ghost use Rattle.ga_pack.specs.Model.Token as token;
 ghost use Rattle.ga_pack.specs.Model.Token.{end};
 ghost use Rattle.ga_source.specs.Error.{kind_of};
 ghost use Rattle.ga_source.specs.Item.{item_of, value_of};
-ghost use Rattle.ga_source.specs.Machine as machine;
-ghost use Rattle.ga_source.specs.Machine.{Good, IsConsistent, added, closed, nothing};
-ghost use Rattle.ga_source.specs.Meaning.{IsShort, meaning_of};
-ghost use Rattle.ga_source.specs.Parser.{Answered, Took, done_of, inside_of, labels_of, names_of, part_of, state_of};
+ghost use Rattle.ga_source.specs.Section.{section_of};
+ghost use Rattle.ga_source.specs.inner.Machine as machine;
+ghost use Rattle.ga_source.specs.inner.Machine.{Good, IsConsistent, added, closed, finished, nothing};
+ghost use Rattle.ga_source.specs.inner.Meaning.{IsShort, meaning_of};
+ghost use Rattle.ga_source.specs.inner.Parser.{Answered, RefusedAs, Took, done_of, inside_of, labels_of, names_of, part_of, state_of};
 ghost use Rattle.ga_source.specs.declared.error.SourceErrorKind.TheVariants.{Memory};
 ghost use Rattle.ga_source.specs.declared.parser.Part.TheVariants as part;
 ghost use Rattle.ga_source.specs.declared.parser.Position.TheVariants as at;
 
 use crate::error::SourceErrorKind;
 use crate::item::{Item, TransferWord, Value};
-use crate::meaning::{Meaning, is_reserved};
+use crate::meaning::{Meaning, is_reserved, meaning_at};
 use crate::name::Name;
 use crate::section::Section;
 use arrayvec::ArrayVec;
+use ga_pack::{dest_bound, followers_of, is_followed, op_fits};
 use ga_place::Node;
-use ga_word::{Op, Word18};
+use ga_word::Op;
 use indexmap::{IndexMap, IndexSet};
 use std::alloc::{AllocError, Global};
 
@@ -31,7 +34,7 @@ use std::alloc::{AllocError, Global};
 #[derive(Clone, Copy)]
 enum Part {
     // In the code part, where so many followers of a bracketed word are owed.
-    Code(u32),
+    Code(usize),
     // Behind `data`.
     Data,
 }
@@ -52,27 +55,24 @@ enum Position {
     InWord,
     // In brackets, behind an opcode that takes a destination; and behind its destination, `/` and spare bits.
     BehindDestOp(Op),
-    BehindDest(Op),
-    BehindSlash(Op),
-    BehindSpare(Op, u8),
-    // The text's end was taken.
-    Finished,
+    BehindDest(Op, Value),
+    BehindSlash(Op, Value),
+    BehindSpare(Op, Value, u8),
 }
 
 // The sections that are done, the section that is open, and the item that is begun.
 #[derive(Drop)]
 pub(crate) struct Parser {
     alloc: Global,
-    pub(crate) sections: IndexMap<Node, Section>,
+    sections: IndexMap<Node, Section>,
     node: Node,
     items: Vec<Item>,
     labels: IndexSet<Name>,
     part: Part,
     has_word: bool,
     position: Position,
-    // The opcodes of a bracketed word, but for one that takes a destination; and its destination.
+    // The opcodes of a bracketed word, but for one that takes a destination.
     ops: ArrayVec<Op, 4>,
-    dest: Value,
 }
 
 // A bracketed word with a destination.
@@ -97,7 +97,8 @@ fn word_to(
 impl Parser {
     /// A parser that has taken no token.
     pub(crate) fn new(alloc: Global) -> Self
-        ensures { state_of result ≡ nothing }
+        ensures state { state_of result ≡ nothing }
+        ensures empty { result.sections.entries ≡ [] }
     {
         Parser {
             alloc,
@@ -109,7 +110,6 @@ impl Parser {
             has_word: false,
             position: Position::Nothing,
             ops: ArrayVec::new(),
-            dest: Value::Number(Word18::default()),
         }
     }
 
@@ -131,16 +131,14 @@ impl Parser {
     // Before the first `node`.
     fn take_nothing(&mut self, token: &Meaning<'_>) -> Result<(), SourceErrorKind>
         requires position { self.old.position ≡ at.Nothing }
+        requires empty { self.old.sections.entries ≡ [] }
         ensures { Took (state_of self.old) (meaning_of token.now) result (state_of self.new) }
     {
         match *token {
             Meaning::Node => {
-                self.sections = IndexMap::new(self.alloc);
                 self.position = Position::Naming;
                 Ok(())
             }
-            Meaning::BadToken => Err(SourceErrorKind::BadToken),
-            Meaning::NumberRange => Err(SourceErrorKind::NumberRange),
             _ => Err(SourceErrorKind::NoNode),
         }
     }
@@ -170,8 +168,6 @@ impl Parser {
                 self.position = Position::Between;
                 Ok(())
             }
-            Meaning::BadToken => Err(SourceErrorKind::BadToken),
-            Meaning::NumberRange => Err(SourceErrorKind::NumberRange),
             _ => Err(SourceErrorKind::BadNode),
         }
     }
@@ -191,12 +187,11 @@ impl Parser {
         ensures { Took (state_of self.old) (meaning_of token.now) result (state_of self.new) }
     {
         match *token {
-            Meaning::Number(number) if number.get() < 0x400 => {
+            Meaning::Number(number) if number.get() < u32::from(dest_bound(0)) => {
                 self.add_transfer(op, Value::Number(number))
             }
             Meaning::Number(_) => Err(SourceErrorKind::NumberRange),
             Meaning::Name(name) => self.add_transfer(op, Value::Label(name_of(name))),
-            Meaning::NumberRange => Err(SourceErrorKind::NumberRange),
             _ => Err(SourceErrorKind::BadToken),
         }
     }
@@ -223,7 +218,6 @@ impl Parser {
         match *token {
             Meaning::Number(number) => self.add_plain(Value::Number(number)),
             Meaning::Name(name) => self.add_plain(Value::Label(name_of(name))),
-            Meaning::NumberRange => Err(SourceErrorKind::NumberRange),
             _ => Err(SourceErrorKind::BadToken),
         }
     }
@@ -244,7 +238,7 @@ impl Parser {
                     self.position = Position::BehindDestOp(op);
                     return Ok(());
                 }
-                if slot < 3 || slot == 3 && op.fits_slot3() {
+                if op_fits(slot, op) {
                     self.ops.push(op);
                     return Ok(());
                 }
@@ -268,21 +262,14 @@ impl Parser {
     {
         match *token {
             Meaning::Number(number) => {
-                let bound = match self.ops.len() {
-                    0 => 0x400,
-                    1 => 0x100,
-                    _ => 8,
-                };
-                if number.get() >= bound {
+                if number.get() >= u32::from(dest_bound(self.ops.len())) {
                     return Err(SourceErrorKind::BadWord);
                 }
-                self.dest = Value::Number(number);
-                self.position = Position::BehindDest(op);
+                self.position = Position::BehindDest(op, Value::Number(number));
                 Ok(())
             }
             Meaning::Name(name) => {
-                self.dest = Value::Label(name_of(name));
-                self.position = Position::BehindDest(op);
+                self.position = Position::BehindDest(op, Value::Label(name_of(name)));
                 Ok(())
             }
             _ => Err(bracket_fault(token)),
@@ -290,8 +277,13 @@ impl Parser {
     }
 
     // In brackets, behind a destination.
-    fn take_behind_dest(&mut self, op: Op, token: &Meaning<'_>) -> Result<(), SourceErrorKind>
-        requires position { self.old.position ≡ at.BehindDest op }
+    fn take_behind_dest(
+        &mut self,
+        op: Op,
+        dest: Value,
+        token: &Meaning<'_>,
+    ) -> Result<(), SourceErrorKind>
+        requires position { self.old.position ≡ at.BehindDest op dest }
         requires code { part_of self.old.part ≡ Code 0 }
         ensures { Took (state_of self.old) (meaning_of token.now) result (state_of self.new) }
     {
@@ -300,10 +292,10 @@ impl Parser {
                 if !self.ops.is_empty() {
                     return Err(SourceErrorKind::BadWord);
                 }
-                self.position = Position::BehindSlash(op);
+                self.position = Position::BehindSlash(op, dest);
                 Ok(())
             }
-            Meaning::CloseMark => self.close(op, None),
+            Meaning::CloseMark => self.close(op, dest, None),
             _ => Err(bracket_fault(token)),
         }
     }
@@ -313,30 +305,35 @@ impl Parser {
         requires code { part_of self.old.part ≡ Code 0 }
         ensures { Answered (machine.with_part (inside_of self.old) (Word self.old.ops.items)) result (state_of self.new) }
     {
-        let owed = followers(&self.ops);
+        let owed = followers_of(&self.ops);
         let ops = std::mem::replace(&mut self.ops, ArrayVec::new());
         self.add(Item::Word(ops), Part::Code(owed))
     }
 
     // A bracketed word with a destination is whole.
-    fn close(&mut self, op: Op, spare: Option<u8>) -> Result<(), SourceErrorKind>
+    fn close(&mut self, op: Op, dest: Value, spare: Option<u8>) -> Result<(), SourceErrorKind>
         requires code { part_of self.old.part ≡ Code 0 }
-        ensures { Answered (machine.with_part (inside_of self.old) (WordTo self.old.ops.items op (value_of self.old.dest) spare)) result (state_of self.new) }
+        ensures { Answered (machine.with_part (inside_of self.old) (WordTo self.old.ops.items op (value_of dest) spare)) result (state_of self.new) }
     {
-        let owed = followers(&self.ops);
+        let owed = followers_of(&self.ops);
         let ops = std::mem::replace(&mut self.ops, ArrayVec::new());
-        let item = word_to(self.alloc, ops, op, self.dest, spare)?;
+        let item = word_to(self.alloc, ops, op, dest, spare)?;
         self.add(item, Part::Code(owed))
     }
 
     // In brackets, behind `/`.
-    fn take_spare(&mut self, op: Op, token: &Meaning<'_>) -> Result<(), SourceErrorKind>
-        requires position { self.old.position ≡ at.BehindSlash op }
+    fn take_spare(
+        &mut self,
+        op: Op,
+        dest: Value,
+        token: &Meaning<'_>,
+    ) -> Result<(), SourceErrorKind>
+        requires position { self.old.position ≡ at.BehindSlash op dest }
         ensures { Took (state_of self.old) (meaning_of token.now) result (state_of self.new) }
     {
         match *token {
             Meaning::Number(spare) if spare.get() < 8 => {
-                self.position = Position::BehindSpare(op, spare.get() as u8);
+                self.position = Position::BehindSpare(op, dest, spare.get() as u8);
                 Ok(())
             }
             Meaning::Number(_) => Err(SourceErrorKind::BadWord),
@@ -345,13 +342,19 @@ impl Parser {
     }
 
     // In brackets, behind spare bits.
-    fn take_close(&mut self, op: Op, spare: u8, token: &Meaning<'_>) -> Result<(), SourceErrorKind>
-        requires position { self.old.position ≡ at.BehindSpare op spare }
+    fn take_close(
+        &mut self,
+        op: Op,
+        dest: Value,
+        spare: u8,
+        token: &Meaning<'_>,
+    ) -> Result<(), SourceErrorKind>
+        requires position { self.old.position ≡ at.BehindSpare op dest spare }
         requires code { part_of self.old.part ≡ Code 0 }
         ensures { Took (state_of self.old) (meaning_of token.now) result (state_of self.new) }
     {
         match *token {
-            Meaning::CloseMark => self.close(op, Some(spare)),
+            Meaning::CloseMark => self.close(op, dest, Some(spare)),
             _ => Err(bracket_fault(token)),
         }
     }
@@ -443,8 +446,6 @@ impl Parser {
         ensures { Took (state_of self.old) (meaning_of token.now) result (state_of self.new) }
     {
         match *token {
-            Meaning::BadToken => Err(SourceErrorKind::BadToken),
-            Meaning::NumberRange => Err(SourceErrorKind::NumberRange),
             Meaning::Node => {
                 if !self.has_word {
                     return Err(SourceErrorKind::Empty);
@@ -506,6 +507,7 @@ impl Parser {
     pub(crate) fn take(&mut self, token: &Meaning<'_>) -> Result<(), SourceErrorKind>
         requires good { Good (state_of self.old) }
         requires consistent { IsConsistent (state_of self.old) }
+        requires empty { self.old.position ≡ at.Nothing → self.old.sections.entries ≡ [] }
         requires short { IsShort (meaning_of token.now) }
         ensures { Took (state_of self.old) (meaning_of token.now) result (state_of self.new) }
     {
@@ -517,32 +519,52 @@ impl Parser {
             Position::BehindComma => self.take_plain(token),
             Position::InWord => self.take_slot(token),
             Position::BehindDestOp(op) => self.take_field(op, token),
-            Position::BehindDest(op) => self.take_behind_dest(op, token),
-            Position::BehindSlash(op) => self.take_spare(op, token),
-            Position::BehindSpare(op, spare) => self.take_close(op, spare, token),
-            Position::Finished => Err(SourceErrorKind::BadToken),
+            Position::BehindDest(op, dest) => self.take_behind_dest(op, dest, token),
+            Position::BehindSlash(op, dest) => self.take_spare(op, dest, token),
+            Position::BehindSpare(op, dest, spare) => self.take_close(op, dest, spare, token),
         }
     }
 
-    /// Takes the text's end, or refuses it.
-    pub(crate) fn finish(&mut self) -> Result<(), SourceErrorKind>
+    /// Takes the text of a token, which stands behind the token `node` or not, or refuses it. It tells whether
+    /// the token is `node`.
+    pub(crate) fn take_text(
+        &mut self,
+        is_behind_node: bool,
+        text: &[u8],
+    ) -> Result<bool, SourceErrorKind>
+        requires good { Good (state_of self.old) }
         requires consistent { IsConsistent (state_of self.old) }
-        ensures { Took (state_of self.old) end result (state_of self.new) }
+        requires empty { self.old.position ≡ at.Nothing → self.old.sections.entries ≡ [] }
+        ensures taken { Took (state_of self.old) (model.meaning_at is_behind_node text.now) result (state_of self.new) }
+        ensures node { IfOk result (λ is_node. is_node ≡ token.is_node (model.meaning_at is_behind_node text.now)) }
     {
-        match self.position {
+        match meaning_at(is_behind_node, text) {
+            Ok(meaning) => {
+                self.take(&meaning)?;
+                Ok(matches!(meaning, Meaning::Node))
+            }
+            Err(kind) => Err(kind),
+        }
+    }
+
+    /// The sections of the text, which ends here, or its fault.
+    pub(crate) fn finish(self) -> Result<IndexMap<Node, Section>, SourceErrorKind>
+        requires consistent { IsConsistent (state_of self) }
+        ensures ok { IfOk result (λ sections. machine.take (state_of self) end ≡ Ok (finished (map section_of sections.entries))) }
+        ensures err { IfErr result (λ kind. RefusedAs (machine.take (state_of self) end) (kind_of kind)) }
+    {
+        let mut parser = self;
+        match parser.position {
             Position::Nothing => Err(SourceErrorKind::NoNode),
             Position::Naming => Err(SourceErrorKind::BadNode),
             Position::Between => {
-                if !self.has_word {
+                if !parser.has_word {
                     return Err(SourceErrorKind::Empty);
                 }
-                self.end_section()?;
-                self.position = Position::Finished;
-                Ok(())
+                parser.end_section()?;
+                Ok(parser.sections)
             }
-            Position::BehindOp(_) | Position::BehindComma | Position::Finished => {
-                Err(SourceErrorKind::BadToken)
-            }
+            Position::BehindOp(_) | Position::BehindComma => Err(SourceErrorKind::BadToken),
             _ => Err(SourceErrorKind::OpenBracket),
         }
     }
@@ -559,37 +581,11 @@ fn name_of(text: &str) -> Name
     }
 }
 
-// `@p` and `!p` have a follower.
-fn is_followed(op: Op) -> bool
-    ensures { result ≡ counted.is_followed op }
-{
-    matches!(op, Op::FetchP | Op::StoreP)
-}
-
-// The `@p` and `!p` up to the first opcode that ends the word.
-fn followers(ops: &[Op]) -> u32
-    requires { length ops.now ≤ 4 }
-    ensures { result ≡ counted.followers ops.now }
-{
-    let mut count = 0;
-    for op in ops {
-        if op.ends_word() {
-            return count;
-        }
-        if is_followed(*op) {
-            count += 1;
-        }
-    }
-    count
-}
-
 // The fault of a token that may not stand in brackets.
 fn bracket_fault(token: &Meaning<'_>) -> SourceErrorKind
     ensures { kind_of result ≡ Some (faults.bracket_fault (meaning_of token.now)) }
 {
     match *token {
-        Meaning::BadToken => SourceErrorKind::BadToken,
-        Meaning::NumberRange => SourceErrorKind::NumberRange,
         Meaning::OpenMark => SourceErrorKind::OpenBracket,
         _ => SourceErrorKind::BadWord,
     }

@@ -3,14 +3,11 @@ ghost use Rattle.std.specs.Prelude.{◌≡◌, IfErr, IfOk, List, [], map};
 ghost use Rattle.ga_pack.specs.Model.Program.{IsProgram, PlacedSection, placed_sections};
 ghost use Rattle.ga_pack.specs.Model.Source.{Sections};
 ghost use Rattle.ga_pack.specs.Model.Text.{places_of};
-ghost use Rattle.ga_pack.specs.Model.Token as token;
 ghost use Rattle.ga_source.specs.Error.{error_place, kind_of};
 ghost use Rattle.ga_source.specs.Section.{section_of};
-ghost use Rattle.ga_source.specs.Meaning.{meaning_of};
 ghost use Rattle.ga_source.specs.Program.{HasNoProgram, IsFirstFault, IsRight, IsTold, sections_in};
 
 use crate::error::{SourceError, SourceErrorKind};
-use crate::meaning::{Meaning, meaning_at};
 use crate::parser::Parser;
 use crate::places::token_place;
 use crate::section::Section;
@@ -65,26 +62,16 @@ pub fn parse(alloc: Global, text: &str) -> Result<Program<'_>, SourceError>
     let mut is_behind_node = false;
     let mut taken = 0;
     for run in Texts::new(text) {
-        let meaning = meaning_at(is_behind_node, run);
-        if let Err(kind) = parser.take(&meaning) {
-            return Err(fault_at(alloc, text, taken, kind));
+        match parser.take_text(is_behind_node, run) {
+            Ok(is_node) => is_behind_node = is_node,
+            Err(kind) => return Err(fault_at(alloc, text, taken, kind)),
         }
-        is_behind_node = is_node(&meaning);
         taken += 1;
     }
     match parser.finish() {
-        Ok(()) => Ok(Program {
-            text,
-            sections: parser.sections,
-        }),
+        Ok(sections) => Ok(Program { text, sections }),
         Err(kind) => Err(fault_at(alloc, text, taken, kind)),
     }
-}
-
-fn is_node(meaning: &Meaning<'_>) -> bool
-    ensures { result ≡ token.is_node (meaning_of meaning.now) }
-{
-    matches!(*meaning, Meaning::Node)
 }
 
 // The fault of a token, by its number from 0, or of the text's end.

@@ -10,10 +10,11 @@ use Rattle.std.specs.Option.{unwrap_or}
 use Rattle.std.specs.Str.{bytes_eq}
 use Rattle.ga_word.specs.declared.op.Op.{Op}
 use Rattle.ga_word.specs.declared.op.Op.TheVariants.{FetchP, Micronext, Nop}
-use Rattle.ga_word.specs.Op.{ends_word, fits_slot3}
+use Rattle.ga_word.specs.Op.{ends_word}
 use Rattle.ga_word.specs.Word.{bits}
 use Rattle.ga_pack.specs.Followers.{is_followed}
-use Rattle.ga_pack.specs.Model.Source.{Value, Number, Label, Item, Instruction, Transfer, Literal, Here, Word, WordTo, Plain, Data, dest_bound, is_among, makes_word}
+use Rattle.ga_pack.specs.Slots.{dest_bound, op_fits}
+use Rattle.ga_pack.specs.Model.Source.{Value, Number, Label, Item, Instruction, Transfer, Literal, Here, Word, WordTo, Plain, Data, is_among, makes_word}
 use Rattle.ga_pack.specs.Reading.{Reads}
 
 -- ---- labels
@@ -89,10 +90,6 @@ reaches slot p dest = (slot == 0) || ((slot == 1) && nat_lt dest 0x100) || ((slo
 abbrev pub may_reach : ℕ → ℕ → Option ℕ → Bool
 may_reach slot p (Some dest) = reaches slot p dest
 may_reach slot p None = nat_lt slot 2
-
--- an opcode without destination fits slots 0 to 2, and slot 3 where the lower two bits of its code are 0
-abbrev pub op_fits : ℕ → Op → Bool
-op_fits slot o = nat_lt slot 3 || ((slot == 3) && fits_slot3 o)
 
 abbrev pub is_unext : Op → Bool
 is_unext Micronext = true

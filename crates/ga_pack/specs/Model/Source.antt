@@ -6,8 +6,9 @@ use Rattle.std.specs.Prelude.{◌≡◌, ◌==◌, ◌&&◌, ◌||◌, ℕ, zero
 use Rattle.std.specs.List.{list_any}
 use Rattle.std.specs.Str.{bytes_eq}
 use Rattle.ga_word.specs.declared.op.Op.{Op}
-use Rattle.ga_word.specs.Op.{fits_slot3, takes_dest}
+use Rattle.ga_word.specs.Op.{takes_dest}
 use Rattle.ga_pack.specs.Followers.{followers, is_followed}
+use Rattle.ga_pack.specs.Slots.{dest_bound, op_fits}
 use Rattle.ga_pack.specs.Model.Token.{Token, op, number, name, label, node, node_name, align, data_part, open_mark, close_mark, comma, slash, end}
 use Rattle.ga_pack.specs.Model.Meaning.{is_reserved}
 
@@ -81,14 +82,10 @@ abbrev pub is_below : ℕ → Value → Bool
 is_below bound (Number n) = nat_lt n bound
 is_below bound (Label s) = true
 
--- opcodes without destination in the slots of a word, from one on: slot 3 takes those that fit it
+-- opcodes without destination in the slots of a word, from one on
 abbrev pub stand_from : ℕ → List Op → Bool
 stand_from slot [] = true
-stand_from slot (o ∷ ops) = not (takes_dest o) && (nat_lt slot 3 || ((slot == 3) && fits_slot3 o)) && stand_from (suc slot) ops
-
--- a destination has ten bits behind slot 0, eight behind slot 1, and three behind slot 2
-abbrev pub dest_bound : ℕ → ℕ
-dest_bound slot = if slot == 0 then 2 ^ 10 else if slot == 1 then 2 ^ 8 else 2 ^ 3
+stand_from slot (o ∷ ops) = not (takes_dest o) && op_fits slot o && stand_from (suc slot) ops
 
 -- only a destination in slot 0 leaves spare bits, three of them
 abbrev pub is_spare : ℕ → Option ℕ → Bool

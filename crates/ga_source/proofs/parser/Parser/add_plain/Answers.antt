@@ -1,7 +1,7 @@
 use Rattle.std.proofs.Common.{◌≡◌, Some}
 use Rattle.ga_pack.specs.Model.Source.{Plain, part_after}
 use Rattle.ga_source.specs.Item.{value_of}
-use Rattle.ga_source.specs.Parser.{state_of, inside_of, part_of}
+use Rattle.ga_source.specs.inner.Parser.{state_of, inside_of, part_of}
 use Rattle.ga_source.proofs.ParserSteps.{answered_added, plain_data, plain_owed}
 use Rattle.ga_source.proofs.parser.Parser.add_plain.Goals as goal
 use Rattle.ga_source.proofs.parser.Parser.add_plain.Goals.{in-Code, in-Data}

@@ -1,6 +1,6 @@
 use Rattle.std.proofs.Common.{subst}
-use Rattle.ga_source.specs.Machine.{Good}
-use Rattle.ga_source.specs.Parser.{at_position}
+use Rattle.ga_source.specs.inner.Machine.{Good}
+use Rattle.ga_source.specs.inner.Parser.{at_position}
 use Rattle.ga_source.proofs.ParserSteps.{owed_more}
 use Rattle.ga_source.proofs.parser.Parser.take.Goals as goal
 

@@ -1,6 +1,6 @@
 use Rattle.std.proofs.Common.{◌∙◌}
-use Rattle.ga_source.specs.Meaning.{meaning_of}
-use Rattle.ga_source.specs.Parser.{inside_of, state_of}
+use Rattle.ga_source.specs.inner.Meaning.{meaning_of}
+use Rattle.ga_source.specs.inner.Parser.{inside_of, state_of}
 use Rattle.ga_source.proofs.ParserSteps.{some_owed}
 use Rattle.ga_source.proofs.parser.Parser.take_item.Goals as goal
 

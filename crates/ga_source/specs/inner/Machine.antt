@@ -1,13 +1,14 @@
 -- The parser as a machine that takes one token at a time.
-use Rattle.std.specs.Prelude.{◌≡◌, ◌==◌, ◌&&◌, ◌||◌, ◌^◌, ℕ, zero, suc, true, false, List, [], ◌∷◌, ◌++◌, length, nat_lt, Some, None, Result, Ok, Err, if◌then◌else◌}
+use Rattle.std.specs.Prelude.{◌≡◌, ◌==◌, ◌^◌, ℕ, zero, suc, true, false, List, [], ◌∷◌, ◌++◌, length, nat_lt, Some, None, Result, Ok, Err, if◌then◌else◌}
 use Rattle.ga_word.specs.declared.op.Op.{Op}
-use Rattle.ga_word.specs.Op.{fits_slot3, takes_dest}
+use Rattle.ga_word.specs.Op.{takes_dest}
 use Rattle.ga_pack.specs.Followers.{is_followed}
 use Rattle.ga_pack.specs.Model.Token.{SourceKind, BadToken, NumberRange, BadNode, DuplicateNode, DuplicateLabel, ReservedLabel, BadWord, NoNode, Empty, Token, op, number, name, label, node, node_name, align, data_part, open_mark, close_mark, comma, slash, bad, end}
 use Rattle.ga_pack.specs.Model.Layout.{names_in}
 use Rattle.ga_pack.specs.Model.Meaning.{is_reserved}
-use Rattle.ga_pack.specs.Model.Source.{Value, Number, Label, Item, Instruction, Transfer, Literal, Here, Align, Word, WordTo, Plain, Data, Section, Part, Code, Behind, Before, start, after, part_after, stand_from, is_among, is_below, is_named, dest_bound}
+use Rattle.ga_pack.specs.Model.Source.{Value, Number, Label, Item, Instruction, Transfer, Literal, Here, Align, Word, WordTo, Plain, Data, Section, Part, Code, Behind, Before, start, after, part_after, stand_from, is_among, is_below, is_named}
 use Rattle.ga_pack.specs.Model.SourceFault.{bracket_fault, value_fault}
+use Rattle.ga_pack.specs.Slots.{dest_bound, op_fits}
 
 -- where the parser stands inside an item: what it has read of it
 pub data At : Type 0 where
@@ -86,7 +87,7 @@ take_between c t = take_first c.before.part c t
 abbrev pub take_slot : Inside → List Op → Op → Result State SourceKind
 take_slot c ops o =
     if takes_dest o then (if nat_lt (length ops) 3 then Ok (inside c (behind_dest_op ops o)) else Err BadWord)
-    else if nat_lt (length ops) 3 || ((length ops == 3) && fits_slot3 o) then Ok (inside c (in_word (ops ++ o ∷ []))) else Err BadWord
+    else if op_fits (length ops) o then Ok (inside c (in_word (ops ++ o ∷ []))) else Err BadWord
 
 -- the answer to a token
 abbrev pub take : State → Token → Result State SourceKind

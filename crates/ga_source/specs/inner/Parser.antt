@@ -10,7 +10,7 @@ use Rattle.ga_source.specs.declared.parser.Position.TheVariants as position
 use Rattle.ga_source.specs.Error.{kind_of}
 use Rattle.ga_source.specs.Item.{item_of, value_of}
 use Rattle.ga_source.specs.Section.{section_of}
-use Rattle.ga_source.specs.Machine.{Inside, State, nothing, naming, inside, finished, between, behind_op, behind_comma, in_word, behind_dest_op, behind_dest, behind_slash, behind_spare, take}
+use Rattle.ga_source.specs.inner.Machine.{Inside, State, nothing, naming, inside, between, behind_op, behind_comma, in_word, behind_dest_op, behind_dest, behind_slash, behind_spare, take}
 use Rattle.ga_pack.specs.Model.Token.{SourceKind, Token}
 use Rattle.ga_pack.specs.Model.Source.{Section, Part, Code, Behind}
 
@@ -38,10 +38,9 @@ at_position (position.BehindOp o) p = inside (inside_of p) (behind_op o)
 at_position position.BehindComma p = inside (inside_of p) behind_comma
 at_position position.InWord p = inside (inside_of p) (in_word p.ops.items)
 at_position (position.BehindDestOp o) p = inside (inside_of p) (behind_dest_op p.ops.items o)
-at_position (position.BehindDest o) p = inside (inside_of p) (behind_dest p.ops.items o (value_of p.dest))
-at_position (position.BehindSlash o) p = inside (inside_of p) (behind_slash p.ops.items o (value_of p.dest))
-at_position (position.BehindSpare o k) p = inside (inside_of p) (behind_spare p.ops.items o (value_of p.dest) k)
-at_position position.Finished p = finished (done_of p)
+at_position (position.BehindDest o v) p = inside (inside_of p) (behind_dest p.ops.items o (value_of v))
+at_position (position.BehindSlash o v) p = inside (inside_of p) (behind_slash p.ops.items o (value_of v))
+at_position (position.BehindSpare o v k) p = inside (inside_of p) (behind_spare p.ops.items o (value_of v) k)
 
 abbrev pub state_of : written.Parser → State
 state_of p = at_position p.position p
