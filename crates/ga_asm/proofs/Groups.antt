@@ -18,8 +18,8 @@ use Rattle.ga_pack.proofs.Packable.{packable}
 use Rattle.ga_source.specs.declared.item.Item as an
 use Rattle.ga_source.specs.Item.{item_of}
 use Rattle.ga_asm.specs.Image.{labels_of}
-use Rattle.ga_asm.specs.Layout.{Placing, count_of, data_at, plain}
-use Rattle.ga_asm.specs.Making.{IsGroup, IsGroupBy, IsMade, IsPackable, Making, MoreWords}
+use Rattle.ga_asm.specs.inner.Layout.{Placing, count_of, data_at, plain}
+use Rattle.ga_asm.specs.inner.Making.{IsGroup, IsGroupBy, IsMade, IsPackable, Making, MoreWords}
 use Rattle.ga_asm.specs.declared.layout.Layout as the
 use Rattle.ga_asm.proofs.MakingSteps.{plain_length}
 use Rattle.ga_asm.proofs.Summary.{code_is, code_within, ops_length}

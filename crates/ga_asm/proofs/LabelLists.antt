@@ -10,7 +10,7 @@ use Rattle.indexmap.specs.IndexMap.{insert_entry}
 use Rattle.ga_pack.specs.Model.Layout.{Labels, address_of}
 use Rattle.ga_pack.specs.Model.Source.{is_among}
 use Rattle.ga_asm.specs.Image.{all_near, entry_of, labels_of}
-use Rattle.ga_asm.specs.Layout.{names_of}
+use Rattle.ga_asm.specs.inner.Layout.{names_of}
 
 pub lookup_labels : {A : Type 0} (name : List ℕ) (entries : List (String A × ℕ)) → lookup (λ k. bytes_eq name (string_bytes k)) entries ≡ address_of (labels_of entries) name
 lookup_labels name [] = refl

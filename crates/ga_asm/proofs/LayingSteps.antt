@@ -5,6 +5,7 @@ use Rattle.std.proofs.lemmas.Bool.{and_from, le-leb}
 use Rattle.std.proofs.lemmas.Grind.{common_steps}
 use Rattle.std.proofs.lemmas.List.Folds.{list_all-append, list_any-append}
 use Rattle.std.specs.Prelude.{◌&&◌, ◌||◌, nat_le}
+use Rattle.std.specs.Option.{option_map}
 use Rattle.std.specs.Str.{bytes_eq}
 use Rattle.ga_pack.specs.Model.Layout.{Labels, Arranged, address_after, labels_after, names_in}
 use Rattle.ga_pack.specs.Model.LayoutFault.{AsmKind, Judged, Passed, fault_at, fault_behind, joins_last, words_added}
@@ -14,7 +15,7 @@ use Rattle.ga_source.specs.declared.item.Item as an
 use Rattle.ga_source.specs.Item.{item_of}
 use Rattle.ga_source.specs.Name.{NameText}
 use Rattle.ga_asm.specs.Image.{all_near, labels_of}
-use Rattle.ga_asm.specs.Layout.{AreAmong, IsBlank, IsFirstPassFault, IsRefusal, Laying, Placing, closed_counts, counts_after, data_after, data_at, joins_open, labels_with, names_of, open_after, open_at, open_count, open_if, open_of, plain, plain_names}
+use Rattle.ga_asm.specs.inner.Layout.{AreAmong, IsBlank, IsFirstPassFault, IsRefusal, Laying, Placing, closed_counts, counts_after, data_after, data_at, joins_open, labels_with, names_of, open_after, open_at, open_count, open_of, plain, plain_names}
 use Rattle.ga_asm.specs.declared.layout.Layout as the
 use Rattle.ga_asm.proofs.RightItems.{items_new}
 use Rattle.ga_asm.proofs.Summary.{address_add, counts_add, counts_closed, data_add, joins_is, labels_add, open_add}
@@ -71,7 +72,6 @@ pub record Step (x : Item) (joined : Bool) (l m : the.Layout) : Type 0 where
   pub word : open_of m ≡ open_after joined (open_of l) l.address x
   pub counts : m.counts.items ≡ counts_after joined (open_of l) l.counts.items x
   pub data_start : m.data_start ≡ data_after l.data_start l.address x
-  pub near : m.word ≤ 64
 
 pub laying_next : (names : List (List ℕ)) (before : List Item) (l m : the.Layout) (x : Item) → Laying names before l
     → fault_at names (labels_of l.labels.entries) l.address (joins_open (labels_of l.labels.entries) (open_of l) x) x ≡ None
@@ -109,7 +109,6 @@ laying_next names before l m x laying none step =
           step.data_start ∙ ap (λ t. data_after t l.address x) laying.data_is ∙ ap (λ t. data_after (data_at 0 groups) t x) laying.address_is
           ∙ sym (data_add [] 0 groups x);
       few = omega arith;
-      near = step.near;
       labels_near = ap all_near step.labels ∙ near_with (labels_of l.labels.entries) l.address x laying.few laying.labels_near;
     }
 
@@ -186,7 +185,6 @@ pub laying_none : (names : List (List ℕ)) (l : the.Layout) → IsBlank l → L
 unfolding Arranged Passed
 laying_none names l blank =
     let address = blank.address in
-    let word = blank.word in
     record {
       groups = [];
       stand_in = record { in_order = refl; arranged = tt };
@@ -194,15 +192,14 @@ laying_none names l blank =
       labels_are = ap labels_of blank.labels;
       names_are = ap (λ t. names_of (labels_of t)) blank.labels;
       address_is = address;
-      open_is = ap (λ t. open_if t l.word l.slots.ops.items) blank.closed;
+      open_is = ap (option_map (λ word. (word.address, word.ops.items))) blank.closed;
       counts_are = blank.counts;
       data_is = blank.data_start;
       few = omega arith;
-      near = omega arith;
       labels_near = ap (λ t. all_near (labels_of t)) blank.labels;
     }
 
-pub laying_all : (items : List Item) (l m : the.Layout) → Laying (names_in items) items l → m ≡ record l { is_open = false; counts = m.counts } → m.counts.items ≡ l.counts.items ++ open_count (open_of l) → Placing items m
+pub laying_all : (items : List Item) (l m : the.Layout) → Laying (names_in items) items l → m ≡ record l { open_word = None; counts = m.counts } → m.counts.items ≡ l.counts.items ++ open_count (open_of l) → Placing items m
 laying_all items l m laying same counts =
     let labels : m.labels.entries ≡ l.labels.entries = ap (λ t. t.labels.entries) same in
     let address : m.address ≡ l.address = ap (λ t. t.address) same in

@@ -12,8 +12,8 @@ use Rattle.ga_word.specs.Op.{takes_dest}
 use Rattle.std.proofs.lemmas.Bool.{and_parts, ltb-true}
 use Rattle.ga_source.specs.declared.item.Item as an
 use Rattle.ga_source.specs.Item.{item_of}
-use Rattle.ga_asm.specs.Layout.{plain}
-use Rattle.ga_asm.specs.Making.{IsGroup, IsGroupBy, IsPackable, MoreWords, item_dest}
+use Rattle.ga_asm.specs.inner.Layout.{plain}
+use Rattle.ga_asm.specs.inner.Making.{IsGroup, IsGroupBy, IsPackable, MoreWords, item_dest}
 
 -- ---- a word
 

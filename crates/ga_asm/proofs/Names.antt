@@ -8,7 +8,7 @@ use Rattle.std.specs.Prelude.{◌||◌, if◌then◌else◌}
 use Rattle.std.specs.List.{list_any}
 use Rattle.std.specs.Str.{bytes_eq}
 use Rattle.ga_pack.specs.Model.Source.{is_among}
-use Rattle.ga_asm.specs.Layout.{AreSameNames}
+use Rattle.ga_asm.specs.inner.Layout.{AreSameNames}
 
 -- a test of mapped elements
 pub list_any_map : {X Y : Type 0} (p : Y → Bool) (f : X → Y) (xs : List X) → list_any p (map f xs) ≡ list_any (λ x. p (f x)) xs

@@ -6,7 +6,7 @@ use Rattle.std.specs.List.{list_all, list_any}
 use Rattle.ga_pack.specs.Model.Layout.{Group, Shared, Alone, address_after, items_of, names_in, size}
 use Rattle.ga_pack.specs.Model.Source.{Before, Item, Instruction, Transfer, Literal, Here, Align, Word, WordTo, Plain, Data, Items, after, is_item, is_new, labels_with, makes_word, start}
 use Rattle.ga_source.specs.declared.item.Item as an
-use Rattle.ga_asm.specs.Layout.{plain}
+use Rattle.ga_asm.specs.inner.Layout.{plain}
 use Rattle.ga_asm.proofs.ByCases.{on_test}
 
 -- each is right by itself

@@ -21,8 +21,8 @@ use Rattle.ga_source.specs.Token.{place_of}
 use Rattle.ga_source.specs.Program.{IsRight as IsRightProgram}
 use Rattle.ga_asm.specs.Assembling.{HasNoFault, IsAssembled, IsFaultless, IsFirstFault, IsNodeFault, IsPlaceOf, IsTold}
 use Rattle.ga_asm.specs.Image.{Fits, ImageView, IsImage, entry_of, labels_of}
-use Rattle.ga_asm.specs.Layout.{Placing, plain}
-use Rattle.ga_asm.specs.Making.{IsMade}
+use Rattle.ga_asm.specs.inner.Layout.{Placing, plain}
+use Rattle.ga_asm.specs.inner.Making.{IsMade}
 use Rattle.ga_asm.specs.declared.layout.Layout as the
 use Rattle.ga_asm.proofs.LabelLists.{near_entry}
 use Rattle.ga_asm.proofs.RightItems.{items_word, words_some}

@@ -8,7 +8,7 @@ use Rattle.ga_pack.specs.Model.LayoutFault.{joins_last, words_added}
 use Rattle.ga_pack.specs.Model.Source.{Item, Instruction, Transfer, Literal, Here, Align, Word, WordTo, Plain, Data}
 use Rattle.ga_pack.proofs.OneLayout.{joins_loose}
 use Rattle.ga_pack.proofs.Placed.{add, fresh}
-use Rattle.ga_asm.specs.Layout.{Open, closed_counts, count_of, counts_after, data_after, data_at, is_data, joins_open, labels_with, open_after, open_at, open_count}
+use Rattle.ga_asm.specs.inner.Layout.{Open, closed_counts, count_of, counts_after, data_after, data_at, is_data, joins_open, labels_with, open_after, open_at, open_count}
 use Rattle.ga_asm.proofs.ByCases.{on_test}
 
 -- ---- what joins

@@ -1,6 +1,5 @@
 pub mod Error
 pub mod Image
-pub mod Layout
-pub mod Making
 pub mod Assembling
 pub mod Text
+pub mod inner

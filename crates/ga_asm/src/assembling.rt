@@ -1,18 +1,19 @@
 //! The images of a program.
-ghost use Rattle.std.specs.Prelude.{◌≡◌, ◌<◌, ℕ, ◌++◌, ◌∷◌, [], IfErr, IfOk, List, OnOk, false, length, map};
+ghost use Rattle.std.specs.Prelude.{◌≡◌, ◌<◌, ℕ, ◌++◌, ◌∷◌, [], IfErr, IfOk, List, None, OnOk, false, length, map};
 ghost use Rattle.ga_pack.specs.Model.Source.{Items, is_named, start};
 ghost use Rattle.ga_source.specs.Program.{items_at};
 ghost use Rattle.ga_source.specs.Token.{place_of};
 ghost use Rattle.ga_asm.specs.Assembling.{HasNoFault, IsAssembled, IsFaultless, IsFirstFault, IsNodeFault, IsPlaceOf, IsTold};
 ghost use Rattle.ga_asm.specs.Error.{error_place, kind_of};
 ghost use Rattle.ga_asm.specs.Image.{ImageView};
-ghost use Rattle.ga_asm.specs.Layout.{plain};
+ghost use Rattle.ga_asm.specs.inner.Layout.{plain};
 ghost use Rattle.ga_asm.specs.declared.error.AsmErrorKind.TheVariants.{Memory};
 
 use crate::error::{AsmError, AsmErrorKind};
 use crate::image::Image;
-use crate::layout::{Refusal, address_of, first_pass};
+use crate::layout::{Refusal, first_pass};
 use crate::making::second_pass;
+use crate::reach::address_of;
 use ga_place::Node;
 use ga_source::{Place, Program, Section};
 use indexmap::IndexMap;
@@ -103,19 +104,29 @@ fn error_at(
     ensures node { result.node ≡ node }
     ensures told { IsTold (items_at program.now section) refusal.at (kind_of refusal.kind) (kind_of result.kind) (error_place result) }
 {
-    match fault_place(alloc, program, section, refusal.at) {
-        Ok(place) => AsmError {
-            kind: refusal.kind,
-            node,
-            line: place.line,
-            column: place.column,
-        },
-        Err(_) => AsmError {
-            kind: AsmErrorKind::Memory,
-            node,
-            line: 1,
-            column: 1,
-        },
+    if refusal.kind != AsmErrorKind::Memory {
+        if let Ok(place) = fault_place(alloc, program, section, refusal.at) {
+            return AsmError {
+                kind: refusal.kind,
+                node,
+                line: place.line,
+                column: place.column,
+            };
+        }
+    }
+    no_memory(node)
+}
+
+// Memory was refused: the place says nothing.
+fn no_memory(node: Node) -> AsmError
+    ensures kind { kind_of result.kind ≡ None }
+    ensures node { result.node ≡ node }
+{
+    AsmError {
+        kind: AsmErrorKind::Memory,
+        node,
+        line: 1,
+        column: 1,
     }
 }
 
@@ -141,9 +152,8 @@ pub fn assemble(alloc: Global, program: &Program<'_>) -> Result<Images, AsmError
             Ok(image) => image,
             Err(refusal) => return Err(error_at(alloc, program, before, *node, refusal)),
         };
-        if let Err(kind) = add_image(&mut images, *node, image) {
-            let refusal = Refusal { at: 0, kind };
-            return Err(error_at(alloc, program, before, *node, refusal));
+        if let Err(_) = add_image(&mut images, *node, image) {
+            return Err(no_memory(*node));
         }
     }
     Ok(Images { images })

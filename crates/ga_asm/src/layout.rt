@@ -6,17 +6,19 @@ ghost use Rattle.ga_pack.specs.Model.Layout.{names_in};
 ghost use Rattle.ga_pack.specs.Model.LayoutFault as faults;
 ghost use Rattle.ga_pack.specs.Model.Source.{Items, start};
 ghost use Rattle.ga_pack.specs.Model.Source as words;
-ghost use Rattle.ga_pack.specs.Followers as counted;
-ghost use Rattle.ga_source.specs.Item.{item_of, value_of, word_of};
+ghost use Rattle.std.specs.Option.{option_map};
+ghost use Rattle.ga_source.specs.Item.{item_of, value_of};
 ghost use Rattle.ga_asm.specs.Error.{kind_of};
 ghost use Rattle.ga_asm.specs.Image.{labels_of};
-ghost use Rattle.ga_asm.specs.Layout.{AreAmong, AreSameNames, IsBlank, IsFirstPassFault, Refuses, counts_after, data_after, joins_word, Placing, labels_with, names_of, open_after, open_count, open_of, plain, plain_names};
+ghost use Rattle.ga_asm.specs.inner.Layout.{AreAmong, AreSameNames, HasRoom, IsBlank, IsFirstPassFault, Refuses, counts_after, data_after, joins_word, Placing, labels_with, names_of, open_after, open_count, open_of, plain, plain_names};
 ghost use Rattle.ga_asm.specs.declared.error.AsmErrorKind.TheVariants.{Memory};
 
 use crate::error::AsmErrorKind;
-use crate::slots::Slots;
-use ga_source::{Item, Name, Section, TransferWord, Value};
-use ga_word::{Op, Word18};
+use crate::items::{is_loose, is_unext, op_of, words_added};
+use crate::open_word::OpenWord;
+use crate::reach::{address_of, word_reaches};
+use ga_source::{Item, Name, Value};
+use ga_word::Op;
 use indexmap::{IndexMap, IndexSet};
 use std::alloc::{AllocError, Global};
 
@@ -28,10 +30,8 @@ pub(crate) struct Layout {
     pub(crate) labels: IndexMap<String, u8>,
     // The next address.
     pub(crate) address: u8,
-    // Whether the next item may join the last word, and the address and the opcodes of that word.
-    is_open: bool,
-    word: u8,
-    slots: Slots,
+    // The word that the next item may join.
+    open_word: Option<OpenWord>,
     // How many items each group has: the items of a word outside brackets are one, and any other item is
     // one by itself. The word that is open comes when it is closed.
     pub(crate) counts: Vec<usize>,
@@ -105,172 +105,16 @@ fn set_of(alloc: Global, labels: &[Name]) -> Result<IndexSet<Name>, AsmErrorKind
     Ok(set)
 }
 
-fn is_unext(op: Op) -> bool
-    ensures { result ≡ laid.is_unext op }
-{
-    matches!(op, Op::Micronext)
-}
-
-// An item outside brackets is one opcode.
-pub(crate) fn is_loose(item: &Item) -> bool
-    ensures { result ≡ laid.is_loose (item_of item.now) }
-{
-    matches!(
-        item,
-        Item::Instruction(_) | Item::Transfer { .. } | Item::Literal(_)
-    )
-}
-
-// That opcode.
-pub(crate) fn op_of(item: &Item) -> Op
-    ensures { result ≡ laid.op_of (item_of item.now) }
-{
-    match item {
-        Item::Instruction(op) | Item::Transfer { op, .. } => *op,
-        _ => Op::FetchP,
-    }
-}
-
-// The followers of a word for the item.
-fn literals(item: &Item) -> u8
-    ensures count { result ≡ length (laid.literals (item_of item.now ∷ [])) }
-    ensures few { result ≤ 1 }
-{
-    if let Item::Literal(_) = item { 1 } else { 0 }
-}
-
-fn makes_word(item: &Item) -> bool
-    ensures { result ≡ words.makes_word (item_of item.now) }
-{
-    !matches!(item, Item::Label(_) | Item::Align | Item::Data)
-}
-
-// How many words the item adds.
-fn words_added(joined: bool, item: &Item) -> u8
-    ensures count { result ≡ faults.words_added joined (item_of item.now) }
-    ensures few { result ≤ 2 }
-{
-    let own = if joined || !makes_word(item) { 0 } else { 1 };
-    own + literals(item)
-}
-
-fn is_followed(op: Op) -> bool
-    ensures { result ≡ counted.is_followed op }
-{
-    matches!(op, Op::FetchP | Op::StoreP)
-}
-
-// P in the slot behind these opcodes of the word at an address.
-pub(crate) fn p_behind(address: u8, ops: &[Op]) -> u8
-    requires near { address ≤ 64 }
-    requires few { length ops.now ≤ 4 }
-    ensures { result ≡ laid.p_behind address ops.now }
-{
-    let mut followed: u8 = 0;
-    for op in ops {
-        if is_followed(*op) {
-            followed += 1;
-        }
-    }
-    address + 1 + followed
-}
-
-// The destination is in reach from the slot.
-fn reaches(slot: usize, p: u8, dest: u32) -> bool
-    ensures test { result ≡ laid.reaches slot p dest }
-    ensures room { result ≡ true → slot < 4 }
-{
-    slot == 0 || slot == 1 && dest < 0x100 || slot == 2 && dest / 8 == u32::from(p) / 8
-}
-
-fn may_reach(slot: usize, p: u8, dest: Option<Word18>) -> bool
-    ensures test { result ≡ laid.may_reach slot p dest }
-    ensures room { result ≡ true → slot < 4 }
-{
-    match dest {
-        Some(dest) => reaches(slot, p, dest.get()),
-        None => slot < 2,
-    }
-}
-
-fn op_fits(slot: usize, op: Op) -> bool
-    ensures test { result ≡ laid.op_fits slot op }
-    ensures room { result ≡ true → slot < 4 }
-{
-    slot < 3 || slot == 3 && op.fits_slot3()
-}
-
-pub(crate) fn address_of(labels: &IndexMap<String, u8>, name: &str) -> Option<u8>
-    ensures { result ≡ laid.address_of (labels_of labels.now.entries) name.now }
-{
-    labels.get(name).copied()
-}
-
-// A number, or the address of a label, if it is among these.
-pub(crate) fn value_among(labels: &IndexMap<String, u8>, value: &Value) -> Option<Word18>
-    ensures { result ≡ laid.value_of (labels_of labels.now.entries) (value_of value.now) }
-{
-    match value {
-        Value::Number(number) => Some(*number),
-        Value::Label(name) => Word18::new(u32::from(address_of(labels, name.as_str())?)),
-    }
-}
-
-// A name in brackets is in reach, if it is a label among these.
-pub(crate) fn is_in_reach(labels: &IndexMap<String, u8>, address: u8, item: &Item) -> bool
-    requires { address ≤ 64 }
-    ensures { result ≡ laid.is_in_reach (labels_of labels.now.entries) address (item_of item.now) }
-{
-    match item {
-        Item::WordTo(word) => word_reaches(labels, address, word),
-        _ => true,
-    }
-}
-
-fn word_reaches(labels: &IndexMap<String, u8>, address: u8, word: &TransferWord) -> bool
-    requires { address ≤ 64 }
-    ensures { result ≡ laid.is_in_reach (labels_of labels.now.entries) address (word_of word.now) }
-{
-    let Value::Label(name) = &word.dest else {
-        return true;
-    };
-    match address_of(labels, name.as_str()) {
-        Some(dest) => reaches(
-            word.ops.len(),
-            p_behind(address, word.ops.as_slice()),
-            u32::from(dest),
-        ),
-        None => true,
-    }
-}
-
 impl Layout {
-    // The item fits the slot behind the opcodes of the open word.
-    #[tactic(auto, unfolding(ga_pack::specs::Model::Layout::fits))]
-    fn fits(&self, item: &Item) -> bool
-        requires { self.now.word ≤ 64 }
-        ensures room { result ≡ true → length self.now.slots.ops.items < 4 }
-        ensures test { result ≡ laid.fits (labels_of self.now.labels.entries) self.now.word self.now.slots.ops.items (item_of item.now) }
-    {
-        let slot = self.slots.as_slice().len();
-        match item {
-            Item::Instruction(op) => op_fits(slot, *op) && (!is_unext(*op) || 0 < slot),
-            Item::Transfer { dest, .. } => {
-                let p = p_behind(self.word, self.slots.as_slice());
-                may_reach(slot, p, value_among(&self.labels, dest))
-            }
-            Item::Literal(_) => op_fits(slot, Op::FetchP),
-            _ => false,
-        }
-    }
-
     // The item joins the open word.
     fn joins(&self, item: &Item) -> bool
-        requires { self.now.word ≤ 64 }
-        ensures room { result ≡ true → length self.now.slots.ops.items < 4 }
+        ensures room { result ≡ true → HasRoom self.now.open_word }
         ensures test { result ≡ joins_word self.now (item_of item.now) }
     {
-        self.is_open && !self.slots.is_ended() && self.fits(item)
+        match &self.open_word {
+            Some(word) => word.joins(&self.labels, item),
+            None => false,
+        }
     }
 
     // The value is a number or a label, which is laid or not yet.
@@ -291,7 +135,6 @@ impl Layout {
     // Refuses the item, which joins the open word or not, for its first fault in a node with these labels.
     fn judge(&self, names: &mut Names<'_>, item: &Item, joined: bool) -> Result<(), AsmErrorKind>
         requires joined { joined ≡ joins_word self.now (item_of item.now) }
-        requires near { self.now.word ≤ 64 }
         requires few { self.now.address ≤ 64 }
         requires laid { AreAmong (names_of (labels_of self.now.labels.entries)) (plain_names names.old.labels.now) }
         ensures labels { names.new.labels.now ≡ names.old.labels.now }
@@ -321,9 +164,7 @@ impl Layout {
         }
         Ok(())
     }
-}
 
-impl Layout {
     // Nothing is laid, and there is room for so many labels and counts.
     fn new(alloc: Global, labels: usize, counts: usize) -> Result<Self, AllocError>
         ensures { IfOk result IsBlank }
@@ -332,9 +173,7 @@ impl Layout {
             alloc,
             labels: IndexMap::with_capacity(alloc, labels)?,
             address: 0,
-            is_open: false,
-            word: 0,
-            slots: Slots::new(),
+            open_word: None,
             counts: Vec::with_capacity(alloc, counts)?,
             data_start: None,
         })
@@ -342,26 +181,26 @@ impl Layout {
 
     // A word that is open is closed.
     fn close(&mut self) -> Result<(), AsmErrorKind>
-        ensures ok { OnOk result (self.new ≡ record self.old { is_open = false; counts = self.new.counts }) }
+        ensures ok { OnOk result (self.new ≡ record self.old { open_word = None; counts = self.new.counts }) }
         ensures counts { OnOk result (self.new.counts.items ≡ self.old.counts.items ++ open_count (open_of self.old)) }
         ensures err { IfErr result (λ kind. kind ≡ Memory) }
     {
-        if self.is_open {
-            self.counts.push(self.slots.as_slice().len())?;
-            self.is_open = false;
+        if let Some(word) = &self.open_word {
+            self.counts.push(word.len())?;
         }
+        self.open_word = None;
         Ok(())
     }
 
-    // A word begins with an opcode.
-    fn open(&mut self, op: Op)
-        ensures open { self.new ≡ record self.old { is_open = true; word = self.old.address; slots = self.new.slots } }
-        ensures slots { self.new.slots.ops.items ≡ op ∷ [] }
+    // An opcode joins the word that is open.
+    fn join(&mut self, op: Op)
+        requires { HasRoom self.old.open_word }
+        ensures rest { self.new ≡ record self.old { open_word = self.new.open_word } }
+        ensures word { open_of self.new ≡ option_map (λ word. (word.0, word.1 ++ op ∷ [])) (open_of self.old) }
     {
-        self.is_open = true;
-        self.word = self.address;
-        self.slots = Slots::new();
-        self.slots.push(op);
+        if let Some(word) = &mut self.open_word {
+            word.push(op);
+        }
     }
 
     // A label gets the next address, and the first `data` begins there.
@@ -391,13 +230,11 @@ impl Layout {
     #[tactic(auto, using(crate::proofs::Loose::joins_loose, crate::proofs::Loose::loose_labels, crate::proofs::Loose::loose_data))]
     fn add(&mut self, item: &Item, joined: bool) -> Result<(), AsmErrorKind>
         requires joined { joined ≡ joins_word self.old (item_of item.now) }
-        requires room { joined ≡ true → length self.old.slots.ops.items < 4 }
-        requires near { self.old.word ≤ 64 }
+        requires room { joined ≡ true → HasRoom self.old.open_word }
         requires few { self.old.address ≤ 64 }
         requires new { words.is_new (item_of item.now) (names_of (labels_of self.old.labels.entries)) ≡ true }
         ensures labels { OnOk result (labels_of self.new.labels.entries ≡ labels_with (labels_of self.old.labels.entries) self.old.address (item_of item.now)) }
         ensures address { OnOk result (self.new.address ≡ self.old.address + faults.words_added (joins_word self.old (item_of item.now)) (item_of item.now)) }
-        ensures near { OnOk result (self.new.word ≤ 64) }
         ensures word { OnOk result (open_of self.new ≡ open_after (joins_word self.old (item_of item.now)) (open_of self.old) self.old.address (item_of item.now)) }
         ensures counts { OnOk result (self.new.counts.items ≡ counts_after (joins_word self.old (item_of item.now)) (open_of self.old) self.old.counts.items (item_of item.now)) }
         ensures data { OnOk result (self.new.data_start ≡ data_after self.old.data_start self.old.address (item_of item.now)) }
@@ -405,13 +242,13 @@ impl Layout {
     {
         let added = words_added(joined, item);
         if joined {
-            self.slots.push(op_of(item));
+            self.join(op_of(item));
             self.address += added;
             return Ok(());
         }
         self.close()?;
         if is_loose(item) {
-            self.open(op_of(item));
+            self.open_word = Some(OpenWord::new(self.address, op_of(item)));
             self.address += added;
             return Ok(());
         }

@@ -4,9 +4,11 @@
 mod assembling;
 mod error;
 mod image;
+mod items;
 mod layout;
 mod making;
-mod slots;
+mod open_word;
+mod reach;
 mod text;
 
 pub use assembling::{Images, assemble};

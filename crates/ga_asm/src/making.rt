@@ -12,15 +12,17 @@ ghost use Rattle.ga_pack.specs.Model.Source as source;
 ghost use Rattle.ga_source.specs.Item.{item_of, value_of, word_of};
 ghost use Rattle.ga_asm.specs.Error.{kind_of};
 ghost use Rattle.ga_asm.specs.Image.{labels_of};
-ghost use Rattle.ga_asm.specs.Layout.{Placing, plain};
-ghost use Rattle.ga_asm.specs.Making as made;
-ghost use Rattle.ga_asm.specs.Making.{IsGroup, IsMade, IsPackable, IsSecondPassFault, MoreWords, follower_list};
+ghost use Rattle.ga_asm.specs.inner.Layout.{Placing, plain};
+ghost use Rattle.ga_asm.specs.inner.Making as made;
+ghost use Rattle.ga_asm.specs.inner.Making.{IsGroup, IsMade, IsPackable, IsSecondPassFault, MoreWords, follower_list};
 ghost use Rattle.ga_asm.specs.declared.error.AsmErrorKind.TheVariants.{Memory};
 
 use crate::error::AsmErrorKind;
-use crate::layout::{Layout, Refusal, is_in_reach, is_loose, op_of, value_among};
+use crate::items::{is_loose, op_of};
+use crate::layout::{Layout, Refusal};
+use crate::reach::{is_in_reach, value_among};
 use arrayvec::ArrayVec;
-use ga_pack::{Packed, encode};
+use ga_pack::{Packed, dest_bound, encode};
 use ga_source::{Item, TransferWord, Value};
 use ga_word::{Op, Word18};
 use indexmap::IndexMap;
@@ -36,14 +38,7 @@ fn number_of(labels: &IndexMap<String, u8>, value: &Value) -> Word18
 fn dest_in(labels: &IndexMap<String, u8>, slot: usize, value: &Value) -> u16
     ensures { result ≡ laid.dest_in (labels_of labels.now.entries) slot (value_of value.now) }
 {
-    let number = number_of(labels, value).get();
-    if slot == 0 {
-        (number % (1 << 10)) as u16
-    } else if slot == 1 {
-        (number % (1 << 8)) as u16
-    } else {
-        (number % (1 << 3)) as u16
-    }
+    (number_of(labels, value).get() % u32::from(dest_bound(slot))) as u16
 }
 
 fn item_dest(labels: &IndexMap<String, u8>, slot: usize, item: &Item) -> Option<u16>

@@ -16,7 +16,7 @@ use Rattle.ga_pack.specs.Model.Layout.{Labels, Alone, GroupWords, dest_in, fille
 use Rattle.ga_pack.specs.Model.Source as grammar
 use Rattle.ga_pack.specs.Model.Source.{Item, Number, Word, WordTo, Plain, Before, Items, is_item, is_new, part_after}
 use Rattle.ga_pack.proofs.Encoded.{reading_of-reads, takes_none}
-use Rattle.ga_disasm.specs.Items.{items_from}
+use Rattle.ga_disasm.specs.Disassembling.{items_from}
 use Rattle.ga_disasm.proofs.SourceItems.{IsBelow, bracketed, source_items}
 
 -- ---- a word in brackets

@@ -19,7 +19,7 @@ use Rattle.ga_word.specs.declared.op.Op.TheVariants.{Jump}
 use Rattle.ga_word.proofs.HexDigits.{digit_value-glyph, word_of-hex_digits}
 use Rattle.ga_pack.specs.Model.Token.{number}
 use Rattle.ga_pack.specs.Model.Meaning.{meaning_of}
-use Rattle.ga_disasm.specs.Printed.{number_text}
+use Rattle.ga_disasm.specs.Printing.{number_text}
 use Rattle.ga_disasm.proofs.TextLines.{is_plain}
 
 -- ---- the name of an opcode

@@ -16,7 +16,7 @@ use Rattle.ga_pack.specs.Slots.{dest_bound}
 use Rattle.ga_pack.proofs.Encoded.{reading_is}
 use Rattle.ga_pack.proofs.OneLayout.{joins_loose}
 use Rattle.ga_pack.proofs.Placed.{on_test}
-use Rattle.ga_disasm.specs.Items.{ItemView, Follower, Data, items_from}
+use Rattle.ga_disasm.specs.Disassembling.{ItemView, Follower, Data, items_from}
 use Rattle.ga_disasm.specs.Instructions as named
 use Rattle.ga_disasm.specs.Instructions.{group_items, named_items}
 use Rattle.ga_disasm.proofs.Laying.{takes_ends}

@@ -18,8 +18,8 @@ use Rattle.ga_pack.proofs.OneFault.{right_program}
 use Rattle.ga_pack.proofs.OneLayout.{one_laid}
 use Rattle.ga_pack.proofs.OneSource.{one_program}
 use Rattle.ga_pack.proofs.RightTexts.{right_text}
-use Rattle.ga_disasm.specs.Items.{ItemView, Code, Follower, Data, items_from}
-use Rattle.ga_disasm.specs.Printed.{node_line, text_of}
+use Rattle.ga_disasm.specs.Disassembling.{ItemView, Code, Follower, Data, items_from}
+use Rattle.ga_disasm.specs.Printing.{node_line, text_of}
 use Rattle.ga_disasm.specs.Source.{FitNode, IsSourceOf}
 use Rattle.ga_disasm.proofs.SourceItems.{IsBelow, bracketed, items_of_words, source_items, text_means}
 use Rattle.ga_disasm.proofs.Laying.{bracket_word, is_for, items_right}

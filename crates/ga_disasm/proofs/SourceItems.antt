@@ -22,8 +22,8 @@ use Rattle.ga_pack.specs.Model.Program.{tokens_of}
 use Rattle.ga_pack.proofs.Encoded.{reading_of-reads}
 use Rattle.ga_pack.proofs.Meanings.{meaning_of-name_of}
 use Rattle.ga_pack.proofs.ReadingFacts.{count_of_ops, dest_below, spare_below}
-use Rattle.ga_disasm.specs.Items.{ItemView, Code, Follower, Data, items_from}
-use Rattle.ga_disasm.specs.Printed.{field_texts, item_line, line, lines_of, node_line, number_text, spare_texts}
+use Rattle.ga_disasm.specs.Disassembling.{ItemView, Code, Follower, Data, items_from}
+use Rattle.ga_disasm.specs.Printing.{field_texts, item_line, line, lines_of, node_line, number_text, spare_texts}
 use Rattle.ga_disasm.proofs.Meanings.{meaning_of-number_text, meaning_of-spare, name_plain, number_plain, spare_plain}
 use Rattle.ga_disasm.proofs.TextLines.{is_plain, texts_of-line, texts_of-nothing}
 

@@ -5,7 +5,7 @@ use Rattle.std.proofs.Math.Seq.{drop-cons}
 use Rattle.std.proofs.lemmas.List.{map-append}
 use Rattle.ga_pack.specs.Decoded.{Reading, reading_of}
 use Rattle.ga_pack.specs.Followers.{followers}
-use Rattle.ga_disasm.specs.Items.{ItemView, Code, Follower, Data, items_from, view_of}
+use Rattle.ga_disasm.specs.Disassembling.{ItemView, Code, Follower, Data, items_from, view_of}
 use Rattle.ga_disasm.specs.declared.item.Item.{Item}
 
 -- the words from an index on

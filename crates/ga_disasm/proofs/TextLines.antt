@@ -11,7 +11,7 @@ use Rattle.std.proofs.lemmas.List.Folds.{list_all-append}
 use Rattle.std.proofs.lemmas.List.Splits.{slice_split_at, slice_split_none}
 use Rattle.ga_word.specs.Text.{is_blank, is_empty}
 use Rattle.ga_pack.specs.Model.Text.{Lexeme, Run, before_comment, lexemes, lexemes_from, line_lexemes, lines_of, place_behind, runs_from, runs_of, texts_of}
-use Rattle.ga_disasm.specs.Printed.{behind_spaces, line}
+use Rattle.ga_disasm.specs.Printing.{behind_spaces, line}
 
 abbrev is_mark : List ℕ → Bool
 is_mark text = bytes_eq text (codes "\\")

@@ -9,8 +9,8 @@ use Rattle.ga_pack.specs.Decoded.{reading_of}
 use Rattle.ga_pack.specs.Model.Layout.{Alone, Shared}
 use Rattle.ga_pack.specs.Model.Source as source
 use Rattle.ga_disasm.specs.Instructions.{named_items}
-use Rattle.ga_disasm.specs.Items.{ItemView, Code, Follower, Data, items_from, items_of}
-use Rattle.ga_disasm.specs.Printed.{text_of}
+use Rattle.ga_disasm.specs.Disassembling.{ItemView, Code, Follower, Data, items_from, items_of}
+use Rattle.ga_disasm.specs.Printing.{text_of}
 
 -- `[ @p !+ unext . ]` with its follower, and a word of data
 abbrev fill : ItemView

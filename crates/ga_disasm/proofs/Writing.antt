@@ -5,8 +5,8 @@ use Rattle.std.specs.Fmt.{decimal}
 use Rattle.ga_word.specs.Hex.{hex_digits}
 use Rattle.ga_word.specs.Op.{name_of}
 use Rattle.ga_word.specs.declared.op.Op.{Op}
-use Rattle.ga_disasm.specs.Items.{ItemView, Code}
-use Rattle.ga_disasm.specs.Printed.{behind_spaces, field_texts, item_line, lines_of, text_of}
+use Rattle.ga_disasm.specs.Disassembling.{ItemView, Code}
+use Rattle.ga_disasm.specs.Printing.{behind_spaces, field_texts, item_line, lines_of, text_of}
 
 pub behind_spaces-append : (texts more : List (List ℕ)) → behind_spaces (texts ++ more) ≡ behind_spaces texts ++ behind_spaces more
 behind_spaces-append [] more = refl

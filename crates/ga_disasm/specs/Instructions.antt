@@ -4,7 +4,7 @@ use Rattle.std.specs.Option.{unwrap_or}
 use Rattle.ga_word.specs.declared.op.Op.{Op}
 use Rattle.ga_pack.specs.Model.Layout.{Group, Labels, Alone, Shared, dest_in, last_dest, literals, number_of, ops_of, with_fillers}
 use Rattle.ga_pack.specs.Model.Source as source
-use Rattle.ga_disasm.specs.Items.{ItemView, Code, Follower, Data}
+use Rattle.ga_disasm.specs.Disassembling.{ItemView, Code, Follower, Data}
 
 -- a word of code with these opcodes, and fillers behind them
 abbrev pub code : List Op → Option ℕ → ℕ → ItemView

@@ -1,4 +1,4 @@
-pub mod Items
-pub mod Printed
+pub mod Disassembling
+pub mod Printing
 pub mod Source
 pub mod Instructions

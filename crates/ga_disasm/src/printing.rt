@@ -1,7 +1,7 @@
 ghost use Rattle.std.specs.Prelude.{◌≡◌, ℕ, ◌++◌, List, map, IfOk, OnOk, string_bytes};
 ghost use Rattle.ga_word.specs.Op.{name_of};
-ghost use Rattle.ga_disasm.specs.Items.{items_of, view_of};
-ghost use Rattle.ga_disasm.specs.Printed.{behind_spaces, field_texts, item_line, node_line, text_of};
+ghost use Rattle.ga_disasm.specs.Disassembling.{items_of, view_of};
+ghost use Rattle.ga_disasm.specs.Printing.{behind_spaces, field_texts, item_line, node_line, text_of};
 ghost use Rattle.ga_disasm.specs.Source.{FitNode, IsSourceOf};
 
 use crate::item::Item;

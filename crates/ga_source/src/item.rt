@@ -7,7 +7,7 @@ use arrayvec::ArrayVec;
 use ga_word::{Op, Word18};
 
 /// A number, or the name of a label of the node, which stands for its address.
-#[derive(Clone, Copy, Debug, PartialEq, Eq)]
+#[derive(Clone, Copy, PartialEq, Eq)]
 pub enum Value {
     /// As a destination below what its slot holds.
     Number(Word18),

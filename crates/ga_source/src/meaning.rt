@@ -92,9 +92,15 @@ fn plain_meaning(text: &[u8]) -> Result<Meaning<'_>, SourceErrorKind>
 
 /// A number by its name: the port of a side, io, the ports of all sides, or the warm word.
 fn number_named(text: &[u8]) -> Option<Word18>
-    ensures value { result ≡ model.number_named text.now }
+    ensures { result ≡ model.number_named text.now }
 {
-    let number = match text {
+    Word18::new(address_named(text)?)
+}
+
+fn address_named(text: &[u8]) -> Option<u32>
+    ensures { result ≡ model.number_named text.now }
+{
+    let address = match text {
         b"right" => 0x1D5,
         b"down" => 0x115,
         b"left" => 0x175,
@@ -104,7 +110,7 @@ fn number_named(text: &[u8]) -> Option<Word18>
         b"warm" => 0x0A9,
         _ => return None,
     };
-    Word18::new(number)
+    Some(address)
 }
 
 /// A word or a mark with a meaning of its own.

@@ -8,7 +8,7 @@ ghost use Rattle.std.proofs.Common.{rules};
 
 use std::hash::{Hash, Hasher};
 use std::marker::Model;
-use std::{fmt, str};
+use std::str;
 
 /// The most bytes that a name has.
 const MOST: usize = 16;
@@ -85,12 +85,5 @@ impl Hash for Name {
 
     fn hash<H: Hasher>(&self, state: &mut H) {
         self.as_str().hash(state);
-    }
-}
-
-/// Writes the text in quotes.
-impl fmt::Debug for Name {
-    fn fmt<W: fmt::Write>(&self, f: &mut fmt::Formatter<W>) -> fmt::Result {
-        fmt::Debug::fmt(self.as_str(), f)
     }
 }

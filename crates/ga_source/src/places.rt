@@ -14,7 +14,7 @@ use crate::token::{Place, end_place, tokens};
 use std::alloc::{AllocError, Global};
 
 /// Where an item stands in its text.
-#[derive(Clone, Copy, Debug, PartialEq, Eq)]
+#[derive(Clone, Copy, PartialEq, Eq)]
 pub struct ItemPlace {
     /// The place of its first token.
     pub place: Place,

@@ -79,16 +79,18 @@ pub fn parse(alloc: Global, text: &str) -> Result<Program<'_>, SourceError>
 fn fault_at(alloc: Global, text: &str, token: usize, kind: SourceErrorKind) -> SourceError
     ensures { IsTold text.now token kind result }
 {
-    match token_place(alloc, text, token) {
-        Ok(place) => SourceError {
-            kind,
-            line: place.line,
-            column: place.column,
-        },
-        Err(_) => SourceError {
-            kind: SourceErrorKind::Memory,
-            line: 1,
-            column: 1,
-        },
+    if kind != SourceErrorKind::Memory {
+        if let Ok(place) = token_place(alloc, text, token) {
+            return SourceError {
+                kind,
+                line: place.line,
+                column: place.column,
+            };
+        }
+    }
+    SourceError {
+        kind: SourceErrorKind::Memory,
+        line: 1,
+        column: 1,
     }
 }

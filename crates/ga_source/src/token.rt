@@ -6,18 +6,19 @@ ghost use Rattle.ga_word.specs.Text.{is_blank};
 ghost use Rattle.ga_pack.specs.Model.Text.{begins_character, end_of, lexemes, line_lexemes, lines_of, texts_of};
 ghost use Rattle.ga_source.specs.Token.{BehindRun, Begins, lines_in, lines_left, place_of, runs_left, runs_of, texts_left, token_of};
 
+use ga_word::{first_blank, first_non_blank};
 use memchr::memchr;
 use std::alloc::{AllocError, Global};
 
 /// A line and a column of a text, each from 1. Columns count characters, the Unicode scalar values.
-#[derive(Clone, Copy, Debug, PartialEq, Eq)]
+#[derive(Clone, Copy, PartialEq, Eq)]
 pub struct Place {
     pub line: usize,
     pub column: usize,
 }
 
 /// A token of a text: a longest run of bytes without space, tab, CR and LF.
-#[derive(Clone, Copy, Debug, PartialEq, Eq)]
+#[derive(Clone, Copy, PartialEq, Eq)]
 pub struct Token {
     /// The offset of its first byte in the text.
     pub start: usize,
@@ -173,17 +174,10 @@ impl<'a> Iterator for Runs<'a> {
 fn first_run(line: &[u8]) -> (&[u8], Option<&[u8]>)
     ensures { slice_split is_blank line.now ≡ result.0.now ∷ runs_of result.1 }
 {
-    match run_end(line) {
+    match first_blank(line) {
         Some(end) => (&line[..end], Some(&line[end + 1..])),
         None => (line, None),
     }
-}
-
-/// Where the first blank stands.
-fn run_end(line: &[u8]) -> Option<usize>
-    ensures { result ≡ position is_blank line.now }
-{
-    line.iter().position(|byte| is_blank(*byte))
 }
 
 /// The texts of the tokens of a text, from the front.
@@ -229,8 +223,8 @@ fn first_token(text: &[u8]) -> Option<(&[u8], &[u8])>
     ensures some { IfSome result (λ parts. Begins text.now parts.0.now parts.1.now) }
     ensures none { result ≡ None → texts_of text.now ≡ [] }
 {
-    let (_, rest) = text.split_at(token_start(text)?);
-    match run_end(rest) {
+    let (_, rest) = text.split_at(first_non_blank(text)?);
+    match first_blank(rest) {
         Some(end) => Some(rest.split_at(end)),
         None => Some(rest.split_at(rest.len())),
     }
@@ -248,13 +242,6 @@ fn behind_blank(text: &[u8]) -> &[u8]
     }
 }
 
-/// Where the first byte stands that is not blank.
-fn token_start(text: &[u8]) -> Option<usize>
-    ensures { result ≡ position (λ c. not (is_blank c)) text.now }
-{
-    text.iter().position(|byte| !is_blank(*byte))
-}
-
 /// How many characters some bytes begin.
 fn characters(bytes: &[u8]) -> usize
     ensures { result ≡ count_by begins_character bytes.now }
@@ -264,13 +251,6 @@ fn characters(bytes: &[u8]) -> usize
         characters += usize::from(begins_character(*byte));
     }
     characters
-}
-
-/// Whether a byte ends a run: space, tab, LF and CR.
-fn is_blank(byte: u8) -> bool
-    ensures { result ≡ is_blank byte }
-{
-    byte <= b' ' && matches!(byte, b' ' | b'\t' | b'\n' | b'\r')
 }
 
 /// Whether a byte begins a character in UTF-8.

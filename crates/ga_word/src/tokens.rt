@@ -25,23 +25,23 @@ impl<'a> Iterator for Tokens<'a> {
     ghost remaining = { item_count (λ left. tokens left.text.now) };
 
     fn next(&mut self) -> Option<&'a [u8]> {
-        let start = token_start(self.text)?;
+        let start = first_non_blank(self.text)?;
         let (_, text) = self.text.split_at(start);
-        let (token, rest) = text.split_at(token_end(text).unwrap_or(text.len()));
+        let (token, rest) = text.split_at(first_blank(text).unwrap_or(text.len()));
         self.text = rest;
         Some(token)
     }
 }
 
-/// Where the first byte stands that is not blank.
-fn token_start(text: &[u8]) -> Option<usize>
+/// Where the first byte of a text stands that is not blank.
+pub fn first_non_blank(text: &[u8]) -> Option<usize>
     ensures { result ≡ position (λ c. not (is_blank c)) text.now }
 {
     text.iter().position(|byte| !is_blank(*byte))
 }
 
-/// Where the first blank stands.
-fn token_end(text: &[u8]) -> Option<usize>
+/// Where the first blank of a text stands: space, tab, LF or CR.
+pub fn first_blank(text: &[u8]) -> Option<usize>
     ensures { result ≡ position is_blank text.now }
 {
     text.iter().position(|byte| is_blank(*byte))
@@ -50,5 +50,5 @@ fn token_end(text: &[u8]) -> Option<usize>
 fn is_blank(byte: u8) -> bool
     ensures { result ≡ is_blank byte }
 {
-    matches!(byte, b' ' | b'\t' | b'\n' | b'\r')
+    byte <= b' ' && matches!(byte, b' ' | b'\t' | b'\n' | b'\r')
 }

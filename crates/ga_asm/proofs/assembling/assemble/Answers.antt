@@ -5,7 +5,6 @@ use Rattle.ga_source.specs.Section.{section_of}
 use Rattle.ga_source.specs.Program.{items_at}
 use Rattle.ga_asm.specs.Assembling.{IsTold}
 use Rattle.ga_asm.specs.Error.{error_place, kind_of}
-use Rattle.ga_asm.proofs.RightItems.{items_some}
 use Rattle.ga_asm.proofs.Sections.{Ongoing, no_fault, one_assembled, ongoing_all, ongoing_fault, ongoing_new, ongoing_next, ongoing_none, ongoing_right, ongoing_within}
 use Rattle.ga_asm.proofs.assembling.assemble.Goals as goal
 
@@ -49,13 +48,6 @@ pub add_image-requires : goal.add_image-requires
 add_image-requires c =
     let o = subst (Ongoing c.args.program.now c.loop-node.images.entries) (rest_more deref_pair c.loop-node.node-iterator c.next.new.self c.next.result (c.in-Some.node, c.in-Some.section) c.in-Some.is c.next.ensures.steps) c.loop-node.invariant in
     ongoing_new c.args.program.now c.loop-node.images.entries (c.in-Some.node.now, c.in-Some.section.now) c.next.new.self o
-
-pub error_at-requires-in-Err-add_image : goal.error_at-requires-in-Err-add_image
-error_at-requires-in-Err-add_image c =
-    let o = subst (Ongoing c.args.program.now c.loop-node.images.entries) (rest_more deref_pair c.loop-node.node-iterator c.next.new.self c.next.result (c.in-Some.node, c.in-Some.section) c.in-Some.is c.next.ensures.steps) c.loop-node.invariant in
-    subst (λ n. 0 < length (items_at c.args.program.now n)) (sym c.len-before.ensures.len)
-    (ongoing_within c.args.program.now c.loop-node.images.entries (c.in-Some.node.now, c.in-Some.section.now) c.next.new.self o 0
-    (items_some c.in-Some.section.now.items.items (ongoing_right c.args.program.now c.loop-node.images.entries (c.in-Some.node.now, c.in-Some.section.now) c.next.new.self o)))
 
 pub loop-node-preserved : goal.loop-node-preserved
 loop-node-preserved c =

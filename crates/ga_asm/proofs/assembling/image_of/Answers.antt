@@ -3,8 +3,8 @@ use Rattle.std.specs.List.{list_all}
 use Rattle.std.specs.Option.{unwrap_or}
 use Rattle.ga_pack.specs.Model.Layout.{names_in}
 use Rattle.ga_pack.specs.Model.Source.{is_item, start}
-use Rattle.ga_asm.specs.Layout.{Placing, plain, plain_names}
-use Rattle.ga_asm.specs.Making.{IsMade}
+use Rattle.ga_asm.specs.inner.Layout.{Placing, plain, plain_names}
+use Rattle.ga_asm.specs.inner.Making.{IsMade}
 use Rattle.ga_asm.proofs.RightItems.{items_right, items_some}
 use Rattle.ga_asm.proofs.Sections.{image_fits}
 use Rattle.ga_asm.proofs.assembling.image_of.Goals as goal

@@ -4,7 +4,7 @@ use Rattle.ga_pack.specs.Model.LayoutFault.{fault_at}
 use Rattle.ga_source.specs.Item.{item_of}
 use Rattle.ga_asm.specs.Error.{kind_of}
 use Rattle.ga_asm.specs.Image.{labels_of}
-use Rattle.ga_asm.specs.Layout.{IsRefusal, Laying, joins_open, open_of, plain, plain_names}
+use Rattle.ga_asm.specs.inner.Layout.{IsRefusal, Laying, joins_open, open_of, plain, plain_names}
 use Rattle.ga_asm.proofs.LayingSteps.{front_all, front_next, laid_among, laying_all, laying_fault, laying_next, laying_none, next_new}
 use Rattle.ga_asm.proofs.RightItems.{items_some}
 use Rattle.ga_asm.proofs.layout.first_pass.Goals as goal
@@ -41,7 +41,7 @@ loop-at-preserved c =
       subst (λ t. Laying names t m) (sym (front_next items c.loop-at.at c.index-items-at.result c.loop-at-test.true c.index-items-at.is))
           (laying_next names (plain (take c.loop-at.at items)) l m x c.loop-at.invariant.0
           (ap fault (sym (ap plain_names c.loop-at.invariant.1 ∙ c.requires.names)) ∙ c.in_default.ensures.told)
-          (record { labels = e.labels; address = e.address; word = e.word; counts = e.counts; data_start = e.data; near = e.near })),
+          (record { labels = e.labels; address = e.address; word = e.word; counts = e.counts; data_start = e.data })),
       c.in_default.ensures.labels ∙ c.loop-at.invariant.1,
     )
 

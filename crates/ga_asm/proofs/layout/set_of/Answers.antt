@@ -1,6 +1,6 @@
 use Rattle.std.proofs.Common.{refl, subst}
 use Rattle.std.specs.Str.{bytes_eq}
-use Rattle.ga_asm.specs.Layout.{AreSameNames, plain_names}
+use Rattle.ga_asm.specs.inner.Layout.{AreSameNames, plain_names}
 use Rattle.ga_asm.proofs.LayingSteps.{front_all}
 use Rattle.ga_asm.proofs.Names.{names_next}
 use Rattle.ga_asm.proofs.layout.set_of.Goals as goal

@@ -1,5 +1,5 @@
 use Rattle.std.proofs.Common.{map, take}
-use Rattle.ga_asm.specs.Layout.{AreSameNames}
+use Rattle.ga_asm.specs.inner.Layout.{AreSameNames}
 use Rattle.ga_asm.proofs.layout.set_of.Given as goal
 
 abbrev pub invariant-loop-label : goal.invariant-loop-label

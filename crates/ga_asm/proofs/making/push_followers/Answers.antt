@@ -1,6 +1,6 @@
 use Rattle.std.proofs.Common.{◌∙◌, ◌+◌, ap, take}
 use Rattle.ga_source.specs.Item.{item_of}
-use Rattle.ga_asm.specs.Layout.{plain}
+use Rattle.ga_asm.specs.inner.Layout.{plain}
 use Rattle.ga_asm.proofs.LayingSteps.{front_next}
 use Rattle.ga_asm.proofs.MakingSteps.{followers_none, followers_some}
 use Rattle.ga_asm.proofs.making.push_followers.Goals as goal

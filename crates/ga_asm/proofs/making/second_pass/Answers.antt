@@ -2,7 +2,7 @@ use Rattle.std.proofs.Common.{◌≡◌, ◌∙◌, length, sym, ap, arith}
 use Rattle.ga_pack.specs.Model.Layout.{is_in_reach}
 use Rattle.ga_source.specs.Item.{item_of}
 use Rattle.ga_asm.specs.Image.{labels_of}
-use Rattle.ga_asm.specs.Layout.{plain}
+use Rattle.ga_asm.specs.inner.Layout.{plain}
 use Rattle.ga_asm.proofs.Groups.{making_all, making_none, next_at, next_far, next_is_group, next_made, next_near, next_of, next_room, next_some, next_within}
 use Rattle.ga_asm.proofs.making.second_pass.Goals as goal
 

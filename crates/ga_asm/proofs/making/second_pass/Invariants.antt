@@ -1,5 +1,5 @@
-use Rattle.ga_asm.specs.Layout.{plain}
-use Rattle.ga_asm.specs.Making.{Making}
+use Rattle.ga_asm.specs.inner.Layout.{plain}
+use Rattle.ga_asm.specs.inner.Making.{Making}
 use Rattle.ga_asm.proofs.making.second_pass.Given as goal
 
 abbrev pub invariant-loop-count : goal.invariant-loop-count

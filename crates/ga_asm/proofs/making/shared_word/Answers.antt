@@ -2,7 +2,7 @@ use Rattle.std.proofs.Common.{◌≡◌, ◌∙◌, ◌+◌, ◌++◌, ◌∷◌
 use Rattle.ga_pack.specs.Model.Layout.{last_dest, ops_of}
 use Rattle.ga_source.specs.Item.{item_of}
 use Rattle.ga_asm.specs.Image.{labels_of}
-use Rattle.ga_asm.specs.Layout.{plain}
+use Rattle.ga_asm.specs.inner.Layout.{plain}
 use Rattle.ga_asm.proofs.LayingSteps.{front_next}
 use Rattle.ga_asm.proofs.MakingSteps.{dest_snoc}
 use Rattle.ga_asm.proofs.Summary.{ops_length, ops_snoc}

@@ -1,7 +1,7 @@
 use Rattle.std.proofs.Common.{◌≡◌, length, take}
 use Rattle.ga_pack.specs.Model.Layout.{last_dest, ops_of}
 use Rattle.ga_asm.specs.Image.{labels_of}
-use Rattle.ga_asm.specs.Layout.{plain}
+use Rattle.ga_asm.specs.inner.Layout.{plain}
 use Rattle.ga_asm.proofs.making.shared_word.Given as goal
 
 abbrev pub invariant-loop-item : goal.invariant-loop-item

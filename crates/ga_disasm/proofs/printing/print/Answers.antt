@@ -1,6 +1,6 @@
 use Rattle.std.proofs.Common.{ap, map, arith, string_bytes}
 use Rattle.std.proofs.lemmas.List.{drop_all}
-use Rattle.ga_disasm.specs.Items.{view_of}
+use Rattle.ga_disasm.specs.Disassembling.{view_of}
 use Rattle.ga_disasm.proofs.RoundTrip.{is_source_text}
 use Rattle.ga_disasm.proofs.Writing.{all_written}
 use Rattle.ga_disasm.proofs.printing.print.Goals as goal

@@ -1,6 +1,6 @@
 use Rattle.std.proofs.Common.{◌≡◌, ◌++◌, false, drop, map, string_bytes}
-use Rattle.ga_disasm.specs.Items.{view_of}
-use Rattle.ga_disasm.specs.Printed.{lines_of}
+use Rattle.ga_disasm.specs.Disassembling.{view_of}
+use Rattle.ga_disasm.specs.Printing.{lines_of}
 use Rattle.ga_disasm.proofs.printing.print.Given as goal
 
 -- what is written, and the lines that are left

@@ -1,6 +1,6 @@
 use Rattle.std.proofs.Common.{◌≡◌, ◌++◌, drop, map, string_bytes}
 use Rattle.ga_word.specs.Op.{name_of}
-use Rattle.ga_disasm.specs.Printed.{behind_spaces}
+use Rattle.ga_disasm.specs.Printing.{behind_spaces}
 use Rattle.ga_disasm.proofs.printing.push_ops.Given as goal
 
 -- what is written, and the names that are left

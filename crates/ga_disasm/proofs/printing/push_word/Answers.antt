@@ -1,7 +1,7 @@
 use Rattle.std.proofs.Common.{◌∙◌, ◌++◌, ◌≡◌, List, ap, map, string_bytes}
 use Rattle.ga_word.specs.Op.{name_of}
 use Rattle.ga_word.specs.declared.op.Op.{Op}
-use Rattle.ga_disasm.specs.Printed.{behind_spaces, field_texts}
+use Rattle.ga_disasm.specs.Printing.{behind_spaces, field_texts}
 use Rattle.ga_disasm.proofs.Writing.{no_field, some_field, word_line}
 use Rattle.ga_disasm.proofs.printing.push_word.Goals as goal
 use Rattle.ga_disasm.proofs.printing.push_word.Goals.{in-Some+in_ok-push_field, in_default}

@@ -3,7 +3,7 @@ use Rattle.std.specs.Option.{is_some}
 use Rattle.ga_pack.specs.Model.Layout.{address_of, is_value}
 use Rattle.ga_source.specs.Item.{value_of}
 use Rattle.ga_asm.specs.Image.{labels_of}
-use Rattle.ga_asm.specs.Layout.{plain_names}
+use Rattle.ga_asm.specs.inner.Layout.{plain_names}
 use Rattle.ga_asm.proofs.LabelLists.{found_among}
 use Rattle.ga_asm.proofs.layout.Layout.is_value.Goals as goal
 

@@ -3,7 +3,7 @@ use Rattle.std.proofs.lemmas.Bool.{not-true}
 use Rattle.ga_pack.specs.Model.Source.{is_among, is_new}
 use Rattle.ga_source.specs.Item.{item_of}
 use Rattle.ga_asm.specs.Image.{labels_of}
-use Rattle.ga_asm.specs.Layout.{labels_with, names_of}
+use Rattle.ga_asm.specs.inner.Layout.{labels_with, names_of}
 use Rattle.ga_asm.proofs.LabelLists.{labels_more}
 use Rattle.ga_asm.proofs.layout.Layout.note.Goals as goal
 

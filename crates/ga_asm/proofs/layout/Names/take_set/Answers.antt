@@ -1,6 +1,6 @@
 use Rattle.std.proofs.Common.{◌∙◌, sym, subst}
 use Rattle.std.specs.Prelude.{IfSome}
-use Rattle.ga_asm.specs.Layout.{AreSameNames, plain_names}
+use Rattle.ga_asm.specs.inner.Layout.{AreSameNames, plain_names}
 use Rattle.ga_asm.proofs.layout.Names.take_set.Goals as goal
 
 pub returns-in-Some-clause-ok : goal.returns-in-Some-clause-ok

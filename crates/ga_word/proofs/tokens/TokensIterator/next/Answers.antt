@@ -11,12 +11,12 @@ returns-in_err-start-clause-steps c =
 pub split_at-requires-2 : goal.split_at-requires-2
 split_at-requires-2 c =
     let text = c.split_at.result.1.now in
-    rw (c.unwrap_or.ensures, c.token_end.ensures, unwrap_or-position is_blank text) (position_or_len-le is_blank text)
+    rw (c.unwrap_or.ensures, c.first_blank.ensures, unwrap_or-position is_blank text) (position_or_len-le is_blank text)
 
 pub returns-clause-steps : goal.returns-clause-steps
 returns-clause-steps c =
     let text = c.split_at.result.1.now in
-    let end : c.unwrap_or.result ≡ position_or_len is_blank text = rw (c.unwrap_or.ensures, c.token_end.ensures) (unwrap_or-position is_blank text) in
+    let end : c.unwrap_or.result ≡ position_or_len is_blank text = rw (c.unwrap_or.ensures, c.first_blank.ensures) (unwrap_or-position is_blank text) in
     rw (c.split_at-2.ensures.front, c.split_at-2.ensures.back, end)
     (token_at c.args.self.now.text.now text c.in_ok-start.start (sym c.in_ok-start.ensures) c.split_at.ensures.back)
 

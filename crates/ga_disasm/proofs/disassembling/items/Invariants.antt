@@ -1,6 +1,6 @@
 use Rattle.std.proofs.Common.{◌≡◌, ◌-◌, ◌++◌, drop, map}
-use Rattle.ga_disasm.specs.Items.{items_from, items_of, view_of}
-use Rattle.ga_disasm.proofs.apart.items.Given as goal
+use Rattle.ga_disasm.specs.Disassembling.{items_from, items_of, view_of}
+use Rattle.ga_disasm.proofs.disassembling.items.Given as goal
 
 -- the items so far, and those of the words that are left
 abbrev pub invariant-loop-index : goal.invariant-loop-index

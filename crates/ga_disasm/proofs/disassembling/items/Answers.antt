@@ -4,8 +4,8 @@ use Rattle.ga_pack.specs.Decoded.{reading_of}
 use Rattle.ga_pack.proofs.Encoded.{same_reading}
 use Rattle.ga_disasm.proofs.NamedItems.{items_named}
 use Rattle.ga_disasm.proofs.Stepping.{all_apart, rest_is, data_next, follower_next, code_next, one_more}
-use Rattle.ga_disasm.proofs.apart.items.Goals as goal
-use Rattle.ga_disasm.proofs.apart.items.Goals.{then-index-code_len+in_ok-push, else-index-code_len+then-owed-gt0+in_ok-push-2, else-index-code_len+else-owed-gt0+in_ok-push-3}
+use Rattle.ga_disasm.proofs.disassembling.items.Goals as goal
+use Rattle.ga_disasm.proofs.disassembling.items.Goals.{then-index-code_len+in_ok-push, else-index-code_len+then-owed-gt0+in_ok-push-2, else-index-code_len+else-owed-gt0+in_ok-push-3}
 
 pub loop-index-preserved : goal.loop-index-preserved
 loop-index-preserved c =

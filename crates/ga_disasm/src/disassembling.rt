@@ -2,7 +2,7 @@ ghost use Rattle.std.specs.Prelude.{◌≡◌, ◌≤◌, length, map, IfOk, Lis
 ghost use Rattle.ga_pack.specs.Model.Layout.{Labels, Laid};
 ghost use Rattle.ga_pack.specs.Model.Source as grammar;
 ghost use Rattle.ga_disasm.specs.Instructions.{named_items};
-ghost use Rattle.ga_disasm.specs.Items.{items_of, view_of};
+ghost use Rattle.ga_disasm.specs.Disassembling.{items_of, view_of};
 
 use crate::item::Item;
 use ga_pack::{decode, followers};

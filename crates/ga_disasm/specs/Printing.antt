@@ -3,7 +3,7 @@ use Rattle.std.specs.Prelude.{ℕ, zero, suc, Bool, true, false, List, [], ◌�
 use Rattle.std.specs.Fmt.{decimal}
 use Rattle.ga_word.specs.Hex.{hex_digits}
 use Rattle.ga_word.specs.Op.{name_of}
-use Rattle.ga_disasm.specs.Items.{ItemView, Code, Follower, Data}
+use Rattle.ga_disasm.specs.Disassembling.{ItemView, Code, Follower, Data}
 
 -- texts, each behind a space
 abbrev pub behind_spaces : List (List ℕ) → List ℕ

@@ -7,7 +7,7 @@ use Rattle.ga_pack.specs.Model.Layout.{Labels, Group, Shared, Alone, GroupWords,
 use Rattle.ga_pack.specs.Model.LayoutFault.{AsmKind, Passed, SecondPassFault}
 use Rattle.ga_pack.specs.Model.Source.{Item, Transfer, is_item}
 use Rattle.ga_asm.specs.Image.{labels_of}
-use Rattle.ga_asm.specs.Layout.{count_of, data_at}
+use Rattle.ga_asm.specs.inner.Layout.{count_of, data_at}
 use Rattle.ga_asm.specs.declared.layout.Layout as the
 
 -- the group that an item is the first of, and the others

@@ -1,6 +1,6 @@
 -- What is kept of the items of a node while they are laid.
-use Rattle.std.specs.Prelude.{◌≡◌, ◌≤◌, ℕ, ◌+◌, Bool, true, false, List, [], ◌∷◌, ◌++◌, length, map, Option, Some, None, Result, Ok, Err, if◌then◌else◌}
-use Rattle.std.specs.Option.{option_or}
+use Rattle.std.specs.Prelude.{◌≡◌, ◌<◌, ◌≤◌, ℕ, ◌+◌, Bool, true, false, List, [], ◌∷◌, ◌++◌, length, map, Option, Some, None, Result, Ok, Err, if◌then◌else◌}
+use Rattle.std.specs.Option.{option_map, option_or}
 use Rattle.ga_word.specs.declared.op.Op.{Op}
 use Rattle.ga_pack.specs.Model.Layout.{Labels, Group, Shared, Alone, StandIn, address_after, is_loose, joins, labels_after, names_in, op_of, ops_of, size}
 use Rattle.ga_pack.specs.Model.LayoutFault.{AsmKind, FirstPassFault, Passed}
@@ -12,6 +12,7 @@ use Rattle.ga_asm.specs.Error.{kind_of}
 use Rattle.ga_asm.specs.Image.{all_near, labels_of}
 use Rattle.ga_asm.specs.declared.error.AsmErrorKind.{AsmErrorKind}
 use Rattle.ga_asm.specs.declared.layout.Layout as the
+use Rattle.ga_asm.specs.declared.open_word.OpenWord.{OpenWord}
 
 -- items as the model has them
 abbrev pub plain : List an.Item → List Item
@@ -21,12 +22,13 @@ plain items = map item_of items
 abbrev pub Open : Type 0
 Open = Option (ℕ × List Op)
 
-abbrev pub open_if : Bool → ℕ → List Op → Open
-open_if true word ops = Some (word, ops)
-open_if false word ops = None
-
 abbrev pub open_of : the.Layout → Open
-open_of l = open_if l.is_open l.word l.slots.ops.items
+open_of l = option_map (λ word. (word.address, word.ops.items)) l.open_word
+
+-- a slot of that word is free
+abbrev pub HasRoom : Option OpenWord → Type 0
+HasRoom None = Unit {0}
+HasRoom (Some word) = length word.ops.items < 4
 
 -- with these labels the item joins that word
 abbrev pub joins_open : Labels → Open → Item → Bool
@@ -111,8 +113,7 @@ AreSameNames names others = (name : List ℕ) → is_among name names ≡ is_amo
 pub record IsBlank (l : the.Layout) : Type 0 where
   pub labels : l.labels.entries ≡ []
   pub address : l.address ≡ 0
-  pub closed : l.is_open ≡ false
-  pub word : l.word ≡ 0
+  pub closed : l.open_word ≡ None
   pub counts : l.counts.items ≡ []
   pub data_start : l.data_start ≡ None
 
@@ -128,7 +129,6 @@ pub record Laying (names : List (List ℕ)) (items : List Item) (l : the.Layout)
   pub counts_are : l.counts.items ≡ closed_counts groups
   pub data_is : l.data_start ≡ data_at 0 groups
   pub few : l.address ≤ 64
-  pub near : l.word ≤ 64
   pub labels_near : all_near (labels_of l.labels.entries) ≡ true
 
 -- The same of all items, where each word is closed.
