@@ -20,8 +20,8 @@ use indexmap::IndexMap;
 use std::alloc::{AllocError, Global};
 use std::marker::Model;
 
-/// The images of a program: one for each node that its text names, in its order. A contract sees them as
-/// the list of the nodes' names with their images.
+/// The images of a program: one for each node that its text names, in its order. A contract sees
+/// them as the list of the nodes' names with their images.
 #[derive(Drop)]
 pub struct Images {
     images: IndexMap<Node, Image>,
@@ -46,7 +46,8 @@ impl Images {
 fn image_of(alloc: Global, section: &Section) -> Result<Image, Refusal>
     requires { Items start (plain section.now.items.items) }
     ensures ok { IfOk result (λ image. IsFaultless (plain section.now.items.items) image) }
-    ensures err { IfErr result (λ refusal. IsNodeFault (plain section.now.items.items) refusal.at (kind_of refusal.kind)) }
+    ensures err { IfErr result (λ refusal. IsNodeFault (plain section.now.items.items) refusal.at
+        (kind_of refusal.kind)) }
     ensures at { IfErr result (λ refusal. refusal.at < length section.now.items.items) }
 {
     let items = section.items.as_slice();
@@ -76,8 +77,8 @@ fn add_image(
     Ok(())
 }
 
-// Where the fault of an item is told, by the numbers of its section and of the item in it: at the name that
-// it uses, or else at its first token.
+// Where the fault of an item is told, by the numbers of its section and of the item in it: at the
+// name that it uses, or else at its first token.
 fn fault_place(
     alloc: Global,
     program: &Program<'_>,
@@ -102,7 +103,8 @@ fn error_at(
 ) -> AsmError
     requires { refusal.at < length (items_at program.now section) }
     ensures node { result.node ≡ node }
-    ensures told { IsTold (items_at program.now section) refusal.at (kind_of refusal.kind) (kind_of result.kind) (error_place result) }
+    ensures told { IsTold (items_at program.now section) refusal.at (kind_of refusal.kind)
+        (kind_of result.kind) (error_place result) }
 {
     if refusal.kind != AsmErrorKind::Memory {
         if let Ok(place) = fault_place(alloc, program, section, refusal.at) {
@@ -130,20 +132,23 @@ fn no_memory(node: Node) -> AsmError
     }
 }
 
-/// The images of a program, or the first fault of the program with its node and its place. (The limits are
-/// this project's own: profile.)
+/// The images of a program, or the first fault of the program with its node and its place. (The
+/// limits are this project's own: profile.)
 ///
-/// Items outside brackets are packed in order, each in the next slot of the last word where it fits, and else
-/// in slot 0 of a word of its own. A node has 64 words at most, and a fault is that of the first node in the
-/// text's order that has one. It fails as `Memory` only where memory is refused.
+/// Items outside brackets are packed in order, each in the next slot of the last word where it
+/// fits, and else in slot 0 of a word of its own. A node has 64 words at most, and a fault is that
+/// of the first node in the text's order that has one. It fails as `Memory` only where memory is
+/// refused.
 pub fn assemble(alloc: Global, program: &Program<'_>) -> Result<Images, AsmError>
     ensures images { IfOk result (λ images. IsAssembled program.now images) }
     // they are the only images of the program
-    ensures only { IfOk result (λ images. (other : List (ℕ × ImageView)) → IsAssembled program.now other → other ≡ images) }
+    ensures only { IfOk result (λ images. (other : List (ℕ × ImageView))
+        → IsAssembled program.now other → other ≡ images) }
     // and the program has no fault
     ensures none { IfOk result (λ _. HasNoFault program.now) }
     // each fault but `Memory` is the first one, told with its node and at its place
-    ensures fault { IfErr result (λ error. IsFirstFault program.now error.node (error_place error) (kind_of error.kind)) }
+    ensures fault { IfErr result (λ error. IsFirstFault program.now error.node (error_place error)
+        (kind_of error.kind)) }
 {
     let mut images = IndexMap::new(alloc);
     for (node, section) in program.sections() {

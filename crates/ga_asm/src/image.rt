@@ -17,9 +17,21 @@ pub struct Image {
 impl Model for Image {
     ghost Value = { ImageView };
 
-    ghost view = { λ image. record { words = image.words.items; code_len = image.code_len; entry = image.entry; labels = labels_of image.labels.entries } };
+    ghost view = { λ image. record {
+      words = image.words.items;
+      code_len = image.code_len;
+      entry =
+          image.entry;
+      labels = labels_of image.labels.entries;
+    } };
 
-    ghost invariant = { λ image. Fits (record { words = image.words.items; code_len = image.code_len; entry = image.entry; labels = labels_of image.labels.entries }) };
+    ghost invariant = { λ image.
+        Fits (record {
+          words = image.words.items;
+          code_len = image.code_len;
+          entry = image.entry;
+          labels = labels_of image.labels.entries;
+        }) };
 }
 
 impl Image {
@@ -32,7 +44,8 @@ impl Image {
         self.words.as_slice()
     }
 
-    /// How many words are code: those in front of `data`, or all words where the node has no `data`.
+    /// How many words are code: those in front of `data`, or all words where the node has no
+    /// `data`.
     pub fn code_len(&self) -> usize
         ensures value { result ≡ self.now.code_len }
         ensures within { result ≤ length self.now.words }
@@ -41,8 +54,8 @@ impl Image {
         self.code_len
     }
 
-    /// The address at which the node begins: that of the label `main`, or 0 where no label is `main`.
-    /// It is at most 64. (Profile.)
+    /// The address at which the node begins: that of the label `main`, or 0 where no label is
+    /// `main`. It is at most 64. (Profile.)
     pub fn entry(&self) -> u8
         ensures value { result ≡ self.now.entry }
         ensures bound { result ≤ 64 }
@@ -50,8 +63,8 @@ impl Image {
         self.entry
     }
 
-    /// The labels with their addresses, in the text's order. A label behind the last word has the number
-    /// of words as its address, so an address is at most 64.
+    /// The labels with their addresses, in the text's order. A label behind the last word has the
+    /// number of words as its address, so an address is at most 64.
     pub fn labels(&self) -> &IndexMap<String, u8>
         ensures value { labels_of result.now.entries ≡ self.now.labels }
         ensures bound { all_near self.now.labels ≡ true }

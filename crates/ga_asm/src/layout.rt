@@ -32,8 +32,8 @@ pub(crate) struct Layout {
     pub(crate) address: u8,
     // The word that the next item may join.
     open_word: Option<OpenWord>,
-    // How many items each group has: the items of a word outside brackets are one, and any other item is
-    // one by itself. The word that is open comes when it is closed.
+    // How many items each group has: the items of a word outside brackets are one, and any other
+    // item is one by itself. The word that is open comes when it is closed.
     pub(crate) counts: Vec<usize>,
     // The address of the first `data`.
     pub(crate) data_start: Option<u8>,
@@ -46,8 +46,8 @@ pub(crate) struct Refusal {
     pub(crate) kind: AsmErrorKind,
 }
 
-// The names of the labels of a node. A set of them is made when a name is first asked for that isn't laid,
-// which is seldom: most jumps go back.
+// The names of the labels of a node. A set of them is made when a name is first asked for that
+// isn't laid, which is seldom: most jumps go back.
 #[derive(Drop)]
 pub(crate) struct Names<'a> {
     alloc: Global,
@@ -70,7 +70,8 @@ impl<'a> Names<'a> {
     // The set, which is taken out.
     fn take_set(&mut self) -> Result<IndexSet<Name>, AsmErrorKind>
         ensures labels { self.new.labels.now ≡ self.old.labels.now }
-        ensures ok { IfOk result (λ set. AreSameNames (plain_names set.keys) (plain_names self.old.labels.now)) }
+        ensures ok { IfOk result (λ set. AreSameNames (plain_names set.keys)
+            (plain_names self.old.labels.now)) }
         ensures err { IfErr result (λ kind. kind ≡ Memory) }
     {
         match self.set.take() {
@@ -83,7 +84,8 @@ impl<'a> Names<'a> {
     #[inline(never)]
     fn contains(&mut self, name: &Name) -> Result<bool, AsmErrorKind>
         ensures labels { self.new.labels.now ≡ self.old.labels.now }
-        ensures ok { IfOk result (λ found. found ≡ words.is_among name.now.bytes (plain_names self.old.labels.now)) }
+        ensures ok { IfOk result (λ found. found ≡ words.is_among name.now.bytes
+            (plain_names self.old.labels.now)) }
         ensures err { IfErr result (λ kind. kind ≡ Memory) }
     {
         let set = self.take_set()?;
@@ -119,9 +121,11 @@ impl Layout {
 
     // The value is a number or a label, which is laid or not yet.
     fn is_value(&self, names: &mut Names<'_>, value: &Value) -> Result<bool, AsmErrorKind>
-        requires laid { AreAmong (names_of (labels_of self.now.labels.entries)) (plain_names names.old.labels.now) }
+        requires laid { AreAmong (names_of (labels_of self.now.labels.entries))
+            (plain_names names.old.labels.now) }
         ensures labels { names.new.labels.now ≡ names.old.labels.now }
-        ensures ok { IfOk result (λ found. found ≡ laid.is_value (plain_names names.old.labels.now) (value_of value.now)) }
+        ensures ok { IfOk result (λ found. found ≡ laid.is_value (plain_names names.old.labels.now)
+            (value_of value.now)) }
         ensures err { IfErr result (λ kind. kind ≡ Memory) }
     {
         match value {
@@ -132,13 +136,17 @@ impl Layout {
         }
     }
 
-    // Refuses the item, which joins the open word or not, for its first fault in a node with these labels.
+    // Refuses the item, which joins the open word or not, for its first fault in a node with these
+    // labels.
     fn judge(&self, names: &mut Names<'_>, item: &Item, joined: bool) -> Result<(), AsmErrorKind>
         requires joined { joined ≡ joins_word self.now (item_of item.now) }
         requires few { self.now.address ≤ 64 }
-        requires laid { AreAmong (names_of (labels_of self.now.labels.entries)) (plain_names names.old.labels.now) }
+        requires laid { AreAmong (names_of (labels_of self.now.labels.entries))
+            (plain_names names.old.labels.now) }
         ensures labels { names.new.labels.now ≡ names.old.labels.now }
-        ensures told { Refuses (faults.fault_at (plain_names names.old.labels.now) (labels_of self.now.labels.entries) self.now.address (joins_word self.now (item_of item.now)) (item_of item.now)) result }
+        ensures told { Refuses (faults.fault_at (plain_names names.old.labels.now)
+            (labels_of self.now.labels.entries) self.now.address
+            (joins_word self.now (item_of item.now)) (item_of item.now)) result }
     {
         match item {
             Item::Instruction(op) if !joined && is_unext(*op) => {
@@ -181,8 +189,10 @@ impl Layout {
 
     // A word that is open is closed.
     fn close(&mut self) -> Result<(), AsmErrorKind>
-        ensures ok { OnOk result (self.new ≡ record self.old { open_word = None; counts = self.new.counts }) }
-        ensures counts { OnOk result (self.new.counts.items ≡ self.old.counts.items ++ open_count (open_of self.old)) }
+        ensures ok { OnOk result (self.new ≡ record self.old
+            { open_word = None; counts = self.new.counts }) }
+        ensures counts { OnOk result (self.new.counts.items ≡ self.old.counts.items
+            ++ open_count (open_of self.old)) }
         ensures err { IfErr result (λ kind. kind ≡ Memory) }
     {
         if let Some(word) = &self.open_word {
@@ -196,7 +206,8 @@ impl Layout {
     fn join(&mut self, op: Op)
         requires { HasRoom self.old.open_word }
         ensures rest { self.new ≡ record self.old { open_word = self.new.open_word } }
-        ensures word { open_of self.new ≡ option_map (λ word. (word.0, word.1 ++ op ∷ [])) (open_of self.old) }
+        ensures word { open_of self.new ≡ option_map (λ word. (word.0, word.1 ++ op ∷ []))
+            (open_of self.old) }
     {
         if let Some(word) = &mut self.open_word {
             word.push(op);
@@ -205,10 +216,14 @@ impl Layout {
 
     // A label gets the next address, and the first `data` begins there.
     fn note(&mut self, item: &Item) -> Result<(), AsmErrorKind>
-        requires { words.is_new (item_of item.now) (names_of (labels_of self.old.labels.entries)) ≡ true }
-        ensures ok { OnOk result (self.new ≡ record self.old { labels = self.new.labels; data_start = self.new.data_start }) }
-        ensures labels { OnOk result (labels_of self.new.labels.entries ≡ labels_with (labels_of self.old.labels.entries) self.old.address (item_of item.now)) }
-        ensures data { OnOk result (self.new.data_start ≡ data_after self.old.data_start self.old.address (item_of item.now)) }
+        requires { words.is_new (item_of item.now) (names_of (labels_of self.old.labels.entries))
+            ≡ true }
+        ensures ok { OnOk result (self.new ≡ record self.old
+            { labels = self.new.labels; data_start = self.new.data_start }) }
+        ensures labels { OnOk result (labels_of self.new.labels.entries
+            ≡ labels_with (labels_of self.old.labels.entries) self.old.address (item_of item.now)) }
+        ensures data { OnOk result (self.new.data_start
+            ≡ data_after self.old.data_start self.old.address (item_of item.now)) }
         ensures err { IfErr result (λ kind. kind ≡ Memory) }
     {
         match item {
@@ -232,12 +247,21 @@ impl Layout {
         requires joined { joined ≡ joins_word self.old (item_of item.now) }
         requires room { joined ≡ true → HasRoom self.old.open_word }
         requires few { self.old.address ≤ 64 }
-        requires new { words.is_new (item_of item.now) (names_of (labels_of self.old.labels.entries)) ≡ true }
-        ensures labels { OnOk result (labels_of self.new.labels.entries ≡ labels_with (labels_of self.old.labels.entries) self.old.address (item_of item.now)) }
-        ensures address { OnOk result (self.new.address ≡ self.old.address + faults.words_added (joins_word self.old (item_of item.now)) (item_of item.now)) }
-        ensures word { OnOk result (open_of self.new ≡ open_after (joins_word self.old (item_of item.now)) (open_of self.old) self.old.address (item_of item.now)) }
-        ensures counts { OnOk result (self.new.counts.items ≡ counts_after (joins_word self.old (item_of item.now)) (open_of self.old) self.old.counts.items (item_of item.now)) }
-        ensures data { OnOk result (self.new.data_start ≡ data_after self.old.data_start self.old.address (item_of item.now)) }
+        requires new { words.is_new (item_of item.now) (names_of
+            (labels_of self.old.labels.entries)) ≡ true }
+        ensures labels { OnOk result (labels_of self.new.labels.entries
+            ≡ labels_with (labels_of self.old.labels.entries) self.old.address (item_of item.now)) }
+        ensures address { OnOk result (self.new.address
+            ≡ self.old.address + faults.words_added (joins_word self.old (item_of item.now))
+            (item_of item.now)) }
+        ensures word { OnOk result (open_of self.new ≡ open_after
+            (joins_word self.old (item_of item.now)) (open_of self.old) self.old.address
+            (item_of item.now)) }
+        ensures counts { OnOk result (self.new.counts.items
+            ≡ counts_after (joins_word self.old (item_of item.now)) (open_of self.old)
+            self.old.counts.items (item_of item.now)) }
+        ensures data { OnOk result (self.new.data_start
+            ≡ data_after self.old.data_start self.old.address (item_of item.now)) }
         ensures err { IfErr result (λ kind. kind ≡ Memory) }
     {
         let added = words_added(joined, item);
@@ -259,13 +283,14 @@ impl Layout {
     }
 }
 
-/// Where the items of a node come to stand, or the first fault of the first pass. The labels are all
-/// those of the node.
+/// Where the items of a node come to stand, or the first fault of the first pass. The labels are
+/// all those of the node.
 pub(crate) fn first_pass(alloc: Global, labels: &[Name], items: &[Item]) -> Result<Layout, Refusal>
     requires right { Items start (plain items.now) }
     requires names { plain_names labels.now ≡ names_in (plain items.now) }
     ensures ok { IfOk result (λ layout. Placing (plain items.now) layout) }
-    ensures err { IfErr result (λ refusal. IsFirstPassFault (plain items.now) refusal.at (kind_of refusal.kind)) }
+    ensures err { IfErr result (λ refusal. IsFirstPassFault (plain items.now) refusal.at
+        (kind_of refusal.kind)) }
     ensures at { IfErr result (λ refusal. refusal.at < length items.now) }
 {
     let mut layout = match Layout::new(alloc, labels.len(), items.len()) {

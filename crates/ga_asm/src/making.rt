@@ -108,8 +108,10 @@ fn word(ops: ArrayVec<Op, 4>, dest: Option<u16>, spare: u8) -> Word18
 // The word that items outside brackets share.
 fn shared_word(labels: &IndexMap<String, u8>, items: &[Item]) -> Word18
     requires few { length items.now ≤ 4 }
-    requires packable { IsPackable (ops_of (plain items.now)) (last_dest (labels_of labels.now.entries) 0 (plain items.now)) 0 }
-    ensures { IsWord result (ops_of (plain items.now)) (last_dest (labels_of labels.now.entries) 0 (plain items.now)) 0 }
+    requires packable { IsPackable (ops_of (plain items.now))
+        (last_dest (labels_of labels.now.entries) 0 (plain items.now)) 0 }
+    ensures { IsWord result (ops_of (plain items.now)) (last_dest (labels_of labels.now.entries) 0
+        (plain items.now)) 0 }
 {
     let mut ops = ArrayVec::new();
     let mut dest = None;
@@ -132,7 +134,8 @@ fn follower_of(item: &Item) -> Option<Word18>
 
 // The followers of a word that items outside brackets share.
 fn push_followers(items: &[Item], words: &mut Vec<Word18>) -> Result<(), AsmErrorKind>
-    ensures ok { OnOk result (words.new.items ≡ words.old.items ++ laid.literals (plain items.now)) }
+    ensures ok { OnOk result (words.new.items ≡ words.old.items
+        ++ laid.literals (plain items.now)) }
     ensures err { IfErr result (λ kind. kind ≡ Memory) }
 {
     for item in items {
@@ -146,7 +149,9 @@ fn push_followers(items: &[Item], words: &mut Vec<Word18>) -> Result<(), AsmErro
 // A bracketed word with a destination.
 fn word_to(labels: &IndexMap<String, u8>, bracketed: &TransferWord) -> Word18
     requires { source.is_item (word_of bracketed.now) ≡ true }
-    ensures { IsWord result (bracketed.now.ops.items ++ bracketed.now.op ∷ []) (Some (laid.dest_in (labels_of labels.now.entries) (length bracketed.now.ops.items) (value_of bracketed.now.dest))) (unwrap_or bracketed.now.spare 0) }
+    ensures { IsWord result (bracketed.now.ops.items ++ bracketed.now.op ∷ [])
+        (Some (laid.dest_in (labels_of labels.now.entries) (length bracketed.now.ops.items)
+        (value_of bracketed.now.dest))) (unwrap_or bracketed.now.spare 0) }
 {
     let mut slots = slots_of(bracketed.ops.as_slice());
     slots.push(bracketed.op);
@@ -163,7 +168,8 @@ fn push_alone(
 ) -> Result<(), AsmErrorKind>
     requires right { source.is_item (item_of item.now) ≡ true }
     requires alone { laid.is_loose (item_of item.now) ≡ false }
-    ensures ok { OnOk result ((new : List ℕ) × GroupWords (labels_of labels.now.entries) (Alone (item_of item.now)) new × (words.new.items ≡ words.old.items ++ new)) }
+    ensures ok { OnOk result ((new : List ℕ) × GroupWords (labels_of labels.now.entries)
+        (Alone (item_of item.now)) new × (words.new.items ≡ words.old.items ++ new)) }
     ensures err { IfErr result (λ kind. kind ≡ Memory) }
 {
     match item {
@@ -188,7 +194,8 @@ fn push_group(
     words: &mut Vec<Word18>,
 ) -> Result<(), AsmErrorKind>
     requires { IsGroup (labels_of labels.now.entries) (plain items.now) }
-    ensures ok { OnOk result (MoreWords (labels_of labels.now.entries) (plain items.now) words.old.items words.new.items) }
+    ensures ok { OnOk result (MoreWords (labels_of labels.now.entries) (plain items.now)
+        words.old.items words.new.items) }
     ensures err { IfErr result (λ kind. kind ≡ Memory) }
 {
     let first = &items[0];
@@ -200,8 +207,8 @@ fn push_group(
     }
 }
 
-/// The words of items that are placed, or the first fault of the second pass: a name in brackets out of
-/// reach.
+/// The words of items that are placed, or the first fault of the second pass: a name in brackets
+/// out of reach.
 pub(crate) fn second_pass(
     alloc: Global,
     items: &[Item],
@@ -211,7 +218,8 @@ pub(crate) fn second_pass(
     requires right { list_all source.is_item (plain items.now) ≡ true }
     requires some { 0 < length items.now }
     ensures ok { IfOk result (λ made. IsMade (plain items.now) layout.now made.items) }
-    ensures err { IfErr result (λ refusal. IsSecondPassFault (plain items.now) refusal.at (kind_of refusal.kind)) }
+    ensures err { IfErr result (λ refusal. IsSecondPassFault (plain items.now) refusal.at
+        (kind_of refusal.kind)) }
     ensures at { IfErr result (λ refusal. refusal.at < length items.now) }
 {
     let Ok(mut words) = Vec::with_capacity(alloc, usize::from(layout.address)) else {

@@ -61,7 +61,8 @@ impl OpenWord {
     #[tactic(auto, unfolding(ga_pack::specs::Model::Layout::fits))]
     fn fits(&self, labels: &IndexMap<String, u8>, item: &Item) -> bool
         ensures room { result ≡ true → length self.now.ops.items < 4 }
-        ensures test { result ≡ laid.fits (labels_of labels.now.entries) self.now.address self.now.ops.items (item_of item.now) }
+        ensures test { result ≡ laid.fits (labels_of labels.now.entries) self.now.address
+            self.now.ops.items (item_of item.now) }
     {
         let slot = self.ops.len();
         match item {
@@ -78,7 +79,8 @@ impl OpenWord {
     /// The item joins the word, with the labels that stand before it.
     pub(crate) fn joins(&self, labels: &IndexMap<String, u8>, item: &Item) -> bool
         ensures room { result ≡ true → length self.now.ops.items < 4 }
-        ensures test { result ≡ laid.joins (labels_of labels.now.entries) self.now.address self.now.ops.items (item_of item.now) }
+        ensures test { result ≡ laid.joins (labels_of labels.now.entries) self.now.address
+            self.now.ops.items (item_of item.now) }
     {
         !self.is_ended && self.fits(labels, item)
     }

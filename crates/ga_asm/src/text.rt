@@ -45,8 +45,8 @@ impl From<AsmError> for TextError {
     }
 }
 
-/// The images of a source text, or its first fault: that of the text, as `parse` tells it, or else that of
-/// its program, as `assemble` tells it. It fails as `Memory` only where memory is refused.
+/// The images of a source text, or its first fault: that of the text, as `parse` tells it, or else
+/// that of its program, as `assemble` tells it. It fails as `Memory` only where memory is refused.
 #[tactic(auto, using(crate::proofs::OneAnswer::one_answer))]
 pub fn assemble_text(alloc: Global, text: &str) -> Result<Images, TextError>
     ensures images { IfOk result (λ images. HasImages text.now images) }

@@ -10,21 +10,23 @@ use ga_word::Op;
 use std::alloc::{AllocError, Global};
 use std::fmt::Write;
 
-/// The source text of the items of a node, as it stands behind the line of the node's name: a line for each
-/// item, ended by LF, and the line `data` before the first [`Item::Data`].
+/// The source text of the items of a node, as it stands behind the line of the node's name: a line
+/// for each item, ended by LF, and the line `data` before the first [`Item::Data`].
 ///
-/// A word of code is `[`, its opcodes, behind one that takes a destination the field as `$` and five hex digits
-/// and, where they are not 0, `/` and the spare bits, and `]`, with one space between. Any other word is `,`, a
-/// space, `$` and five hex digits. It fails only where memory is refused.
+/// A word of code is `[`, its opcodes, behind one that takes a destination the field as `$` and
+/// five hex digits and, where they are not 0, `/` and the spare bits, and `]`, with one space
+/// between. Any other word is `,`, a space, `$` and five hex digits. It fails only where memory is
+/// refused.
 ///
-/// Where the items are what [`items`](crate::items) gives of 1 to 64 words, the text is a source text of these words:
-/// behind the line `node 000` it is a text without fault, and the assembler's layout allows for it these words and
-/// no others, and the same length of code.
+/// Where the items are what [`items`](crate::items) gives of 1 to 64 words, the text is a source
+/// text of these words: behind the line `node 000` it is a text without fault, and the assembler's
+/// layout allows for it these words and no others, and the same length of code.
 pub fn print(alloc: Global, items: &[Item]) -> Result<String, AllocError>
     ensures text { IfOk result (λ text. string_bytes text ≡ text_of (map view_of items.now)) }
     // for the items of any words of a node
     ensures source { IfOk result (λ text. (words : List ℕ) (code_len : ℕ) → FitNode words code_len
-        → map view_of items.now ≡ items_of code_len words → IsSourceOf (node_line ++ string_bytes text) words code_len) }
+        → map view_of items.now ≡ items_of code_len words
+        → IsSourceOf (node_line ++ string_bytes text) words code_len) }
 {
     let mut text = String::new(alloc);
     let mut in_data = false;
@@ -40,7 +42,8 @@ pub fn print(alloc: Global, items: &[Item]) -> Result<String, AllocError>
 
 /// The line of an item.
 fn push_line(text: &mut String, item: &Item) -> Result<(), AllocError>
-    ensures { OnOk result (string_bytes text.new ≡ string_bytes text.old ++ item_line (view_of item.now)) }
+    ensures { OnOk result (string_bytes text.new ≡ string_bytes text.old
+        ++ item_line (view_of item.now)) }
 {
     match item {
         Item::Code(packed) => push_word(text, packed)?,
@@ -51,7 +54,8 @@ fn push_line(text: &mut String, item: &Item) -> Result<(), AllocError>
 
 /// A word in brackets.
 fn push_word(text: &mut String, packed: &Packed) -> Result<(), AllocError>
-    ensures { OnOk result (string_bytes text.new ≡ string_bytes text.old ++ item_line (view_of (Item.Code packed.now))) }
+    ensures { OnOk result (string_bytes text.new ≡ string_bytes text.old
+        ++ item_line (view_of (Item.Code packed.now))) }
 {
     text.push_str("[")?;
     push_ops(text, packed.ops.as_slice())?;
@@ -64,7 +68,8 @@ fn push_word(text: &mut String, packed: &Packed) -> Result<(), AllocError>
 
 /// The names of opcodes, each behind a space.
 fn push_ops(text: &mut String, ops: &[Op]) -> Result<(), AllocError>
-    ensures { OnOk result (string_bytes text.new ≡ string_bytes text.old ++ behind_spaces (map name_of ops.now)) }
+    ensures { OnOk result (string_bytes text.new ≡ string_bytes text.old
+        ++ behind_spaces (map name_of ops.now)) }
 {
     for op in ops {
         write!(text, " {op}")?;
@@ -74,7 +79,8 @@ fn push_ops(text: &mut String, ops: &[Op]) -> Result<(), AllocError>
 
 /// The field of a destination, and the spare bits where they are not 0, each behind a space.
 fn push_field(text: &mut String, dest: u16, spare: u8) -> Result<(), AllocError>
-    ensures { OnOk result (string_bytes text.new ≡ string_bytes text.old ++ behind_spaces (field_texts (Some dest) spare)) }
+    ensures { OnOk result (string_bytes text.new ≡ string_bytes text.old
+        ++ behind_spaces (field_texts (Some dest) spare)) }
 {
     write!(text, " ${dest:05X}")?;
     if spare != 0 {

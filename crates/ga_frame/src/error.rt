@@ -13,8 +13,8 @@ pub enum FrameError {
     /// Fewer than three words stand where a frame begins, at this word.
     #[error("{0} CutHeader")]
     CutHeader(usize),
-    /// The frame that begins at this word has a completion over 3FF, or a transfer address over 1FF or one
-    /// that is none of RAM, of io, or of one port.
+    /// The frame that begins at this word has a completion over 3FF, or a transfer address over 1FF
+    /// or one that is none of RAM, of io, or of one port.
     #[error("{0} BadAddress")]
     BadAddress(usize),
     /// The frame that begins at this word has fewer words than its count says.

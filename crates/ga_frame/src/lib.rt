@@ -7,6 +7,6 @@ mod reading;
 mod writing;
 
 pub use error::FrameError;
-pub use frame::Frame;
+pub use frame::{Frame, MORE};
 pub use reading::read_frames;
 pub use writing::write_frame;

@@ -25,8 +25,8 @@ pub fn op_in_slot0(word: Word18) -> Op
     op_with_code(word.get() >> 13 ^ SLOT0_KEY)
 }
 
-/// The opcode in slot 1 of a word, bits 12..8. It is one of the word's opcodes where the one in slot 0
-/// takes no destination.
+/// The opcode in slot 1 of a word, bits 12..8. It is one of the word's opcodes where the one in
+/// slot 0 takes no destination.
 pub fn op_in_slot1(word: Word18) -> Op
     ensures bits { stored 1 result ≡ bits 5 (word / 2 ^ 8) }
     ensures op { result ≡ decoded.op_in_slot1 word }
@@ -34,8 +34,8 @@ pub fn op_in_slot1(word: Word18) -> Op
     op_with_code(word.get() >> 8 & 0x1F ^ SLOT1_KEY)
 }
 
-/// The opcode in slot 2 of a word, bits 7..3. It is one of the word's opcodes where those in slots 0 and
-/// 1 take no destination.
+/// The opcode in slot 2 of a word, bits 7..3. It is one of the word's opcodes where those in slots
+/// 0 and 1 take no destination.
 pub fn op_in_slot2(word: Word18) -> Op
     ensures bits { stored 2 result ≡ bits 5 (word / 2 ^ 3) }
     ensures op { result ≡ decoded.op_in_slot2 word }
@@ -43,8 +43,8 @@ pub fn op_in_slot2(word: Word18) -> Op
     op_with_code(word.get() >> 3 & 0x1F ^ SLOT2_KEY)
 }
 
-/// The opcode in slot 3 of a word, whose upper three bits are bits 2..0 and whose lower two are 0. It is
-/// one of the word's opcodes where those in slots 0 to 2 take no destination.
+/// The opcode in slot 3 of a word, whose upper three bits are bits 2..0 and whose lower two are 0.
+/// It is one of the word's opcodes where those in slots 0 to 2 take no destination.
 pub fn op_in_slot3(word: Word18) -> Op
     ensures fits { fits_slot3 result ≡ true }
     ensures bits { stored_upper result ≡ bits 3 word }
@@ -53,14 +53,15 @@ pub fn op_in_slot3(word: Word18) -> Op
     op_with_code((word.get() & 7 ^ SLOT3_KEY) << 2)
 }
 
-/// The opcodes that a word packs, and the destination of the last one, as the F18A reference, DB001,
-/// lays them out. Every word has exactly one reading, so this never fails, and it allocates nothing.
+/// The opcodes that a word packs, and the destination of the last one, as the F18A reference,
+/// DB001, lays them out. Every word has exactly one reading, so this never fails, and it allocates
+/// nothing.
 ///
-/// Slot 0 is bits 17..13, slot 1 bits 12..8, slot 2 bits 7..3 and slot 3 bits 2..0. Slot 3 holds the
-/// upper three bits of an opcode whose lower two bits are 0. Opcodes are stored XORed with 15555 at
-/// the same places. The first opcode that takes a destination ends the word, and no other does: what
-/// stands behind `;` or `ex` is read too. A destination is stored as it is: 10 bits, 9..0, behind slot
-/// 0, 8 bits, 7..0, behind slot 1, and 3 bits, 2..0, behind slot 2.
+/// Slot 0 is bits 17..13, slot 1 bits 12..8, slot 2 bits 7..3 and slot 3 bits 2..0. Slot 3 holds
+/// the upper three bits of an opcode whose lower two bits are 0. Opcodes are stored XORed with
+/// 15555 at the same places. The first opcode that takes a destination ends the word, and no other
+/// does: what stands behind `;` or `ex` is read too. A destination is stored as it is: 10 bits,
+/// 9..0, behind slot 0, 8 bits, 7..0, behind slot 1, and 3 bits, 2..0, behind slot 2.
 #[tactic(auto, unfolding(crate::specs::Decoded::reading_of))]
 pub fn decode(word: Word18) -> Packed
     // the word is spelled by these opcodes, this destination and these spare bits

@@ -137,7 +137,8 @@ fn without_dest(
 ) -> Result<Word18, PackError>
     ensures below { IfOk result (λ word. word < 2 ^ 18) }
     ensures reading { IfOk result (λ word. Reads (bits 18 word) (a ∷ b ∷ c ∷ d ∷ []) dest spare) }
-    ensures refused { IfErr result (λ error. pack_fault (a ∷ b ∷ c ∷ d ∷ []) dest spare ≡ Some error) }
+    ensures refused { IfErr result (λ error. pack_fault (a ∷ b ∷ c ∷ d ∷ []) dest spare
+        ≡ Some error) }
 {
     if dest.is_some() || a.takes_dest() || b.takes_dest() || c.takes_dest() || d.takes_dest() {
         return Err(PackError::Shape);
@@ -167,28 +168,32 @@ fn pack(ops: &[Op], dest: Option<u16>, spare: u8) -> Result<Word18, PackError>
     }
 }
 
-/// The word that packs these opcodes with this destination and these spare bits, as the F18A reference,
-/// DB001, lays it out: `decode` of the word gives the argument back, and of no other word. It allocates
-/// nothing.
+/// The word that packs these opcodes with this destination and these spare bits, as the F18A
+/// reference, DB001, lays it out: `decode` of the word gives the argument back, and of no other
+/// word. It allocates nothing.
 ///
-/// A word has a destination and one to three opcodes, of which the last and no other takes it, or it has
-/// no destination and four opcodes, none of which takes one. Anything else is refused as
-/// [`PackError::Shape`], and then the first of these: an opcode in slot 3 whose lower two bits are not 0
-/// ([`PackError::Slot3`]); a destination over 3FF, FF or 7 (hexadecimal) behind slot 0, 1 or 2
-/// ([`PackError::Dest`]); spare bits over 7, or other than 0 where slot 0 takes no destination
+/// A word has a destination and one to three opcodes, of which the last and no other takes it, or
+/// it has no destination and four opcodes, none of which takes one. Anything else is refused as
+/// [`PackError::Shape`], and then the first of these: an opcode in slot 3 whose lower two bits are
+/// not 0 ([`PackError::Slot3`]); a destination over 3FF, FF or 7 (hexadecimal) behind slot 0, 1 or
+/// 2 ([`PackError::Dest`]); spare bits over 7, or other than 0 where slot 0 takes no destination
 /// ([`PackError::Spare`]).
 pub fn encode(packed: &Packed) -> Result<Word18, PackError>
     // the word is spelled by these opcodes, this destination and these spare bits
-    ensures reading { IfOk result (λ word. Reads (bits 18 word) packed.now.ops.items packed.now.dest packed.now.spare) }
+    ensures reading { IfOk result (λ word. Reads (bits 18 word) packed.now.ops.items packed.now.dest
+        packed.now.spare) }
     // they are what the word reads as
     ensures ops { IfOk result (λ word. (reading_of word).ops ≡ packed.now.ops.items) }
     ensures dest { IfOk result (λ word. (reading_of word).dest ≡ packed.now.dest) }
     ensures spare { IfOk result (λ word. (reading_of word).spare ≡ packed.now.spare) }
     // accepted without a fault, and refused for the first one
-    ensures accepted { IfOk result (λ _. pack_fault packed.now.ops.items packed.now.dest packed.now.spare ≡ None) }
-    ensures refused { IfErr result (λ error. pack_fault packed.now.ops.items packed.now.dest packed.now.spare ≡ Some error) }
+    ensures accepted { IfOk result (λ _. pack_fault packed.now.ops.items packed.now.dest
+        packed.now.spare ≡ None) }
+    ensures refused { IfErr result (λ error. pack_fault packed.now.ops.items packed.now.dest
+        packed.now.spare ≡ Some error) }
     // the word of any number that reads so
-    ensures all { (word : ℕ) → word < 2 ^ 18 → Reads (bits 18 word) packed.now.ops.items packed.now.dest packed.now.spare → result ≡ Ok word }
+    ensures all { (word : ℕ) → word < 2 ^ 18 → Reads (bits 18 word) packed.now.ops.items
+        packed.now.dest packed.now.spare → result ≡ Ok word }
 {
     pack(packed.ops.as_slice(), packed.dest, packed.spare)
 }

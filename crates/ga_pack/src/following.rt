@@ -4,20 +4,20 @@ ghost use Rattle.ga_pack.specs.Followers as spec;
 use crate::packed::Packed;
 use ga_word::Op;
 
-/// Whether an opcode uses the word behind its own, which is its follower: `@p` reads it and `!p` writes
-/// it, and P advances over it (the F18A reference, DB001).
+/// Whether an opcode uses the word behind its own, which is its follower: `@p` reads it and `!p`
+/// writes it, and P advances over it (the F18A reference, DB001).
 pub fn is_followed(op: Op) -> bool
     ensures { result ≡ spec.is_followed op }
 {
     matches!(op, Op::FetchP | Op::StoreP)
 }
 
-/// How many of the words behind a word are its followers: one for each `@p` and `!p` in front of the
-/// first opcode that ends the word (`;`, `ex` and what takes a destination), where there is one. It
-/// allocates nothing.
+/// How many of the words behind a word are its followers: one for each `@p` and `!p` in front of
+/// the first opcode that ends the word (`;`, `ex` and what takes a destination), where there is
+/// one. It allocates nothing.
 ///
-/// Behind the end of a word no slot is run (the F18A reference, DB001). That a word that `@p` or `!p`
-/// uses counts as a follower is this project's profile.
+/// Behind the end of a word no slot is run (the F18A reference, DB001). That a word that `@p` or
+/// `!p` uses counts as a follower is this project's profile.
 pub fn followers(packed: &Packed) -> u8
     ensures count { result ≡ spec.followers packed.now.ops.items }
     ensures most { result ≤ 4 }

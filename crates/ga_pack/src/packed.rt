@@ -10,7 +10,7 @@ pub struct Packed {
     /// The destination of the last opcode, where it takes one: 10 bits behind slot 0, 8 bits behind
     /// slot 1, 3 bits behind slot 2.
     pub dest: Option<u16>,
-    /// Bits 12..10 of a word whose slot 0 takes a destination, else 0. They are ignored when the word
-    /// is run.
+    /// Bits 12..10 of a word whose slot 0 takes a destination, else 0. They are ignored when the
+    /// word is run.
     pub spare: u8,
 }

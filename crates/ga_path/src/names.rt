@@ -6,9 +6,10 @@ use crate::error::NamesError;
 use ga_place::Node;
 use std::alloc::Global;
 
-/// The nodes that a text names: of each the three digits of its name, with commas between them. (The form
-/// is this project's own: profile.) Any other text is refused as [`NamesError::BadNames`], the empty one too,
-/// and one with a name that no node has. It fails as [`NamesError::Memory`] only where memory is refused.
+/// The nodes that a text names: of each the three digits of its name, with commas between them.
+/// (The form is this project's own: profile.) Any other text is refused as
+/// [`NamesError::BadNames`], the empty one too, and one with a name that no node has. It fails as
+/// [`NamesError::Memory`] only where memory is refused.
 pub fn read_nodes(alloc: Global, text: &str) -> Result<Vec<Node>, NamesError>
     ensures nodes { IfOk result (λ nodes. nodes_in text.now ≡ Some nodes.items) }
     ensures bad { IfErr result (λ error. (error ≡ Memory) ⊎ (nodes_in text.now ≡ None)) }

@@ -6,8 +6,8 @@ use ga_place::{Node, side_to};
 use std::alloc::Global;
 use std::marker::Model;
 
-/// A way through the chip: nodes, the first at an edge, each other one a neighbour of the node before it,
-/// and no node twice. A contract sees the list of their names.
+/// A way through the chip: nodes, the first at an edge, each other one a neighbour of the node
+/// before it, and no node twice. A contract sees the list of their names.
 #[derive(Drop)]
 pub struct Route {
     nodes: Vec<Node>,
@@ -21,14 +21,15 @@ impl Model for Route {
 
     ghost view = { λ route. route.nodes.items };
 
-    ghost invariant = { λ route. (route_fault route.nodes.items ≡ None) × (length route.nodes.items ≤ 144) };
+    ghost invariant = { λ route. (route_fault route.nodes.items ≡ None)
+        × (length route.nodes.items ≤ 144) };
 }
 
 impl Route {
-    /// A route along these nodes, or what is wrong with them first: there is none, the first stands at no
-    /// edge; then, node by node from the second on, it is no neighbour of the one before it, or stands on the
-    /// route already. (Routes are this project's own: profile.) It fails as [`RouteError::Memory`] only where
-    /// memory is refused.
+    /// A route along these nodes, or what is wrong with them first: there is none, the first stands
+    /// at no edge; then, node by node from the second on, it is no neighbour of the one before it,
+    /// or stands on the route already. (Routes are this project's own: profile.) It fails as
+    /// [`RouteError::Memory`] only where memory is refused.
     pub fn new(alloc: Global, nodes: &[Node]) -> Result<Self, RouteError>
         ensures route { IfOk result (λ route. route ≡ nodes.now) }
         ensures faultless { IfOk result (λ _. route_fault nodes.now ≡ None) }

@@ -10,6 +10,7 @@ ghost use Rattle.ga_path.specs.declared.error.BootError.TheVariants.{Memory};
 use crate::error::BootError;
 use crate::parts::Part;
 use ga_asm::{Image, Images};
+use ga_frame::MORE;
 use ga_place::{Node, Side, idle_address, port_address, side_to};
 use ga_word::Word18;
 use std::alloc::Global;
@@ -25,8 +26,6 @@ const SEND: u32 = 0x05A72;
 const STORE: u32 = 0x05872;
 /// `. . . .`
 const NOPS: u32 = 0x2C9B2;
-/// The completion behind which another frame follows.
-const MORE: u32 = 0x000AE;
 
 /// A part of the boot stream of a route along these nodes.
 pub(crate) fn part_words(
@@ -109,7 +108,8 @@ fn add_sent(
     side: Side,
     image: Option<&Image>,
 ) -> Result<(), BootError>
-    ensures words { OnOk result (words.new.items ≡ sent part node side (option_copied image.entry) words.old.items) }
+    ensures words { OnOk result (words.new.items ≡ sent part node side (option_copied image.entry)
+        words.old.items) }
     ensures some { OnOk result (0 < length words.new.items) }
     ensures short { OnOk result (length words.new.items ≤ length words.old.items + 71) }
     ensures memory { IfErr result (λ error. error ≡ Memory) }
@@ -149,7 +149,8 @@ fn add_own_frame(
     root: Node,
     image: Option<&Image>,
 ) -> Result<(), BootError>
-    ensures words { OnOk result (words.new.items ≡ words.old.items ++ own_frame part root (option_copied image.entry)) }
+    ensures words { OnOk result (words.new.items ≡ words.old.items
+        ++ own_frame part root (option_copied image.entry)) }
     ensures memory { IfErr result (λ error. error ≡ Memory) }
 {
     match (part, image) {

@@ -9,12 +9,12 @@ use ga_asm::Images;
 use ga_place::Node;
 use std::alloc::Global;
 
-/// The boot stream of a route: what its first node is to be given, so that each node with an image has the
-/// image's words in memory, and then each node starts, one with an image at the image's entry and one
-/// without at its idle address. (The words are this project's own: profile.)
+/// The boot stream of a route: what its first node is to be given, so that each node with an image
+/// has the image's words in memory, and then each node starts, one with an image at the image's
+/// entry and one without at its idle address. (The words are this project's own: profile.)
 ///
-/// A node that has an image and isn't on the route is refused as [`BootError::Unreached`], the first in the
-/// images' order. It fails as [`BootError::Memory`] only where memory is refused.
+/// A node that has an image and isn't on the route is refused as [`BootError::Unreached`], the
+/// first in the images' order. It fails as [`BootError::Memory`] only where memory is refused.
 pub fn boot(alloc: Global, route: &Route, images: &Images) -> Result<Boot, BootError>
     ensures load { IfOk result (λ boot. boot.load.items ≡ load_of images.now route.now) }
     ensures start { IfOk result (λ boot. boot.start.items ≡ start_of images.now route.now) }

@@ -6,7 +6,8 @@ use std::alloc::{AllocError, AllocFailed};
 use std::error::Error;
 use std::fmt;
 
-/// What is wrong with a text, or that memory was refused. (The texts are this project's own: profile.)
+/// What is wrong with a text, or that memory was refused. (The texts are this project's own:
+/// profile.)
 #[derive(Clone, Copy, Debug, PartialEq, Eq)]
 pub enum SourceErrorKind {
     /// No token of the language, or one that may not stand where it stands.

@@ -31,8 +31,8 @@ pub(crate) enum Meaning<'a> {
     Slash,
 }
 
-/// What a token means that stands behind the token `node` or not. A token that is none of the language, or
-/// a number over 3FFFF, is a fault wherever it stands.
+/// What a token means that stands behind the token `node` or not. A token that is none of the
+/// language, or a number over 3FFFF, is a fault wherever it stands.
 #[tactic(auto, unfolding(ga_pack::specs::Model::Meaning::meaning_at))]
 pub(crate) fn meaning_at(is_behind_node: bool, text: &[u8]) -> Result<Meaning<'_>, SourceErrorKind>
     ensures value { token_of result ≡ Some (model.meaning_at is_behind_node text.now) }
@@ -46,7 +46,8 @@ pub(crate) fn meaning_at(is_behind_node: bool, text: &[u8]) -> Result<Meaning<'_
     plain_meaning(text)
 }
 
-/// Whether no label may have a name, since it is an opcode's or a number's, or a word of the language.
+/// Whether no label may have a name, since it is an opcode's or a number's, or a word of the
+/// language.
 #[tactic(auto, unfolding(ga_pack::specs::Model::Meaning::is_reserved))]
 pub(crate) fn is_reserved(name: &str) -> bool
     ensures { result ≡ model.is_reserved name.now }

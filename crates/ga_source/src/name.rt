@@ -13,8 +13,8 @@ use std::str;
 /// The most bytes that a name has.
 const MOST: usize = 16;
 
-/// The name of a label, in place: at most sixteen bytes. Names of the language are one to sixteen letters,
-/// digits and `_`.
+/// The name of a label, in place: at most sixteen bytes. Names of the language are one to sixteen
+/// letters, digits and `_`.
 #[derive(Clone, Copy)]
 pub struct Name {
     cells: [u8; MOST],
@@ -30,7 +30,8 @@ impl Model for Name {
 
     ghost view = { λ n. record { bytes = take n.len n.cells; spare = drop n.len n.cells } };
 
-    ghost invariant = { λ n. (n.len ≤ 16) × (length n.cells ≡ 16) × ∥ IsUtf8 (take n.len n.cells) ∥₁ };
+    ghost invariant = { λ n. (n.len ≤ 16) × (length n.cells ≡ 16)
+        × ∥ IsUtf8 (take n.len n.cells) ∥₁ };
 
     ghost inverse = { λ t. record { cells = t.bytes ++ t.spare; len = length t.bytes } };
 

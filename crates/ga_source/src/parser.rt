@@ -53,7 +53,8 @@ enum Position {
     BehindComma,
     // In brackets, behind opcodes that take no destination.
     InWord,
-    // In brackets, behind an opcode that takes a destination; and behind its destination, `/` and spare bits.
+    // In brackets, behind an opcode that takes a destination; and behind its destination, `/` and
+    // spare bits.
     BehindDestOp(Op),
     BehindDest(Op, Value),
     BehindSlash(Op, Value),
@@ -117,7 +118,8 @@ impl Parser {
     #[inline(always)]
     fn add(&mut self, item: Item, part: Part) -> Result<(), SourceErrorKind>
         requires no_label { (labels : List (List ℕ)) → labels_with (item_of item) labels ≡ labels }
-        ensures ok { OnOk result (state_of self.new ≡ added (inside_of self.old) (item_of item) (part_of part)) }
+        ensures ok { OnOk result (state_of self.new ≡ added (inside_of self.old) (item_of item)
+            (part_of part)) }
         ensures err { IfErr result (λ kind. kind ≡ Memory) }
     {
         let makes_word = item.makes_word();
@@ -174,7 +176,8 @@ impl Parser {
 
     // An opcode outside brackets and its destination are whole.
     fn add_transfer(&mut self, op: Op, dest: Value) -> Result<(), SourceErrorKind>
-        ensures ok { OnOk result (state_of self.new ≡ added (inside_of self.old) (Transfer op (value_of dest)) (Code 0)) }
+        ensures ok { OnOk result (state_of self.new ≡ added (inside_of self.old)
+            (Transfer op (value_of dest)) (Code 0)) }
         ensures err { IfErr result (λ kind. kind ≡ Memory) }
     {
         self.add(Item::Transfer { op, dest }, Part::Code(0))
@@ -199,7 +202,8 @@ impl Parser {
     // A plain word is whole.
     fn add_plain(&mut self, value: Value) -> Result<(), SourceErrorKind>
         requires owed { (owed : ℕ) → self.old.part ≡ part.Code owed → 0 < owed }
-        ensures { Answered (machine.with_part (inside_of self.old) (Plain (value_of value))) result (state_of self.new) }
+        ensures { Answered (machine.with_part (inside_of self.old) (Plain (value_of value))) result
+            (state_of self.new) }
     {
         let part = match self.part {
             Part::Code(owed) => Part::Code(owed - 1),
@@ -303,7 +307,8 @@ impl Parser {
     // A bracketed word without a destination is whole.
     fn close_word(&mut self) -> Result<(), SourceErrorKind>
         requires code { part_of self.old.part ≡ Code 0 }
-        ensures { Answered (machine.with_part (inside_of self.old) (Word self.old.ops.items)) result (state_of self.new) }
+        ensures { Answered (machine.with_part (inside_of self.old) (Word self.old.ops.items)) result
+            (state_of self.new) }
     {
         let owed = followers_of(&self.ops);
         let ops = std::mem::replace(&mut self.ops, ArrayVec::new());
@@ -313,7 +318,8 @@ impl Parser {
     // A bracketed word with a destination is whole.
     fn close(&mut self, op: Op, dest: Value, spare: Option<u8>) -> Result<(), SourceErrorKind>
         requires code { part_of self.old.part ≡ Code 0 }
-        ensures { Answered (machine.with_part (inside_of self.old) (WordTo self.old.ops.items op (value_of dest) spare)) result (state_of self.new) }
+        ensures { Answered (machine.with_part (inside_of self.old)
+            (WordTo self.old.ops.items op (value_of dest) spare)) result (state_of self.new) }
     {
         let owed = followers_of(&self.ops);
         let ops = std::mem::replace(&mut self.ops, ArrayVec::new());
@@ -377,7 +383,8 @@ impl Parser {
     // Behind `data`.
     fn take_data(&mut self, token: &Meaning<'_>) -> Result<(), SourceErrorKind>
         requires position { self.old.position ≡ at.Between }
-        ensures { Answered (machine.take_first Behind (inside_of self.old) (meaning_of token.now)) result (state_of self.new) }
+        ensures { Answered (machine.take_first Behind (inside_of self.old) (meaning_of token.now))
+            result (state_of self.new) }
     {
         match *token {
             Meaning::Comma => {
@@ -391,7 +398,9 @@ impl Parser {
     // In the code part, where followers are owed.
     fn take_owed(&mut self, token: &Meaning<'_>) -> Result<(), SourceErrorKind>
         requires position { self.old.position ≡ at.Between }
-        ensures { (owed : ℕ) → Answered (machine.take_first (Code (suc owed)) (inside_of self.old) (meaning_of token.now)) result (state_of self.new) }
+        ensures { (owed : ℕ)
+            → Answered (machine.take_first (Code (suc owed)) (inside_of self.old)
+            (meaning_of token.now)) result (state_of self.new) }
     {
         match *token {
             Meaning::Comma => {
@@ -410,7 +419,8 @@ impl Parser {
     // In the code part, where no follower is owed.
     fn take_code(&mut self, token: &Meaning<'_>) -> Result<(), SourceErrorKind>
         requires position { self.old.position ≡ at.Between }
-        ensures { Answered (machine.take_first (Code 0) (inside_of self.old) (meaning_of token.now)) result (state_of self.new) }
+        ensures { Answered (machine.take_first (Code 0) (inside_of self.old) (meaning_of token.now))
+            result (state_of self.new) }
     {
         match *token {
             Meaning::Op(op) => self.take_op(op),
@@ -429,7 +439,8 @@ impl Parser {
     // What begins an item, but for a label.
     fn take_item(&mut self, token: &Meaning<'_>) -> Result<(), SourceErrorKind>
         requires position { self.old.position ≡ at.Between }
-        ensures { Answered (machine.take_first (part_of self.old.part) (inside_of self.old) (meaning_of token.now)) result (state_of self.new) }
+        ensures { Answered (machine.take_first (part_of self.old.part) (inside_of self.old)
+            (meaning_of token.now)) result (state_of self.new) }
     {
         match self.part {
             Part::Data => self.take_data(token),
@@ -478,9 +489,11 @@ impl Parser {
 
     // The open section gets a label, and tells whether it had it not.
     fn add_label(&mut self, name: Name) -> Result<bool, SourceErrorKind>
-        ensures new { IfOk result (λ is_new. is_new ≡ not (words.is_among name.bytes (labels_of self.old))) }
+        ensures new { IfOk result (λ is_new. is_new ≡ not
+            (words.is_among name.bytes (labels_of self.old))) }
         ensures ok { OnOk result (self.new ≡ record self.old { labels = self.new.labels }) }
-        ensures labels { words.is_among name.bytes (labels_of self.old) ≡ false → OnOk result (labels_of self.new ≡ labels_of self.old ++ name.bytes ∷ []) }
+        ensures labels { words.is_among name.bytes (labels_of self.old) ≡ false
+            → OnOk result (labels_of self.new ≡ labels_of self.old ++ name.bytes ∷ []) }
         ensures err { IfErr result (λ kind. kind ≡ Memory) }
     {
         Ok(self.labels.insert(name)?)
@@ -490,7 +503,8 @@ impl Parser {
     fn take_label(&mut self, name: &str) -> Result<(), SourceErrorKind>
         requires position { self.old.position ≡ at.Between }
         requires short { length name.now ≤ 16 }
-        ensures { Answered (machine.take_label (inside_of self.old) name.now) result (state_of self.new) }
+        ensures { Answered (machine.take_label (inside_of self.old) name.now) result
+            (state_of self.new) }
     {
         if is_reserved(name) {
             return Err(SourceErrorKind::ReservedLabel);
@@ -525,8 +539,8 @@ impl Parser {
         }
     }
 
-    /// Takes the text of a token, which stands behind the token `node` or not, or refuses it. It tells whether
-    /// the token is `node`.
+    /// Takes the text of a token, which stands behind the token `node` or not, or refuses it. It
+    /// tells whether the token is `node`.
     pub(crate) fn take_text(
         &mut self,
         is_behind_node: bool,
@@ -535,8 +549,10 @@ impl Parser {
         requires good { Good (state_of self.old) }
         requires consistent { IsConsistent (state_of self.old) }
         requires empty { self.old.position ≡ at.Nothing → self.old.sections.entries ≡ [] }
-        ensures taken { Took (state_of self.old) (model.meaning_at is_behind_node text.now) result (state_of self.new) }
-        ensures node { IfOk result (λ is_node. is_node ≡ token.is_node (model.meaning_at is_behind_node text.now)) }
+        ensures taken { Took (state_of self.old) (model.meaning_at is_behind_node text.now) result
+            (state_of self.new) }
+        ensures node { IfOk result (λ is_node. is_node ≡ token.is_node
+            (model.meaning_at is_behind_node text.now)) }
     {
         match meaning_at(is_behind_node, text) {
             Ok(meaning) => {
@@ -550,8 +566,10 @@ impl Parser {
     /// The sections of the text, which ends here, or its fault.
     pub(crate) fn finish(self) -> Result<IndexMap<Node, Section>, SourceErrorKind>
         requires consistent { IsConsistent (state_of self) }
-        ensures ok { IfOk result (λ sections. machine.take (state_of self) end ≡ Ok (finished (map section_of sections.entries))) }
-        ensures err { IfErr result (λ kind. RefusedAs (machine.take (state_of self) end) (kind_of kind)) }
+        ensures ok { IfOk result (λ sections. machine.take (state_of self) end
+            ≡ Ok (finished (map section_of sections.entries))) }
+        ensures err { IfErr result (λ kind. RefusedAs (machine.take (state_of self) end)
+            (kind_of kind)) }
     {
         let mut parser = self;
         match parser.position {

@@ -1,4 +1,5 @@
-//! Where the items of a program stand in its text. The parser doesn't keep it, since only faults are told with places.
+//! Where the items of a program stand in its text. The parser doesn't keep it, since only faults
+//! are told with places.
 ghost use Rattle.std.specs.Prelude.{◌≡◌, IfOk, [], drop, length, map};
 ghost use Rattle.ga_pack.specs.Model.Program as model;
 ghost use Rattle.ga_pack.specs.Model.Program.{placed_items};
@@ -23,10 +24,12 @@ pub struct ItemPlace {
 }
 
 impl<'a> Program<'a> {
-    /// Where the items of a section stand in the text, in their order. The section is told by its number,
-    /// from 0; a section that there isn't has no items. It fails only where memory is refused.
+    /// Where the items of a section stand in the text, in their order. The section is told by its
+    /// number, from 0; a section that there isn't has no items. It fails only where memory is
+    /// refused.
     pub fn places(&self, alloc: Global, section: usize) -> Result<Vec<ItemPlace>, AllocError>
-        ensures { IfOk result (λ places. map item_place_of places.items ≡ map item_place (items_at self.now section)) }
+        ensures { IfOk result (λ places. map item_place_of places.items
+            ≡ map item_place (items_at self.now section)) }
     {
         let places = all_places(alloc, self.text)?;
         let mut rest = places.as_slice();
@@ -93,7 +96,8 @@ fn places_from(
     places: &[Place],
     items: &[Item],
 ) -> Result<Vec<ItemPlace>, AllocError>
-    ensures { IfOk result (λ found. map item_place_of found.items ≡ map item_place (placed_items (map place_of places.now) (map item_of items.now))) }
+    ensures { IfOk result (λ found. map item_place_of found.items
+        ≡ map item_place (placed_items (map place_of places.now) (map item_of items.now))) }
 {
     let mut found = Vec::new(alloc);
     let mut rest = places;
@@ -106,7 +110,8 @@ fn places_from(
 
 // Where an item stands whose tokens, and more behind them, have these places.
 fn item_place(places: &[Place], item: &Item) -> ItemPlace
-    ensures { item_place_of result ≡ item_place (model.placed (map place_of places.now) (item_of item.now)) }
+    ensures { item_place_of result
+        ≡ item_place (model.placed (map place_of places.now) (item_of item.now)) }
 {
     let name = match item.name_token() {
         Some(at) => Some(place_at(places, at)),

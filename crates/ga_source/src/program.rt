@@ -17,8 +17,8 @@ use indexmap::IndexMap;
 use std::alloc::Global;
 use std::marker::Model;
 
-/// The program of a text: a section for each node that the text names, in its order. A contract sees
-/// it as the list of its sections, with the places of their items.
+/// The program of a text: a section for each node that the text names, in its order. A contract
+/// sees it as the list of its sections, with the places of their items.
 #[derive(Drop)]
 pub struct Program<'a> {
     // The places of the items are found in it.
@@ -29,7 +29,8 @@ pub struct Program<'a> {
 impl<'a> Model for Program<'a> {
     ghost Value = { List PlacedSection };
 
-    ghost view = { λ program. placed_sections (places_of program.text.now) (map section_of program.sections.entries) };
+    ghost view = { λ program. placed_sections (places_of program.text.now)
+        (map section_of program.sections.entries) };
 
     ghost invariant = { λ program. Sections [] (map section_of program.sections.entries) };
 }
@@ -44,17 +45,19 @@ impl<'a> Program<'a> {
     }
 }
 
-/// The program of a text, or the first fault of the text with its place. (The texts are this project's
-/// own: profile.)
+/// The program of a text, or the first fault of the text with its place. (The texts are this
+/// project's own: profile.)
 ///
-/// It fails as `Memory` only where memory is refused. Each other kind is that of the first token, or of
-/// the text's end, with which no text goes on that begins as this one does.
+/// It fails as `Memory` only where memory is refused. Each other kind is that of the first token,
+/// or of the text's end, with which no text goes on that begins as this one does.
 pub fn parse(alloc: Global, text: &str) -> Result<Program<'_>, SourceError>
     ensures program { IfOk result (λ program. IsProgram text.now program) }
     // it is the only program of the text
-    ensures only { IfOk result (λ program. (other : List PlacedSection) → IsProgram text.now other → other ≡ program) }
+    ensures only { IfOk result (λ program. (other : List PlacedSection) → IsProgram text.now other
+        → other ≡ program) }
     // each fault but `Memory` is the first one, told at its place
-    ensures fault { IfErr result (λ error. IsFirstFault text.now (kind_of error.kind) (error_place error)) }
+    ensures fault { IfErr result (λ error. IsFirstFault text.now (kind_of error.kind)
+        (error_place error)) }
     // and the text has no program
     ensures none { IfErr result (λ error. HasNoProgram text.now (kind_of error.kind)) }
 {

@@ -11,5 +11,6 @@ pub struct Section {
     pub items: Vec<Item>,
     pub labels: Vec<Name>,
     // The labels are those of the items.
-    ghost labels_of_items: { map (λ name. name.bytes) labels.items ≡ names_in (map item_of items.items) },
+    ghost labels_of_items: { map (λ name. name.bytes) labels.items
+        ≡ names_in (map item_of items.items) },
 }

@@ -26,18 +26,21 @@ pub struct Token {
     pub end: usize,
     /// The line of its first character, from 1. Lines end by LF.
     pub line: usize,
-    /// The column of its first character, from 1. Columns count characters, the Unicode scalar values.
+    /// The column of its first character, from 1. Columns count characters, the Unicode scalar
+    /// values.
     pub column: usize,
 }
 
 /// The tokens of a text, in its order. The token `\` and the rest of its line are a comment, and no
-/// token; nor is the text's end. It fails only where memory is refused. (The texts are this project's
-/// own: profile.)
+/// token; nor is the text's end. It fails only where memory is refused. (The texts are this
+/// project's own: profile.)
 pub fn tokens(alloc: Global, text: &str) -> Result<Vec<Token>, AllocError>
     ensures tokens { IfOk result (λ tokens. tokens.items ≡ map token_of (lexemes text.now)) }
     // each is its slice of the text
-    ensures inside { IfOk result (λ tokens. All (λ t. (t.start ≤ t.end) × (t.end ≤ length text.now)) tokens.items) }
-    ensures slices { IfOk result (λ tokens. map (λ t. slice_range text.now t.start t.end) tokens.items ≡ texts_of text.now) }
+    ensures inside { IfOk result (λ tokens. All (λ t. (t.start ≤ t.end)
+        × (t.end ≤ length text.now)) tokens.items) }
+    ensures slices { IfOk result (λ tokens. map (λ t. slice_range text.now t.start t.end)
+        tokens.items ≡ texts_of text.now) }
 {
     let mut tokens = Vec::new(alloc);
     let mut line = 1;
@@ -58,7 +61,8 @@ fn add_line(
     bytes: &[u8],
 ) -> Result<(), AllocError>
     requires { start + length bytes.now < 2 ^ 63 }
-    ensures { IfOk result (λ done. tokens.new.items ≡ tokens.old.items ++ map token_of (line_lexemes line start bytes.now)) }
+    ensures { IfOk result (λ done. tokens.new.items ≡ tokens.old.items
+        ++ map token_of (line_lexemes line start bytes.now)) }
 {
     let mut start = start;
     let mut column = 1;
@@ -101,7 +105,8 @@ pub(crate) fn end_place(text: &str) -> Place
     Place { line, column }
 }
 
-/// The lines of a text, from the front. Each ends by LF, and what stands behind the last LF is a line too.
+/// The lines of a text, from the front. Each ends by LF, and what stands behind the last LF is a
+/// line too.
 #[derive(Drop)]
 struct Lines<'a> {
     rest: Option<&'a [u8]>,

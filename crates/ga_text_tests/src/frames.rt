@@ -24,7 +24,8 @@ fn frame_faults(rt: HostRuntime) -> Result<(), Fail> {
             FrameError::AfterEnd(3),
         ),
         (&[0x001B5, 0x00141, 0x00000], FrameError::BadAddress(0)),
-        // a completion of eleven bits, a word of ROM, several ports, and a transfer address of ten bits
+        // a completion of eleven bits, a word of ROM, several ports, and a transfer address of ten
+        // bits
         (&[0x00400, 0x00000, 0x00000], FrameError::BadAddress(0)),
         (&[0x001B5, 0x00080, 0x00000], FrameError::BadAddress(0)),
         (&[0x001B5, 0x001A5, 0x00000], FrameError::BadAddress(0)),

@@ -1,5 +1,7 @@
 use crate::shared::packed;
-use ga_pack::{PackError, Packed, decode, encode, followers};
+use ga_pack::{
+    PackError, Packed, decode, dest_bound, encode, followers, followers_of, is_followed, op_fits,
+};
 use ga_test_values::word;
 use ga_word::Op;
 use std::test::Fail;
@@ -102,6 +104,16 @@ fn counts_followers(rt: HostRuntime) -> Result<(), Fail> {
     for (packed, count) in &table {
         assert!(rt; followers(packed) == *count, "the followers of {packed:?}");
     }
+    // behind `;` no slot is run
+    let ops = [Op::StoreP, Op::Nop, Op::FetchP, Op::Return, Op::FetchP];
+    assert!(rt; followers_of(&ops) == 2 && is_followed(Op::StoreP) && !is_followed(Op::Store));
+    Ok(())
+}
+
+#[test]
+fn slots_have_room(rt: HostRuntime) -> Result<(), Fail> {
+    assert!(rt; op_fits(2, Op::Drop) && op_fits(3, Op::Dup) && !op_fits(3, Op::Drop));
+    assert!(rt; dest_bound(0) == 1024 && dest_bound(1) == 256 && dest_bound(2) == 8);
     Ok(())
 }
 

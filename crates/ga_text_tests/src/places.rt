@@ -107,7 +107,8 @@ fn neighbours(rt: HostRuntime) -> Result<(), Fail> {
     Ok(())
 }
 
-/// Whether a node's neighbours are these, at right, down, left and up, and each of them is found at its side.
+/// Whether a node's neighbours are these, at right, down, left and up, and each of them is found at
+/// its side.
 fn are_around(node: Node, around: [Option<u16>; 4]) -> bool {
     for (side, name) in SIDES.into_iter().zip(around) {
         match (neighbour(node, side), name) {

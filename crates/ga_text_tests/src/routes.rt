@@ -65,7 +65,8 @@ fn boot_two_hops(rt: HostRuntime) -> Result<(), Fail> {
 
 #[test]
 fn images_on_the_way(rt: HostRuntime) -> Result<(), Fail> {
-    // the edge node and the far end have images, with entries 1 and 2; the images stand in another order
+    // the edge node and the far end have images, with entries 1 and 2; the images stand in another
+    // order
     let text = "node 709 . align . align main: . node 708 . align main: .";
     let boot = booted(rt.alloc(), &[708, 709], text)?;
     let load = [
@@ -152,8 +153,8 @@ fn longest_route(rt: HostRuntime) -> Result<(), Fail> {
     let boot = boot(alloc, &route, &assembled(alloc, "node 717 .")?)
         .ok()
         .ok_or("no boot")?;
-    // the far end: its jump, six words to fill its memory, and the close; each of 142 others: a jump, a pump
-    // and the close; then both frames' headers
+    // the far end: its jump, six words to fill its memory, and the close; each of 142 others: a
+    // jump, a pump and the close; then both frames' headers
     assert!(rt; boot.load.len() == 8 + 142 * 7 + 6);
     assert!(rt; boot.start.len() == 1 + 142 * 6 + 6);
     Ok(())

@@ -258,6 +258,8 @@ fn names(rt: HostRuntime) -> Result<(), Fail> {
     assert!(rt; Name::new("abcdefghijklmnopq").is_none());
     assert!(rt; named("loop")? == named("loop")?);
     assert!(rt; named("loop")? != named("Loop")?);
+    let label = Item::Label(name);
+    assert!(rt; Item::Plain(Value::Label(name)).makes_word() && !label.makes_word());
     Ok(())
 }
 

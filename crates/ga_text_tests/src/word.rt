@@ -1,5 +1,7 @@
 use ga_test_values::array;
-use ga_word::{Op, Word18, WordsError, hex5, read_hex5, read_words, words_text};
+use ga_word::{
+    Op, Word18, WordsError, first_blank, first_non_blank, hex5, read_hex5, read_words, words_text,
+};
 use std::test::Fail;
 
 #[test]
@@ -58,6 +60,7 @@ fn texts(rt: HostRuntime) -> Result<(), Fail> {
         assert!(rt; read_hex5(refused.as_bytes()).is_none(), "{refused}");
     }
     assert!(rt; words_text(rt.alloc(), &[nops])?.as_str() == "2C9B2\n");
+    assert!(rt; first_blank(b"dup\rup") == Some(3) && first_non_blank(b" \t\n.") == Some(3));
     assert!(rt; words_text(rt.alloc(), &[])?.as_str() == "");
     let nine = words_text(rt.alloc(), &[one; 9])?;
     assert!(rt; nine.as_str() == "00001 00001 00001 00001 00001 00001 00001 00001\n00001\n");

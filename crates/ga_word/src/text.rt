@@ -30,7 +30,8 @@ impl<T: Drop> From<AllocFailed<T>> for WordsError {
 }
 
 /// The text of words: each as five hex digits in upper case, eight on a line with one space
-/// between, each line ended by LF. No words are the empty text. It fails only where memory is refused.
+/// between, each line ended by LF. No words are the empty text. It fails only where memory is
+/// refused.
 pub fn words_text(alloc: Global, words: &[Word18]) -> Result<String, AllocError>
     ensures { IfOk result (λ text. string_bytes text ≡ text_of_words words.now) }
 {
@@ -39,10 +40,11 @@ pub fn words_text(alloc: Global, words: &[Word18]) -> Result<String, AllocError>
     Ok(text)
 }
 
-/// Adds the text of words to a text, as [`words_text`] gives it. It fails only where memory is refused,
-/// and the text is as it was then.
+/// Adds the text of words to a text, as [`words_text`] gives it. It fails only where memory is
+/// refused, and the text is as it was then.
 pub fn push_words(text: &mut String, words: &[Word18]) -> Result<(), AllocError>
-    ensures text { IfOk result (λ done. string_bytes text.new ≡ string_bytes text.old ++ text_of_words words.now) }
+    ensures text { IfOk result (λ done. string_bytes text.new ≡ string_bytes text.old
+        ++ text_of_words words.now) }
     ensures unchanged { OnErr result (string_bytes text.new ≡ string_bytes text.old) }
 {
     text.reserve(6 * words.len())?;
@@ -53,13 +55,15 @@ pub fn push_words(text: &mut String, words: &[Word18]) -> Result<(), AllocError>
     Ok(())
 }
 
-/// Adds the digits of a word, and the ASCII byte behind them. It takes no memory where there is room for six bytes.
+/// Adds the digits of a word, and the ASCII byte behind them. It takes no memory where there is
+/// room for six bytes.
 fn push_word(text: &mut String, word: Word18, end: u8) -> Result<(), AllocError>
     requires { end < 128 }
     ensures room { string_len text.old + 6 ≤ string_capacity text.old → IsOk result }
     ensures capacity { string_capacity text.old ≤ string_capacity text.new }
     ensures len { IfOk result (λ done. string_len text.new ≡ string_len text.old + 6) }
-    ensures text { IfOk result (λ done. string_bytes text.new ≡ string_bytes text.old ++ hex_digits 5 word ++ end ∷ []) }
+    ensures text { IfOk result (λ done. string_bytes text.new ≡ string_bytes text.old
+        ++ hex_digits 5 word ++ end ∷ []) }
 {
     let [first, second, third, fourth, fifth] = hex5(word);
     let digits = [first, second, third, fourth, fifth, end];
@@ -73,7 +77,8 @@ fn push_word(text: &mut String, word: Word18, end: u8) -> Result<(), AllocError>
 /// [`WordsError::Memory`] comes where memory is refused.
 pub fn read_words(alloc: Global, text: &str) -> Result<Vec<Word18>, WordsError>
     ensures words { IfOk result (λ words. words_of_text text.now ≡ Ok words.items) }
-    ensures bad_word { (index : ℕ) → result ≡ Err (BadWord index) → words_of_text text.now ≡ Err index }
+    ensures bad_word { (index : ℕ) → result ≡ Err (BadWord index) → words_of_text text.now
+        ≡ Err index }
 {
     let mut words = Vec::new(alloc);
     for token in Tokens::new(text.as_bytes()) {
