@@ -7,8 +7,8 @@ use Rattle.ga_word.specs.Hex.{hex_digits, is_word_text}
 use Rattle.ga_word.specs.Op.{op_with}
 use Rattle.ga_word.specs.Text.{tokens}
 use Rattle.ga_pack.specs.Decoded.{reading_of}
-use Rattle.ga_disasm.specs.Items.{items_from}
-use Rattle.ga_disasm.specs.Printed.{text_of}
+use Rattle.ga_disasm.specs.Disassembling.{items_from}
+use Rattle.ga_disasm.specs.Printing.{text_of}
 use Rattle.ga_node.specs.Line.{line_of}
 use Rattle.ga_node.specs.Need.{need_of}
 use Rattle.ga_node.specs.Slot.{row, step}

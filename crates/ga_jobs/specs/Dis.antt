@@ -1,8 +1,8 @@
 -- The job `dis`: what it writes.
 use Rattle.std.specs.Prelude.{ℕ, ◌≡◌, List, [], ◌∷◌, ◌++◌, length, nat_lt, Option, Result, Ok, Err, unwrap_or, if◌then◌else◌}
 use Rattle.ga_asm.specs.Image.{ImageView}
-use Rattle.ga_disasm.specs.Items.{items_of}
-use Rattle.ga_disasm.specs.Printed.{node_line, text_of}
+use Rattle.ga_disasm.specs.Disassembling.{items_of}
+use Rattle.ga_disasm.specs.Printing.{node_line, text_of}
 use Rattle.ga_jobs.specs.Asm.{IsAsmOutput, images_text}
 use Rattle.ga_jobs.specs.declared.fault.ServeError.{ServeError}
 use Rattle.ga_jobs.specs.declared.fault.ServeError.TheVariants.{Words}

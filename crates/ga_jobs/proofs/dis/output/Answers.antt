@@ -1,8 +1,8 @@
 use Rattle.std.proofs.Common.{◌≡◌, ◌∙◌, ◌≤◌, ◌++◌, ℕ, List, Option, Result, Ok, length, map, refl, sym, ap, subst, string_bytes, unwrap_or, arith}
 use Rattle.std.proofs.lemmas.Bool.{le-ltb}
 use Rattle.std.proofs.lemmas.Str.{IsUtf8-string_bytes}
-use Rattle.ga_disasm.specs.Items.{items_of, view_of}
-use Rattle.ga_disasm.specs.Printed.{node_line, text_of}
+use Rattle.ga_disasm.specs.Disassembling.{items_of, view_of}
+use Rattle.ga_disasm.specs.Printing.{node_line, text_of}
 use Rattle.ga_disasm.specs.declared.item.Item.{Item}
 use Rattle.ga_disasm.specs.Source.{IsSourceOf}
 use Rattle.ga_jobs.specs.Dis.{dis_text, text_after}
