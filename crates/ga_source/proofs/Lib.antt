@@ -10,6 +10,6 @@ mod ItemPlaces
 mod Reading
 mod Lines
 mod Slices
-mod Texts
+mod Walking
 mod Numerals
 mod Names

@@ -19,7 +19,7 @@ use Rattle.ga_source.specs.declared.error.SourceErrorKind.{SourceErrorKind}
 use Rattle.ga_source.proofs.Exact.{length_snoc, regroup}
 use Rattle.ga_source.proofs.Consistent.{ConsistentBy, take_consistent}
 use Rattle.ga_source.proofs.Steps.{Right, take_right}
-use Rattle.ga_source.proofs.Texts.{few_texts}
+use Rattle.ga_source.proofs.Walking.{few_texts}
 use Rattle.ga_source.proofs.FaultKinds.{Shape, is_finished}
 use Rattle.ga_source.proofs.Whole.{ReadSoFar, at_end, at_fault, at_first, at_next}
 

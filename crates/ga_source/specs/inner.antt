@@ -2,3 +2,4 @@
 pub mod Meaning
 pub mod Machine
 pub mod Parser
+pub mod Walk

@@ -1,10 +1,10 @@
-ghost use Rattle.std.specs.Prelude.{◌≡◌, ◌+◌, ◌^◌, ◌<◌, ◌≤◌, ◌++◌, ◌∷◌, All, IfOk, IfSome, None, [], codes, count_by, length, map, not, slice_range};
+ghost use Rattle.std.specs.Prelude.{◌≡◌, ◌+◌, ◌^◌, ◌<◌, ◌≤◌, All, IfOk, IfSome, ℕ, None, [], codes, length, map, slice_range};
 ghost use Rattle.std.specs.Iterator.{YieldsFirstRef, item_count};
-ghost use Rattle.std.specs.List.{position, slice_split};
 ghost use Rattle.std.specs.Str.{bytes_eq};
-ghost use Rattle.ga_word.specs.Text.{is_blank};
-ghost use Rattle.ga_pack.specs.Model.Text.{begins_character, end_of, lexemes, line_lexemes, lines_of, texts_of};
-ghost use Rattle.ga_source.specs.Token.{BehindRun, Begins, lines_in, lines_left, place_of, runs_left, runs_of, texts_left, token_of};
+ghost use Rattle.ga_pack.specs.Model.Text as model;
+ghost use Rattle.ga_pack.specs.Model.Text.{begins_character, end_of, lexemes, texts_of};
+ghost use Rattle.ga_source.specs.Token.{place_of, texts_left, token_of};
+ghost use Rattle.ga_source.specs.inner.Walk.{BehindRun, Begins, FirstLine, Found, lexemes_at, step, walk};
 
 use ga_word::{first_blank, first_non_blank};
 use memchr::memchr;
@@ -43,46 +43,22 @@ pub fn tokens(alloc: Global, text: &str) -> Result<Vec<Token>, AllocError>
         tokens.items ≡ texts_of text.now) }
 {
     let mut tokens = Vec::new(alloc);
-    let mut line = 1;
-    let mut start = 0;
-    for bytes in Lines::new(text) {
-        add_line(&mut tokens, line, start, bytes)?;
-        line += 1;
-        start += bytes.len() + 1;
+    let mut place = Place { line: 1, column: 1 };
+    let mut rest = text.as_bytes();
+    while let Some((run, behind)) = next_token(rest) {
+        let (front, _) = rest.split_at(rest.len() - behind.len() - run.len());
+        place = place.behind(front);
+        let end = text.len() - behind.len();
+        tokens.push(Token {
+            start: end - run.len(),
+            end,
+            line: place.line,
+            column: place.column,
+        })?;
+        place = place.behind(run);
+        rest = behind;
     }
     Ok(tokens)
-}
-
-/// Adds the tokens of a line, which has a number and begins at an offset of the text.
-fn add_line(
-    tokens: &mut Vec<Token>,
-    line: usize,
-    start: usize,
-    bytes: &[u8],
-) -> Result<(), AllocError>
-    requires { start + length bytes.now < 2 ^ 63 }
-    ensures { IfOk result (λ done. tokens.new.items ≡ tokens.old.items
-        ++ map token_of (line_lexemes line start bytes.now)) }
-{
-    let mut start = start;
-    let mut column = 1;
-    for run in Runs::new(bytes) {
-        if is_comment(run) {
-            break;
-        }
-        let end = start + run.len();
-        if start < end {
-            tokens.push(Token {
-                start,
-                end,
-                line,
-                column,
-            })?;
-        }
-        start = end + 1;
-        column += characters(run) + 1;
-    }
-    Ok(())
 }
 
 /// Whether a run begins a comment.
@@ -96,92 +72,50 @@ fn is_comment(run: &[u8]) -> bool
 pub(crate) fn end_place(text: &str) -> Place
     ensures { place_of result ≡ end_of text.now }
 {
-    let mut line = 0;
-    let mut column = 1;
-    for part in text.split('\n') {
-        line += 1;
-        column = characters(part.as_bytes()) + 1;
-    }
-    Place { line, column }
+    Place { line: 1, column: 1 }.behind(text.as_bytes())
 }
 
-/// The lines of a text, from the front. Each ends by LF, and what stands behind the last LF is a
-/// line too.
-#[derive(Drop)]
-struct Lines<'a> {
-    rest: Option<&'a [u8]>,
-}
-
-impl<'a> Lines<'a> {
-    fn new(text: &'a str) -> Self
-        ensures { lines_left result ≡ lines_of text.now }
+impl Place {
+    /// The place behind some bytes of a text that begin at this one.
+    fn behind(self, bytes: &[u8]) -> Place
+        requires line { self.line + length bytes.now < 2 ^ 64 }
+        requires column { self.column + length bytes.now < 2 ^ 64 }
+        ensures { place_of result ≡ walk (place_of self) bytes.now }
     {
-        Lines {
-            rest: Some(text.as_bytes()),
+        let mut place = self;
+        for byte in bytes {
+            place = place.next(*byte);
         }
+        place
     }
-}
 
-impl<'a> Iterator for Lines<'a> {
-    type Item = &'a [u8];
-
-    ghost next_gives = { YieldsFirstRef lines_left };
-
-    ghost remaining = { item_count lines_left };
-
-    fn next(&mut self) -> Option<&'a [u8]> {
-        let (line, rest) = first_line(self.rest?);
-        self.rest = rest;
-        Some(line)
+    /// The place behind a byte that stands at this one.
+    #[inline(always)]
+    fn next(self, byte: u8) -> Place
+        requires { (self.line + 1 < 2 ^ 64) × (self.column + 1 < 2 ^ 64) }
+        ensures { place_of result ≡ step (place_of self) byte }
+    {
+        if byte == b'\n' {
+            return Place {
+                line: self.line + 1,
+                column: 1,
+            };
+        }
+        Place {
+            line: self.line,
+            column: self.column + usize::from(begins_character(byte)),
+        }
     }
 }
 
 /// The first line of a text, and what stands behind the LF at its end.
 #[inline(always)]
 fn first_line(text: &[u8]) -> (&[u8], Option<&[u8]>)
-    ensures { lines_of text.now ≡ result.0.now ∷ lines_in result.1 }
+    ensures { FirstLine text.now result.0.now result.1 }
 {
     match memchr(b'\n', text) {
         Some(end) => (&text[..end], Some(&text[end + 1..])),
         None => (text, None),
-    }
-}
-
-/// The runs of a line, which stand one blank apart, from the front. A run may be empty.
-#[derive(Drop)]
-struct Runs<'a> {
-    rest: Option<&'a [u8]>,
-}
-
-impl<'a> Runs<'a> {
-    fn new(line: &'a [u8]) -> Self
-        ensures { runs_left result ≡ slice_split is_blank line.now }
-    {
-        Runs { rest: Some(line) }
-    }
-}
-
-impl<'a> Iterator for Runs<'a> {
-    type Item = &'a [u8];
-
-    ghost next_gives = { YieldsFirstRef runs_left };
-
-    ghost remaining = { item_count runs_left };
-
-    fn next(&mut self) -> Option<&'a [u8]> {
-        let (run, rest) = first_run(self.rest?);
-        self.rest = rest;
-        Some(run)
-    }
-}
-
-/// The first run of a line, and what stands behind the blank at its end.
-fn first_run(line: &[u8]) -> (&[u8], Option<&[u8]>)
-    ensures { slice_split is_blank line.now ≡ result.0.now ∷ runs_of result.1 }
-{
-    match first_blank(line) {
-        Some(end) => (&line[..end], Some(&line[end + 1..])),
-        None => (line, None),
     }
 }
 
@@ -209,24 +143,34 @@ impl<'a> Iterator for Texts<'a> {
     ghost remaining = { item_count texts_left };
 
     fn next(&mut self) -> Option<&'a [u8]> {
-        loop {
-            let (run, behind) = first_token(self.rest)?;
-            if !is_comment(run) {
-                self.rest = behind_blank(behind);
-                return Some(run);
-            }
-            self.rest = match first_line(behind).1 {
-                Some(lines) => lines,
-                None => &[],
-            };
+        let (run, behind) = next_token(self.rest)?;
+        self.rest = behind_blank(behind);
+        Some(run)
+    }
+}
+
+/// The first token of a text, and what stands behind it.
+fn next_token(text: &[u8]) -> Option<(&[u8], &[u8])>
+    ensures some { IfSome result (λ parts. Found text.now parts.0.now parts.1.now) }
+    ensures none { result ≡ None → (p : model.Place) (start : ℕ) → lexemes_at p start text.now ≡ [] }
+{
+    let mut rest = text;
+    loop {
+        let (run, behind) = first_run(rest)?;
+        if !is_comment(run) {
+            return Some((run, behind));
         }
+        rest = match first_line(behind).1 {
+            Some(lines) => lines,
+            None => &[],
+        };
     }
 }
 
 /// The first run of bytes that are no blanks, and what stands behind it.
-fn first_token(text: &[u8]) -> Option<(&[u8], &[u8])>
+fn first_run(text: &[u8]) -> Option<(&[u8], &[u8])>
     ensures some { IfSome result (λ parts. Begins text.now parts.0.now parts.1.now) }
-    ensures none { result ≡ None → texts_of text.now ≡ [] }
+    ensures none { result ≡ None → (p : model.Place) (start : ℕ) → lexemes_at p start text.now ≡ [] }
 {
     let (_, rest) = text.split_at(first_non_blank(text)?);
     match first_blank(rest) {
@@ -245,17 +189,6 @@ fn behind_blank(text: &[u8]) -> &[u8]
         Some((_, rest)) => rest,
         None => text,
     }
-}
-
-/// How many characters some bytes begin.
-fn characters(bytes: &[u8]) -> usize
-    ensures { result ≡ count_by begins_character bytes.now }
-{
-    let mut characters = 0;
-    for byte in bytes {
-        characters += usize::from(begins_character(*byte));
-    }
-    characters
 }
 
 /// Whether a byte begins a character in UTF-8.

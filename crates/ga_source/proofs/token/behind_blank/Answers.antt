@@ -1,4 +1,4 @@
-use Rattle.ga_source.proofs.Texts.{blank_behind}
+use Rattle.ga_source.proofs.Walking.{blank_behind}
 use Rattle.ga_source.proofs.token.behind_blank.Goals as goal
 
 pub returns-in-Some-clause-texts : goal.returns-in-Some-clause-texts

@@ -1,6 +1,9 @@
-use Rattle.ga_source.specs.Token.{lines_left, token_of}
-use Rattle.ga_source.proofs.Lines.{Read}
+use Rattle.std.proofs.Common.{length}
+use Rattle.ga_source.proofs.Walking.{Walked}
 use Rattle.ga_source.proofs.token.tokens.Given as goal
 
-abbrev pub invariant-loop-bytes : goal.invariant-loop-bytes
-invariant-loop-bytes l = Read token_of l.text l.line l.start (lines_left l.bytes-iterator) l.tokens.items
+abbrev pub invariant-loop-run : goal.invariant-loop-run
+invariant-loop-run l = Walked l.text l.place.line l.place.column l.rest l.tokens.items
+
+abbrev pub decreases-loop-run : goal.decreases-loop-run
+decreases-loop-run l = length l.rest
