@@ -1,4 +1,5 @@
 -- Nodes that can't move stay so until a neighbour passes them a word, or takes theirs.
+use Rattle.ga_place.specs.inner.Index.{index_back}
 use Rattle.std.proofs.Common.{◌≡◌, ◌≢◌, ℕ, ◌<◌, ◌==◌, ◌⊎◌, inl, inr, Bool, true, false, List, set, slice_get, Option, Some, None, refl, sym, ap, ◌∙◌, subst}
 use Rattle.std.specs.Prelude.{if◌then◌else◌, option_map}
 use Rattle.std.proofs.lemmas.Bool.{cases_eq, eqb-true, eqb-false, false≢true}
@@ -11,7 +12,7 @@ use Rattle.ga_node.specs.Need.{need_of}
 use Rattle.ga_chip.specs.declared.node_set.NodeSet.{NodeSet}
 use Rattle.ga_chip.specs.declared.outcome.Outcome.{Outcome}
 use Rattle.ga_chip.specs.declared.outcome.Outcome.TheVariants.{Moved, Waits, Held, Stopped}
-use Rattle.ga_chip.specs.Awake.{Knows, is_in, partner_of, port_by}
+use Rattle.ga_chip.specs.inner.Awake.{Knows, is_in, partner_of, port_by}
 use Rattle.ga_chip.specs.Part.{Part, after, asks}
 use Rattle.ga_chip.specs.Chip.{Chip, cells_after, found_by, part_of, tried}
 use Rattle.ga_chip.specs.Legal.{IsLegal}
@@ -19,7 +20,7 @@ use Rattle.ga_chip.proofs.Kept.{has_name}
 use Rattle.ga_chip.proofs.Lists.{get-set_else, get-set_here}
 use Rattle.ga_chip.proofs.Parts.{Fits, asks_fits, moved_asks}
 use Rattle.ga_chip.proofs.Stays.{Ports, Stays, finds_same, ports_by}
-use Rattle.ga_chip.proofs.Tries.{legal_tried, place_back, tried_none, tried_still, tried_there}
+use Rattle.ga_chip.proofs.Tries.{legal_tried, tried_none, tried_still, tried_there}
 
 -- what comes of a try, by the node's part and the cells
 abbrev comes_of : Option Part → List (Option ℕ) → Side → Outcome
@@ -37,7 +38,7 @@ outcome_of chip name side = by (part_of chip name) refl
 else_same : (chip : Chip) (index other : ℕ) (side : Side) (next : Part) (cells : List (Option ℕ)) → other < 144 → (index ≡ other → ⊥) → ((part : Part) → part_of chip (name_at other) ≡ Some part → found_by (asks part side) cells ≡ found_by (asks part side) chip.cells) → (tried (record { parts = set chip.parts index next; cells = cells }) (name_at other) side).0 ≡ (tried chip (name_at other) side).0
 else_same chip index other side next cells below apart same =
     outcome_of (record { parts = set chip.parts index next; cells = cells }) (name_at other) side
-    ∙ ap (λ o. comes_of o cells side) (get-set_else chip.parts index (index_of (name_at other)) next (λ e. apart (e ∙ place_back other below)))
+    ∙ ap (λ o. comes_of o cells side) (get-set_else chip.parts index (index_of (name_at other)) next (λ e. apart (e ∙ index_back other below)))
     ∙ found (part_of chip (name_at other)) refl
     ∙ sym (outcome_of chip (name_at other) side)
   where
@@ -85,7 +86,7 @@ stays_knows chip awake index part next knows within there stays legal = record {
     changed = record chip { parts = set chip.parts index next }
 
     here : part_of changed (name_at index) ≡ Some next
-    here = ap (λ i. slice_get (set chip.parts i next) (index_of (name_at index))) (sym (place_back index within)) ∙ get-set_here chip.parts (index_of (name_at index)) next part there
+    here = ap (λ i. slice_get (set chip.parts i next) (index_of (name_at index))) (sym (index_back index within)) ∙ get-set_here chip.parts (index_of (name_at index)) next part there
 
     by : (other : ℕ) (side : Side) → other < 144 → is_in other awake ≡ false → (index ≡ other) ⊎ (index ≡ other → ⊥) → (tried changed (name_at other) side).0 ≢ Moved
     by other side below asleep (inl same) e =
@@ -123,7 +124,7 @@ far_knows chip awake now index side part knows within there moved slept = record
     same other below apart far at it here =
         finds_same part.state.node (name_at other) (asks part side) (asks it at) (need_of part.state) (need_of it.state) (port_by (need_of part.state) side) chip.cells
         (subst IsNodeName (sym named) (has_name chip (name_at index) part knows.legal there)) (has_name chip (name_at other) it knows.legal here)
-        (λ e. apart (sym (place_back index within) ∙ ap index_of (sym named ∙ e) ∙ place_back other below)) far
+        (λ e. apart (sym (index_back index within) ∙ ap index_of (sym named ∙ e) ∙ index_back other below)) far
         (asks_fits part side) (subst (λ n. Fits (asks it at) (need_of it.state) n) (knows.legal.named (name_at other) it here) (asks_fits it at)) ports
 
     still : (other : ℕ) (at : Side) → other < 144 → is_in other now ≡ false → (tried (tried chip (name_at index) side).1 (name_at other) at).0 ≢ Moved
@@ -131,7 +132,7 @@ far_knows chip awake now index side part knows within there moved slept = record
         let s = slept other below asleep in
         let apart : index ≡ other → ⊥ = λ same_. knows.still index side within (ap (λ i. is_in i awake) same_ ∙ s.0) moved in
         knows.still other at below s.0
-        (sym (else_same chip (index_of (name_at index)) other at (after part side (found_by (asks part side) chip.cells)).1 (cells_after (asks part side) chip.cells) below (λ same_. apart (sym (place_back index within) ∙ same_)) (same other below apart s.1 at))
+        (sym (else_same chip (index_of (name_at index)) other at (after part side (found_by (asks part side) chip.cells)).1 (cells_after (asks part side) chip.cells) below (λ same_. apart (sym (index_back index within) ∙ same_)) (same other below apart s.1 at))
         ∙ ap (λ r. (tried r.1 (name_at other) at).0) (sym (tried_there chip (name_at index) side part there)) ∙ e)
 
 -- who sleeps, where the neighbour at the port was put into the set
@@ -158,7 +159,7 @@ far_woken chip next awake now index side part outcome wakes knows within there i
     still stays = subst (λ z. Knows z now) (sym (tried_still chip (name_at index) side stays)) (record { legal = knows.legal; still = λ other at below asleep. knows.still other at below (slept other below asleep).0 })
 
     by : (o : Outcome) → (tried chip (name_at index) side).0 ≡ o → (o ≡ Moved → wakes ≡ option_map index_of (partner_of part.state.node (need_of part.state) side)) → Knows (tried chip (name_at index) side).1 now
-    by Moved e known = far_knows chip awake now index side part knows within there e (λ other below asleep. let s = slept other below asleep in (s.0, λ f. s.1 (known refl ∙ ap (option_map index_of) f ∙ ap Some (place_back other below))))
+    by Moved e known = far_knows chip awake now index side part knows within there e (λ other below asleep. let s = slept other below asleep in (s.0, λ f. s.1 (known refl ∙ ap (option_map index_of) f ∙ ap Some (index_back other below))))
     by Waits e known = still (λ f. let no_ : Waits ≡ Moved = sym e ∙ f in cc)
     by Held e known = still (λ f. let no_ : Held ≡ Moved = sym e ∙ f in cc)
     by Stopped e known = still (λ f. let no_ : Stopped ≡ Moved = sym e ∙ f in cc)

@@ -7,7 +7,7 @@ use Rattle.std.proofs.lemmas.Nat.Bits.{bit_at-zero, bit_at-trailing_zeros, bit_a
 use Rattle.std.proofs.Math.Nat.{div-div-eq-div-mul, div-le_self}
 use Rattle.std.proofs.lemmas.Nat.{pow-add}
 use Rattle.ga_chip.specs.declared.node_set.NodeSet.{NodeSet}
-use Rattle.ga_chip.specs.Awake.{is_in}
+use Rattle.ga_chip.specs.inner.Awake.{is_in}
 use Rattle.ga_chip.proofs.Bits.{bit_changed}
 
 -- a set whose word has one other bit

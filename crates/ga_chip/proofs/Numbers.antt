@@ -74,18 +74,3 @@ read_grows chip (event ∷ events) name cell side p q legal named here was is =
     (read_event chip event name cell side p next.now legal named here was next.there)
     (read_grows (happened chip event) events name cell side next.now q (legal_kept chip event legal) named here next.there is)
     ∙ ap (λ l. count_at side p.read + length l) (sym (flat_map-append (λ move. taken_by cell move.asked move.found) (move_in chip event) (moves (happened chip event) events)))
-
--- in the words of the ledger
-pub balanced_ledger : (chip : Chip) (name : ℕ) (side : Side) → IsLegal chip → IsNodeName name → (ledger_of chip name side).written ≡ (ledger_of chip name side).read + (ledger_of chip name side).pending
-balanced_ledger chip name side legal named = by (cell_of name side) refl (neighbour_of name side) refl
-  where
-    at : (cell other : ℕ) → cell_of name side ≡ Some cell → neighbour_of name side ≡ Some other → (ledger_at (Some cell) chip name side).written ≡ (ledger_at (Some cell) chip name side).read + (ledger_at (Some cell) chip name side).pending
-    at cell other here next =
-        let p = part_there chip name legal named in
-        let q = part_there chip other legal (neighbour_of-IsNodeName name other side named next) in
-        rw (p.1, next, q.1) (legal.balanced name other cell side p.0 q.0 here next p.1 q.1)
-
-    by : (o : Option ℕ) → cell_of name side ≡ o → (n : Option ℕ) → neighbour_of name side ≡ n → (ledger_of chip name side).written ≡ (ledger_of chip name side).read + (ledger_of chip name side).pending
-    by None e n f = rw e refl
-    by (Some cell) e None f = absurd (none-some _ (sym f ∙ (neighbour_there name cell side e).1))
-    by (Some cell) e (Some other) f = rw e (at cell other e f)

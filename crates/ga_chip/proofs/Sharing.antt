@@ -9,12 +9,12 @@ use Rattle.ga_place.specs.Side.{neighbour_of}
 use Rattle.ga_place.specs.declared.side.Side.{Side}
 use Rattle.ga_place.specs.declared.side.Side.TheVariants.{Right, Down, Left, Up}
 use Rattle.ga_place.proofs.Cells.{index_below, is_node}
+use Rattle.ga_place.specs.inner.Index.{index_back}
 use Rattle.ga_place.proofs.CellNumbers.{cell_there, no_cell}
 use Rattle.ga_place.proofs.SideLemmas.{neighbour_of-IsNodeName, shared_port}
 use Rattle.ga_chip.specs.declared.port.Port.{Port}
 use Rattle.ga_chip.specs.declared.port.Ports.{Ports}
-use Rattle.ga_chip.proofs.Tries.{place_back}
-use Rattle.ga_chip.specs.Port.{FitsPorts, all_ports, port_at, port_of, port_with, ports_of}
+use Rattle.ga_chip.specs.inner.Port.{FitsPorts, all_ports, port_at, port_of, port_with, ports_of}
 
 at_side : (name : ℕ) (side : Side) → port_at side (ports_of name) ≡ port_of name side
 unfolding ports_of
@@ -80,7 +80,7 @@ unfolding all_ports
 ports_at ports index here e below read =
     subst (FitsPorts (name_at index))
     (sym (read ∙ ap (λ l. get_or l index here) e ∙ get_or-map-range_with_len (λ at. ports_of (name_at at)) 0 144 index index here below (zero-add index)))
-    (fits_ports (name_at index) (is_node (name_at index) (subst (λ i. i < 144) (sym (place_back index below)) below)))
+    (fits_ports (name_at index) (is_node (name_at index) (subst (λ i. i < 144) (sym (index_back index below)) below)))
 
 pub how_many : length all_ports ≡ 144
 unfolding all_ports

@@ -17,7 +17,7 @@ use Rattle.ga_node.specs.State.{is_fetch}
 use Rattle.ga_node.specs.declared.need.Need.{Need}
 use Rattle.ga_node.specs.declared.need.Need.TheVariants as need
 use Rattle.ga_chip.specs.declared.outcome.Outcome.TheVariants.{Held, Moved, Waits}
-use Rattle.ga_chip.specs.Awake.{port_by}
+use Rattle.ga_chip.specs.inner.Awake.{port_by}
 use Rattle.ga_chip.specs.Part.{Part, Asks, Nothing, Own, Feed, Post, Take, Check, after, after_asked, asks, asks_by, asks_if, check_of, held_by, input_of, is_held, looked_at, picked_by, picked_of, post_to, take_from, take_of}
 use Rattle.ga_chip.specs.Chip.{cells_after, found_by}
 use Rattle.ga_chip.specs.Run.{break_set}

@@ -77,9 +77,6 @@ attempt_at chip name index side part next outcome n lent left rest legal is belo
     ∙ sym (tried_there chip name side part there)
 
 -- the node at a place has that place
-pub place_back : (index : ℕ) → index < 144 → index_of (name_at index) ≡ index
-place_back index below = grind (arith, common_steps)
-
 -- what is pending, as the code reads it
 pub found_at : (cells : List (Option ℕ)) (cell index : ℕ) (found : Option ℕ) → length cells ≡ 524 → index ≡ cell → cell < 524 → found ≡ get_or cells index found → found ≡ get_or cells cell None
 found_at cells cell index found full is below read = get_or_read cells cell found (subst (λ n. cell < n) (sym full) below) (read ∙ ap (λ i. get_or cells i found) is) None

@@ -10,19 +10,10 @@ use Rattle.ga_node.specs.Slot.{if_own, step, step_if_own}
 use Rattle.ga_node.specs.declared.need.Need.{Need}
 use Rattle.ga_node.specs.declared.need.Need.TheVariants.{Own, Take, Post, Check, Input, Stopped}
 use Rattle.ga_node.specs.declared.need.Stop.TheVariants.{Counted}
-use Rattle.ga_node.proofs.Rows.{is_running, step_steps}
+use Rattle.ga_node.proofs.Rows.{is_running, running_below, step_steps}
 use Rattle.ga_chip.specs.declared.counts.Counts.{Counts}
 use Rattle.ga_chip.specs.Part.{count_at, counted}
-use Rattle.ga_chip.specs.Within.{IsWithin, StepsBound}
-
--- a node that runs has made fewer steps than can be counted
-pub running_below : (state : State) → is_running (need_of state) ≡ true → state.steps < 2 ^ 64 → state.steps + 1 < 2 ^ 64
-unfolding need_of
-running_below state runs fits = by (state.steps == 2 ^ 64 - 1) refl
-  where
-    by : (full : Bool) → (state.steps == 2 ^ 64 - 1) ≡ full → state.steps + 1 < 2 ^ 64
-    by true e = absurd (false≢true (sym (ap (λ b. is_running (if b then Stopped Counted else wants state)) e) ∙ runs))
-    by false e = let apart : state.steps ≢ 2 ^ 64 - 1 = eqb-false _ _ e in omega arith
+use Rattle.ga_chip.specs.inner.Within.{IsWithin, StepsBound}
 
 -- one step more leaves the counts within
 pub step_within : (counts : Counts) (before now : ℕ) → now ≡ before + 1 → IsWithin counts before → IsWithin counts now

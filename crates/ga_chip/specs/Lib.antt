@@ -1,12 +1,8 @@
 pub mod Part
-pub mod Bits
-pub mod Watch
-pub mod Within
 pub mod Chip
 pub mod Ledger
 pub mod Run
 pub mod Grow
 pub mod Legal
-pub mod Port
-pub mod Awake
 pub mod Laws
+pub mod inner

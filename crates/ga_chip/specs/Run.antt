@@ -115,11 +115,6 @@ move_in chip (ClearBreak name at) = []
 move_in chip (PassBreak name) = []
 move_in chip (Piece name words) = []
 
--- a try that was Moved is one move, and each other none
-abbrev pub moved_by : Outcome → ℕ
-moved_by Moved = 1
-moved_by _ = 0
-
 -- a try was Moved
 abbrev pub is_moved : Outcome → Bool
 is_moved Moved = true

@@ -11,7 +11,7 @@ pub(crate) struct Breaks {
 
 impl Model for Breaks {
     ghost use Rattle.std.specs.Prelude.{Bool, List};
-    ghost use Rattle.ga_chip.specs.Bits.{bits_of};
+    ghost use Rattle.ga_chip.specs.inner.Bits.{bits_of};
 
     ghost Value = { List Bool };
 

@@ -7,7 +7,8 @@ ghost use Rattle.ga_chip.specs.declared.error.ChipError.TheVariants.{NotHeld};
 ghost use Rattle.ga_chip.specs.declared.outcome.Outcome.TheVariants.{Held, Moved};
 ghost use Rattle.ga_chip.specs.Grow.{LedgersGrow};
 ghost use Rattle.ga_chip.specs.Legal.{IsLegal};
-ghost use Rattle.ga_chip.specs.Run.{ClearBreak, PassBreak, SetBreak, happened, is_moved, moved_by, moves, ran, tries_of, turn_of, turns_of};
+ghost use Rattle.ga_chip.specs.Run.{ClearBreak, PassBreak, SetBreak, happened, is_moved, moves, ran, tries_of, turn_of, turns_of};
+ghost use Rattle.ga_chip.specs.inner.Outcome.{moved_by};
 
 use crate::error::ChipError;
 use crate::ledger::Ledger;
@@ -35,9 +36,9 @@ pub struct Chip {
 
 impl Model for Chip {
     ghost use Rattle.std.specs.Prelude.{◌≡◌, vec_items};
-    ghost use Rattle.ga_chip.specs.Port.{all_ports};
+    ghost use Rattle.ga_chip.specs.inner.Port.{all_ports};
     ghost use Rattle.ga_chip.specs.Chip as chip;
-    ghost use Rattle.ga_chip.specs.Awake.{Knows};
+    ghost use Rattle.ga_chip.specs.inner.Awake.{Knows};
 
     ghost Value = { chip.Chip };
 
@@ -285,15 +286,15 @@ impl Chip {
         ensures moved { result ≡ length (moves self.old (turn_of side)) }
     {
         let mut moved = 0;
-        let mut place = self.next_awake(0);
-        while place < 144 {
-            moved += self.attempt_at(place, side).moves();
-            place = self.next_awake(place + 1);
+        let mut index = self.next_awake(0);
+        while index < 144 {
+            moved += self.attempt_at(index, side).moves();
+            index = self.next_awake(index + 1);
         }
         moved
     }
 
-    /// One try of the node at a place in order of name.
+    /// One try of the node at an index in order of name.
     #[inline(always)]
     fn attempt_at(&mut self, index: usize, side: Side) -> Outcome
         requires { index < 144 }
@@ -305,7 +306,7 @@ impl Chip {
         self.attempt_far(index, side)
     }
 
-    /// A quick step of the node at a place in order of name, where it is the node's own work, and else nothing. Answers
+    /// A quick step of the node at an index in order of name, where it is the node's own work, and else nothing. Answers
     /// whether the node made it.
     #[inline(always)]
     fn try_own_at(&mut self, index: usize) -> bool
@@ -319,7 +320,7 @@ impl Chip {
         false
     }
 
-    /// One try of the node at a place in order of name, by all that it may need.
+    /// One try of the node at an index in order of name, by all that it may need.
     #[inline(never)]
     fn attempt_far(&mut self, index: usize, side: Side) -> Outcome
         requires { index < 144 }
@@ -336,7 +337,7 @@ impl Chip {
         far.outcome
     }
 
-    /// Whether the node at a place in order of name is known to stand still.
+    /// Whether the node at an index in order of name is known to stand still.
     #[inline(always)]
     fn sleeps(&self, index: usize) -> bool
         requires { index < 144 }
@@ -345,7 +346,7 @@ impl Chip {
         !self.awake.has(index)
     }
 
-    /// The place of the first awake node from a place on, or more than 143 where there is none.
+    /// The index of the first awake node from an index on, or more than 143 where there is none.
     #[inline(always)]
     fn next_awake(&self, from: usize) -> usize
         requires { from ≤ 144 }

@@ -1,17 +1,17 @@
 ghost use Rattle.std.specs.Prelude.{◌≡◌, ℕ, ◌<◌, ◌≤◌, ◌==◌, if◌then◌else◌, true, false};
-ghost use Rattle.ga_chip.specs.Awake.{is_in};
+ghost use Rattle.ga_chip.specs.inner.Awake.{is_in};
 
-/// A set of nodes, by their places in order of name.
+/// A set of nodes, by their indices in order of name.
 #[derive(Clone, Copy)]
 pub(crate) struct NodeSet {
-    // A bit for each place, those of the first 64 in the first word.
+    // A bit for each index, those of the first 64 in the first word.
     words: [u64; 3],
 }
 
 impl NodeSet {
     /// All nodes.
     pub(crate) fn all() -> Self
-        ensures { (place : ℕ) → place < 144 → is_in place result ≡ true }
+        ensures { (index : ℕ) → index < 144 → is_in index result ≡ true }
     {
         NodeSet {
             words: [u64::MAX, u64::MAX, 0xFFFF],
@@ -24,32 +24,32 @@ impl NodeSet {
         self.words[0] & self.words[1] == u64::MAX
     }
 
-    /// Whether the node at a place is in the set.
+    /// Whether the node at an index is in the set.
     #[inline(always)]
-    pub(crate) fn has(&self, place: usize) -> bool
-        requires { place < 144 }
-        ensures { result ≡ is_in place self.now }
+    pub(crate) fn has(&self, index: usize) -> bool
+        requires { index < 144 }
+        ensures { result ≡ is_in index self.now }
     {
-        self.words[place / 64] >> (place % 64) & 1 == 1
+        self.words[index / 64] >> (index % 64) & 1 == 1
     }
 
-    /// Puts the node at a place into the set.
-    pub(crate) fn insert(&mut self, place: usize)
-        requires { place < 144 }
-        ensures { (other : ℕ) → is_in other self.new ≡ (if other == place then true else is_in other self.old) }
+    /// Puts the node at an index into the set.
+    pub(crate) fn insert(&mut self, index: usize)
+        requires { index < 144 }
+        ensures { (other : ℕ) → is_in other self.new ≡ (if other == index then true else is_in other self.old) }
     {
-        self.words[place / 64] |= 1 << (place % 64);
+        self.words[index / 64] |= 1 << (index % 64);
     }
 
-    /// Takes the node at a place out of the set.
-    pub(crate) fn remove(&mut self, place: usize)
-        requires { place < 144 }
-        ensures { (other : ℕ) → is_in other self.new ≡ (if other == place then false else is_in other self.old) }
+    /// Takes the node at an index out of the set.
+    pub(crate) fn remove(&mut self, index: usize)
+        requires { index < 144 }
+        ensures { (other : ℕ) → is_in other self.new ≡ (if other == index then false else is_in other self.old) }
     {
-        self.words[place / 64] &= !(1 << (place % 64));
+        self.words[index / 64] &= !(1 << (index % 64));
     }
 
-    /// The first place in the set from a place on, or more than 143 where there is none.
+    /// The first index in the set from an index on, or more than 143 where there is none.
     #[inline(always)]
     pub(crate) fn next(&self, from: usize) -> usize
         requires { from ≤ 144 }
@@ -67,6 +67,6 @@ impl NodeSet {
                 return at * 64 + word.trailing_zeros() as usize;
             }
         }
-        192
+        64 * self.words.len()
     }
 }

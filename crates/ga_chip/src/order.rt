@@ -4,17 +4,17 @@ ghost use Rattle.ga_place.specs.Cell.{index_of, name_at};
 
 use ga_place::Node;
 
-/// The place of a node in order of name.
+/// The index of a node in order of name.
 #[inline(always)]
 pub(crate) fn index_of(node: Node) -> usize
     ensures value { result ≡ index_of node }
     ensures bound { result < 144 }
     ensures back { name_at result ≡ node }
 {
-    usize::from(node.place())
+    node.index()
 }
 
-/// The node at a place in order of name.
+/// The node at an index in order of name.
 #[inline(always)]
 pub(crate) fn node_at(index: u16) -> Node
     requires { index < 144 }

@@ -1,5 +1,6 @@
 ghost use Rattle.std.specs.Prelude.{◌≡◌};
-ghost use Rattle.ga_chip.specs.Run.{moved_by, side_of_turn};
+ghost use Rattle.ga_chip.specs.Run.{side_of_turn};
+ghost use Rattle.ga_chip.specs.inner.Outcome.{moved_by};
 
 use ga_place::{Node, SIDES, Side};
 

@@ -7,8 +7,8 @@ ghost use Rattle.ga_node.specs.State.{loaded_state};
 ghost use Rattle.ga_node.specs.declared.need.Need.TheVariants as need;
 ghost use Rattle.ga_chip.specs.Part.{Nothing, Own, after, after_asked, asks, asks_by, check_of, count_at, input_of, looked_at, post_to, stepped, take_of};
 ghost use Rattle.ga_chip.specs.Chip.{cells_after, found_by, given, part_refusal, reset_part, streaming};
-ghost use Rattle.ga_chip.specs.Awake.{partner_of};
-ghost use Rattle.ga_chip.specs.Port.{FitsPorts};
+ghost use Rattle.ga_chip.specs.inner.Awake.{partner_of};
+ghost use Rattle.ga_chip.specs.inner.Port.{FitsPorts};
 ghost use Rattle.ga_chip.specs.Run.{break_cleared, break_passed, break_set, is_hold};
 ghost use Rattle.ga_chip.specs.declared.outcome.Outcome.TheVariants.{Held, Moved};
 
@@ -47,7 +47,7 @@ pub(crate) struct Far {
 
 impl Model for NodePart {
     ghost use Rattle.ga_chip.specs.Part.{Part};
-    ghost use Rattle.ga_chip.specs.Within.{StepsBound};
+    ghost use Rattle.ga_chip.specs.inner.Within.{StepsBound};
 
     ghost Value = { Part };
 

@@ -1,5 +1,5 @@
 ghost use Rattle.std.specs.Prelude.{◌≡◌, IfOk};
-ghost use Rattle.ga_chip.specs.Port.{all_ports, port_at, port_of};
+ghost use Rattle.ga_chip.specs.inner.Port.{all_ports, port_at, port_of};
 
 use crate::order::{index_of, node_at};
 use ga_place::{CellId, Node, Side, cell, neighbour};

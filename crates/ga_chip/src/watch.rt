@@ -16,7 +16,7 @@ pub(crate) struct Watch {
 
 impl Model for Watch {
     ghost use Rattle.std.specs.Prelude.{◌≡◌, false, replicate};
-    ghost use Rattle.ga_chip.specs.Watch.{Watched};
+    ghost use Rattle.ga_chip.specs.inner.Watch.{Watched};
 
     ghost Value = { Watched };
 

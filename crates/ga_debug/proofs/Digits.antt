@@ -5,7 +5,7 @@ use Rattle.std.proofs.lemmas.List.{at_drop_more}
 use Rattle.std.proofs.lemmas.List.Folds.{list_all_more}
 use Rattle.std.specs.List.{list_all}
 use Rattle.ga_path.specs.Names.{is_decimal}
-use Rattle.ga_debug.specs.Words.{decimal_from}
+use Rattle.ga_debug.specs.Word.{decimal_from}
 
 -- what a loop over the digits knows of the first ones
 pub record NumberSoFar (word : List ℕ) (place number : ℕ) : Type 0 where
@@ -17,12 +17,3 @@ pub record NumberSoFar (word : List ℕ) (place number : ℕ) : Type 0 where
 pub room_for_ninth : (number place : ℕ) → place < 9 → number < 10 ^ place → number < 10 ^ 8
 room_for_ninth number place within small =
     let most : 10 ^ place ≤ 10 ^ 8 = pow-le-pow_right {n = 10} (lit< tt) {i = place} {j = 8} (omega arith) in omega (arith, most)
-
--- one digit more
-pub digit_more : (word : List ℕ) (place number character : ℕ) → place < length word → NumberSoFar word place number → character ≡ get_or word place 0 → is_decimal character ≡ true → character < 58 → NumberSoFar word (place + 1) (number * 10 + (character - 48))
-digit_more word place number character within so_far is decimal low = record {
-  digits = list_all_more is_decimal word place 0 within ∙ rw (so_far.digits, ← is) decimal;
-  value = ap (λ c. decimal_from (number * 10 + (c - 48)) (drop (place + 1) word)) is ∙ sym (at_drop_more (decimal_from number) word place 0 within) ∙ so_far.value;
-  small =
-      let more : 10 ^ (place + 1) ≡ 10 ^ place * 10 = rw add-one (pow-suc 10 place) in omega (arith, more, so_far.small);
-}

@@ -5,7 +5,8 @@ use Rattle.std.specs.Result.{IsErrAnd}
 use Rattle.std.specs.Str.{bytes_eq}
 use Rattle.ga_debug.specs.declared.replay_error.ReplayError.{ReplayError}
 use Rattle.ga_debug.specs.declared.replay_error.ReplayError.TheVariants.{BadRoute, Memory}
-use Rattle.ga_debug.specs.Fault.{FailsRightly, Gives}
+use Rattle.ga_debug.specs.ReplayError.{FailsRightly}
+use Rattle.ga_debug.specs.inner.ReplayError.{Gives}
 use Rattle.ga_debug.specs.Head.{Loading, head_in, loaded_by, loading_in}
 use Rattle.ga_debug.specs.Pieces.{pieces}
 

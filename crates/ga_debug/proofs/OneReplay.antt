@@ -3,9 +3,9 @@ use Rattle.std.proofs.Common.{◌≡◌, ◌∙◌, ◌+◌, inl, inr, ℕ, List
 use Rattle.ga_asm.specs.Text.{AtMostOne}
 use Rattle.ga_asm.proofs.OneAnswer.{one_answer}
 use Rattle.ga_chip.specs.Chip.{Chip}
-use Rattle.ga_debug.specs.Begin.{IsBeginning, IsBegun, IsChipOf}
+use Rattle.ga_debug.specs.Beginning.{IsBeginning, IsBegun, IsChipOf}
 use Rattle.ga_debug.specs.Head.{Head, head_in}
-use Rattle.ga_debug.specs.Replay.{IsReplayed, IsReplayedFrom, lines_on, told}
+use Rattle.ga_debug.specs.Replaying.{IsReplayed, IsReplayedFrom, lines_on, replay_result}
 use Rattle.ga_debug.specs.declared.replay_error.ReplayError.{ReplayError}
 
 one_chip_of : (head : Head) → AtMostOne (IsChipOf head)
@@ -53,7 +53,7 @@ one_beginning text (Err one) (Err other) p q = cc (one_begun text (Err one) (Err
 one_from : (text : List ℕ) → AtMostOne (IsReplayedFrom text)
 one_from text one other (chip, head, p, is) (chip', head', q, is') =
     let same : (chip, head) ≡ (chip', head') = cc (one_begun text (Ok (chip, head)) (Ok (chip', head')) p q) in
-    sym is ∙ ap (λ (begun : Chip × Head). told (lines_on (begun.1.line + 1) 0 begun.0 begun.1.commands)) same ∙ is'
+    sym is ∙ ap (λ (begun : Chip × Head). replay_result (lines_on (begun.1.line + 1) 0 begun.0 begun.1.commands)) same ∙ is'
 
 -- a text that begins has no fault of its beginning
 begins : (text : List ℕ) (answer : Result ℕ ReplayError) (fault : ReplayError) → IsReplayedFrom text answer → IsBegun text (Err fault) → ⊥

@@ -10,17 +10,7 @@ abbrev pub in_front : List ℕ → Result Head ReplayError → Result Head Repla
 in_front front (Ok head) = Ok (record head { source = front ++ head.source })
 in_front front (Err fault) = Err fault
 
--- at the line `go` the source is whole
-pub at_go : (loading : Loading) (number : ℕ) (front line : List ℕ) (rest : List (List ℕ)) → bytes_eq line (codes "go") ≡ true
-    → in_front front (up_to_go loading number (line ∷ rest)) ≡ Ok (record { loading = loading; source = front; line = number; commands = rest })
-at_go loading number front line rest h = rw (h, append-nil front) refl
-
 with_more : (front line : List ℕ) (head : Result Head ReplayError) → in_front front (with_line line head) ≡ in_front ((front ++ line) ++ 10 ∷ []) head
 with_more front line (Ok head) =
     ap (λ source. Ok (record head { source = source })) (sym (append_assoc (front ++ line) (10 ∷ []) head.source ∙ append_assoc front line (10 ∷ head.source)))
 with_more front line (Err fault) = refl
-
--- each other line goes to the source
-pub line_gathered : (loading : Loading) (number : ℕ) (front line : List ℕ) (rest : List (List ℕ)) → bytes_eq line (codes "go") ≡ false
-    → in_front front (up_to_go loading number (line ∷ rest)) ≡ in_front ((front ++ line) ++ 10 ∷ []) (up_to_go loading (number + 1) rest)
-line_gathered loading number front line rest h = rw h (with_more front line (up_to_go loading (number + 1) rest))

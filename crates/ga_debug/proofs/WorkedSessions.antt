@@ -18,15 +18,15 @@ use Rattle.ga_debug.specs.declared.command.Command.TheVariants.{Act, Show}
 use Rattle.ga_debug.specs.declared.error.DebugError.TheVariants.{BadAddress, BadCommand, BadCount, BadNode, BadSide, NotHeld}
 use Rattle.ga_debug.specs.declared.replay_error.ReplayError.{ReplayError}
 use Rattle.ga_debug.specs.declared.replay_error.ReplayError.TheVariants.{BadProfile, BadRoute, Boot, NoGo, Route}
-use Rattle.ga_debug.specs.Begin.{chip_of}
+use Rattle.ga_debug.specs.Beginning.{chip_of}
 use Rattle.ga_debug.specs.declared.replaying.LineError.TheVariants.{Bad, Differs}
 use Rattle.ga_debug.specs.declared.word.View.TheVariants.{Mem}
 use Rattle.ga_debug.specs.Command.{action_first, arguments, command_first, command_in}
 use Rattle.ga_debug.specs.Head.{head_in}
 use Rattle.ga_debug.specs.Pieces.{pieces}
-use Rattle.ga_debug.specs.Replay.{line_on, lines_on, stated, statement_in}
+use Rattle.ga_debug.specs.Replaying.{line_on, lines_on, stated_answer, statement_in}
 use Rattle.ga_debug.specs.Session.{reply_to}
-use Rattle.ga_debug.specs.Words.{number_of}
+use Rattle.ga_debug.specs.Word.{number_of}
 
 -- ---- heads
 
@@ -124,25 +124,25 @@ not_held = refl
 -- ---- what is stated
 
 a_statement : statement_in (codes "try 709 d = held") ≡ Ok (Try 709 Down, Tried Held)
-unfolding statement_in action_first arguments stated pieces
+unfolding statement_in action_first arguments stated_answer pieces
 a_statement = refl
 
 nine_digits : statement_in (codes "turn 1 = 000000002") ≡ Ok (Turn 1, Moved 2)
-unfolding statement_in action_first arguments stated pieces number_of
+unfolding statement_in action_first arguments stated_answer pieces number_of
 nine_digits = refl
 
 ten_digits : statement_in (codes "turn 1 = 0000000002") ≡ Err BadCommand
-unfolding statement_in action_first arguments stated pieces number_of
+unfolding statement_in action_first arguments stated_answer pieces number_of
 ten_digits = refl
 
 one_is_compared : lines_on 5 0 reset_chip (codes "break 709 003" ∷ [] ∷ codes "try 709 r = waits" ∷ []) ≡ Ok 1
-unfolding line_on statement_in action_first arguments stated pieces happened tried after asks need_of reset_chip cell_of all_cells
+unfolding line_on statement_in action_first arguments stated_answer pieces happened tried after asks need_of reset_chip cell_of all_cells
 one_is_compared = refl
 
 other_outcome : lines_on 5 0 reset_chip ([] ∷ codes "try 709 r = moved" ∷ codes "no command" ∷ []) ≡ Err (Differs 6)
-unfolding line_on statement_in action_first arguments stated pieces tried after asks need_of reset_chip cell_of all_cells
+unfolding line_on statement_in action_first arguments stated_answer pieces tried after asks need_of reset_chip cell_of all_cells
 other_outcome = refl
 
 nothing_stated : lines_on 5 0 reset_chip (codes "try 709 r" ∷ []) ≡ Err (Bad 5 BadCommand)
-unfolding line_on statement_in action_first arguments stated pieces
+unfolding line_on statement_in action_first arguments stated_answer pieces
 nothing_stated = refl

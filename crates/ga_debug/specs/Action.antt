@@ -12,7 +12,7 @@ use Rattle.ga_debug.specs.declared.action.Answer.{Answer}
 use Rattle.ga_debug.specs.declared.action.Answer.TheVariants.{Done, Tried, Moved}
 use Rattle.ga_debug.specs.declared.error.DebugError.{DebugError}
 use Rattle.ga_debug.specs.declared.error.DebugError.TheVariants.{NotHeld}
-use Rattle.ga_debug.specs.Words.{outcome_text}
+use Rattle.ga_debug.specs.Word.{outcome_text}
 
 -- a pass is refused where a try wouldn't be held
 abbrev pub passed : Option ChipError → Result Answer DebugError

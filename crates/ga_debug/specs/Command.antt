@@ -9,7 +9,7 @@ use Rattle.ga_debug.specs.declared.command.Command.TheVariants.{Act, Show}
 use Rattle.ga_debug.specs.declared.word.Verb.{Verb}
 use Rattle.ga_debug.specs.declared.word.Verb.TheVariants.{Break, Clear, Pass, Try, Turn}
 use Rattle.ga_debug.specs.Pieces.{pieces}
-use Rattle.ga_debug.specs.Words.{address_of, count_of, node_of, side_of, verb_of, view_of}
+use Rattle.ga_debug.specs.Word.{address_of, count_of, node_of, side_of, verb_of, view_of}
 
 abbrev pub Words : Type 0
 Words = List (List ℕ)
@@ -71,15 +71,10 @@ command_first [] = Err BadCommand
 command_first (word ∷ rest) = command_by (verb_of word) (word ∷ rest) rest
 
 -- and no word behind it
-abbrev pub ended : {A : Type 0} → A → Words → Result A DebugError
-ended value [] = Ok value
-ended value (word ∷ rest) = Err BadCommand
+abbrev pub whole : {A : Type 0} → A → Words → Result A DebugError
+whole value [] = Ok value
+whole value (word ∷ rest) = Err BadCommand
 
 -- the command that a line is, or its first fault
 unfoldable pub command_in : List ℕ → Result Command DebugError
-command_in line = then_with (command_first (words_of line)) ended
-
--- what a function read of words, of which these are left, is what they begin with
-abbrev pub Reads : {A : Type 0} → First A → Result A DebugError → Words → Type 0
-Reads first (Ok value) rest = first ≡ Ok (value, rest)
-Reads first (Err fault) rest = first ≡ Err fault
+command_in line = then_with (command_first (words_of line)) whole

@@ -1,11 +1,10 @@
 pub mod Pieces
-pub mod Words
+pub mod Word
 pub mod Command
 pub mod Action
 pub mod Session
-pub mod Fault
+pub mod ReplayError
 pub mod Head
-pub mod HeadView
-pub mod Begin
-pub mod Line
-pub mod Replay
+pub mod Beginning
+pub mod Replaying
+pub mod inner

@@ -15,26 +15,26 @@ use Rattle.ga_debug.specs.Action.{after_action, answer_text, answer_to}
 use Rattle.ga_debug.specs.Command.{command_in}
 
 -- what a view shows of a node
-abbrev pub shown : View → ℕ → Chip → List ℕ
-shown Regs node chip = option_map_or line_of (state_of chip node) []
-shown Mem node chip = option_map_or memory_dump (state_of chip node) []
-shown Ports node chip = ledger_dump chip node
+abbrev pub view_text : View → ℕ → Chip → List ℕ
+view_text Regs node chip = option_map_or line_of (state_of chip node) []
+view_text Mem node chip = option_map_or memory_dump (state_of chip node) []
+view_text Ports node chip = ledger_dump chip node
 
 abbrev pub ends_line : List ℕ → Bool
 ends_line text = get_or text (length text - 1) 0 == 10
 
 -- a text without the LF at its end
-abbrev pub unended : List ℕ → List ℕ
-unended text = if ends_line text then take (length text - 1) text else text
+abbrev pub without_line_end : List ℕ → List ℕ
+without_line_end text = if ends_line text then take (length text - 1) text else text
 
-abbrev pub texted : Result Answer DebugError → Result (List ℕ) DebugError
-texted (Ok answer) = Ok (answer_text answer)
-texted (Err fault) = Err fault
+abbrev pub answer_reply : Result Answer DebugError → Result (List ℕ) DebugError
+answer_reply (Ok answer) = Ok (answer_text answer)
+answer_reply (Err fault) = Err fault
 
 -- the reply to a command, and the chip afterwards
 abbrev pub command_reply : Command → Chip → Result (List ℕ) DebugError
-command_reply (Act action) chip = texted (answer_to action chip)
-command_reply (Show view node) chip = Ok (unended (shown view node chip))
+command_reply (Act action) chip = answer_reply (answer_to action chip)
+command_reply (Show view node) chip = Ok (without_line_end (view_text view node chip))
 
 abbrev pub after_command : Command → Chip → Chip
 after_command (Act action) chip = after_action action chip

@@ -1,7 +1,7 @@
 ghost use Rattle.std.specs.Prelude.{◌≡◌, ◌∷◌, ◌≤◌, [], OnErr, string_bytes, length};
 ghost use Rattle.std.specs.String.{string_capacity, string_len};
 ghost use Rattle.ga_debug.specs.Action.{after_action, answer_text, answer_to};
-ghost use Rattle.ga_debug.specs.Words.{outcome_text};
+ghost use Rattle.ga_debug.specs.Word.{outcome_text};
 
 use crate::address::Address;
 use crate::error::DebugError;
@@ -11,7 +11,7 @@ use itoa::Buffer;
 
 /// What is done to a chip.
 #[derive(Clone, Copy)]
-pub enum Action {
+pub(crate) enum Action {
     /// An address becomes a breakpoint of a node.
     Break { node: Node, address: Address },
     /// An address is no breakpoint of a node any more.
@@ -26,7 +26,7 @@ pub enum Action {
 
 /// What an action answers.
 #[derive(Clone, Copy)]
-pub enum Answer {
+pub(crate) enum Answer {
     /// It was done.
     Done,
     /// What came of a try.
@@ -36,10 +36,10 @@ pub enum Answer {
 }
 
 /// Room for every answer as text.
-pub const ANSWER_LENGTH: usize = 32;
+pub(crate) const ANSWER_LENGTH: usize = 32;
 
 /// Does an action. One that is refused leaves the chip as it was.
-pub fn perform(chip: &mut Chip, action: Action) -> Result<Answer, DebugError>
+pub(crate) fn perform(chip: &mut Chip, action: Action) -> Result<Answer, DebugError>
     ensures answer { result ≡ answer_to action chip.old }
     ensures chip { chip.new ≡ after_action action chip.old }
     ensures same { OnErr result (chip.new ≡ chip.old) }
@@ -63,7 +63,7 @@ pub fn perform(chip: &mut Chip, action: Action) -> Result<Answer, DebugError>
 }
 
 /// An answer as text, in an empty text that has room for it.
-pub fn answer_in(mut text: String, answer: Answer) -> String
+pub(crate) fn answer_in(mut text: String, answer: Answer) -> String
     requires empty { string_bytes text ≡ [] }
     requires room { 32 ≤ string_capacity text }
     ensures { string_bytes result ≡ answer_text answer }

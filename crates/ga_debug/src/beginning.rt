@@ -1,9 +1,10 @@
 ghost use Rattle.std.specs.Prelude.{◌≡◌, ℕ, IfErr, IfOk, None, Some};
 ghost use Rattle.ga_asm.specs.Text.{AtMostOne};
 ghost use Rattle.ga_path.specs.Stream.{IsBootFault, unreached};
-ghost use Rattle.ga_debug.specs.Begin.{IsBeginning, IsChipOf, booted, chip_of};
-ghost use Rattle.ga_debug.specs.Fault.{Answers, Gives};
-ghost use Rattle.ga_debug.specs.HeadView.{head_view};
+ghost use Rattle.ga_debug.specs.Beginning.{IsBeginning, IsChipOf, booted, chip_of};
+ghost use Rattle.ga_debug.specs.ReplayError.{Answers};
+ghost use Rattle.ga_debug.specs.inner.ReplayError.{Gives};
+ghost use Rattle.ga_debug.specs.inner.HeadView.{head_view};
 
 use crate::head::{Head, head_of};
 use crate::replay_error::ReplayError;
@@ -29,7 +30,7 @@ pub fn begin(alloc: Global, text: &str) -> Result<(Session, u64), ReplayError>
 }
 
 /// The chip that a head leads to.
-pub fn chip_after(alloc: Global, head: &Head<'_>) -> Result<Chip, ReplayError>
+pub(crate) fn chip_after(alloc: Global, head: &Head<'_>) -> Result<Chip, ReplayError>
     ensures { Answers (λ chip. chip) (IsChipOf (head_view head.now)) result }
 {
     let images = assemble_text(alloc, head.source.as_str())?;

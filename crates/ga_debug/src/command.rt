@@ -1,7 +1,8 @@
 ghost use Rattle.std.specs.Prelude.{◌≡◌};
-ghost use Rattle.ga_debug.specs.Command.{Reads, action_first, address_first, arguments, command_first, command_in, first_word, node_first, view_first};
-ghost use Rattle.ga_debug.specs.Pieces.{pieces_left};
-ghost use Rattle.ga_debug.specs.Words.{count_of, side_of};
+ghost use Rattle.ga_debug.specs.Command.{action_first, address_first, arguments, command_first, command_in, first_word, node_first, view_first};
+ghost use Rattle.ga_debug.specs.inner.Command.{Reads};
+ghost use Rattle.ga_debug.specs.inner.Pieces.{pieces_left};
+ghost use Rattle.ga_debug.specs.Word.{count_of, side_of};
 ghost use Rattle.ga_debug.specs.declared.error.DebugError.TheVariants.{BadCount, BadSide};
 
 use crate::action::Action;
@@ -13,7 +14,7 @@ use ga_place::{Node, Side};
 
 /// A command of a session.
 #[derive(Clone, Copy)]
-pub enum Command {
+pub(crate) enum Command {
     /// Something is done to the chip.
     Act(Action),
     /// Something of a node is shown.
@@ -22,7 +23,7 @@ pub enum Command {
 
 /// The command that a line is, or its first fault: a bad word, by words from the left, or words left over.
 #[tactic(auto, unfolding(crate::specs::Command::command_in))]
-pub fn command_in(line: &str) -> Result<Command, DebugError>
+pub(crate) fn command_in(line: &str) -> Result<Command, DebugError>
     ensures { result ≡ command_in line.now }
 {
     let mut words = Pieces::new(line, ' ');
@@ -54,7 +55,7 @@ fn command_first(words: &mut Pieces<'_>) -> Result<Command, DebugError>
 
 /// The action that words begin with.
 #[tactic(auto, unfolding(crate::specs::Command::action_first))]
-pub fn action_first(words: &mut Pieces<'_>) -> Result<Action, DebugError>
+pub(crate) fn action_first(words: &mut Pieces<'_>) -> Result<Action, DebugError>
     ensures { Reads (action_first (pieces_left words.old)) result (pieces_left words.new) }
 {
     let Some(word) = words.next() else {

@@ -1,8 +1,8 @@
 ghost use Rattle.std.specs.Prelude.{◌≡◌, ◌+◌, ◌<◌, ◌^◌, IfOk, length, ok_or, option_map};
-ghost use Rattle.ga_debug.specs.Fault.{Gives};
+ghost use Rattle.ga_debug.specs.inner.ReplayError.{Gives};
 ghost use Rattle.ga_debug.specs.Head.{Loading, head_in, loading_in, up_to_go};
-ghost use Rattle.ga_debug.specs.HeadView.{head_view, head_with};
-ghost use Rattle.ga_debug.specs.Pieces.{pieces_left};
+ghost use Rattle.ga_debug.specs.inner.HeadView.{head_view, head_with};
+ghost use Rattle.ga_debug.specs.inner.Pieces.{pieces_left};
 ghost use Rattle.ga_debug.specs.declared.replay_error.ReplayError.TheVariants.{BadRoute};
 
 use crate::pieces::Pieces;
@@ -13,20 +13,20 @@ use std::alloc::Global;
 
 /// What stands in front of the commands of a replay text.
 #[derive(Drop)]
-pub struct Head<'a> {
+pub(crate) struct Head<'a> {
     /// The nodes along which the chip boots, or `None` where each image is placed.
-    pub nodes: Option<Vec<Node>>,
+    pub(crate) nodes: Option<Vec<Node>>,
     /// The source lines, each ended by LF.
-    pub source: String,
+    pub(crate) source: String,
     /// The number of the line `go`, counted from 1.
-    pub line: u64,
+    pub(crate) line: u64,
     /// The lines behind it.
-    pub lines: Pieces<'a>,
+    pub(crate) lines: Pieces<'a>,
 }
 
 /// The head of a text, or its first fault.
 #[tactic(auto, unfolding(crate::specs::Head::head_in))]
-pub fn head_of<'a>(alloc: Global, text: &'a str) -> Result<Head<'a>, ReplayError>
+pub(crate) fn head_of<'a>(alloc: Global, text: &'a str) -> Result<Head<'a>, ReplayError>
     ensures head { Gives head_view result (head_in text.now) }
     ensures room { IfOk result (λ head. head.line + 1 + length (pieces_left head.lines) < 2 ^ 64) }
 {

@@ -2,7 +2,7 @@ ghost use Rattle.std.specs.Prelude.{◌<◌};
 
 /// What stands between a separator in a text, from the front: the words of a line, or the lines of a text.
 #[derive(Drop)]
-pub struct Pieces<'a> {
+pub(crate) struct Pieces<'a> {
     rest: Option<&'a str>,
     separator: char,
     ghost ascii: { separator < 128 },
@@ -10,9 +10,10 @@ pub struct Pieces<'a> {
 
 impl<'a> Pieces<'a> {
     ghost use Rattle.std.specs.Prelude.{◌≡◌, ◌<◌};
-    ghost use Rattle.ga_debug.specs.Pieces.{pieces, pieces_left};
+    ghost use Rattle.ga_debug.specs.Pieces.{pieces};
+    ghost use Rattle.ga_debug.specs.inner.Pieces.{pieces_left};
 
-    pub fn new(text: &'a str, separator: char) -> Self
+    pub(crate) fn new(text: &'a str, separator: char) -> Self
         requires { separator < 128 }
         ensures { pieces_left result ≡ pieces separator text.now }
     {
@@ -25,7 +26,7 @@ impl<'a> Pieces<'a> {
 
 impl<'a> Iterator for Pieces<'a> {
     ghost use Rattle.std.specs.Iterator.{YieldsFirstRef, item_count};
-    ghost use Rattle.ga_debug.specs.Pieces.{pieces_left};
+    ghost use Rattle.ga_debug.specs.inner.Pieces.{pieces_left};
 
     type Item = &'a str;
 

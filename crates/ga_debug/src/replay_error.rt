@@ -1,5 +1,5 @@
 ghost use Rattle.std.specs.Prelude.{◌≡◌};
-ghost use Rattle.ga_debug.specs.Fault.{fault_of_boot, fault_of_names, fault_of_route, fault_of_text};
+ghost use Rattle.ga_debug.specs.ReplayError.{fault_of_boot, fault_of_names, fault_of_route, fault_of_text};
 ghost use Rattle.ga_debug.specs.declared.replay_error.ReplayError.TheVariants.{Memory};
 
 use crate::error::DebugError;

@@ -1,9 +1,8 @@
 ghost use Rattle.std.specs.Prelude.{◌≡◌, ◌+◌, ◌<◌, ◌≤◌, ◌^◌, IfErr, IfOk, Err, Ok, length};
 ghost use Rattle.ga_asm.specs.Text.{AtMostOne};
-ghost use Rattle.ga_debug.specs.Fault.{Answers};
-ghost use Rattle.ga_debug.specs.Line.{fault_of_line};
-ghost use Rattle.ga_debug.specs.Pieces.{pieces_left};
-ghost use Rattle.ga_debug.specs.Replay.{IsReplayed, compared, is_same, line_on, lines_on, same_outcome, stated, word_behind_sign};
+ghost use Rattle.ga_debug.specs.ReplayError.{Answers};
+ghost use Rattle.ga_debug.specs.inner.Pieces.{pieces_left};
+ghost use Rattle.ga_debug.specs.Replaying.{IsReplayed, comparisons, fault_of_line, is_same, line_on, lines_on, same_outcome, stated_answer, word_behind_sign};
 
 use crate::action::{Action, Answer, perform};
 use crate::beginning::chip_after;
@@ -18,7 +17,7 @@ use std::alloc::Global;
 
 /// What is wrong with a line of commands, with its number.
 #[derive(Clone, Copy)]
-pub enum LineError {
+pub(crate) enum LineError {
     /// The command is refused.
     Bad(u64, DebugError),
     /// What the line states doesn't hold.
@@ -68,7 +67,7 @@ fn follow(mut chip: Chip, first: u64, lines: Pieces<'_>) -> Result<u64, LineErro
 }
 
 /// One line, with its number. Answers how many outcomes were compared, one at most.
-#[tactic(auto, unfolding(crate::specs::Replay::line_on, crate::specs::Replay::statement_in))]
+#[tactic(auto, unfolding(crate::specs::Replaying::line_on, crate::specs::Replaying::statement_in))]
 fn line_on(chip: &mut Chip, line: u64, text: &str) -> Result<u64, LineError>
     ensures holds { IfOk result (λ more. line_on line chip.old text.now ≡ Ok (more, chip.new)) }
     ensures one { IfOk result (λ more. more ≤ 1) }
@@ -82,7 +81,7 @@ fn line_on(chip: &mut Chip, line: u64, text: &str) -> Result<u64, LineError>
         Ok(action) => action,
         Err(fault) => return Err(LineError::Bad(line, fault)),
     };
-    let stated = match stated(&action, &mut words) {
+    let stated = match stated_answer(&action, &mut words) {
         Ok(stated) => stated,
         Err(fault) => return Err(LineError::Bad(line, fault)),
     };
@@ -91,16 +90,16 @@ fn line_on(chip: &mut Chip, line: u64, text: &str) -> Result<u64, LineError>
             if !is_same(answer, stated) {
                 return Err(LineError::Differs(line));
             }
-            Ok(compared(answer))
+            Ok(comparisons(answer))
         }
         Err(fault) => Err(LineError::Bad(line, fault)),
     }
 }
 
 /// What is stated behind an action.
-#[tactic(auto, unfolding(crate::specs::Replay::stated))]
-fn stated(action: &Action, words: &mut Pieces<'_>) -> Result<Answer, DebugError>
-    ensures { result ≡ stated action.now (pieces_left words.old) }
+#[tactic(auto, unfolding(crate::specs::Replaying::stated_answer))]
+fn stated_answer(action: &Action, words: &mut Pieces<'_>) -> Result<Answer, DebugError>
+    ensures { result ≡ stated_answer action.now (pieces_left words.old) }
 {
     match action {
         Action::Try { .. } => {
@@ -160,8 +159,8 @@ fn same_outcome(one: Outcome, other: Outcome) -> bool
 }
 
 /// How many stated outcomes an answer is compared with.
-fn compared(answer: Answer) -> u64
-    ensures value { result ≡ compared answer }
+fn comparisons(answer: Answer) -> u64
+    ensures value { result ≡ comparisons answer }
     ensures one { result ≤ 1 }
 {
     match answer {

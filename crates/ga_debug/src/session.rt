@@ -1,5 +1,5 @@
 ghost use Rattle.std.specs.Prelude.{◌≡◌, ◌⊎◌, IfErr, IfOk, OnErr, OnOk, Err, Ok, string_bytes};
-ghost use Rattle.ga_debug.specs.Session.{after_line, reply_to, shown, unended};
+ghost use Rattle.ga_debug.specs.Session.{after_line, reply_to, view_text, without_line_end};
 ghost use Rattle.ga_debug.specs.declared.error.DebugError.TheVariants.{Memory};
 
 use crate::action::{ANSWER_LENGTH, answer_in, perform};
@@ -51,7 +51,7 @@ impl Session {
                 Ok(answer_in(text, answer))
             }
             Command::Show(view, node) => {
-                let text = shown(alloc, &self.chip, view, node)?;
+                let text = view_text(alloc, &self.chip, view, node)?;
                 Ok(text)
             }
         }
@@ -59,8 +59,8 @@ impl Session {
 }
 
 /// What a view shows of a node, without the last LF.
-fn shown(alloc: Global, chip: &Chip, view: View, node: Node) -> Result<String, AllocError>
-    ensures { IfOk result (λ text. string_bytes text ≡ unended (shown view node chip.now)) }
+fn view_text(alloc: Global, chip: &Chip, view: View, node: Node) -> Result<String, AllocError>
+    ensures { IfOk result (λ text. string_bytes text ≡ without_line_end (view_text view node chip.now)) }
 {
     let mut text = match view {
         View::Regs => chip.state(node).line(alloc)?,

@@ -1,5 +1,5 @@
 ghost use Rattle.std.specs.Prelude.{◌≡◌, ◌<◌, ℕ};
-ghost use Rattle.ga_debug.specs.Words.{address_of, count_of, node_of, number_of, outcome_of, side_of, verb_of, view_of};
+ghost use Rattle.ga_debug.specs.Word.{address_of, count_of, node_of, number_of, outcome_of, side_of, verb_of, view_of};
 
 use crate::address::Address;
 use ga_chip::Outcome;
@@ -7,7 +7,7 @@ use ga_place::{Node, Side};
 
 /// A command that does something to the chip.
 #[derive(Clone, Copy)]
-pub enum Verb {
+pub(crate) enum Verb {
     Break,
     Clear,
     Pass,
@@ -17,14 +17,14 @@ pub enum Verb {
 
 /// A command that shows something of a node.
 #[derive(Clone, Copy)]
-pub enum View {
+pub(crate) enum View {
     Regs,
     Mem,
     Ports,
 }
 
 /// The action that a word names.
-pub fn verb_of(word: &[u8]) -> Option<Verb>
+pub(crate) fn verb_of(word: &[u8]) -> Option<Verb>
     ensures { result ≡ verb_of word.now }
 {
     let verb = match word {
@@ -39,7 +39,7 @@ pub fn verb_of(word: &[u8]) -> Option<Verb>
 }
 
 /// The view that a word names.
-pub fn view_of(word: &[u8]) -> Option<View>
+pub(crate) fn view_of(word: &[u8]) -> Option<View>
     ensures { result ≡ view_of word.now }
 {
     let view = match word {
@@ -52,7 +52,7 @@ pub fn view_of(word: &[u8]) -> Option<View>
 }
 
 /// The node whose name a word is, in three digits.
-pub fn node_of(word: &[u8]) -> Option<Node>
+pub(crate) fn node_of(word: &[u8]) -> Option<Node>
     ensures { result ≡ node_of word.now }
 {
     let [a, b, c] = word else {
@@ -66,7 +66,7 @@ pub fn node_of(word: &[u8]) -> Option<Node>
 }
 
 /// The address that a word is, in three hex digits of either case.
-pub fn address_of(word: &[u8]) -> Option<Address>
+pub(crate) fn address_of(word: &[u8]) -> Option<Address>
     ensures { result ≡ address_of word.now }
 {
     let [a, b, c] = word else {
@@ -80,7 +80,7 @@ pub fn address_of(word: &[u8]) -> Option<Address>
 }
 
 /// The side whose first letter a word is.
-pub fn side_of(word: &[u8]) -> Option<Side>
+pub(crate) fn side_of(word: &[u8]) -> Option<Side>
     ensures { result ≡ side_of word.now }
 {
     let side = match word {
@@ -94,8 +94,8 @@ pub fn side_of(word: &[u8]) -> Option<Side>
 }
 
 /// The number that a word is, in one to so many decimal digits.
-#[tactic(auto, unfolding(crate::specs::Words::number_of))]
-pub fn number_of(word: &[u8], most: usize) -> Option<u32>
+#[tactic(auto, unfolding(crate::specs::Word::number_of))]
+pub(crate) fn number_of(word: &[u8], most: usize) -> Option<u32>
     requires { most < 10 }
     ensures { result ≡ number_of most word.now }
 {
@@ -113,7 +113,7 @@ pub fn number_of(word: &[u8], most: usize) -> Option<u32>
 }
 
 /// The count of turns that a word is, in one to seven decimal digits, up to 1000000.
-pub fn count_of(word: &[u8]) -> Option<u32>
+pub(crate) fn count_of(word: &[u8]) -> Option<u32>
     ensures { result ≡ count_of word.now }
 {
     let number = number_of(word, 7)?;
@@ -125,7 +125,7 @@ pub fn count_of(word: &[u8]) -> Option<u32>
 }
 
 /// What came of a try, as a word says it.
-pub fn outcome_of(word: &[u8]) -> Option<Outcome>
+pub(crate) fn outcome_of(word: &[u8]) -> Option<Outcome>
     ensures { result ≡ outcome_of word.now }
 {
     let outcome = match word {

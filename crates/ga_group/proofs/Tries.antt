@@ -14,7 +14,7 @@ use Rattle.ga_chip.specs.Run.{ran, side_of_turn, tries_of}
 use Rattle.ga_chip.proofs.Runs.{ran_more}
 use Rattle.ga_chip.proofs.Turns.{places_next, ran_next}
 use Rattle.ga_group.specs.Plan.{Groups, first_repeated, groups_in, plan_fault}
-use Rattle.ga_group.specs.Tries.{all_tries, group_tries, turn_tries}
+use Rattle.ga_group.specs.inner.Tries.{all_tries, group_tries, turn_tries}
 use Rattle.ga_group.specs.Workers.{IsWorkersRun, sides_of_turns, sides_tried}
 use Rattle.ga_group.proofs.Plans.{is_new, not_behind, once}
 use Rattle.ga_group.proofs.Walk.{groups_left, tries_left}

@@ -9,7 +9,7 @@ use Rattle.std.proofs.lemmas.List.Folds.{concat-append, list_any-append}
 use Rattle.ga_place.specs.Node.{IsNodeName, is_among}
 use Rattle.ga_place.specs.declared.side.Side.{Side}
 use Rattle.ga_group.specs.Plan.{Groups, first_repeated, group_fault, groups_fault, groups_in, plan_fault}
-use Rattle.ga_group.specs.Tries.{group_tries}
+use Rattle.ga_group.specs.inner.Tries.{group_tries}
 use Rattle.ga_group.specs.declared.error.PlanError.{PlanError}
 use Rattle.ga_group.specs.declared.error.PlanError.TheVariants.{Repeated}
 
@@ -56,23 +56,9 @@ module _ {A : Type 0} where
   pub more_named : (groups : List (Vec ℕ A)) (at : ℕ) (group : Vec ℕ A) → at < length groups → group ≡ slice_index_or groups at group → AllByRecursion IsNodeName (concat (groups_in (take at groups))) → AllByRecursion IsNodeName group.items → AllByRecursion IsNodeName (concat (groups_in (take (at + 1) groups)))
   more_named groups at group below is named here = subst (AllByRecursion IsNodeName) (sym (groups_done groups at group below is)) (all_more (concat (groups_in (take at groups))) group.items named here)
 
-pub some_groups : (groups : Groups) → 0 < length groups → plan_fault groups ≡ groups_fault 0 [] groups
-some_groups [] some = absurd (omega (arith, some))
-some_groups (group ∷ groups) some = refl
-
 pub some_group : (worker : ℕ) (before names : List ℕ) → 0 < length names → group_fault worker before names ≡ option_map Repeated (first_repeated before names)
 some_group worker before [] some = absurd (omega (arith, some))
 some_group worker before (name ∷ names) some = refl
-
--- the next node of a group stands before, or it doesn't
-pub repeated_next : (before group : List ℕ) (at node : ℕ) (b : Bool) → at < length group → node ≡ slice_index_or group at node → is_among node (before ++ take at group) ≡ b
-    → first_repeated (before ++ take at group) (drop at group) ≡ (if b then Some node else first_repeated (before ++ take (at + 1) group) (drop (at + 1) group))
-repeated_next before group at node b below is among =
-    ap (first_repeated (before ++ take at group)) (left group at node below is)
-    ∙ ap₂ (λ c l. if c then Some node else first_repeated l (drop (at + 1) group)) among (append_assoc before (take at group) (node ∷ []) ∙ ap (λ l. before ++ l) (sym (done group at node below is)))
-
-pub named_next : (group : List ℕ) (at node : ℕ) → at < length group → node ≡ slice_index_or group at node → AllByRecursion IsNodeName (take at group) → IsNodeName node → AllByRecursion IsNodeName (take (at + 1) group)
-named_next group at node below is named here = subst (AllByRecursion IsNodeName) (sym (done group at node below is)) (all_more (take at group) (node ∷ []) named (here, tt))
 
 -- the tries of the nodes that are left
 pub tries_left : (side : Side) (group : List ℕ) (at node : ℕ) → at < length group → node ≡ slice_index_or group at node → group_tries side (drop at group) ≡ record { node = node; side = side } ∷ group_tries side (drop (at + 1) group)

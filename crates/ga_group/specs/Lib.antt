@@ -1,4 +1,4 @@
 pub mod Plan
 pub mod Workers
-pub mod Tries
 pub mod Laws
+pub mod inner

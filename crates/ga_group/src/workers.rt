@@ -7,7 +7,7 @@ ghost use Rattle.ga_chip.specs.Run.{ran, side_of_turn, tries_of};
 ghost use Rattle.ga_group.specs.Plan.{groups_in, plan_fault};
 ghost use Rattle.ga_group.specs.Workers.{IsWorkersRun};
 ghost use Rattle.ga_group.specs.declared.error.RunError.TheVariants.{TooManyTurns};
-ghost use Rattle.ga_group.specs.Tries.{group_tries, turn_tries};
+ghost use Rattle.ga_group.specs.inner.Tries.{group_tries, turn_tries};
 
 use crate::error::RunError;
 use crate::gate::Gate;

@@ -2,7 +2,7 @@
 use Rattle.std.specs.Prelude.{◌≡◌, ℕ, List, [], ◌∷◌, ◌++◌, codes, Result, Ok, Err}
 use Rattle.std.specs.Fmt.{decimal}
 use Rattle.ga_debug.specs.declared.replay_error.ReplayError.{ReplayError}
-use Rattle.ga_debug.specs.Replay.{IsReplayed}
+use Rattle.ga_debug.specs.Replaying.{IsReplayed}
 use Rattle.ga_jobs.specs.declared.fault.ServeError.{ServeError}
 use Rattle.ga_jobs.specs.Fault.{fault_of_replay}
 use Rattle.ga_jobs.specs.Text.{IsInText}

@@ -10,7 +10,7 @@ use Rattle.ga_group.specs.Workers.{IsWorkersRun}
 use Rattle.ga_group.specs.declared.error.PlanError.{PlanError}
 use Rattle.ga_path.specs.Stream.{Images, unreached}
 use Rattle.ga_path.specs.declared.error.BootError.TheVariants.{Unreached}
-use Rattle.ga_debug.specs.Begin.{booted}
+use Rattle.ga_debug.specs.Beginning.{booted}
 use Rattle.ga_jobs.specs.declared.fault.ServeError.{ServeError}
 use Rattle.ga_jobs.specs.declared.fault.ServeError.TheVariants.{Boot, Plan}
 use Rattle.ga_jobs.specs.Route.{route_in}

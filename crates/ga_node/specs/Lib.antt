@@ -1,7 +1,7 @@
 pub mod State
-pub mod Work
 pub mod Need
 pub mod Fetch
 pub mod Loader
 pub mod Slot
 pub mod Line
+pub mod inner

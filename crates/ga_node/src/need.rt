@@ -1,7 +1,7 @@
 ghost use Rattle.std.specs.Prelude.{◌≡◌, None, Some};
 ghost use Rattle.ga_node.specs.Line.{need_text, stop_text};
 ghost use Rattle.ga_node.specs.Need.{body_need, fetch_need, held_need, input_need, need_of, op_need, read_need, write_need};
-ghost use Rattle.ga_node.specs.Work.{load_need, wants_by_work};
+ghost use Rattle.ga_node.specs.inner.Work.{load_need, wants_by_work};
 ghost use Rattle.ga_place.specs.Address.{where_is};
 
 use crate::place::Place;

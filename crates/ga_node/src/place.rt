@@ -1,6 +1,6 @@
 ghost use Rattle.std.specs.Prelude.{◌≡◌, ◌<◌, Some};
 ghost use Rattle.ga_node.specs.Line.{place_text};
-ghost use Rattle.ga_node.specs.Work.{number_of};
+ghost use Rattle.ga_node.specs.inner.Work.{number_of};
 
 use std::fmt;
 

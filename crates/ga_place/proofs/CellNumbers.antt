@@ -8,7 +8,7 @@ use Rattle.ga_place.specs.Side.{SIDES, has_side}
 use Rattle.ga_place.specs.declared.side.Side.{Side}
 use Rattle.ga_place.specs.declared.side.Side.TheVariants.{Right, Down, Left, Up}
 use Rattle.ga_place.specs.Cell.{all_cells, cell_of, index_of, name_at}
-use Rattle.ga_place.specs.CellNumber.{cell_number, cells_before, rank}
+use Rattle.ga_place.specs.inner.CellNumber.{cell_number, cells_before, rank}
 use Rattle.ga_place.proofs.Cells.{index_below, name_back, passes}
 
 abbrev same : Option ℕ → Option ℕ → Bool

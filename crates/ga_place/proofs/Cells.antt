@@ -77,13 +77,6 @@ one_reader a b cell s t na nb e f =
     ap₂' : {m n : ℕ} {s t : Side} → m ≡ n → s ≡ t → neighbour_of m s ≡ neighbour_of n t
     ap₂' p q = cc
 
--- no node is its own neighbour
-pub not_itself : (name : ℕ) (side : Side) → neighbour_of name side ≡ Some name → ⊥
-not_itself name Right e = grind (arith, common_steps)
-not_itself name Down e = grind (arith, common_steps)
-not_itself name Left e = grind (arith, common_steps)
-not_itself name Up e = grind (arith, common_steps)
-
 -- what has a place among the nodes is a node
 pub is_node : (name : ℕ) → index_of name < 144 → IsNodeName name
 is_node name below = grind (arith, common_steps)

@@ -1,24 +1,19 @@
--- The places of the nodes in order of name, and the one-way cells between neighbours. A shared port is two cells:
+-- The indices of the nodes in order of name, and the one-way cells between neighbours. A shared port is two cells:
 -- each of its two nodes writes one, which the other reads.
-use Rattle.std.specs.Prelude.{◌≡◌, ℕ, ◌<◌, ◌+◌, ◌*◌, ◌/◌, ◌%◌, ◌==◌, nat_lt, Bool, ◌&&◌, if◌then◌else◌, List, map, Option}
-use Rattle.std.proofs.Common.{arith}
+use Rattle.std.specs.Prelude.{ℕ, ◌+◌, ◌*◌, ◌/◌, ◌%◌, ◌==◌, nat_lt, Bool, ◌&&◌, if◌then◌else◌, List, map, Option}
 use Rattle.std.specs.List.{filter, flat_map, position, range_with_len}
 use Rattle.std.specs.Option.{option_and_then}
 use Rattle.ga_place.specs.Node.{row_of, column_of}
 use Rattle.ga_place.specs.Side.{SIDES, has_side, neighbour_of, side_bit}
 use Rattle.ga_place.specs.declared.side.Side.{Side}
 
--- the place of a node in order of name, from 0 to 143; a name of no node has the place 144
+-- the index of a node in order of name, from 0 to 143; a name of no node has the index 144
 abbrev pub index_of : ℕ → ℕ
 index_of name = if (nat_lt (row_of name) 8) && (nat_lt (column_of name) 18) then row_of name * 18 + column_of name else 144
 
--- the name of the node at a place
+-- the name of the node at an index
 abbrev pub name_at : ℕ → ℕ
 name_at index = index / 18 * 100 + index % 18
-
--- the name at a place has that place
-pub place_back : (place : ℕ) → place < 144 → index_of (name_at place) ≡ place
-place_back place below = grind arith
 
 -- A cell is told by its writer's name and the side at which it is written. A node writes one at each
 -- side that it has.
@@ -32,7 +27,7 @@ all_cells = flat_map (λ index. cells_written_by (name_at index)) (range_with_le
 abbrev pub is_cell : ℕ → Side → ℕ × Side → Bool
 is_cell name side cell = (cell.0 == name) && (side_bit cell.1 == side_bit side)
 
--- the number of the cell that a node writes at a side, its place among all cells, where it has that side
+-- the number of the cell that a node writes at a side, its index among all cells, where it has that side
 unfoldable pub cell_of : ℕ → Side → Option ℕ
 cell_of name side = position (is_cell name side) all_cells
 

@@ -2,4 +2,4 @@ pub mod Node
 pub mod Side
 pub mod Address
 pub mod Cell
-pub mod CellNumber
+pub mod inner

@@ -1,7 +1,7 @@
 ghost use Rattle.std.specs.Prelude.{◌≡◌, ℕ, ◌<◌, ◌↔◌, IfSome, IsSome, true};
 ghost use Rattle.ga_place.specs.Cell.{cell_of};
 ghost use Rattle.ga_place.specs.Side.{has_side};
-ghost use Rattle.ga_place.specs.CellNumber.{cells_before, rank};
+ghost use Rattle.ga_place.specs.inner.CellNumber.{cells_before, rank};
 
 use crate::node::Node;
 use crate::side::{Side, neighbour};

@@ -5,7 +5,8 @@ ghost use Rattle.std.specs.Hash as fed;
 ghost use Rattle.std.specs.Option.{SomeIff};
 ghost use Rattle.std.specs.Ordering.{as_partial_cmp, nat_cmp};
 ghost use Rattle.std.proofs.Common.{rules};
-ghost use Rattle.ga_place.specs.Cell.{index_of, name_at, place_back};
+ghost use Rattle.ga_place.specs.Cell.{index_of, name_at};
+ghost use Rattle.ga_place.specs.inner.Index.{index_back};
 ghost use Rattle.ga_place.specs.Node.{IsNodeName, IsOnEdge, column_of, node_text, row_of};
 ghost use Rattle.ga_place.specs.Side.{LacksSide};
 
@@ -17,22 +18,22 @@ use std::marker::Model;
 /// One of the 144 computers of the GA144, in 8 rows by 18 columns (chip reference DB002).
 ///
 /// Its name is the number `row * 100 + column`: 708 is row 7, column 8. A contract sees a node as its
-/// name, and nodes compare and hash as their names. What is kept is the node's place in order of name.
+/// name, and nodes compare and hash as their names. What is kept is the node's index in order of name.
 #[derive(Clone, Copy, Debug)]
 pub struct Node {
-    place: u8,
+    index: u8,
 }
 
 impl Model for Node {
     ghost Value = { ℕ };
 
-    ghost view = { λ node. name_at node.place };
+    ghost view = { λ node. name_at node.index };
 
-    ghost invariant = { λ node. node.place < 144 };
+    ghost invariant = { λ node. node.index < 144 };
 
-    ghost inverse = { λ n. record { place = index_of n } };
+    ghost inverse = { λ n. record { index = index_of n } };
 
-    ghost inverse_ok = { λ node below i. record { place = place_back node.place below i } };
+    ghost inverse_ok = { λ node below i. record { index = index_back node.index below i } };
 }
 
 impl Node {
@@ -44,8 +45,8 @@ impl Node {
         let row = name / 100;
         let column = name % 100;
         if row < 8 && column < 18 {
-            let place = (row * 18 + column) as u8;
-            Some(Node { place })
+            let index = (row * 18 + column) as u8;
+            Some(Node { index })
         } else {
             None
         }
@@ -60,14 +61,14 @@ impl Node {
         u16::from(self.row()) * 100 + u16::from(self.column())
     }
 
-    /// The place of the node in order of name, from 0 to 143.
+    /// The index of the node in order of name, from 0 to 143.
     #[inline(always)]
-    pub fn place(self) -> u8
+    pub fn index(self) -> usize
         ensures value { result ≡ index_of self }
         ensures bound { result < 144 }
         ensures back { name_at result ≡ self }
     {
-        self.place
+        usize::from(self.index)
     }
 
     /// The row of the node, from 0 in the south to 7.
@@ -76,7 +77,7 @@ impl Node {
         ensures value { result ≡ row_of self }
         ensures bound { result < 8 }
     {
-        self.place / 18
+        self.index / 18
     }
 
     /// The column of the node, from 0 in the west to 17.
@@ -85,7 +86,7 @@ impl Node {
         ensures value { result ≡ column_of self }
         ensures bound { result < 18 }
     {
-        self.place % 18
+        self.index % 18
     }
 
     /// Whether the node stands in row 0 or 7, or in column 0 or 17, and so lacks a side.
@@ -106,7 +107,7 @@ impl PartialEq for Node {
 
     #[inline(always)]
     fn eq(&self, other: &Node) -> bool {
-        self.place == other.place
+        self.index == other.index
     }
 }
 
@@ -135,10 +136,10 @@ impl Ord for Node {
 
     ghost matches_eq = { Prim.search (comparing, rules) };
 
-    // Places stand as their names do.
+    // Indices stand as their names do.
     #[inline]
     fn cmp(&self, other: &Node) -> Ordering {
-        self.place.cmp(&other.place)
+        self.index.cmp(&other.index)
     }
 }
 

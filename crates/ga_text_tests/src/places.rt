@@ -34,9 +34,9 @@ fn nodes(rt: HostRuntime) -> Result<(), Fail> {
 }
 
 #[test]
-fn places(rt: HostRuntime) -> Result<(), Fail> {
-    for (name, place) in [(0, 0), (8, 8), (100, 18), (717, 143)] {
-        assert!(rt; node(name)?.place() == place, "at {name}");
+fn indices(rt: HostRuntime) -> Result<(), Fail> {
+    for (name, index) in [(0, 0), (8, 8), (100, 18), (717, 143)] {
+        assert!(rt; node(name)?.index() == index, "at {name}");
     }
     let (first, second) = (Node::new(17), Node::new(100));
     assert!(rt; first < second && first != second);

@@ -1,7 +1,7 @@
 use Rattle.std.proofs.Common.{◌≡◌, ap, ap₂, ◌∙◌, ◌++◌, ◌∷◌, [], map, arith}
 use Rattle.std.specs.List.{range_with_len}
 use Rattle.ga_place.specs.Cell.{name_at}
-use Rattle.ga_chip.specs.Port.{all_ports, ports_of}
+use Rattle.ga_chip.specs.inner.Port.{all_ports, ports_of}
 use Rattle.ga_chip.proofs.Sharing.{ports_made}
 use Rattle.ga_chip.proofs.Turns.{places_next}
 use Rattle.ga_chip.proofs.port.all_ports.Goals as goal

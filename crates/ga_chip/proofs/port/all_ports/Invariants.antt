@@ -1,7 +1,7 @@
 use Rattle.std.specs.Prelude.{◌≡◌, map}
 use Rattle.std.specs.List.{range_with_len}
 use Rattle.ga_place.specs.Cell.{name_at}
-use Rattle.ga_chip.specs.Port.{ports_of}
+use Rattle.ga_chip.specs.inner.Port.{ports_of}
 use Rattle.ga_chip.proofs.port.all_ports.Given as goal
 
 abbrev pub invariant-loop-index : goal.invariant-loop-index

@@ -1,6 +1,6 @@
 use Rattle.std.proofs.Common.{◌≡◌}
 use Rattle.ga_chip.specs.Chip.{reset_chip}
-use Rattle.ga_debug.specs.Begin.{all_placed}
+use Rattle.ga_debug.specs.Beginning.{all_placed}
 use Rattle.ga_debug.proofs.beginning.all_placed.Given as goal
 
 abbrev pub invariant-loop-node : goal.invariant-loop-node

@@ -2,8 +2,9 @@ use Rattle.std.proofs.Common.{◌≡◌, ◌∙◌, ◌∷◌, Some, ap, arith, 
 use Rattle.std.specs.Prelude.{codes, ok_or}
 use Rattle.std.specs.Str.{bytes_eq}
 use Rattle.ga_debug.specs.Head.{Loading, head_in, loaded_by, loading_in, up_to_go}
-use Rattle.ga_debug.specs.HeadView.{head_view}
-use Rattle.ga_debug.specs.Pieces.{pieces, pieces_left}
+use Rattle.ga_debug.specs.inner.HeadView.{head_view}
+use Rattle.ga_debug.specs.Pieces.{pieces}
+use Rattle.ga_debug.specs.inner.Pieces.{pieces_left}
 use Rattle.ga_debug.specs.declared.replay_error.ReplayError.TheVariants.{BadRoute}
 use Rattle.ga_debug.proofs.Heads.{bad_loading, behind_two_lines, fails_as, good_loading, hands_on, not_other}
 use Rattle.ga_debug.proofs.Room.{lines_left}

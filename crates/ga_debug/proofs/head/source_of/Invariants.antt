@@ -1,6 +1,6 @@
 use Rattle.std.proofs.Common.{◌≡◌, ◌+◌, ◌<◌, ◌^◌, length, string_bytes}
 use Rattle.ga_debug.specs.Head.{Loading, up_to_go}
-use Rattle.ga_debug.specs.Pieces.{pieces_left}
+use Rattle.ga_debug.specs.inner.Pieces.{pieces_left}
 use Rattle.ga_debug.proofs.Sources.{in_front}
 use Rattle.ga_debug.proofs.head.source_of.Given as goal
 

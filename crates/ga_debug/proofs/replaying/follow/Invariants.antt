@@ -1,6 +1,6 @@
 use Rattle.std.proofs.Common.{◌≡◌, ◌+◌, ◌<◌, ◌≤◌, ◌^◌, length}
-use Rattle.ga_debug.specs.Pieces.{pieces_left}
-use Rattle.ga_debug.specs.Replay.{lines_on}
+use Rattle.ga_debug.specs.inner.Pieces.{pieces_left}
+use Rattle.ga_debug.specs.Replaying.{lines_on}
 use Rattle.ga_debug.proofs.replaying.follow.Given as goal
 
 -- what comes of the lines that are left, and room to count them

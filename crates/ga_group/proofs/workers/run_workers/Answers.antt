@@ -4,7 +4,7 @@ use Rattle.ga_chip.specs.Grow.{LedgersGrow}
 use Rattle.ga_chip.specs.Run.{ran, side_of_turn, tries_of}
 use Rattle.ga_chip.proofs.Grow.{ledgers_grow}
 use Rattle.ga_chip.proofs.Holds.{held_stays}
-use Rattle.ga_group.specs.Tries.{all_tries, turn_tries}
+use Rattle.ga_group.specs.inner.Tries.{all_tries, turn_tries}
 use Rattle.ga_group.proofs.Tries.{turn_next, workers_run}
 use Rattle.ga_group.proofs.workers.run_workers.Goals as goal
 

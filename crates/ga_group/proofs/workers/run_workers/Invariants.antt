@@ -1,6 +1,6 @@
 use Rattle.std.proofs.Common.{◌≡◌, ◌≤◌, ◌*◌, All}
 use Rattle.ga_chip.specs.Run.{ran, tries_of}
-use Rattle.ga_group.specs.Tries.{all_tries}
+use Rattle.ga_group.specs.inner.Tries.{all_tries}
 use Rattle.ga_group.proofs.workers.run_workers.Given as goal
 
 -- so many turns were made

@@ -1,6 +1,6 @@
 use Rattle.std.proofs.Common.{◌≡◌, ◌≤◌, drop}
 use Rattle.ga_chip.specs.Run.{ran, tries_of}
-use Rattle.ga_group.specs.Tries.{group_tries}
+use Rattle.ga_group.specs.inner.Tries.{group_tries}
 use Rattle.ga_group.proofs.workers.tries_of_group.Given as goal
 
 -- the tries that are left lead to the end

@@ -1,6 +1,6 @@
 use Rattle.std.proofs.Common.{◌≡◌, ◌∙◌, ◌≤◌, ◌+◌, ◌*◌, ap, arith, length, length-set}
 use Rattle.ga_chip.specs.Run.{ran, side_of_turn, tries_of}
-use Rattle.ga_group.specs.Tries.{group_tries}
+use Rattle.ga_group.specs.inner.Tries.{group_tries}
 use Rattle.ga_group.proofs.Plans.{nodes_below, worker_below, workers_few}
 use Rattle.ga_group.proofs.Tries.{group_next}
 use Rattle.ga_group.proofs.Counts.{counts_next, wider}

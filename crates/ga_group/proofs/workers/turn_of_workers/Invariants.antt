@@ -1,7 +1,7 @@
 use Rattle.std.proofs.Common.{◌≡◌, ◌≤◌, ◌+◌, ◌*◌, All, drop, length}
 use Rattle.ga_chip.specs.Run.{ran, side_of_turn, tries_of}
 use Rattle.ga_group.specs.Plan.{groups_in}
-use Rattle.ga_group.specs.Tries.{turn_tries}
+use Rattle.ga_group.specs.inner.Tries.{turn_tries}
 use Rattle.ga_group.proofs.workers.turn_of_workers.Given as goal
 
 -- the tries that are left lead to the end

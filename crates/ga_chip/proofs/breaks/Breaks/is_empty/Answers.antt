@@ -1,6 +1,6 @@
 use Rattle.std.proofs.Common.{ap, ◌∙◌, sym}
 use Rattle.std.specs.Cmp.Lexicographic.{same_text}
-use Rattle.ga_chip.specs.Bits.{bits_of}
+use Rattle.ga_chip.specs.inner.Bits.{bits_of}
 use Rattle.ga_chip.proofs.Bits.{no_bits}
 use Rattle.ga_chip.proofs.breaks.Breaks.is_empty.Goals as goal
 

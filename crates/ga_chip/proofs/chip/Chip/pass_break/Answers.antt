@@ -1,6 +1,6 @@
 use Rattle.std.proofs.Common.{ap, ◌∙◌, false, true, subst, sym}
 use Rattle.ga_place.specs.declared.side.Side.TheVariants.{Right}
-use Rattle.ga_chip.specs.Awake.{Knows}
+use Rattle.ga_chip.specs.inner.Awake.{Knows}
 use Rattle.ga_chip.specs.Chip.{Chip, answer_of, tried, unless_held}
 use Rattle.ga_chip.specs.Legal.{IsLegal}
 use Rattle.ga_chip.specs.Run.{PassBreak, happened}

@@ -1,3 +1,4 @@
+use Rattle.ga_place.specs.inner.Index.{index_back}
 use Rattle.std.proofs.Common.{ap, ◌∙◌, subst, sym}
 use Rattle.ga_place.specs.Cell.{name_at}
 use Rattle.ga_chip.specs.Chip.{Chip}
@@ -6,7 +7,7 @@ use Rattle.ga_chip.specs.Run.{SetBreak, happened}
 use Rattle.ga_chip.proofs.Awake.{stays_knows}
 use Rattle.ga_chip.proofs.Kept.{legal_kept}
 use Rattle.ga_chip.proofs.Stays.{Stays, set_stays}
-use Rattle.ga_chip.proofs.Tries.{part_at, place_back}
+use Rattle.ga_chip.proofs.Tries.{part_at}
 use Rattle.ga_chip.proofs.Uses.{set_at}
 use Rattle.ga_chip.proofs.chip.Chip.set_break.Goals as goal
 
@@ -16,7 +17,7 @@ invariant_of-self c =
     let part = c.index_mut.result.now in
     let index = c.index_of.result in (
       stays_knows chip c.self.inside.awake index part c.set_break.new.self c.self.invariant.0 c.index_of.ensures.bound
-          (part_at chip (name_at index) index part c.self.invariant.0.legal.parts (sym (place_back index c.index_of.ensures.bound)) c.index_of.ensures.bound c.index_mut.ensures.value)
+          (part_at chip (name_at index) index part c.self.invariant.0.legal.parts (sym (index_back index c.index_of.ensures.bound)) c.index_of.ensures.bound c.index_mut.ensures.value)
           (λ side still. subst (λ p. Stays p chip.cells side) (sym c.set_break.ensures) (set_stays part chip.cells c.args.address side still))
           (subst IsLegal (sym (set_at chip c.args.node c.args.address index part c.set_break.new.self c.self.invariant.0.legal.parts c.index_of.ensures.value c.index_of.ensures.bound c.index_mut.ensures.value c.set_break.ensures)) (legal_kept chip (SetBreak c.args.node c.args.address) c.self.invariant.0.legal)),
       c.self.invariant.1,

@@ -1,6 +1,6 @@
 use Rattle.std.proofs.Common.{rules, ◌≡◌, ◌≢◌, false, subst}
 use Rattle.ga_place.specs.Cell.{name_at}
-use Rattle.ga_chip.specs.Awake.{is_in}
+use Rattle.ga_chip.specs.inner.Awake.{is_in}
 use Rattle.ga_chip.specs.Chip.{tried}
 use Rattle.ga_chip.specs.declared.outcome.Outcome.TheVariants.{Moved}
 use Rattle.ga_chip.proofs.chip.Chip.sleeps.Goals as goal

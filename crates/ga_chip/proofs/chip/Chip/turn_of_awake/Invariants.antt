@@ -4,11 +4,11 @@ use Rattle.ga_chip.proofs.Turns.{turn_left}
 use Rattle.ga_chip.proofs.chip.Chip.turn_of_awake.Given as goal
 
 -- the tries that are left lead to the end, and their moves with those that were counted are all moves
-abbrev pub invariant-loop-place : goal.invariant-loop-place
-invariant-loop-place l =
-    (l.moved ≤ l.place)
-    × (ran l.self (turn_left l.fn.side l.place) ≡ ran l.fn.self (turn_of l.fn.side))
-    × (l.moved + length (moves l.self (turn_left l.fn.side l.place)) ≡ length (moves l.fn.self (turn_of l.fn.side)))
+abbrev pub invariant-loop-index : goal.invariant-loop-index
+invariant-loop-index l =
+    (l.moved ≤ l.index)
+    × (ran l.self (turn_left l.fn.side l.index) ≡ ran l.fn.self (turn_of l.fn.side))
+    × (l.moved + length (moves l.self (turn_left l.fn.side l.index)) ≡ length (moves l.fn.self (turn_of l.fn.side)))
 
-abbrev pub decreases-loop-place : goal.decreases-loop-place
-decreases-loop-place l = 144 - l.place
+abbrev pub decreases-loop-index : goal.decreases-loop-index
+decreases-loop-index l = 144 - l.index

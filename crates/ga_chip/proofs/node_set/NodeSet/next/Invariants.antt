@@ -1,5 +1,5 @@
 use Rattle.std.proofs.Common.{◌≡◌, ℕ, ◌*◌, ◌<◌, ◌≤◌, false}
-use Rattle.ga_chip.specs.Awake.{is_in}
+use Rattle.ga_chip.specs.inner.Awake.{is_in}
 use Rattle.ga_chip.proofs.node_set.NodeSet.next.Given as goal
 
 -- no node was found so far

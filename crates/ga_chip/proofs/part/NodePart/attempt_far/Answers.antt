@@ -1,9 +1,9 @@
 use Rattle.std.proofs.Common.{length, ap, ap₂, ◌∙◌, refl, subst, sym}
 use Rattle.ga_node.specs.Need.{need_of}
-use Rattle.ga_chip.specs.Awake.{partner_of}
+use Rattle.ga_chip.specs.inner.Awake.{partner_of}
 use Rattle.ga_place.specs.Cell.{index_of}
 use Rattle.std.specs.Prelude.{option_map}
-use Rattle.ga_chip.specs.Port.{FitsPorts}
+use Rattle.ga_chip.specs.inner.Port.{FitsPorts}
 use Rattle.ga_chip.specs.Part.{Nothing, asks}
 use Rattle.ga_chip.specs.declared.outcome.Outcome.TheVariants.{Held}
 use Rattle.ga_chip.specs.Chip.{found_by}

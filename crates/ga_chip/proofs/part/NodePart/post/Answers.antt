@@ -1,6 +1,6 @@
 use Rattle.std.proofs.Common.{ap, ◌∙◌, subst, sym}
 use Rattle.ga_node.specs.Need.{is_post, need_of}
-use Rattle.ga_chip.specs.Within.{StepsBound}
+use Rattle.ga_chip.specs.inner.Within.{StepsBound}
 use Rattle.ga_chip.proofs.Within.{post_bound, post_runs, room}
 use Rattle.ga_chip.proofs.part.NodePart.post.Goals as goal
 

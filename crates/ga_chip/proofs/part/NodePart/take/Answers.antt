@@ -1,6 +1,6 @@
 use Rattle.std.proofs.Common.{ap, ◌∙◌, subst, sym}
 use Rattle.ga_node.specs.Need.{need_of, takes_at}
-use Rattle.ga_chip.specs.Within.{StepsBound}
+use Rattle.ga_chip.specs.inner.Within.{StepsBound}
 use Rattle.ga_chip.proofs.Within.{room, take_bound, take_runs}
 use Rattle.ga_chip.proofs.part.NodePart.take.Goals as goal
 

@@ -1,5 +1,5 @@
 use Rattle.std.proofs.Common.{rules, ◌≡◌, ◌∙◌, Some, ap, length}
-use Rattle.ga_debug.specs.Pieces.{pieces_in}
+use Rattle.ga_debug.specs.inner.Pieces.{pieces_in}
 use Rattle.ga_debug.proofs.Cutting.{first_cut, no_cut}
 use Rattle.ga_debug.proofs.pieces.PiecesIterator.next.Goals as goal
 

@@ -1,6 +1,6 @@
 use Rattle.std.proofs.Common.{rules, ◌≡◌, ◌∙◌, ◌+◌, ◌-◌, ◌^◌, ◌==◌, false, ap, sym}
 use Rattle.ga_node.specs.State.{State}
-use Rattle.ga_node.specs.Work.{gone_on}
+use Rattle.ga_node.specs.inner.Work.{gone_on}
 use Rattle.ga_node.proofs.Works.{own_step, stayed, stepped}
 use Rattle.ga_node.proofs.state.NodeState.try_step.Goals as goal
 

@@ -9,7 +9,7 @@ use Rattle.ga_path.specs.declared.error.BootError.TheVariants.{Unreached}
 use Rattle.ga_path.specs.declared.error.RouteError.{RouteError}
 use Rattle.ga_debug.specs.declared.replay_error.ReplayError.{ReplayError}
 use Rattle.ga_debug.specs.declared.replay_error.ReplayError.TheVariants.{Boot}
-use Rattle.ga_debug.specs.Fault.{fault_of_route, fault_of_text}
+use Rattle.ga_debug.specs.ReplayError.{fault_of_route, fault_of_text}
 use Rattle.ga_debug.specs.Head.{Head, Loading, head_in}
 
 -- each image is placed in its node, with its entry

@@ -8,7 +8,7 @@ use Rattle.ga_node.specs.declared.need.Need.{Need}
 use Rattle.ga_node.specs.declared.need.Need.TheVariants as need
 use Rattle.ga_chip.specs.declared.outcome.Outcome.TheVariants.{Moved}
 use Rattle.ga_chip.specs.declared.node_set.NodeSet.{NodeSet}
-use Rattle.ga_chip.specs.Bits.{is_bit}
+use Rattle.ga_chip.specs.inner.Bits.{is_bit}
 use Rattle.ga_chip.specs.Part.{looked_at}
 use Rattle.ga_chip.specs.Chip.{Chip, tried}
 use Rattle.ga_chip.specs.Legal.{IsLegal}

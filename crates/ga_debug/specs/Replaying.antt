@@ -11,14 +11,19 @@ use Rattle.ga_debug.specs.declared.action.Answer.TheVariants.{Done, Tried, Moved
 use Rattle.ga_debug.specs.declared.error.DebugError.{DebugError}
 use Rattle.ga_debug.specs.declared.error.DebugError.TheVariants.{BadCommand}
 use Rattle.ga_debug.specs.declared.replay_error.ReplayError.{ReplayError}
+use Rattle.ga_debug.specs.declared.replay_error.ReplayError.TheVariants as text
 use Rattle.ga_debug.specs.declared.replaying.LineError.{LineError}
 use Rattle.ga_debug.specs.declared.replaying.LineError.TheVariants.{Bad, Differs}
-use Rattle.ga_debug.specs.Line.{fault_of_line}
 use Rattle.ga_debug.specs.Action.{after_action, answer_to}
-use Rattle.ga_debug.specs.Begin.{IsBegun}
-use Rattle.ga_debug.specs.Command.{Words, action_first, ended, then_with, words_of}
+use Rattle.ga_debug.specs.Beginning.{IsBegun}
+use Rattle.ga_debug.specs.Command.{Words, action_first, whole, then_with, words_of}
 use Rattle.ga_debug.specs.Head.{Head}
-use Rattle.ga_debug.specs.Words.{number_of, outcome_of}
+use Rattle.ga_debug.specs.Word.{number_of, outcome_of}
+
+-- the fault of a line, as a fault of the text
+abbrev pub fault_of_line : LineError → ReplayError
+fault_of_line (Bad line fault) = text.Bad line fault
+fault_of_line (Differs line) = text.Differs line
 
 -- the word behind `=`, with nothing behind it
 abbrev pub word_behind_sign : Words → Result (List ℕ) DebugError
@@ -36,20 +41,20 @@ read_by read (Err fault) = Err fault
 
 -- What is stated behind an action: of a try its outcome, of turns their steps in one to nine decimal digits, and of
 -- others nothing.
-unfoldable pub stated : Action → Words → Result Answer DebugError
-stated (Break node at) words = ended Done words
-stated (Clear node at) words = ended Done words
-stated (Pass node) words = ended Done words
-stated (Try node side) words = read_by (λ word. option_map Tried (outcome_of word)) (word_behind_sign words)
-stated (Turn count) words = read_by (λ word. option_map Moved (number_of 9 word)) (word_behind_sign words)
+unfoldable pub stated_answer : Action → Words → Result Answer DebugError
+stated_answer (Break node at) words = whole Done words
+stated_answer (Clear node at) words = whole Done words
+stated_answer (Pass node) words = whole Done words
+stated_answer (Try node side) words = read_by (λ word. option_map Tried (outcome_of word)) (word_behind_sign words)
+stated_answer (Turn count) words = read_by (λ word. option_map Moved (number_of 9 word)) (word_behind_sign words)
 
-abbrev pub paired : Action → Result Answer DebugError → Result (Action × Answer) DebugError
-paired action (Ok answer) = Ok (action, answer)
-paired action (Err fault) = Err fault
+abbrev pub with_answer : Action → Result Answer DebugError → Result (Action × Answer) DebugError
+with_answer action (Ok answer) = Ok (action, answer)
+with_answer action (Err fault) = Err fault
 
 -- an action and what is stated of it, or the line's first fault
 unfoldable pub statement_in : List ℕ → Result (Action × Answer) DebugError
-statement_in line = then_with (action_first (words_of line)) (λ action rest. paired action (stated action rest))
+statement_in line = then_with (action_first (words_of line)) (λ action rest. with_answer action (stated_answer action rest))
 
 abbrev pub same_outcome : Outcome → Outcome → Bool
 same_outcome outcome.Moved outcome.Moved = true
@@ -65,44 +70,44 @@ is_same (Tried one) (Tried other) = same_outcome one other
 is_same (Moved one) (Moved other) = one == other
 is_same one other = false
 
--- how many stated outcomes an answer was compared with
-abbrev pub compared : Answer → ℕ
-compared Done = 0
-compared (Tried outcome) = 1
-compared (Moved steps) = 1
+-- how many stated outcomes an answer was comparisons with
+abbrev pub comparisons : Answer → ℕ
+comparisons Done = 0
+comparisons (Tried outcome) = 1
+comparisons (Moved steps) = 1
 
 abbrev pub compared_with : ℕ → Result Answer DebugError → Answer → Chip → Result (ℕ × Chip) LineError
-compared_with line (Ok answer) stated next = if is_same answer stated then Ok (compared answer, next) else Err (Differs line)
+compared_with line (Ok answer) stated next = if is_same answer stated then Ok (comparisons answer, next) else Err (Differs line)
 compared_with line (Err fault) stated next = Err (Bad line fault)
 
-abbrev pub judged : ℕ → Chip → Result (Action × Answer) DebugError → Result (ℕ × Chip) LineError
-judged line chip (Ok (action, stated)) = compared_with line (answer_to action chip) stated (after_action action chip)
-judged line chip (Err fault) = Err (Bad line fault)
+abbrev pub line_result : ℕ → Chip → Result (Action × Answer) DebugError → Result (ℕ × Chip) LineError
+line_result line chip (Ok (action, stated)) = compared_with line (answer_to action chip) stated (after_action action chip)
+line_result line chip (Err fault) = Err (Bad line fault)
 
--- One line, with its number: how many outcomes were compared, and the chip afterwards; or what is wrong. A line
+-- One line, with its number: how many outcomes were comparisons, and the chip afterwards; or what is wrong. A line
 -- without any character is skipped.
 unfoldable pub line_on : ℕ → Chip → List ℕ → Result (ℕ × Chip) LineError
 line_on line chip [] = Ok (0, chip)
-line_on line chip (c ∷ text) = judged line chip (statement_in (c ∷ text))
+line_on line chip (c ∷ text) = line_result line chip (statement_in (c ∷ text))
 
 abbrev pub and_on : Result (ℕ × Chip) LineError → (ℕ → Chip → Result ℕ LineError) → Result ℕ LineError
 and_on (Ok (more, chip)) next = next more chip
 and_on (Err fault) next = Err fault
 
--- lines from a number on, behind so many outcomes that were compared
+-- lines from a number on, behind so many outcomes that were comparisons
 abbrev pub lines_on : ℕ → ℕ → Chip → List (List ℕ) → Result ℕ LineError
 lines_on line count chip [] = Ok count
 lines_on line count chip (text ∷ lines) = and_on (line_on line chip text) (λ more next. lines_on (line + 1) (count + more) next lines)
 
-abbrev pub told : Result ℕ LineError → Result ℕ ReplayError
-told (Ok count) = Ok count
-told (Err error) = Err (fault_of_line error)
+abbrev pub replay_result : Result ℕ LineError → Result ℕ ReplayError
+replay_result (Ok count) = Ok count
+replay_result (Err error) = Err (fault_of_line error)
 
 -- what comes of the lines behind a head
 abbrev pub IsReplayedFrom : List ℕ → Result ℕ ReplayError → Type 0
-IsReplayedFrom text answer = (chip : Chip) × (head : Head) × IsBegun text (Ok (chip, head)) × (told (lines_on (head.line + 1) 0 chip head.commands) ≡ answer)
+IsReplayedFrom text answer = (chip : Chip) × (head : Head) × IsBegun text (Ok (chip, head)) × (replay_result (lines_on (head.line + 1) 0 chip head.commands) ≡ answer)
 
--- How many stated outcomes of a text were compared, where all hold; or the first fault: of its head, or else of its
+-- How many stated outcomes of a text were comparisons, where all hold; or the first fault: of its head, or else of its
 -- commands.
 abbrev pub IsReplayed : List ℕ → Result ℕ ReplayError → Type 0
 IsReplayed text (Ok count) = IsReplayedFrom text (Ok count)

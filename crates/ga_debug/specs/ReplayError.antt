@@ -36,7 +36,3 @@ FailsRightly IsRight fault = IsRight (Err fault)
 abbrev pub Answers : {A B : Type 0} → (A → B) → (Result B ReplayError → Type 0) → Result A ReplayError → Type 0
 Answers view IsRight (Ok value) = IsRight (Ok (view value))
 Answers view IsRight (Err fault) = FailsRightly IsRight fault
-
--- the same, where one answer is right
-abbrev pub Gives : {A B : Type 0} → (A → B) → Result A ReplayError → Result B ReplayError → Type 0
-Gives view answer expected = Answers view (λ right. expected ≡ right) answer

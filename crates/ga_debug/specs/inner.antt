@@ -1,0 +1,4 @@
+pub mod HeadView
+pub mod ReplayError
+pub mod Pieces
+pub mod Command

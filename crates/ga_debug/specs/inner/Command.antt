@@ -1,0 +1,9 @@
+-- What a function reads of words.
+use Rattle.std.specs.Prelude.{◌≡◌, Result, Ok, Err}
+use Rattle.ga_debug.specs.declared.error.DebugError.{DebugError}
+use Rattle.ga_debug.specs.Command.{First, Words}
+
+-- what a function read of words, of which these are left, is what they begin with
+abbrev pub Reads : {A : Type 0} → First A → Result A DebugError → Words → Type 0
+Reads first (Ok value) rest = first ≡ Ok (value, rest)
+Reads first (Err fault) rest = first ≡ Err fault

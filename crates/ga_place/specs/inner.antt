@@ -1,0 +1,2 @@
+pub mod CellNumber
+pub mod Index
