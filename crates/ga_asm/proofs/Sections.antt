@@ -19,8 +19,10 @@ use Rattle.ga_source.specs.Section.{section_of}
 use Rattle.ga_source.specs.Program.{item_place, item_place_of, items_at, section_in, sections_in}
 use Rattle.ga_source.specs.Token.{place_of}
 use Rattle.ga_source.specs.Program.{IsRight as IsRightProgram}
-use Rattle.ga_asm.specs.Assembling.{HasNoFault, IsAssembled, IsFaultless, IsFirstFault, IsNodeFault, IsPlaceOf, IsTold}
-use Rattle.ga_asm.specs.Image.{Fits, ImageView, IsImage, entry_of, labels_of}
+use Rattle.ga_asm.specs.Assembling.{HasNoFault, IsAssembled, IsFirstFault}
+use Rattle.ga_asm.specs.inner.Assembling.{IsFaultless, IsNodeFault, IsPlaceOf, IsTold}
+use Rattle.ga_asm.specs.Image.{ImageView, IsImage, entry_of, labels_of}
+use Rattle.ga_asm.specs.inner.Image.{Fits}
 use Rattle.ga_asm.specs.inner.Layout.{Placing, plain}
 use Rattle.ga_asm.specs.inner.Making.{IsMade}
 use Rattle.ga_asm.specs.declared.layout.Layout as the

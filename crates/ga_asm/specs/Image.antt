@@ -25,14 +25,6 @@ entry_of labels = unwrap_or (address_of labels (codes "main")) 0
 abbrev pub all_near : Labels → Bool
 all_near labels = list_all (λ label. nat_le label.1 64) labels
 
--- a node has room for it, and has at least a word
-pub record Fits (image : ImageView) : Type 0 where
-  pub some : 0 < length image.words
-  pub most : length image.words ≤ 64
-  pub code_within : image.code_len ≤ length image.words
-  pub entry_near : image.entry ≤ 64
-  pub labels_near : all_near image.labels ≡ true
-
 -- The items are laid as the words, the labels and the length of code of an image, and its entry is that of its labels.
 pub record IsImage (items : List Item) (image : ImageView) : Type 0 where
   pub laid : Laid items image.words image.labels image.code_len

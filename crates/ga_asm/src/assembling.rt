@@ -3,7 +3,8 @@ ghost use Rattle.std.specs.Prelude.{◌≡◌, ◌<◌, ℕ, ◌++◌, ◌∷◌
 ghost use Rattle.ga_pack.specs.Model.Source.{Items, is_named, start};
 ghost use Rattle.ga_source.specs.Program.{items_at};
 ghost use Rattle.ga_source.specs.Token.{place_of};
-ghost use Rattle.ga_asm.specs.Assembling.{HasNoFault, IsAssembled, IsFaultless, IsFirstFault, IsNodeFault, IsPlaceOf, IsTold};
+ghost use Rattle.ga_asm.specs.Assembling.{HasNoFault, IsAssembled, IsFirstFault};
+ghost use Rattle.ga_asm.specs.inner.Assembling.{IsFaultless, IsNodeFault, IsPlaceOf, IsTold};
 ghost use Rattle.ga_asm.specs.Error.{error_place, kind_of};
 ghost use Rattle.ga_asm.specs.Image.{ImageView};
 ghost use Rattle.ga_asm.specs.inner.Layout.{plain};

@@ -1,5 +1,6 @@
 ghost use Rattle.std.specs.Prelude.{◌≡◌, ◌<◌, ◌≤◌, ℕ, length, map, true};
-ghost use Rattle.ga_asm.specs.Image.{Fits, ImageView, all_near, labels_of};
+ghost use Rattle.ga_asm.specs.Image.{ImageView, all_near, labels_of};
+ghost use Rattle.ga_asm.specs.inner.Image.{Fits};
 
 use ga_word::Word18;
 use indexmap::IndexMap;

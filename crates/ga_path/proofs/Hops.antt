@@ -9,7 +9,8 @@ use Rattle.ga_place.specs.Side.{SIDES, is_the_node, neighbour_of, side_to}
 use Rattle.ga_place.specs.declared.side.Side.{Side}
 use Rattle.ga_place.proofs.Names.{apart, few_names}
 use Rattle.ga_place.proofs.SideLemmas.{neighbour_of-IsNodeName}
-use Rattle.ga_path.specs.Route.{AreHops, hop_fault, hops_fault, route_fault}
+use Rattle.ga_path.specs.Route.{hop_fault, hops_fault, route_fault}
+use Rattle.ga_path.specs.inner.Route.{AreHops}
 use Rattle.ga_path.specs.declared.error.RouteError.{RouteError}
 use Rattle.ga_path.specs.declared.error.RouteError.TheVariants.{NotEdge, NotNeighbour, Repeated}
 

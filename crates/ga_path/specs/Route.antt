@@ -25,11 +25,6 @@ abbrev pub route_fault : List ℕ → Option RouteError
 route_fault [] = Some Empty
 route_fault (first ∷ names) = if is_edge first then hops_fault (first ∷ []) names else Some NotEdge
 
--- each node is a neighbour of the one before it
-abbrev pub AreHops : ℕ → List ℕ → Type 0
-AreHops from [] = Unit
-AreHops from (name ∷ names) = IsSome (side_to from name) × AreHops name names
-
 -- The fault of nodes. Want of memory is none.
 abbrev pub IsRouteFault : List ℕ → RouteError → Type 0
 IsRouteFault nodes Memory = Unit

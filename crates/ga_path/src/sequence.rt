@@ -3,7 +3,8 @@ ghost use Rattle.std.specs.Prelude.{◌≡◌, ◌+◌, ◌*◌, ◌<◌, ◌≤
 ghost use Rattle.std.specs.Option.{option_copied};
 ghost use Rattle.ga_place.specs.Address.{port_address_of};
 ghost use Rattle.ga_path.specs.Stream.{below, image_of, part_of};
-ghost use Rattle.ga_path.specs.Route.{AreHops, route_fault};
+ghost use Rattle.ga_path.specs.Route.{route_fault};
+ghost use Rattle.ga_path.specs.inner.Route.{AreHops};
 ghost use Rattle.ga_path.specs.Sequences.{frames, jump_to, load, own_frame, pumps, sent, start_address};
 ghost use Rattle.ga_path.specs.declared.error.BootError.TheVariants.{Memory};
 

@@ -12,7 +12,8 @@ use Rattle.ga_source.specs.declared.parser.Position.{Position}
 use Rattle.ga_source.specs.declared.parser.Position.TheVariants as position
 use Rattle.ga_source.specs.inner.Machine.{State, Good, IsConsistent, nothing, finished, take}
 use Rattle.ga_source.specs.inner.Parser.{RefusedAs, at_position, state_of}
-use Rattle.ga_source.specs.Program.{HasNoProgram, IsFirstFault, IsTold}
+use Rattle.ga_source.specs.Program.{HasNoProgram, IsFirstFault}
+use Rattle.ga_source.specs.inner.Program.{IsTold}
 use Rattle.ga_source.specs.Error.{error_place, kind_of}
 use Rattle.ga_source.specs.declared.error.SourceError.{SourceError}
 use Rattle.ga_source.specs.declared.error.SourceErrorKind.{SourceErrorKind}

@@ -46,7 +46,3 @@ item_place_of p = (place_of p.place, option_map place_of p.name)
 -- the items of a section, by its number from 0
 abbrev pub items_at : List PlacedSection → ℕ → List PlacedItem
 items_at program at = option_map_or (λ s. s.items) (slice_get program at) []
-
--- a fault is told at a token, by its number from 0, or at the text's end, unless memory was refused
-abbrev pub IsTold : List ℕ → ℕ → SourceErrorKind → SourceError → Type 0
-IsTold text token kind error = (kind_of error.kind ≡ None) ⊎ ((error.kind ≡ kind) × (error_place error ≡ place_at (places_of text) token))

@@ -1,9 +1,8 @@
 -- Tokens and places, as the model has them.
-use Rattle.std.specs.Prelude.{ℕ, ◌+◌, List, length}
-use Rattle.ga_pack.specs.Model.Text.{Lexeme, Place, texts_of}
+use Rattle.std.specs.Prelude.{◌+◌, length}
+use Rattle.ga_pack.specs.Model.Text.{Lexeme, Place}
 use Rattle.ga_source.specs.declared.token.Token as written
 use Rattle.ga_source.specs.declared.token.Place as here
-use Rattle.ga_source.specs.declared.token.Texts.{Texts}
 
 -- a token of a text ends behind its bytes
 abbrev pub token_of : Lexeme → written.Token
@@ -11,7 +10,3 @@ token_of lexeme = record { start = lexeme.start; end = lexeme.start + length lex
 
 abbrev pub place_of : here.Place → Place
 place_of place = record { line = place.line; column = place.column }
-
--- the texts that an iterator has left
-abbrev pub texts_left : Texts → List (List ℕ)
-texts_left texts = texts_of texts.rest.now

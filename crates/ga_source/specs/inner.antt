@@ -3,3 +3,5 @@ pub mod Meaning
 pub mod Machine
 pub mod Parser
 pub mod Walk
+pub mod Token
+pub mod Program

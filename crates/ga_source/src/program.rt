@@ -5,7 +5,8 @@ ghost use Rattle.ga_pack.specs.Model.Source.{Sections};
 ghost use Rattle.ga_pack.specs.Model.Text.{places_of};
 ghost use Rattle.ga_source.specs.Error.{error_place, kind_of};
 ghost use Rattle.ga_source.specs.Section.{section_of};
-ghost use Rattle.ga_source.specs.Program.{HasNoProgram, IsFirstFault, IsRight, IsTold, sections_in};
+ghost use Rattle.ga_source.specs.Program.{HasNoProgram, IsFirstFault, IsRight, sections_in};
+ghost use Rattle.ga_source.specs.inner.Program.{IsTold};
 
 use crate::error::{SourceError, SourceErrorKind};
 use crate::parser::Parser;

@@ -3,7 +3,8 @@ ghost use Rattle.std.specs.Iterator.{YieldsFirstRef, item_count};
 ghost use Rattle.std.specs.Str.{bytes_eq};
 ghost use Rattle.ga_pack.specs.Model.Text as model;
 ghost use Rattle.ga_pack.specs.Model.Text.{begins_character, end_of, lexemes, texts_of};
-ghost use Rattle.ga_source.specs.Token.{place_of, texts_left, token_of};
+ghost use Rattle.ga_source.specs.Token.{place_of, token_of};
+ghost use Rattle.ga_source.specs.inner.Token.{texts_left};
 ghost use Rattle.ga_source.specs.inner.Walk.{BehindRun, Begins, FirstLine, Found, lexemes_at, step, walk};
 
 use ga_word::{first_blank, first_non_blank};

@@ -3,7 +3,7 @@ use Rattle.std.proofs.lemmas.Map.Iter.{rest_all, rest_more}
 use Rattle.std.specs.Map.Iter.{deref_pair}
 use Rattle.ga_source.specs.Section.{section_of}
 use Rattle.ga_source.specs.Program.{items_at}
-use Rattle.ga_asm.specs.Assembling.{IsTold}
+use Rattle.ga_asm.specs.inner.Assembling.{IsTold}
 use Rattle.ga_asm.specs.Error.{error_place, kind_of}
 use Rattle.ga_asm.proofs.Sections.{Ongoing, no_fault, one_assembled, ongoing_all, ongoing_fault, ongoing_new, ongoing_next, ongoing_none, ongoing_right, ongoing_within}
 use Rattle.ga_asm.proofs.assembling.assemble.Goals as goal

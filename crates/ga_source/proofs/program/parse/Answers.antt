@@ -1,7 +1,7 @@
 use Rattle.std.proofs.Common.{◌≡◌, ◌∙◌, false, ap, arith, map, subst, sym}
 use Rattle.ga_pack.specs.Model.Text.{texts_of}
 use Rattle.ga_source.specs.Section.{section_of}
-use Rattle.ga_source.specs.Token.{texts_left}
+use Rattle.ga_source.specs.inner.Token.{texts_left}
 use Rattle.ga_source.proofs.Reading.{Taking, end_fault, end_taken, taking_fault, taking_first, taking_low, taking_next}
 use Rattle.ga_source.proofs.program.parse.Goals as goal
 

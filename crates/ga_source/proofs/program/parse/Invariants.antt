@@ -1,4 +1,4 @@
-use Rattle.ga_source.specs.Token.{texts_left}
+use Rattle.ga_source.specs.inner.Token.{texts_left}
 use Rattle.ga_source.proofs.Reading.{Taking}
 use Rattle.ga_source.proofs.program.parse.Given as goal
 
