@@ -1,9 +1,7 @@
 -- The images of a program, and its first fault, as the contracts have them.
-use Rattle.std.specs.Prelude.{◌≡◌, ℕ, List, [], ◌∷◌, ◌++◌, length, Option, Some, None}
-use Rattle.ga_pack.specs.Model.Layout.{names_in}
-use Rattle.ga_pack.specs.Model.LayoutFault.{AsmFault, AsmKind, Passed, ProgramFault, fault_place, plain_items}
-use Rattle.ga_pack.specs.Model.Program.{PlacedItem, PlacedSection}
-use Rattle.ga_pack.specs.Model.Source.{Item}
+use Rattle.std.specs.Prelude.{◌≡◌, ℕ, List, [], ◌∷◌, Option, Some, None}
+use Rattle.ga_pack.specs.Model.LayoutFault.{AsmKind, ProgramFault, plain_items}
+use Rattle.ga_pack.specs.Model.Program.{PlacedSection}
 use Rattle.ga_pack.specs.Model.Text.{Place}
 use Rattle.ga_asm.specs.Image.{ImageView, IsImage}
 

@@ -1,5 +1,5 @@
 -- What the words of a node are: the image of its items.
-use Rattle.std.specs.Prelude.{String, ◌≡◌, ◌<◌, ◌≤◌, ℕ, Bool, true, List, codes, length, map, nat_le}
+use Rattle.std.specs.Prelude.{String, ◌≡◌, ℕ, Bool, List, codes, map, nat_le}
 use Rattle.std.specs.List.{list_all}
 use Rattle.std.specs.Option.{unwrap_or}
 use Rattle.std.specs.String.{string_bytes}

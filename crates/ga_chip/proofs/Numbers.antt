@@ -1,20 +1,16 @@
 -- The numbers of a cell: what was written is what was read and what is pending, and over a run they grow by the words
 -- written and taken.
-use Rattle.std.proofs.Common.{◌≡◌, ℕ, ◌+◌, ◌<◌, List, [], ◌∷◌, ◌++◌, ◌⊎◌, inl, inr, length, slice_get, Option, Some, None, refl, sym, ap, ap₂, ◌∙◌, get_or, ◌≤◌, add-zero, add_assoc, length-append, arith}
+use Rattle.std.proofs.Common.{◌≡◌, ℕ, ◌+◌, ◌<◌, List, [], ◌∷◌, ◌++◌, ◌⊎◌, inl, inr, length, slice_get, Some, None, sym, ap, ap₂, ◌∙◌, get_or, ◌≤◌, add-zero, add_assoc, length-append, arith}
 use Rattle.std.proofs.lemmas.Grind.{common_steps}
-use Rattle.std.proofs.lemmas.Option.{same_Some, none-some, slice_get_cases}
+use Rattle.std.proofs.lemmas.Option.{same_Some, slice_get_cases}
 use Rattle.std.proofs.lemmas.List.Concat.{flat_map-append}
 use Rattle.ga_place.specs.Node.{IsNodeName}
-use Rattle.ga_place.specs.Side.{neighbour_of}
 use Rattle.ga_place.specs.declared.side.Side.{Side}
-use Rattle.ga_place.proofs.SideLemmas.{neighbour_of-IsNodeName}
 use Rattle.ga_place.specs.Cell.{index_of, cell_of, read_cell}
 use Rattle.ga_chip.specs.Part.{Part, count_at}
 use Rattle.ga_chip.specs.Chip.{Chip, part_of}
-use Rattle.ga_chip.specs.Ledger.{ledger_of, ledger_at}
 use Rattle.ga_chip.specs.Run.{Event, happened, ran, move_in, moves, posted_by, taken_by, written_words, taken_words}
 use Rattle.ga_chip.specs.Legal.{IsLegal}
-use Rattle.ga_place.proofs.Cells.{neighbour_there}
 use Rattle.ga_chip.proofs.Events.{Does, DoesNothing, does, part_from}
 use Rattle.ga_chip.proofs.Kept.{legal_kept, Wrote, wrote, Took, took}
 use Rattle.ga_chip.proofs.Runs.{posts, takes, posts_once, takes_once, stand_event}

@@ -1,11 +1,10 @@
 -- A try at a part that is there, and that only Moved changes anything.
-use Rattle.std.proofs.Common.{◌≡◌, ℕ, ◌<◌, length, slice_get, subst, List, take, ◌++◌, set, get_or, Option, Some, None, refl, sym, ap, ap₂, ◌∙◌, arith}
+use Rattle.std.proofs.Common.{◌≡◌, ℕ, ◌<◌, length, slice_get, subst, List, take, ◌++◌, set, get_or, Option, Some, None, refl, sym, ap, ap₂, ◌∙◌}
 use Rattle.std.proofs.Math.Seq.{take-append_seam}
 use Rattle.std.proofs.lemmas.List.{set-get_or, get_or_read}
 use Rattle.std.proofs.lemmas.Option.{slice_get_read}
 use Rattle.ga_place.specs.declared.side.Side.{Side}
-use Rattle.std.proofs.lemmas.Grind.{common_steps}
-use Rattle.ga_place.specs.Cell.{index_of, name_at}
+use Rattle.ga_place.specs.Cell.{index_of}
 use Rattle.ga_chip.specs.declared.outcome.Outcome.{Outcome}
 use Rattle.ga_chip.specs.declared.outcome.Outcome.TheVariants.{Moved, Waits}
 use Rattle.ga_chip.specs.Part.{Part, Asks, Nothing, Own, Feed, Post, Take, Check, asks, after, after_asked, stepped}

@@ -1,15 +1,14 @@
 -- A step keeps the bounds of the counts.
-use Rattle.std.proofs.Common.{◌≡◌, ◌≢◌, None, ℕ, ◌+◌, ◌-◌, ◌^◌, ◌<◌, ◌≤◌, ◌==◌, Bool, true, false, refl, sym, ap, ◌∙◌, subst, arith}
+use Rattle.std.proofs.Common.{◌≡◌, None, ℕ, ◌+◌, ◌-◌, ◌^◌, ◌<◌, ◌≤◌, Bool, true, false, refl, sym, ap, ◌∙◌, subst, arith}
 use Rattle.std.specs.Prelude.{if◌then◌else◌}
-use Rattle.std.proofs.lemmas.Bool.{eqb-false, false≢true}
+use Rattle.std.proofs.lemmas.Bool.{false≢true}
 use Rattle.ga_place.specs.declared.side.Side.{Side}
 use Rattle.ga_place.specs.declared.side.Side.TheVariants.{Right, Down, Left, Up}
 use Rattle.ga_node.specs.State.{State}
-use Rattle.ga_node.specs.Need.{is_check, is_own, is_post, need_of, takes_at, wants}
+use Rattle.ga_node.specs.Need.{is_check, is_own, is_post, need_of, takes_at}
 use Rattle.ga_node.specs.Slot.{if_own, step, step_if_own}
 use Rattle.ga_node.specs.declared.need.Need.{Need}
 use Rattle.ga_node.specs.declared.need.Need.TheVariants.{Own, Take, Post, Check, Input, Stopped}
-use Rattle.ga_node.specs.declared.need.Stop.TheVariants.{Counted}
 use Rattle.ga_node.proofs.Rows.{is_running, running_below, step_steps}
 use Rattle.ga_chip.specs.declared.counts.Counts.{Counts}
 use Rattle.ga_chip.specs.Part.{count_at, counted}

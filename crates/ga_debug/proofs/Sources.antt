@@ -1,8 +1,6 @@
 -- Source lines that are gathered.
-use Rattle.std.proofs.Common.{◌≡◌, ◌∙◌, ℕ, ◌+◌, true, false, List, [], ◌∷◌, ◌++◌, Result, Ok, Err, ap, sym, append-nil, append_assoc, refl}
-use Rattle.std.specs.Prelude.{codes}
-use Rattle.std.specs.Str.{bytes_eq}
-use Rattle.ga_debug.specs.Head.{Head, Loading, up_to_go, with_line}
+use Rattle.std.proofs.Common.{◌≡◌, ◌∙◌, ℕ, List, [], ◌∷◌, ◌++◌, Result, Ok, Err, ap, sym, append_assoc, refl}
+use Rattle.ga_debug.specs.Head.{Head, with_line}
 use Rattle.ga_debug.specs.declared.replay_error.ReplayError.{ReplayError}
 
 -- a head, with source lines that were read before it

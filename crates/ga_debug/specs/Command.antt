@@ -1,5 +1,5 @@
 -- Which words are which command, or else which word is the first bad one.
-use Rattle.std.specs.Prelude.{ℕ, List, [], ◌∷◌, Option, Some, None, Result, Ok, Err, ◌≡◌}
+use Rattle.std.specs.Prelude.{ℕ, List, [], ◌∷◌, Option, Some, None, Result, Ok, Err}
 use Rattle.ga_debug.specs.declared.error.DebugError.{DebugError}
 use Rattle.ga_debug.specs.declared.error.DebugError.TheVariants.{BadAddress, BadCommand, BadCount, BadNode, BadSide}
 use Rattle.ga_debug.specs.declared.action.Action.{Action}

@@ -1,5 +1,5 @@
 -- The faults of a replay text, by the faults of its parts.
-use Rattle.std.specs.Prelude.{◌≡◌, Result, Ok, Err}
+use Rattle.std.specs.Prelude.{Result, Ok, Err}
 use Rattle.ga_asm.specs.declared.text.TextError.{TextError}
 use Rattle.ga_asm.specs.declared.text.TextError.TheVariants as text
 use Rattle.ga_path.specs.declared.error.BootError.{BootError}

@@ -1,6 +1,5 @@
 -- Loops over groups and over the nodes of a group, by an index.
-use Rattle.std.proofs.Common.{◌≡◌, ◌∙◌, ℕ, ◌==◌, ◌+◌, ◌<◌, suc, Bool, ◌||◌, List, [], ◌∷◌, ◌++◌, length, take, drop, slice_index_or, Vec, Option, Some, option_map, refl, sym, ap, ap₂, arith, append-nil, append_assoc, subst}
-use Rattle.std.specs.Prelude.{if◌then◌else◌}
+use Rattle.std.proofs.Common.{◌≡◌, ◌∙◌, ℕ, ◌==◌, ◌+◌, ◌<◌, suc, Bool, ◌||◌, List, [], ◌∷◌, ◌++◌, length, take, drop, slice_index_or, Vec, Option, option_map, refl, sym, ap, ap₂, arith, append-nil, append_assoc, subst}
 use Rattle.std.specs.List.{AllByRecursion, concat}
 use Rattle.std.specs.Option.{option_or}
 use Rattle.std.proofs.Math.Seq.{drop-cons}
@@ -8,7 +7,7 @@ use Rattle.std.proofs.lemmas.List.{map-append, take_more}
 use Rattle.std.proofs.lemmas.List.Folds.{concat-append, list_any-append}
 use Rattle.ga_place.specs.Node.{IsNodeName, is_among}
 use Rattle.ga_place.specs.declared.side.Side.{Side}
-use Rattle.ga_group.specs.Plan.{Groups, first_repeated, group_fault, groups_fault, groups_in, plan_fault}
+use Rattle.ga_group.specs.Plan.{first_repeated, group_fault, groups_fault, groups_in}
 use Rattle.ga_group.specs.inner.Tries.{group_tries}
 use Rattle.ga_group.specs.declared.error.PlanError.{PlanError}
 use Rattle.ga_group.specs.declared.error.PlanError.TheVariants.{Repeated}

@@ -1,5 +1,5 @@
 -- Which nodes are a route, and what is wrong with others.
-use Rattle.std.specs.Prelude.{◌≡◌, ℕ, List, [], ◌∷◌, length, Option, Some, None, is_none, IsSome, if◌then◌else◌}
+use Rattle.std.specs.Prelude.{◌≡◌, ℕ, List, [], ◌∷◌, length, Option, Some, None, is_none, if◌then◌else◌}
 use Rattle.std.specs.Option.{option_or}
 use Rattle.ga_place.specs.Node.{is_among, is_edge}
 use Rattle.ga_place.specs.Side.{side_to}

@@ -1,8 +1,8 @@
 -- The image of one node, and its first fault.
 use Rattle.std.specs.Prelude.{◌≡◌, ℕ, List, [], ◌∷◌, ◌++◌, length, Option, Some, None}
 use Rattle.ga_pack.specs.Model.Layout.{names_in}
-use Rattle.ga_pack.specs.Model.LayoutFault.{AsmFault, AsmKind, Passed, ProgramFault, fault_place, plain_items}
-use Rattle.ga_pack.specs.Model.Program.{PlacedItem, PlacedSection}
+use Rattle.ga_pack.specs.Model.LayoutFault.{AsmFault, AsmKind, Passed, fault_place}
+use Rattle.ga_pack.specs.Model.Program.{PlacedItem}
 use Rattle.ga_pack.specs.Model.Source.{Item}
 use Rattle.ga_pack.specs.Model.Text.{Place}
 use Rattle.ga_asm.specs.Image.{ImageView, IsImage}

@@ -1,10 +1,5 @@
 -- What an image is kept as.
-use Rattle.std.specs.Prelude.{String, ◌≡◌, ◌<◌, ◌≤◌, ℕ, Bool, true, List, codes, length, map, nat_le}
-use Rattle.std.specs.List.{list_all}
-use Rattle.std.specs.Option.{unwrap_or}
-use Rattle.std.specs.String.{string_bytes}
-use Rattle.ga_pack.specs.Model.Layout.{Laid, Labels, address_of}
-use Rattle.ga_pack.specs.Model.Source.{Item}
+use Rattle.std.specs.Prelude.{◌≡◌, ◌<◌, ◌≤◌, true, length}
 use Rattle.ga_asm.specs.Image.{ImageView, all_near}
 
 -- a node has room for it, and has at least a word

@@ -1,17 +1,10 @@
 -- Where a fault is told.
-use Rattle.std.specs.Prelude.{◌⊎◌, ◌≡◌, ℕ, List, [], ◌∷◌, Option, Some, None}
-use Rattle.std.specs.List.{slice_get}
-use Rattle.std.specs.Option.{option_map, option_map_or}
-use Rattle.ga_pack.specs.Model.Text.{Place, places_of}
-use Rattle.ga_pack.specs.Model.Token.{SourceKind}
-use Rattle.ga_pack.specs.Model.LayoutFault.{plain_items}
-use Rattle.ga_pack.specs.Model.Source.{Section, Sections}
-use Rattle.ga_pack.specs.Model.Program.{IsFault, IsProgram, PlacedItem, PlacedSection, place_at}
-use Rattle.ga_source.specs.declared.places.ItemPlace as written
+use Rattle.std.specs.Prelude.{◌⊎◌, ◌≡◌, ℕ, List, None}
+use Rattle.ga_pack.specs.Model.Text.{places_of}
+use Rattle.ga_pack.specs.Model.Program.{place_at}
 use Rattle.ga_source.specs.declared.error.SourceError.{SourceError}
 use Rattle.ga_source.specs.declared.error.SourceErrorKind.{SourceErrorKind}
 use Rattle.ga_source.specs.Error.{error_place, kind_of}
-use Rattle.ga_source.specs.Token.{place_of}
 
 -- a fault is told at a token, by its number from 0, or at the text's end, unless memory was refused
 abbrev pub IsTold : List ℕ → ℕ → SourceErrorKind → SourceError → Type 0
