@@ -8,17 +8,11 @@ use Rattle.clap.specs.declared.parser.matches.ArgMatches.TheViews.{out-ArgMatche
 use Rattle.clap.specs.declared.parser.matches.SubCommand.{SubCommand}
 use Rattle.std.specs.Box.{box_value}
 use Rattle.clap.specs.declared.builder.command.Command.{Command}
-use Rattle.ga_command_line.specs.Asm.{asm_command}
-use Rattle.ga_command_line.specs.Boot.{boot_command}
-use Rattle.ga_command_line.specs.Command.{IsCommandOf, linked}
-use Rattle.ga_command_line.specs.CommandLine.{AsksFor, IsAskedFor, bare_command, bench_command}
-use Rattle.ga_command_line.specs.Debug.{debug_command}
-use Rattle.ga_command_line.specs.Dis.{dis_command}
-use Rattle.ga_command_line.specs.One.{one_command}
-use Rattle.ga_command_line.specs.Replay.{replay_command}
-use Rattle.ga_command_line.specs.Run.{routed_command, run_command, shared_command}
+use Rattle.ga_command_line.specs.Command.{IsCommandOf}
+use Rattle.ga_command_line.specs.CommandLine.{AsksFor, IsAskedFor, bench_command}
 use Rattle.ga_command_line.specs.declared.command_line.LineError.{LineError}
 use Rattle.ga_command_line.specs.declared.request.Job.{Job}
+use Rattle.ga_command_line.proofs.Opened.{whole_command}
 
 -- what is known of each error is known of the error of a result
 pub each_error : {T : Type 0} (r : Result T LineError) (P Q : LineError → Type 0) → IsErrAnd r Q → ((e : LineError) → Q e → P e) → IfErr r P
@@ -27,7 +21,7 @@ each_error (Err e) P Q h f = f e h
 
 -- the whole command is one of which clap's definitions give the matches
 bench_command-is_simple : is_simple bench_command ≡ true
-unfolding linked bare_command one_command asm_command dis_command boot_command routed_command shared_command run_command debug_command replay_command
+unfolding whole_command
 bench_command-is_simple = refl
 
 -- some name and some rows are those of the subcommand that was entered

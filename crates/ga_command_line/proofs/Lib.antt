@@ -1,2 +1,3 @@
+mod Opened
 mod Entered
 mod WorkedLines

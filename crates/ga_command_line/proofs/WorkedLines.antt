@@ -4,50 +4,43 @@ use Rattle.std.specs.Prelude.{codes}
 use Rattle.clap.proofs.OnLiterals.{clap_on_literals}
 use Rattle.clap.specs.Words.{takes}
 use Rattle.ga_command_line.specs.declared.request.Job.TheVariants.{One, Dis, Boot}
-use Rattle.ga_command_line.specs.Asm.{asm_command}
-use Rattle.ga_command_line.specs.Boot.{boot_command}
-use Rattle.ga_command_line.specs.Command.{linked}
-use Rattle.ga_command_line.specs.CommandLine.{IsRight, bare_command, bench_command}
-use Rattle.ga_command_line.specs.Debug.{debug_command}
-use Rattle.ga_command_line.specs.Dis.{dis_command}
-use Rattle.ga_command_line.specs.One.{one_command}
-use Rattle.ga_command_line.specs.Replay.{replay_command}
-use Rattle.ga_command_line.specs.Run.{routed_command, run_command, shared_command}
+use Rattle.ga_command_line.specs.CommandLine.{IsRight, bench_command}
+use Rattle.ga_command_line.proofs.Opened.{whole_command}
 
 right_line : IsRight (codes "ga-bench" ∷ codes "one" ∷ codes "5" ∷ []) (One 5)
-unfolding linked bare_command one_command asm_command dis_command boot_command routed_command shared_command run_command debug_command replay_command clap_on_literals
+unfolding whole_command clap_on_literals
 right_line = (refl, (refl, ((lit< tt, (lit< tt, tt)), refl)), lit≤ tt)
 
 code_line : IsRight (codes "ga-bench" ∷ codes "dis" ∷ codes "--code" ∷ codes "2" ∷ []) (Dis (Some 2))
-unfolding linked bare_command one_command asm_command dis_command boot_command routed_command shared_command run_command debug_command replay_command clap_on_literals
+unfolding whole_command clap_on_literals
 code_line = (refl, (refl, ((lit< tt, (lit< tt, tt)), refl)), lit≤ tt)
 
 all_code_line : IsRight (codes "ga-bench" ∷ codes "dis" ∷ []) (Dis None)
-unfolding linked bare_command one_command asm_command dis_command boot_command routed_command shared_command run_command debug_command replay_command clap_on_literals
+unfolding whole_command clap_on_literals
 all_code_line = (refl, (refl, refl), tt)
 
 boot_line : (route : String Global) → string_bytes route ≡ codes "708,709" → IsRight (codes "ga-bench" ∷ codes "boot" ∷ codes "708,709" ∷ []) (Boot route)
-unfolding linked bare_command one_command asm_command dis_command boot_command routed_command shared_command run_command debug_command replay_command clap_on_literals
+unfolding whole_command clap_on_literals
 boot_line route is = (refl, (refl, ap Some (sym is)), tt)
 
 -- one more than the most tries, and none
 over_the_range : takes bench_command (codes "ga-bench" ∷ codes "one" ∷ codes "1000001" ∷ []) ≡ false
-unfolding linked bare_command one_command asm_command dis_command boot_command routed_command shared_command run_command debug_command replay_command clap_on_literals
+unfolding whole_command clap_on_literals
 over_the_range = refl
 
 without_tries : takes bench_command (codes "ga-bench" ∷ codes "one" ∷ []) ≡ false
-unfolding linked bare_command one_command asm_command dis_command boot_command routed_command shared_command run_command debug_command replay_command clap_on_literals
+unfolding whole_command clap_on_literals
 without_tries = refl
 
 -- one more than the most words
 over_the_code : takes bench_command (codes "ga-bench" ∷ codes "dis" ∷ codes "--code" ∷ codes "65" ∷ []) ≡ false
-unfolding linked bare_command one_command asm_command dis_command boot_command routed_command shared_command run_command debug_command replay_command clap_on_literals
+unfolding whole_command clap_on_literals
 over_the_code = refl
 
 without_route : takes bench_command (codes "ga-bench" ∷ codes "boot" ∷ []) ≡ false
-unfolding linked bare_command one_command asm_command dis_command boot_command routed_command shared_command run_command debug_command replay_command clap_on_literals
+unfolding whole_command clap_on_literals
 without_route = refl
 
 without_subcommand : takes bench_command (codes "ga-bench" ∷ []) ≡ false
-unfolding linked bare_command one_command asm_command dis_command boot_command routed_command shared_command run_command debug_command replay_command clap_on_literals
+unfolding whole_command clap_on_literals
 without_subcommand = refl

@@ -1,6 +1,6 @@
 -- Commands as clap's definitions read them.
 use Rattle.std.specs.Prelude.{◌≡◌, Bool, false}
-use Rattle.clap.specs.Words.{App, app_of, with_subcommand}
+use Rattle.clap.specs.Words.{App, Text, app_of, new_app, with_subcommand}
 use Rattle.clap.specs.declared.builder.command.Command.{Command}
 use Rattle.clap.specs.declared.builder.command.Command.TheViews.{out-Command}
 
@@ -11,6 +11,10 @@ has_globals command = (out-Command command).has_globals
 -- a command of clap's that is read as this one, with no argument for its subcommands
 abbrev pub IsCommandOf : App → Command → Type 0
 IsCommandOf app command = (app_of command ≡ app) × (has_globals command ≡ false)
+
+-- a command with this name and no argument
+unfoldable pub plain_command : Text → App
+plain_command name = new_app name
 
 -- a command with one more subcommand
 unfoldable pub linked : App → App → App

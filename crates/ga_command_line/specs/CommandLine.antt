@@ -1,16 +1,15 @@
 -- The command line: the command as clap's definitions read it, and the job that its words name.
-use Rattle.std.specs.Prelude.{◌≡◌, List, true, codes, IsSomeAnd, Option, string_bytes}
+use Rattle.std.specs.Prelude.{◌≡◌, ◌∷◌, [], List, true, codes, fold, IsSomeAnd, Option, string_bytes}
 use Rattle.clap.specs.Words.{App, Row, Text, new_app, subcommand_of, takes}
 use Rattle.ga_command_line.specs.declared.request.Job.{Job}
 use Rattle.ga_command_line.specs.declared.request.Job.TheVariants.{One, Asm, Dis, Boot, Run, Debug, Replay}
-use Rattle.ga_command_line.specs.Asm.{AsksForAsm, asm_command}
-use Rattle.ga_command_line.specs.Boot.{AsksForBoot, boot_command}
-use Rattle.ga_command_line.specs.Command.{linked}
-use Rattle.ga_command_line.specs.Debug.{AsksForDebug, debug_command}
-use Rattle.ga_command_line.specs.Dis.{AsksForDis, IsDisInRange, dis_command}
-use Rattle.ga_command_line.specs.One.{AsksForOne, IsOneInRange, one_command}
-use Rattle.ga_command_line.specs.Replay.{AsksForReplay, replay_command}
-use Rattle.ga_command_line.specs.Run.{AsksForRun, IsRunInRange, run_command}
+use Rattle.ga_command_line.specs.Boot.{boot_command}
+use Rattle.ga_command_line.specs.Command.{linked, plain_command}
+use Rattle.ga_command_line.specs.Dis.{IsDisInRange, dis_command}
+use Rattle.ga_command_line.specs.Number.{IsNumberAt, IsNumberIfAt}
+use Rattle.ga_command_line.specs.One.{IsOneInRange, one_command}
+use Rattle.ga_command_line.specs.Route.{IsRouteAt}
+use Rattle.ga_command_line.specs.Run.{IsRunAt, IsRunInRange, run_command}
 
 -- the command without its subcommands, of which one is required
 abbrev pub named_command : App
@@ -19,30 +18,43 @@ named_command = new_app (codes "ga-bench")
 unfoldable pub bare_command : App
 bare_command = record named_command { top = record named_command.top { has_version = true; subcommand_required = true } }
 
+-- the subcommands, in the order of help
+abbrev pub subcommands : List App
+subcommands =
+    one_command ∷ plain_command (codes "asm") ∷ dis_command ∷ boot_command ∷ run_command ∷ plain_command (codes "debug") ∷ plain_command (codes "replay") ∷ []
+
 -- the whole command
 abbrev pub bench_command : App
-bench_command =
-    linked (linked (linked (linked (linked (linked (linked bare_command one_command) asm_command) dis_command) boot_command) run_command) debug_command) replay_command
+bench_command = fold linked bare_command subcommands
+
+-- the name of the subcommand that a job is asked for by
+abbrev pub job_name : Job → Text
+job_name (One tries) = codes "one"
+job_name Asm = codes "asm"
+job_name (Dis code) = codes "dis"
+job_name (Boot route) = codes "boot"
+job_name (Run route workers turns) = codes "run"
+job_name Debug = codes "debug"
+job_name Replay = codes "replay"
+
+-- the arguments that a job is asked for by; other jobs have none
+abbrev pub HasArguments : List Row → Job → Type 0
+HasArguments rows (One tries) = IsNumberAt (codes "TRIES") rows tries
+HasArguments rows (Dis code) = IsNumberIfAt (codes "N") rows code
+HasArguments rows (Boot route) = IsRouteAt rows (string_bytes route)
+HasArguments rows (Run route workers turns) = IsRunAt rows (string_bytes route) workers turns
+HasArguments rows job = Unit {0}
 
 -- the numbers of a job lie in their ranges
 abbrev pub InRange : Job → Type 0
 InRange (One tries) = IsOneInRange tries
-InRange Asm = Unit {0}
 InRange (Dis code) = IsDisInRange code
-InRange (Boot route) = Unit {0}
 InRange (Run route workers turns) = IsRunInRange workers turns
-InRange Debug = Unit {0}
-InRange Replay = Unit {0}
+InRange job = Unit {0}
 
--- the job that a subcommand and its arguments name
+-- a subcommand and its arguments ask for this job
 abbrev pub AsksFor : Text × List Row → Job → Type 0
-AsksFor entered (One tries) = AsksForOne entered tries
-AsksFor entered Asm = AsksForAsm entered
-AsksFor entered (Dis code) = AsksForDis entered code
-AsksFor entered (Boot route) = AsksForBoot entered (string_bytes route)
-AsksFor entered (Run route workers turns) = AsksForRun entered (string_bytes route) workers turns
-AsksFor entered Debug = AsksForDebug entered
-AsksFor entered Replay = AsksForReplay entered
+AsksFor entered job = (entered.0 ≡ job_name job) × HasArguments entered.1 job
 
 -- the job that is asked for by a subcommand and its arguments, where there is one
 abbrev pub IsAskedFor : Option (Text × List Row) → Job → Type 0

@@ -1,16 +1,11 @@
 -- The command line of the subcommand `dis`.
-use Rattle.std.specs.Prelude.{ℕ, ◌≡◌, ◌≤◌, List, pos, codes, Option, Some, IfSome}
-use Rattle.clap.specs.Words.{App, Row, Text, new_app, new_rule, with_rule}
+use Rattle.std.specs.Prelude.{ℕ, ◌≤◌, pos, codes, Option, Some, IfSome}
+use Rattle.clap.specs.Words.{App, new_app, new_rule, with_rule}
 use Rattle.clap.specs.declared.builder.value_parser.ValueParser.TheVariants as parser
-use Rattle.ga_command_line.specs.Number.{IsNumberIfAt}
 
 -- the subcommand as clap's definitions read it: one number with a name, up to 64, that may be left out
 unfoldable pub dis_command : App
 dis_command = with_rule (new_app (codes "dis")) (record (new_rule (codes "N")) { long = Some (codes "code"); parser = Some (parser.Signed (pos 0) (pos 64)) })
-
--- the name of a subcommand and its arguments ask for so many words of code, or for no number of them
-abbrev pub AsksForDis : Text × List Row → Option ℕ → Type 0
-AsksForDis entered code = (entered.0 ≡ codes "dis") × IsNumberIfAt (codes "N") entered.1 code
 
 abbrev pub IsDisInRange : Option ℕ → Type 0
 IsDisInRange code = IfSome code (λ number. number ≤ 64)

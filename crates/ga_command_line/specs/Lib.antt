@@ -2,10 +2,7 @@ pub mod Number
 pub mod Route
 pub mod Command
 pub mod One
-pub mod Asm
 pub mod Dis
 pub mod Boot
 pub mod Run
-pub mod Replay
-pub mod Debug
 pub mod CommandLine

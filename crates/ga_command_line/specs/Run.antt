@@ -1,9 +1,7 @@
 -- The command line of the subcommand `run`.
-use Rattle.std.specs.Prelude.{ℕ, ◌≡◌, ◌≤◌, List, pos, true, codes, Some, string_bytes}
+use Rattle.std.specs.Prelude.{ℕ, ◌≤◌, List, pos, true, codes, Some}
 use Rattle.clap.specs.Words.{App, Row, Text, new_app, new_rule, with_rule}
 use Rattle.clap.specs.declared.builder.value_parser.ValueParser.TheVariants as parser
-use Rattle.ga_command_line.specs.declared.request.Job.{Job}
-use Rattle.ga_command_line.specs.declared.request.Job.TheVariants.{Run}
 use Rattle.ga_command_line.specs.Number.{IsNumberAt}
 use Rattle.ga_command_line.specs.Route.{IsRouteAt}
 
@@ -22,11 +20,5 @@ abbrev pub IsRunInRange : ℕ → ℕ → Type 0
 IsRunInRange workers turns = ((1 ≤ workers) × (workers ≤ 144)) × (turns ≤ 1000000)
 
 -- the arguments ask for this run
-abbrev pub IsRunAt : List Row → Job → Type 0
-IsRunAt rows (Run route workers turns) = IsRouteAt rows (string_bytes route) × IsNumberAt (codes "WORKERS") rows workers × IsNumberAt (codes "TURNS") rows turns
-IsRunAt rows job = ⊥
-
--- the name of a subcommand and its arguments ask for a run
-abbrev pub AsksForRun : Text × List Row → Text → ℕ → ℕ → Type 0
-AsksForRun entered route workers turns =
-    (entered.0 ≡ codes "run") × IsRouteAt entered.1 route × IsNumberAt (codes "WORKERS") entered.1 workers × IsNumberAt (codes "TURNS") entered.1 turns
+abbrev pub IsRunAt : List Row → Text → ℕ → ℕ → Type 0
+IsRunAt rows route workers turns = IsRouteAt rows route × IsNumberAt (codes "WORKERS") rows workers × IsNumberAt (codes "TURNS") rows turns

@@ -1,6 +1,5 @@
-ghost use Rattle.std.specs.Prelude.{IfOk};
-ghost use Rattle.ga_command_line.specs.Asm.{asm_command};
-ghost use Rattle.ga_command_line.specs.Command.{IsCommandOf};
+ghost use Rattle.std.specs.Prelude.{IfOk, codes};
+ghost use Rattle.ga_command_line.specs.Command.{IsCommandOf, plain_command};
 
 use clap::Command;
 use std::alloc::{AllocError, Global};
@@ -14,9 +13,9 @@ Example: echo 'node 709 main: $5 $7 + @b' | ga-bench asm
 More: Source text in docs/FORMATS.md";
 
 /// The subcommand `asm`.
-#[tactic(auto, unfolding(crate::specs::Asm::asm_command))]
+#[tactic(auto, unfolding(crate::specs::Command::plain_command))]
 pub fn command<'a>(alloc: Global) -> Result<Command<'a>, AllocError>
-    ensures { IfOk result (IsCommandOf asm_command) }
+    ensures { IfOk result (IsCommandOf (plain_command (codes "asm"))) }
 {
     let command = Command::new(alloc, "asm")
         .about("Assembles source text, and prints the words of each node")

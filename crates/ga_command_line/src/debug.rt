@@ -1,6 +1,5 @@
-ghost use Rattle.std.specs.Prelude.{IfOk};
-ghost use Rattle.ga_command_line.specs.Debug.{debug_command};
-ghost use Rattle.ga_command_line.specs.Command.{IsCommandOf};
+ghost use Rattle.std.specs.Prelude.{IfOk, codes};
+ghost use Rattle.ga_command_line.specs.Command.{IsCommandOf, plain_command};
 
 use clap::Command;
 use std::alloc::{AllocError, Global};
@@ -23,9 +22,9 @@ Example: printf 'profile 1\\nplace\\nnode 000 .\\ngo\\nturn 4\\nregs 000\\n' | g
 More: docs/GUIDE.md, and Sessions in docs/FORMATS.md";
 
 /// The subcommand `debug`.
-#[tactic(auto, unfolding(crate::specs::Debug::debug_command))]
+#[tactic(auto, unfolding(crate::specs::Command::plain_command))]
 pub fn command<'a>(alloc: Global) -> Result<Command<'a>, AllocError>
-    ensures { IfOk result (IsCommandOf debug_command) }
+    ensures { IfOk result (IsCommandOf (plain_command (codes "debug"))) }
 {
     let command = Command::new(alloc, "debug")
         .about("Does commands on a chip that source text is loaded into, and prints the replies")

@@ -1,6 +1,5 @@
-ghost use Rattle.std.specs.Prelude.{IfOk};
-ghost use Rattle.ga_command_line.specs.Replay.{replay_command};
-ghost use Rattle.ga_command_line.specs.Command.{IsCommandOf};
+ghost use Rattle.std.specs.Prelude.{IfOk, codes};
+ghost use Rattle.ga_command_line.specs.Command.{IsCommandOf, plain_command};
 
 use clap::Command;
 use std::alloc::{AllocError, Global};
@@ -20,9 +19,9 @@ Example: printf 'profile 1\\nplace\\nnode 000 .\\ngo\\nturn 4 = 4\\n' | ga-bench
 More: docs/GUIDE.md, and Replay texts in docs/FORMATS.md";
 
 /// The subcommand `replay`.
-#[tactic(auto, unfolding(crate::specs::Replay::replay_command))]
+#[tactic(auto, unfolding(crate::specs::Command::plain_command))]
 pub fn command<'a>(alloc: Global) -> Result<Command<'a>, AllocError>
-    ensures { IfOk result (IsCommandOf replay_command) }
+    ensures { IfOk result (IsCommandOf (plain_command (codes "replay"))) }
 {
     let command = Command::new(alloc, "replay")
         .about("Does the commands of a replay text, and compares what comes of them")

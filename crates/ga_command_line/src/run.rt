@@ -1,9 +1,7 @@
 ghost use Rattle.std.specs.Prelude.{◌≡◌, ℕ, IfErr, IfOk, codes};
 ghost use Rattle.clap.specs.Words.{Text, found_of, rows_of};
 ghost use Rattle.ga_command_line.specs.Command.{IsCommandOf};
-ghost use Rattle.ga_command_line.specs.CommandLine.{InRange};
-ghost use Rattle.ga_command_line.specs.Number.{IsNumberAt};
-ghost use Rattle.ga_command_line.specs.Route.{IsRouteAt};
+ghost use Rattle.ga_command_line.specs.CommandLine.{AsksFor, InRange};
 ghost use Rattle.ga_command_line.specs.Run.{IsRunAt, IsRunInRange, routed_command, run_command, shared_command};
 
 use crate::command_line::LineError;
@@ -75,10 +73,9 @@ fn routed_command<'a>(alloc: Global) -> Result<Command<'a>, AllocError>
 /// The run that the arguments of `run` ask for.
 pub fn job_of(alloc: Global, found: &ArgMatches<'_>) -> Result<Job, LineError>
     ensures in_range { IfOk result InRange }
-    ensures asked { IfOk result (IsRunAt (rows_of (found_of found.now))) }
+    ensures asked { IfOk result (AsksFor (codes "run", rows_of (found_of found.now))) }
     ensures right { IfErr result (λ error. (route : Text) (workers turns : ℕ) → IsRunInRange workers turns
-        → IsRouteAt (rows_of (found_of found.now)) route → IsNumberAt (codes "WORKERS") (rows_of (found_of found.now)) workers
-        → IsNumberAt (codes "TURNS") (rows_of (found_of found.now)) turns → error ≡ LineError.Memory) }
+        → IsRunAt (rows_of (found_of found.now)) route workers turns → error ≡ LineError.Memory) }
 {
     let workers = number_of(alloc, found, "WORKERS", 1, WORKERS_LIMIT)?;
     let turns = number_of(alloc, found, "TURNS", 0, TURNS_LIMIT)?;

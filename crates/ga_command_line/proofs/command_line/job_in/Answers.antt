@@ -5,13 +5,13 @@ use Rattle.clap.specs.Words.{Row, Text, rows_of, found_of}
 use Rattle.ga_command_line.specs.declared.command_line.LineError.{LineError}
 use Rattle.ga_command_line.specs.declared.command_line.LineError.TheVariants.{Memory}
 use Rattle.ga_command_line.specs.declared.request.Job.{Job}
-use Rattle.ga_command_line.specs.declared.request.Job.TheVariants.{One, Asm, Dis, Boot, Run, Debug, Replay}
-use Rattle.ga_command_line.specs.CommandLine.{AsksFor, InRange}
+use Rattle.ga_command_line.specs.declared.request.Job.TheVariants.{One, Dis, Boot, Run}
+use Rattle.ga_command_line.specs.CommandLine.{AsksFor, InRange, job_name}
 use Rattle.ga_command_line.specs.Dis.{IsDisInRange}
 use Rattle.ga_command_line.specs.Number.{IsNumberAt, IsNumberIfAt}
 use Rattle.ga_command_line.specs.One.{IsOneInRange}
 use Rattle.ga_command_line.specs.Route.{IsRouteAt}
-use Rattle.ga_command_line.specs.Run.{IsRunInRange}
+use Rattle.ga_command_line.specs.Run.{IsRunAt, IsRunInRange}
 use Rattle.ga_command_line.proofs.Entered.{asked, each_error}
 use Rattle.ga_command_line.proofs.command_line.job_in.Goals as goal
 
@@ -23,12 +23,7 @@ two_names name one other is is' apart same = true≢false (sym same ∙ ap (λ (
 one_refused : (name : Text) (rows : List Row) (error : LineError) → name ≡ codes "one" → ((tries : ℕ) → IsOneInRange tries → IsNumberAt (codes "TRIES") rows tries → error ≡ Memory)
     → (job : Job) → AsksFor (name, rows) job × InRange job → error ≡ Memory
 one_refused name rows error is refused (One tries) asks = refused tries asks.1 asks.0.1
-one_refused name rows error is refused Asm asks = absurd (two_names name (codes "one") (codes "asm") is asks.0 refl refl)
-one_refused name rows error is refused (Dis code) asks = absurd (two_names name (codes "one") (codes "dis") is asks.0.0 refl refl)
-one_refused name rows error is refused (Boot route) asks = absurd (two_names name (codes "one") (codes "boot") is asks.0.0 refl refl)
-one_refused name rows error is refused (Run route workers turns) asks = absurd (two_names name (codes "one") (codes "run") is asks.0.0 refl refl)
-one_refused name rows error is refused Debug asks = absurd (two_names name (codes "one") (codes "debug") is asks.0 refl refl)
-one_refused name rows error is refused Replay asks = absurd (two_names name (codes "one") (codes "replay") is asks.0 refl refl)
+one_refused name rows error is refused job asks = absurd (two_names name (codes "one") (job_name job) is asks.0.0 refl refl)
 
 pub returns-in_err-tries_of-in-Some-one-default-clause-right : goal.returns-in_err-tries_of-in-Some-one-default-clause-right
 returns-in_err-tries_of-in-Some-one-default-clause-right c =
@@ -41,13 +36,8 @@ returns-in_err-tries_of-in-Some-one-default-clause-right c =
 -- the same of `dis`
 dis_refused : (name : Text) (rows : List Row) (error : LineError) → name ≡ codes "dis" → ((code : Option ℕ) → IsDisInRange code → IsNumberIfAt (codes "N") rows code → error ≡ Memory)
     → (job : Job) → AsksFor (name, rows) job × InRange job → error ≡ Memory
-dis_refused name rows error is refused (One tries) asks = absurd (two_names name (codes "dis") (codes "one") is asks.0.0 refl refl)
-dis_refused name rows error is refused Asm asks = absurd (two_names name (codes "dis") (codes "asm") is asks.0 refl refl)
 dis_refused name rows error is refused (Dis code) asks = refused code asks.1 asks.0.1
-dis_refused name rows error is refused (Boot route) asks = absurd (two_names name (codes "dis") (codes "boot") is asks.0.0 refl refl)
-dis_refused name rows error is refused (Run route workers turns) asks = absurd (two_names name (codes "dis") (codes "run") is asks.0.0 refl refl)
-dis_refused name rows error is refused Debug asks = absurd (two_names name (codes "dis") (codes "debug") is asks.0 refl refl)
-dis_refused name rows error is refused Replay asks = absurd (two_names name (codes "dis") (codes "replay") is asks.0 refl refl)
+dis_refused name rows error is refused job asks = absurd (two_names name (codes "dis") (job_name job) is asks.0.0 refl refl)
 
 pub returns-in_err-code_of-in-Some-dis-default-clause-right : goal.returns-in_err-code_of-in-Some-dis-default-clause-right
 returns-in_err-code_of-in-Some-dis-default-clause-right c =
@@ -60,13 +50,8 @@ returns-in_err-code_of-in-Some-dis-default-clause-right c =
 -- the same of `boot`
 boot_refused : (name : Text) (rows : List Row) (error : LineError) → name ≡ codes "boot" → ((route : Text) → IsRouteAt rows route → error ≡ Memory)
     → (job : Job) → AsksFor (name, rows) job × InRange job → error ≡ Memory
-boot_refused name rows error is refused (One tries) asks = absurd (two_names name (codes "boot") (codes "one") is asks.0.0 refl refl)
-boot_refused name rows error is refused Asm asks = absurd (two_names name (codes "boot") (codes "asm") is asks.0 refl refl)
-boot_refused name rows error is refused (Dis code) asks = absurd (two_names name (codes "boot") (codes "dis") is asks.0.0 refl refl)
 boot_refused name rows error is refused (Boot route) asks = refused (string_bytes route) asks.0.1
-boot_refused name rows error is refused (Run route workers turns) asks = absurd (two_names name (codes "boot") (codes "run") is asks.0.0 refl refl)
-boot_refused name rows error is refused Debug asks = absurd (two_names name (codes "boot") (codes "debug") is asks.0 refl refl)
-boot_refused name rows error is refused Replay asks = absurd (two_names name (codes "boot") (codes "replay") is asks.0 refl refl)
+boot_refused name rows error is refused job asks = absurd (two_names name (codes "boot") (job_name job) is asks.0.0 refl refl)
 
 pub returns-in_err-route_at-in-Some-boot-default-clause-right : goal.returns-in_err-route_at-in-Some-boot-default-clause-right
 returns-in_err-route_at-in-Some-boot-default-clause-right c =
@@ -78,15 +63,10 @@ returns-in_err-route_at-in-Some-boot-default-clause-right c =
 
 -- the same of `run`
 run_refused : (name : Text) (rows : List Row) (error : LineError) → name ≡ codes "run"
-    → ((route : Text) (workers turns : ℕ) → IsRunInRange workers turns → IsRouteAt rows route → IsNumberAt (codes "WORKERS") rows workers → IsNumberAt (codes "TURNS") rows turns → error ≡ Memory)
+    → ((route : Text) (workers turns : ℕ) → IsRunInRange workers turns → IsRunAt rows route workers turns → error ≡ Memory)
     → (job : Job) → AsksFor (name, rows) job × InRange job → error ≡ Memory
-run_refused name rows error is refused (One tries) asks = absurd (two_names name (codes "run") (codes "one") is asks.0.0 refl refl)
-run_refused name rows error is refused Asm asks = absurd (two_names name (codes "run") (codes "asm") is asks.0 refl refl)
-run_refused name rows error is refused (Dis code) asks = absurd (two_names name (codes "run") (codes "dis") is asks.0.0 refl refl)
-run_refused name rows error is refused (Boot route) asks = absurd (two_names name (codes "run") (codes "boot") is asks.0.0 refl refl)
-run_refused name rows error is refused (Run route workers turns) asks = refused (string_bytes route) workers turns asks.1 asks.0.1 asks.0.2 asks.0.3
-run_refused name rows error is refused Debug asks = absurd (two_names name (codes "run") (codes "debug") is asks.0 refl refl)
-run_refused name rows error is refused Replay asks = absurd (two_names name (codes "run") (codes "replay") is asks.0 refl refl)
+run_refused name rows error is refused (Run route workers turns) asks = refused (string_bytes route) workers turns asks.1 asks.0.1
+run_refused name rows error is refused job asks = absurd (two_names name (codes "run") (job_name job) is asks.0.0 refl refl)
 
 pub returns-in_err-job_of-in-Some-run-default-clause-right : goal.returns-in_err-job_of-in-Some-run-default-clause-right
 returns-in_err-job_of-in-Some-run-default-clause-right c =
