@@ -1,0 +1,3 @@
+pub mod Topic
+pub mod Table
+pub mod Output

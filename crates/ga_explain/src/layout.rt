@@ -1,0 +1,82 @@
+ghost use Rattle.std.specs.Prelude.{◌≡◌, map};
+ghost use Rattle.ga_explain.specs.Table.{layout_entries};
+ghost use Rattle.ga_explain.specs.Topic.{entry_of};
+
+use crate::topic::Topic;
+
+/// The faults of layout, in the order of the pages.
+#[tactic(auto, unfolding(crate::specs::Table::layout_entries))]
+pub fn topics() -> [Topic; 4]
+    ensures { map entry_of result ≡ layout_entries }
+{
+    [
+        Topic::new("UndefinedLabel", UNDEFINED_LABEL),
+        Topic::new("OutOfReach", OUT_OF_REACH),
+        Topic::new("UnextAlone", UNEXT_ALONE),
+        Topic::new("TooLong", TOO_LONG),
+    ]
+}
+
+const UNDEFINED_LABEL: &str = "\
+UndefinedLabel: a name that is no label of its node. Upper and lower case
+differ, and labels of other nodes aren't known.
+
+  $ echo 'node 709 jump lop loop: dup' | ga-bench asm
+  ga-bench: asm 709 1:15 UndefinedLabel
+
+Mended:
+
+  $ echo 'node 709 jump loop loop: dup' | ga-bench asm
+  node 709 entry 000 code 2 words 2
+  10001 249B2
+";
+
+const OUT_OF_REACH: &str = "\
+OutOfReach: in brackets, a label that the destination of its slot doesn't reach.
+Slot 0 reaches 000 to 3FF, slot 1 000 to 0FF, and slot 2 the eight addresses
+that agree with P from bit 3 up: P is behind the word and its @p before.
+
+  $ echo 'node 709 x: [ @p @p @p @p ] , 1 , 2 , 3 , 4 [ @p @p jump x ]' |
+    ga-bench asm
+  ga-bench: asm 709 1:58 OutOfReach
+
+Mended, with the jump in slot 1:
+
+  $ echo 'node 709 x: [ @p @p @p @p ] , 1 , 2 , 3 , 4 [ @p jump x ] , 5' |
+    ga-bench asm
+  node 709 entry 000 code 7 words 7
+  05D17 00001 00002 00003 00004 05700 00005
+";
+
+const UNEXT_ALONE: &str = "\
+UnextAlone: an 'unext' that would begin a word, where it repeats nothing but
+itself. It repeats the word that it stands in, so the loop stands in front of it
+in one word: behind 'align', or in brackets.
+
+  $ echo 'node 709 9 push align unext' | ga-bench asm
+  ga-bench: asm 709 1:23 UnextAlone
+
+Mended:
+
+  $ echo 'node 709 9 push align . unext' | ga-bench asm
+  node 709 entry 000 code 3 words 3
+  048B2 00009 2D1B2
+";
+
+const TOO_LONG: &str = "\
+TooLong: an item of a node would need its 65th word (asm); there are more than
+64 words (words); or the input has more than 1,048,576 bytes (input).
+
+  $ printf 'node 711%065d' 0 | sed 's/0/ [ . ]/g' | ga-bench asm
+  ga-bench: asm 711 1:394 TooLong
+  $ printf '2C9B2 %.0s' $(seq 65) | ga-bench one 0
+  ga-bench: words TooLong
+  $ printf '%1048577s' '' | ga-bench one 0
+  ga-bench: input TooLong
+
+Mended: a node has 64 words, so a longer program is cut into several nodes.
+
+  $ printf '2C9B2 %.0s' $(seq 64) | ga-bench one 0
+  node 000 P 000 A 00000 B 15D R 00000 S 00000 T 00000 io 00000 at fetch steps 0
+   need own
+";

@@ -1,0 +1,99 @@
+ghost use Rattle.std.specs.Prelude.{◌≡◌, map};
+ghost use Rattle.ga_explain.specs.Table.{routes_entries};
+ghost use Rattle.ga_explain.specs.Topic.{entry_of};
+
+use crate::topic::Topic;
+
+/// The faults of routes and of boots, in the order of the pages.
+#[tactic(auto, unfolding(crate::specs::Table::routes_entries))]
+pub fn topics() -> [Topic; 5]
+    ensures { map entry_of result ≡ routes_entries }
+{
+    [
+        Topic::new("BadRoute", BAD_ROUTE),
+        Topic::new("NotEdge", NOT_EDGE),
+        Topic::new("NotNeighbour", NOT_NEIGHBOUR),
+        Topic::new("Repeated", REPEATED),
+        Topic::new("Unreached", UNREACHED),
+    ]
+}
+
+const BAD_ROUTE: &str = "\
+BadRoute: ROUTE isn't names of nodes, three digits each, with commas between
+them and no blanks; or the second line of a replay text is neither 'place' nor
+'route' and such names.
+
+  $ echo 'node 709 .' | ga-bench boot '708, 709'
+  ga-bench: route BadRoute
+  $ printf 'profile 1\\nroute 708-709\\nnode 709 .\\ngo\\n' | ga-bench replay
+  ga-bench: replay BadRoute
+
+Mended:
+
+  $ printf 'profile 1\\nroute 708,709\\nnode 709 .\\ngo\\n' | ga-bench replay
+  same 0
+";
+
+const NOT_EDGE: &str = "\
+NotEdge: the first node of the route doesn't stand at the edge of the chip, so
+it has no boot stream. At the edge are rows 0 and 7 and columns 00 and 17.
+
+  $ echo 'node 408 .' | ga-bench boot 408
+  ga-bench: route NotEdge
+
+Mended:
+
+  $ echo 'node 708 .' | ga-bench boot 708
+  load 4
+  000AE 00000 00001 2C9B2
+  start 3
+  00000 00000 00000
+";
+
+const NOT_NEIGHBOUR: &str = "\
+NotNeighbour: a node of the route, counted from 0, is no neighbour of the node
+before it. Neighbours are one row apart, or one column.
+
+  $ echo 'node 710 .' | ga-bench boot 708,710
+  ga-bench: route NotNeighbour 1
+
+Mended, as a replay text with that route and no commands:
+
+  $ printf 'profile 1\\nroute 708,709,710\\nnode 710 .\\ngo\\n' | ga-bench replay
+  same 0
+";
+
+const REPEATED: &str = "\
+Repeated: a node of the route, counted from 0, stands on the route before. A
+route passes each node once.
+
+  $ echo 'node 709 .' | ga-bench boot 708,709,708
+  ga-bench: route Repeated 2
+
+Mended:
+
+  $ echo 'node 709 .' | ga-bench boot 708,709
+  load 14
+  000AE 001D5 00008 101D5 04A12 00000 00000 2E9B2
+  05872 2C9B2 2C9B2 000AE 00000 00000
+  start 7
+  000AE 001D5 00001 10000 001B5 00000 00000
+";
+
+const UNREACHED: &str = "\
+Unreached: this node of the text isn't on the route, and is the first such. The
+boot could not bring it its words. Nodes of the route without a section are
+fine: they pass words on.
+
+  $ echo 'node 709 .' | ga-bench boot 708,707
+  ga-bench: boot Unreached 709
+
+Mended:
+
+  $ echo 'node 709 .' | ga-bench boot 708,709
+  load 14
+  000AE 001D5 00008 101D5 04A12 00000 00000 2E9B2
+  05872 2C9B2 2C9B2 000AE 00000 00000
+  start 7
+  000AE 001D5 00001 10000 001B5 00000 00000
+";

@@ -1,0 +1,205 @@
+ghost use Rattle.std.specs.Prelude.{◌≡◌, map};
+ghost use Rattle.ga_explain.specs.Table.{source_entries};
+ghost use Rattle.ga_explain.specs.Topic.{entry_of};
+
+use crate::topic::Topic;
+
+/// The faults of source text, in the order of the pages.
+#[tactic(auto, unfolding(crate::specs::Table::source_entries))]
+pub fn topics() -> [Topic; 10]
+    ensures { map entry_of result ≡ source_entries }
+{
+    [
+        Topic::new("BadToken", BAD_TOKEN),
+        Topic::new("NumberRange", NUMBER_RANGE),
+        Topic::new("BadNode", BAD_NODE),
+        Topic::new("DuplicateNode", DUPLICATE_NODE),
+        Topic::new("DuplicateLabel", DUPLICATE_LABEL),
+        Topic::new("ReservedLabel", RESERVED_LABEL),
+        Topic::new("OpenBracket", OPEN_BRACKET),
+        Topic::new("BadWord", BAD_WORD),
+        Topic::new("NoNode", NO_NODE),
+        Topic::new("Empty", EMPTY),
+    ]
+}
+
+const BAD_TOKEN: &str = "\
+BadToken: a token that the language doesn't have, or one that may not stand
+there. The line and the column are those of the token. Tokens end at blanks.
+
+  $ echo 'node 709 0x15' | ga-bench asm
+  ga-bench: source 1:10 BadToken
+
+Mended:
+
+  $ echo 'node 709 $15' | ga-bench asm
+  node 709 entry 000 code 2 words 2
+  049B2 00015
+
+Elsewhere                  Here
+0x15, 15h, #21             $15, or 21: numbers are decimal, or have a $
+-1                         $3FFFF, or '0 -': there are no signs
+xor, inv, nop, ret         or, -, ., ;
+>r, r>, @a, !a             push, pop, @, !
+DUP                        dup: opcodes are in lower case
+@p, !p                     a number is @p with its word; else in brackets
+: foo, or foo : apart      foo: is one token
+foo!: or a long name       one to sixteen letters, digits and _, no digit first
+foo, as a call             call foo, or jump foo for its last one
+table, as a number         [ @p . . . ] , table
+( a note ), \\note          \\ and a blank, up to the line's end
+if .. then, begin .. until labels, and jumps to them
+for .. next                push again: .. next again
+..                         align
+r---, north                right; for a direction the side: docs/CHIP.md
+, 5 between instructions   behind a word in brackets with @p, or behind data
+dup behind data            only labels and , words stand there
+jump, and then nothing     a number or a name behind it, and no opcode's name
+
+docs/COMING-FROM.md has each of these with what the program says.
+";
+
+const NUMBER_RANGE: &str = "\
+NumberRange: a number over $3FFFF, which 18 bits don't hold, or a destination
+over $3FF outside brackets. Negative numbers are written as the word that they
+are: less 1 is $3FFFF.
+
+  $ echo 'node 709 $FFFFF' | ga-bench asm
+  ga-bench: source 1:10 NumberRange
+
+Mended:
+
+  $ echo 'node 709 $3FFFF' | ga-bench asm
+  node 709 entry 000 code 2 words 2
+  049B2 3FFFF
+";
+
+const BAD_NODE: &str = "\
+BadNode: no name of a node stands where one has to. A name is three digits: the
+row, 0 to 7, and the column, 00 to 17. In source text it is told of what stands
+behind 'node', and of commands of a session of the word for the node.
+
+  $ echo 'node 8 dup' | ga-bench asm
+  ga-bench: source 1:6 BadNode
+  $ printf 'profile 1\\nplace\\nnode 008 .\\ngo\\nregs 8\\n' | ga-bench debug
+  refused BadNode
+
+Mended:
+
+  $ echo 'node 008 dup' | ga-bench asm
+  node 008 entry 000 code 1 words 1
+  249B2
+";
+
+const DUPLICATE_NODE: &str = "\
+DuplicateNode: a node has two sections. All that is a node's stands in one.
+
+  $ printf 'node 709 dup\\nnode 709 drop\\n' | ga-bench asm
+  ga-bench: source 2:6 DuplicateNode
+
+Mended:
+
+  $ echo 'node 709 dup drop' | ga-bench asm
+  node 709 entry 000 code 1 words 1
+  242B2
+";
+
+const DUPLICATE_LABEL: &str = "\
+DuplicateLabel: a node has two labels with one name. Labels of two nodes may
+have the same name, since a label is known in its node alone.
+
+  $ echo 'node 709 x: dup x: drop' | ga-bench asm
+  ga-bench: source 1:17 DuplicateLabel
+
+Mended:
+
+  $ echo 'node 709 x: dup y: drop' | ga-bench asm
+  node 709 entry 000 code 2 words 2
+  249B2 3A9B2
+";
+
+const RESERVED_LABEL: &str = "\
+ReservedLabel: a label has the name of an opcode, of a port (right, down, left,
+up, rdlu), io or warm, or is node, align or data. In upper case it is another
+name: IF: is a label.
+
+  $ echo 'node 709 if: dup' | ga-bench asm
+  ga-bench: source 1:10 ReservedLabel
+
+Mended:
+
+  $ echo 'node 709 again: dup' | ga-bench asm
+  node 709 entry 000 code 1 words 1
+  249B2
+";
+
+const OPEN_BRACKET: &str = "\
+OpenBracket: a [ has no ] up to the text's end, or another [ stands before it.
+Each pair of brackets is one word.
+
+  $ echo 'node 709 [ dup drop [ dup ]' | ga-bench asm
+  ga-bench: source 1:21 OpenBracket
+
+Mended:
+
+  $ echo 'node 709 [ dup drop ] [ dup ]' | ga-bench asm
+  node 709 entry 000 code 2 words 2
+  242B2 249B2
+";
+
+const BAD_WORD: &str = "\
+BadWord: of source text, a token in brackets that has no room in the word, a
+number that doesn't fit its slot, or [ ]; or an item where the word before still
+lacks a follower. Slot 3 has room for ; unext @p !p +* + dup . alone.
+
+  $ echo 'node 709 [ dup dup dup drop ]' | ga-bench asm
+  ga-bench: source 1:24 BadWord
+
+Mended, as two words:
+
+  $ echo 'node 709 [ dup dup dup ] drop' | ga-bench asm
+  node 709 entry 000 code 2 words 2
+  24D92 3A9B2
+
+Of words it is a token that isn't five hex digits up to 3FFFF, counted from 0:
+
+  $ echo '04A12 5' | ga-bench one 5
+  ga-bench: words 1 BadWord
+  $ echo '04A12 00005' | ga-bench one 2
+  node 000 P 002 A 00000 B 15D R 00000 S 00000 T 00005 io 00000 at slot1 steps 2
+   need own
+";
+
+const NO_NODE: &str = "\
+NoNode: something stands before the first 'node', or the text has none. Each
+program says first which node it is for.
+
+  $ echo '5 dup' | ga-bench asm
+  ga-bench: source 1:1 NoNode
+
+Mended:
+
+  $ echo 'node 709 5 dup' | ga-bench asm
+  node 709 entry 000 code 2 words 2
+  04DB2 00005
+";
+
+const EMPTY: &str = "\
+Empty: a section of source text makes no word; there are no words for 'one' or
+'dis' (words Empty); or 'run' has more workers than the route has nodes (plan
+Empty, and the number of the first worker without a node, from 0).
+
+  $ echo 'node 709 main:' | ga-bench asm
+  ga-bench: source 2:1 Empty
+  $ echo | ga-bench one 5
+  ga-bench: words Empty
+  $ echo 'node 709 .' | ga-bench run 708,709 3 200
+  ga-bench: plan Empty 2
+
+Mended: a node that does nothing has a '.', and a route of two nodes has one or
+two workers.
+
+  $ echo 'node 709 main: .' | ga-bench asm
+  node 709 entry 000 code 1 words 1
+  2C9B2
+";

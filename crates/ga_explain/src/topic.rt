@@ -1,0 +1,68 @@
+ghost use Rattle.std.specs.Prelude.{◌≡◌, ◌++◌, IfOk, IfSome, OnOk, map, option_map};
+ghost use Rattle.ga_explain.specs.Output.{entry_in};
+ghost use Rattle.ga_explain.specs.Table.{entries};
+ghost use Rattle.ga_explain.specs.Topic.{entry_of};
+
+use crate::{input, layout, needs, outcomes, routes, sessions, source, stops};
+use std::alloc::{AllocError, Global};
+
+/// A name that the program writes, and what is told of it, lines of at most 80 characters.
+#[derive(Clone, Copy, Debug, PartialEq, Eq)]
+pub struct Topic {
+    pub name: &'static str,
+    pub text: &'static str,
+}
+
+impl Topic {
+    /// The topic of this name with this text.
+    pub(crate) fn new(name: &'static str, text: &'static str) -> Topic
+        ensures { entry_of result ≡ (name.now, text.now) }
+    {
+        Topic { name, text }
+    }
+
+    /// The topic of the table with this name, or `None` where none has it. It fails only where memory is refused.
+    pub fn named(alloc: Global, name: &str) -> Result<Option<Topic>, AllocError>
+        ensures entry { IfOk result (λ topic. option_map entry_of topic ≡ entry_in entries name.now) }
+        ensures name { IfOk result (λ topic. IfSome topic (λ found. found.name.now ≡ name.now)) }
+    {
+        let topics = topics(alloc)?;
+        Ok(found(&topics, name))
+    }
+}
+
+/// All topics, in the order of the pages.
+pub fn topics(alloc: Global) -> Result<Vec<Topic>, AllocError>
+    ensures { IfOk result (λ topics. map entry_of topics.items ≡ entries) }
+{
+    let mut topics = Vec::new(alloc);
+    append(&mut topics, &source::topics())?;
+    append(&mut topics, &layout::topics())?;
+    append(&mut topics, &routes::topics())?;
+    append(&mut topics, &sessions::topics())?;
+    append(&mut topics, &input::topics())?;
+    append(&mut topics, &needs::topics())?;
+    append(&mut topics, &stops::topics())?;
+    append(&mut topics, &outcomes::topics())?;
+    Ok(topics)
+}
+
+/// Puts the topics of a group behind others.
+fn append(topics: &mut Vec<Topic>, group: &[Topic]) -> Result<(), AllocError>
+    ensures { OnOk result (map entry_of topics.new.items ≡ map entry_of topics.old.items ++ map entry_of group.now) }
+{
+    topics.extend_from_slice(group)
+}
+
+/// The first of these topics with this name.
+fn found(topics: &[Topic], name: &str) -> Option<Topic>
+    ensures entry { option_map entry_of result ≡ entry_in (map entry_of topics.now) name.now }
+    ensures name { IfSome result (λ topic. topic.name.now ≡ name.now) }
+{
+    for topic in topics {
+        if topic.name == name {
+            return Some(*topic);
+        }
+    }
+    None
+}
