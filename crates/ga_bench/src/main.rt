@@ -21,7 +21,7 @@ fn main(rt: HostRuntime) -> ExitCode {
     let mut reader = rt.reader();
     let status = match job_of_arguments(&rt) {
         Ok(job) => {
-            if reader.is_terminal() {
+            if job.reads_input() && reader.is_terminal() {
                 let _ = eprintln!(&rt;
                     "ga-bench: reads from this terminal, until Ctrl-D at the beginning of a line"
                 );

@@ -3,7 +3,9 @@ use Rattle.std.proofs.Common.{◌≡◌, Global, String, string_bytes, ap, sym, 
 use Rattle.std.specs.Prelude.{codes}
 use Rattle.clap.proofs.OnLiterals.{clap_on_literals}
 use Rattle.clap.specs.Words.{takes}
-use Rattle.ga_command_line.specs.declared.request.Job.TheVariants.{One, Dis, Boot}
+use Rattle.ga_command_line.specs.declared.request.Job.TheVariants.{One, Dis, Boot, Explain}
+use Rattle.ga_explain.specs.declared.topic.Topic.{Topic}
+use Rattle.ga_command_line.specs.Explain.{IsOfTable}
 use Rattle.ga_command_line.specs.CommandLine.{IsRight, bench_command}
 use Rattle.ga_command_line.proofs.Opened.{whole_command}
 
@@ -22,6 +24,18 @@ all_code_line = (refl, (refl, refl), tt)
 boot_line : (route : String Global) → string_bytes route ≡ codes "708,709" → IsRight (codes "ga-bench" ∷ codes "boot" ∷ codes "708,709" ∷ []) (Boot route)
 unfolding whole_command clap_on_literals
 boot_line route is = (refl, (refl, ap Some (sym is)), tt)
+
+names_line : IsRight (codes "ga-bench" ∷ codes "explain" ∷ []) (Explain None)
+unfolding whole_command clap_on_literals
+names_line = (refl, (refl, refl), tt)
+
+topic_line : (topic : Topic) → topic.name.now ≡ codes "BadToken" → IsOfTable (Some topic) → IsRight (codes "ga-bench" ∷ codes "explain" ∷ codes "BadToken" ∷ []) (Explain (Some topic))
+unfolding whole_command clap_on_literals
+topic_line topic is of_table = (refl, (refl, ap Some is), of_table)
+
+two_topics : takes bench_command (codes "ga-bench" ∷ codes "explain" ∷ codes "own" ∷ codes "take" ∷ []) ≡ false
+unfolding whole_command clap_on_literals
+two_topics = refl
 
 -- one more than the most tries, and none
 over_the_range : takes bench_command (codes "ga-bench" ∷ codes "one" ∷ codes "1000001" ∷ []) ≡ false

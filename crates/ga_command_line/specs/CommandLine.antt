@@ -2,10 +2,11 @@
 use Rattle.std.specs.Prelude.{◌≡◌, ◌∷◌, [], List, true, codes, fold, IsSomeAnd, Option, string_bytes}
 use Rattle.clap.specs.Words.{App, Row, Text, new_app, subcommand_of, takes}
 use Rattle.ga_command_line.specs.declared.request.Job.{Job}
-use Rattle.ga_command_line.specs.declared.request.Job.TheVariants.{One, Asm, Dis, Boot, Run, Debug, Replay}
+use Rattle.ga_command_line.specs.declared.request.Job.TheVariants.{One, Asm, Dis, Boot, Run, Debug, Replay, Explain}
 use Rattle.ga_command_line.specs.Boot.{boot_command}
 use Rattle.ga_command_line.specs.Command.{linked, plain_command}
 use Rattle.ga_command_line.specs.Dis.{IsDisInRange, dis_command}
+use Rattle.ga_command_line.specs.Explain.{IsOfTable, IsTopicAt, explain_command}
 use Rattle.ga_command_line.specs.Number.{IsNumberAt, IsNumberIfAt}
 use Rattle.ga_command_line.specs.One.{IsOneInRange, one_command}
 use Rattle.ga_command_line.specs.Route.{IsRouteAt}
@@ -21,7 +22,7 @@ bare_command = record named_command { top = record named_command.top { has_versi
 -- the subcommands, in the order of help
 abbrev pub subcommands : List App
 subcommands =
-    one_command ∷ plain_command (codes "asm") ∷ dis_command ∷ boot_command ∷ run_command ∷ plain_command (codes "debug") ∷ plain_command (codes "replay") ∷ []
+    one_command ∷ plain_command (codes "asm") ∷ dis_command ∷ boot_command ∷ run_command ∷ plain_command (codes "debug") ∷ plain_command (codes "replay") ∷ explain_command ∷ []
 
 -- the whole command
 abbrev pub bench_command : App
@@ -36,6 +37,7 @@ job_name (Boot route) = codes "boot"
 job_name (Run route workers turns) = codes "run"
 job_name Debug = codes "debug"
 job_name Replay = codes "replay"
+job_name (Explain topic) = codes "explain"
 
 -- the arguments that a job is asked for by; other jobs have none
 abbrev pub HasArguments : List Row → Job → Type 0
@@ -43,13 +45,15 @@ HasArguments rows (One tries) = IsNumberAt (codes "TRIES") rows tries
 HasArguments rows (Dis code) = IsNumberIfAt (codes "N") rows code
 HasArguments rows (Boot route) = IsRouteAt rows (string_bytes route)
 HasArguments rows (Run route workers turns) = IsRunAt rows (string_bytes route) workers turns
+HasArguments rows (Explain topic) = IsTopicAt rows topic
 HasArguments rows job = Unit {0}
 
--- the numbers of a job lie in their ranges
+-- the numbers of a job lie in their ranges, and its topic is one of the table
 abbrev pub InRange : Job → Type 0
 InRange (One tries) = IsOneInRange tries
 InRange (Dis code) = IsDisInRange code
 InRange (Run route workers turns) = IsRunInRange workers turns
+InRange (Explain topic) = IsOfTable topic
 InRange job = Unit {0}
 
 -- a subcommand and its arguments ask for this job

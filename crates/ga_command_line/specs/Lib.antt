@@ -5,4 +5,6 @@ pub mod One
 pub mod Dis
 pub mod Boot
 pub mod Run
+pub mod Explain
+pub mod Request
 pub mod CommandLine

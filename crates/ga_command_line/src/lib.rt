@@ -6,6 +6,7 @@ mod boot;
 mod command_line;
 mod debug;
 mod dis;
+mod explain;
 mod number;
 mod one;
 mod replay;

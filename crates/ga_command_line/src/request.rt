@@ -1,3 +1,8 @@
+ghost use Rattle.std.specs.Prelude.{◌≡◌};
+ghost use Rattle.ga_command_line.specs.Request.{reads_input};
+
+use ga_explain::Topic;
+
 /// What a command line asks for, one variant for each subcommand.
 #[derive(Debug, PartialEq, Eq, Drop)]
 pub enum Job {
@@ -25,4 +30,17 @@ pub enum Job {
     Debug,
     /// How many stated outcomes of a replay text hold.
     Replay,
+    /// What a name means that the program writes, or all these names.
+    Explain {
+        topic: Option<Topic>,
+    },
+}
+
+impl Job {
+    /// Whether the job reads standard input.
+    pub fn reads_input(&self) -> bool
+        ensures { result ≡ reads_input self.now }
+    {
+        !matches!(self, Job::Explain { .. })
+    }
 }

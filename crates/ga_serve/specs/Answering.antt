@@ -1,8 +1,10 @@
 -- What a job may answer to the bytes that it reads: a text, or the first fault.
-use Rattle.std.specs.Prelude.{◌≡◌, ℕ, List, length, nat_lt, MatchBool, Result, Err, string_bytes}
+use Rattle.std.specs.Prelude.{◌≡◌, ◌&&◌, ℕ, Bool, List, length, nat_lt, MatchBool, Result, Ok, Err, string_bytes}
 use Rattle.ga_asm.specs.Text.{AtMostOne}
 use Rattle.ga_command_line.specs.declared.request.Job.{Job}
-use Rattle.ga_command_line.specs.declared.request.Job.TheVariants.{One, Asm, Dis, Boot, Run, Debug, Replay}
+use Rattle.ga_command_line.specs.declared.request.Job.TheVariants.{One, Asm, Dis, Boot, Run, Debug, Replay, Explain}
+use Rattle.ga_command_line.specs.Request.{reads_input}
+use Rattle.ga_explain.specs.Output.{explain_output}
 use Rattle.ga_jobs.specs.declared.fault.ServeError.{ServeError}
 use Rattle.ga_jobs.specs.declared.fault.ServeError.TheVariants.{Input}
 use Rattle.ga_jobs.specs.declared.fault.InputFault.TheVariants.{TooLong}
@@ -23,10 +25,15 @@ IsJobOutput (Boot route) input answer = IsBootOutput (string_bytes route) input 
 IsJobOutput (Run route workers turns) input answer = IsRunOutput (string_bytes route) workers turns input answer
 IsJobOutput Debug input answer = IsDebugOutput input answer
 IsJobOutput Replay input answer = IsReplayOutput input answer
+IsJobOutput (Explain topic) input answer = answer ≡ Ok (explain_output topic)
 
--- What the program may answer to an input: more than 1,048,576 bytes are too long.
+-- more than 1,048,576 bytes are too long for a job that reads them
+abbrev pub is_too_long : Job → List ℕ → Bool
+is_too_long job input = reads_input job && nat_lt 1048576 (length input)
+
+-- what the program may answer to an input
 abbrev pub IsOutput : Job → List ℕ → Result (List ℕ) ServeError → Type 0
-IsOutput job input answer = MatchBool (nat_lt 1048576 (length input)) (answer ≡ Err (Input TooLong)) (IsJobOutput job input answer)
+IsOutput job input answer = MatchBool (is_too_long job input) (answer ≡ Err (Input TooLong)) (IsJobOutput job input answer)
 
 -- Two outputs of a job for one input are equal, but for the job `run`, where the order of tries is free.
 abbrev pub HasOneOutput : Job → List ℕ → Type 0

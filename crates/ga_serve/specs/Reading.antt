@@ -1,6 +1,8 @@
 -- What is read of an input.
-use Rattle.std.specs.Prelude.{ℕ, ◌<◌, ◌≤◌, List, length, Option, Result, Err, IfSome}
-use Rattle.std.specs.Io.KnownBytes.{Consumes, IsAtEnd}
+use Rattle.std.specs.Prelude.{ℕ, ◌<◌, ◌≤◌, List, length, Option, Result, Err, IfSome, MatchBool}
+use Rattle.std.specs.Io.KnownBytes.{Consumes, IsAtEnd, Keeps}
+use Rattle.ga_command_line.specs.Request.{reads_input}
+use Rattle.ga_command_line.specs.declared.request.Job.{Job}
 use Rattle.ga_jobs.specs.declared.fault.ServeError.{ServeError}
 use Rattle.ga_jobs.specs.declared.fault.ServeError.TheVariants.{Input, Read, Memory}
 use Rattle.ga_jobs.specs.declared.fault.InputFault.TheVariants.{TooLong}
@@ -18,8 +20,12 @@ ReadFails old fault = ⊥
 
 -- An input that was answered, or refused for what stands in it, was read to its end, and so was one
 -- whose output could not be written.
-abbrev pub ReadsFirst : {Done : Type 0} → Result Done ServeError → Option (List ℕ) → Type 0
-ReadsFirst (Err (Input TooLong)) left = Unit {0}
-ReadsFirst (Err Read) left = Unit {0}
-ReadsFirst (Err Memory) left = Unit {0}
-ReadsFirst answer left = IsAtEnd left
+abbrev pub ReadsToEnd : {Done : Type 0} → Result Done ServeError → Option (List ℕ) → Type 0
+ReadsToEnd (Err (Input TooLong)) left = Unit {0}
+ReadsToEnd (Err Read) left = Unit {0}
+ReadsToEnd (Err Memory) left = Unit {0}
+ReadsToEnd answer left = IsAtEnd left
+
+-- So it is of a job that reads its input. Of any other no byte is read.
+abbrev pub ReadsFirst : {Done : Type 0} → Job → Result Done ServeError → Option (List ℕ) → Option (List ℕ) → Type 0
+ReadsFirst job answer old new = MatchBool (reads_input job) (ReadsToEnd answer new) (Keeps old new)

@@ -3,6 +3,7 @@ ghost use Rattle.ga_jobs.specs.Fault.{Answers};
 ghost use Rattle.ga_serve.specs.Answering.{HasOneOutput, IsJobOutput, IsOutput};
 
 use ga_command_line::Job;
+use ga_explain::explain;
 use ga_jobs::{InputFault, ServeError, asm, boot, debug, dis, one, replay, run};
 use std::thread::Threads;
 
@@ -10,7 +11,7 @@ use std::thread::Threads;
 pub const INPUT_LIMIT: usize = 1_048_576;
 
 /// What a job answers to bytes in memory: its output, or the first fault of the input. An input of more than 1,048,576
-/// bytes is refused as `Input(TooLong)`. It reads nothing and writes nothing, so it fails neither as `Read` nor as
+/// bytes is refused as `Input(TooLong)`; `explain` looks at none. It reads nothing and writes nothing, so it fails neither as `Read` nor as
 /// `Write`, and as `Memory` only where memory is refused. (The jobs are this project's own: profile.)
 #[tactic(auto, using(crate::proofs::OneOutput::one_output))]
 pub fn answer<Rt: AllocGlobal + Threads>(
@@ -22,7 +23,7 @@ pub fn answer<Rt: AllocGlobal + Threads>(
     // in a run the order of tries is free; every other job has one output for an input, or one first fault
     ensures only { HasOneOutput job.now input.now }
 {
-    if input.len() > INPUT_LIMIT {
+    if job.reads_input() && input.len() > INPUT_LIMIT {
         return Err(ServeError::Input(InputFault::TooLong));
     }
     output(rt, job, input)
@@ -45,5 +46,6 @@ fn output<Rt: AllocGlobal + Threads>(rt: &Rt, job: &Job, input: &[u8]) -> Result
         } => run::output(rt, route, *workers, *turns, input),
         Job::Debug => debug::output(rt.alloc(), input),
         Job::Replay => replay::output(rt.alloc(), input),
+        Job::Explain { topic } => Ok(explain(rt.alloc(), *topic)?),
     }
 }

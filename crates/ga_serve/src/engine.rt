@@ -13,7 +13,8 @@ use std::io::{Read, Write};
 use std::thread::Threads;
 
 /// Serves a job, the engine under every subcommand: reads the whole input, makes the whole output, and
-/// then writes it. An input has at most 1,048,576 bytes, and comes in at most 2,097,152 reads.
+/// then writes it. An input has at most 1,048,576 bytes, and comes in at most 2,097,152 reads. For `explain` nothing
+/// is read.
 ///
 /// The first fault is answered. `Read` and `Input(TooLong)` come while the input is read, the faults of
 /// the input in the order of the job's output, and `Write` last; a front of the output may then have
@@ -28,7 +29,7 @@ pub fn serve<Rt: AllocGlobal + Threads, R: Read, W: Write>(
     // Where the reader and the writer tell their bytes, what is written is an output for what is read.
     ensures served { IfSome (R.remaining reader.old) (λ input.
         Serves job.now input (W.contents writer.old) (W.contents writer.new) result) }
-    ensures read_first { ReadsFirst result (R.remaining reader.new) }
+    ensures read_first { ReadsFirst job.now result (R.remaining reader.old) (R.remaining reader.new) }
     ensures read_no_more { ConsumesUpTo 1048577 (R.remaining reader.old) (R.remaining reader.new) }
 
     // At any reader.
@@ -36,8 +37,25 @@ pub fn serve<Rt: AllocGlobal + Threads, R: Read, W: Write>(
     ensures unwritten { IfErr result (λ fault. fault ≢ ServeError.Write
         → Keeps (W.contents writer.old) (W.contents writer.new)) }
 {
+    if !job.reads_input() {
+        return respond(rt, writer, job, &[]);
+    }
     let input = read_input(rt.alloc(), reader)?;
-    let text = answer(rt, job, &input)?;
+    respond(rt, writer, job, &input)
+}
+
+/// Makes the whole output for an input, and then writes it.
+fn respond<Rt: AllocGlobal + Threads, W: Write>(
+    rt: &Rt,
+    writer: &mut W,
+    job: &Job,
+    input: &[u8],
+) -> Result<(), ServeError>
+    ensures served { Serves job.now input.now (W.contents writer.old) (W.contents writer.new) result }
+    ensures unwritten { IfErr result (λ fault. fault ≢ ServeError.Write
+        → Keeps (W.contents writer.old) (W.contents writer.new)) }
+{
+    let text = answer(rt, job, input)?;
     write_output(writer, text.as_bytes())
 }
 

@@ -5,9 +5,11 @@ use Rattle.clap.specs.Words.{Row, Text, rows_of, found_of}
 use Rattle.ga_command_line.specs.declared.command_line.LineError.{LineError}
 use Rattle.ga_command_line.specs.declared.command_line.LineError.TheVariants.{Memory}
 use Rattle.ga_command_line.specs.declared.request.Job.{Job}
-use Rattle.ga_command_line.specs.declared.request.Job.TheVariants.{One, Dis, Boot, Run}
+use Rattle.ga_command_line.specs.declared.request.Job.TheVariants.{One, Dis, Boot, Run, Explain}
 use Rattle.ga_command_line.specs.CommandLine.{AsksFor, InRange, job_name}
 use Rattle.ga_command_line.specs.Dis.{IsDisInRange}
+use Rattle.ga_explain.specs.declared.topic.Topic.{Topic}
+use Rattle.ga_command_line.specs.Explain.{IsOfTable, IsTopicAt}
 use Rattle.ga_command_line.specs.Number.{IsNumberAt, IsNumberIfAt}
 use Rattle.ga_command_line.specs.One.{IsOneInRange}
 use Rattle.ga_command_line.specs.Route.{IsRouteAt}
@@ -75,3 +77,17 @@ returns-in_err-job_of-in-Some-run-default-clause-right c =
     let asks = asked c.args.matches.now met.field-0-0.now (rows_of (found_of met.found.now)) met.ensures.name met.ensures.rows in
     each_error c.from_residual-in_err-job_of-in-Some-run-default.result _ (λ fault. fault ≡ refused.field-0.0) c.from_residual-in_err-job_of-in-Some-run-default.ensures.1
     (λ error same job right within. same ∙ run_refused met.field-0-0.now (rows_of (found_of met.found.now)) refused.field-0.0 met.is-run refused.ensures.right job (asks job right, within))
+
+-- the same of `explain`
+explain_refused : (name : Text) (rows : List Row) (error : LineError) → name ≡ codes "explain" → ((topic : Option Topic) → IsOfTable topic → IsTopicAt rows topic → error ≡ Memory)
+    → (job : Job) → AsksFor (name, rows) job × InRange job → error ≡ Memory
+explain_refused name rows error is refused (Explain topic) asks = refused topic asks.1 asks.0.1
+explain_refused name rows error is refused job asks = absurd (two_names name (codes "explain") (job_name job) is asks.0.0 refl refl)
+
+pub returns-in_err-topic_of-in-Some-explain-default-clause-right : goal.returns-in_err-topic_of-in-Some-explain-default-clause-right
+returns-in_err-topic_of-in-Some-explain-default-clause-right c =
+    let met = c.in-Some-explain-default in
+    let refused = c.in_err-topic_of-in-Some-explain-default in
+    let asks = asked c.args.matches.now met.field-0-0.now (rows_of (found_of met.found.now)) met.ensures.name met.ensures.rows in
+    each_error c.from_residual-in_err-topic_of-in-Some-explain-default.result _ (λ fault. fault ≡ refused.field-0.0) c.from_residual-in_err-topic_of-in-Some-explain-default.ensures.1
+    (λ error same job right within. same ∙ explain_refused met.field-0-0.now (rows_of (found_of met.found.now)) refused.field-0.0 met.is-explain refused.ensures.right job (asks job right, within))

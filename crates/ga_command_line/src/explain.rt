@@ -1,0 +1,50 @@
+ghost use Rattle.std.specs.Prelude.{◌≡◌, IfErr, IfOk, Option};
+ghost use Rattle.clap.specs.Words.{found_of, rows_of};
+ghost use Rattle.ga_command_line.specs.Command.{IsCommandOf};
+ghost use Rattle.ga_command_line.specs.Explain.{IsOfTable, IsTopicAt, explain_command};
+
+use crate::command_line::{LineError, refusal};
+use clap::error::ErrorKind;
+use clap::{Arg, ArgMatches, Command};
+use ga_explain::Topic;
+use std::alloc::{AllocError, Global};
+
+const HELP: &str = "\
+Writes what a name means that the program writes, with an example that has it and the mended one; without
+NAME the names, one on a line: faults, what a node needs, why it stopped, and what comes of a try.
+Reads no input.
+
+Example: ga-bench explain BadToken
+More: docs/FORMATS.md and docs/CHIP.md";
+
+/// The subcommand `explain [NAME]`.
+#[tactic(auto, unfolding(crate::specs::Explain::explain_command))]
+pub fn command<'a>(alloc: Global) -> Result<Command<'a>, AllocError>
+    ensures { IfOk result (IsCommandOf explain_command) }
+{
+    let name = Arg::new(alloc, "NAME").help("The name, as the program writes it");
+    Command::new(alloc, "explain")
+        .about("Tells what the name of a fault, a need, a stop or an outcome means")
+        .after_help(HELP)
+        .arg(name)
+}
+
+/// The topic that the arguments of `explain` name, where they name one.
+pub fn topic_of(alloc: Global, found: &ArgMatches<'_>) -> Result<Option<Topic>, LineError>
+    ensures in_range { IfOk result IsOfTable }
+    ensures topic { IfOk result (IsTopicAt (rows_of (found_of found.now))) }
+    ensures right { IfErr result (λ error. (topic : Option Topic) → IsOfTable topic
+        → IsTopicAt (rows_of (found_of found.now)) topic → error ≡ LineError.Memory) }
+{
+    let Some(name) = found.get_str("NAME") else {
+        return Ok(None);
+    };
+    match Topic::named(alloc, name)? {
+        Some(topic) => Ok(Some(topic)),
+        None => Err(refusal(
+            alloc,
+            ErrorKind::InvalidValue,
+            "no such name: 'ga-bench explain' lists them",
+        )),
+    }
+}

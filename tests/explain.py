@@ -1,0 +1,134 @@
+#!/usr/bin/env python3
+"""Compares what `explain` tells with the pages and with the recorded cases: tests/explain.py PROGRAM
+
+- Its names are those of the tables of faults, needs, stops and outcomes in docs/FORMATS.md and docs/CHIP.md, but for
+  what comes up in the library alone. The pages have no name that it lacks.
+- A text is 24 lines of 80 columns at most, that of BadToken longer, and begins with its name.
+- Each example in a text is a recorded case in tests/cases/explain.jsonl, with the same input, arguments and output, and
+  each case but those of `explain` itself is an example. tests/run_cases.py runs the cases.
+
+An example is a command that begins with '  $ ' and ends in ga-bench and its arguments; it goes on behind a line that
+ends in '|' or a backslash. The lines behind it are what it prints; one that begins with three blanks goes on with the
+line before. The last line that is printed is 'N passed, M failed'.
+"""
+import base64
+import json
+import os
+import re
+import shlex
+import subprocess
+import sys
+
+ROOT = os.path.dirname(os.path.dirname(os.path.abspath(__file__)))
+CASES = f"{ROOT}/tests/cases/explain.jsonl"
+SECONDS = 60
+LINES, COLUMNS = 24, 80
+
+# Faults of tables that no subcommand tells: they come up in the library alone.
+LIBRARY_ALONE = {"NoWorker", "CutHeader", "CutBody", "AfterEnd"}
+
+
+def rows(page, heading):
+    """Yields the first cell of each row of the tables in one section of a page."""
+    with open(f"{ROOT}/docs/{page}", encoding="utf-8") as text:
+        sections = re.split(r"^#+ (.*)$", text.read(), flags=re.M)
+    body = dict(zip(sections[1::2], sections[2::2]))[heading]
+    for row in re.findall(r"^\| *(.*?) *\|.*\|$", body, flags=re.M):
+        yield row
+
+
+def names_of_pages():
+    """Returns the names that the pages have in their tables of faults, needs, stops and outcomes."""
+    names = set()
+    for heading in ["Faults of source text", "Faults of layout", "Frames", "Routes", "Plans", "Sessions", "Replay texts"]:
+        for cell in rows("FORMATS.md", heading):
+            names.update(re.findall(r"^`([A-Z][a-z]\w*)(?: [A-Z]+)?`$", cell))
+            names.update(re.findall(r"^`([a-z]+)` L$", cell))
+    for cell in rows("FORMATS.md", "Faults"):
+        names.update(re.findall(r"^`ga-bench: (?:\w+ )*?([A-Z][a-z]\w*)(?: [A-Z]+)?`", cell))
+        names.update(re.findall(r"^`ga-bench: (\w+)`$", cell))
+    heads = {"Need", "Outcome", "Stop"}
+    for heading in ["Needs", "Tries", "Stops"]:
+        for cell in rows("CHIP.md", heading):
+            if cell not in heads and not cell.startswith("--"):
+                names.add(re.match(r"\w+", cell)[0] if heading == "Stops" else re.match(r"\w+", cell)[0].lower())
+    return names - LIBRARY_ALONE
+
+
+def examples(text):
+    """Yields each example of a text: its command, and what it has to print."""
+    command, printed, goes_on = None, [], False
+    for line in [*text.split("\n"), ""]:
+        if line.startswith("  $ ") or not line.startswith("  "):
+            if command:
+                yield command, "".join(f"{it}\n" for it in printed)
+            command, printed = (line[4:], []) if line.startswith("  $ ") else (None, [])
+        elif command and goes_on:
+            command += f"\n{line}"
+        elif command and line.startswith("   "):
+            printed[-1] += line[2:]
+        elif command:
+            printed.append(line[2:])
+        goes_on = bool(command) and line.endswith(("|", "\\"))
+
+
+def key(args, data, printed):
+    return tuple(args), data, printed
+
+
+def key_of_case(case):
+    data = base64.b64decode(case["stdin_base64"]) if "stdin_base64" in case else case.get("stdin", "").encode()
+    return key(case["args"], data.ljust(case.get("pad_to", 0), b" "), case["stdout"] + case["stderr"])
+
+
+def key_of_example(command, printed):
+    typed, args = re.fullmatch(r"(?s)(.*)\|\s*ga-bench (.*)", command).groups()
+    made = subprocess.run(["bash", "-c", typed], stdin=subprocess.DEVNULL, capture_output=True, timeout=SECONDS)
+    return key(shlex.split(args), made.stdout, printed)
+
+
+def main():
+    if len(sys.argv) != 2:
+        sys.exit("usage: tests/explain.py PROGRAM")
+    program = os.path.abspath(sys.argv[1])
+
+    def explain(*names):
+        ran = subprocess.run([program, "explain", *names], stdin=subprocess.DEVNULL, capture_output=True, timeout=SECONDS)
+        return ran.stdout.decode()
+
+    checks = []
+    names, wanted = explain().split(), names_of_pages()
+    checks.append(("names that no page has", sorted(set(names) - wanted)))
+    checks.append(("names of the pages that are missing", sorted(wanted - set(names))))
+    with open(CASES, encoding="utf-8") as lines:
+        cases = [json.loads(line) for line in lines]
+    recorded = {key_of_case(case): case["name"] for case in cases if case["args"][0] != "explain"}
+    shown = set()
+    for name in names:
+        text = explain(name)
+        wrong = [line for line in text.split("\n") if len(line) > COLUMNS]
+        if name != "BadToken" and text.count("\n") > LINES:
+            wrong.append(f"more than {LINES} lines")
+        if not text.startswith(f"{name}: "):
+            wrong.append("doesn't begin with its name")
+        for command, printed in examples(text):
+            try:
+                it = key_of_example(command, printed)
+            except (AttributeError, subprocess.TimeoutExpired) as error:
+                wrong.append(f"{command}: {error!r}")
+                continue
+            shown.add(it)
+            if it not in recorded:
+                wrong.append(f"no recorded case: {command}")
+        checks.append((f"explain {name}", wrong))
+    checks.append(("cases that no text shows", sorted(recorded[it] for it in recorded if it not in shown)))
+    for what, wrong in checks:
+        if wrong:
+            print(f"FAILED {what}", *wrong, sep="\n    ")
+    failed = sum(bool(wrong) for _, wrong in checks)
+    print(f"{len(checks) - failed} passed, {failed} failed")
+    return 1 if failed else 0
+
+
+if __name__ == "__main__":
+    sys.exit(main())
