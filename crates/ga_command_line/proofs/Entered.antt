@@ -8,7 +8,7 @@ use Rattle.clap.specs.declared.parser.matches.ArgMatches.TheViews.{out-ArgMatche
 use Rattle.clap.specs.declared.parser.matches.SubCommand.{SubCommand}
 use Rattle.std.specs.Box.{box_value}
 use Rattle.clap.specs.declared.builder.command.Command.{Command}
-use Rattle.ga_command_line.specs.Command.{IsCommandOf}
+use Rattle.ga_command_line.specs.inner.Command.{IsCommandOf}
 use Rattle.ga_command_line.specs.CommandLine.{AsksFor, IsAskedFor, bench_command}
 use Rattle.ga_command_line.specs.declared.command_line.LineError.{LineError}
 use Rattle.ga_command_line.specs.declared.request.Job.{Job}

@@ -8,3 +8,4 @@ pub mod Run
 pub mod Explain
 pub mod Request
 pub mod CommandLine
+pub mod inner

@@ -1,6 +1,6 @@
 ghost use Rattle.std.specs.Prelude.{IfOk};
 ghost use Rattle.ga_command_line.specs.Boot.{boot_command};
-ghost use Rattle.ga_command_line.specs.Command.{IsCommandOf};
+ghost use Rattle.ga_command_line.specs.inner.Command.{IsCommandOf};
 
 use clap::{Arg, Command};
 use std::alloc::{AllocError, Global};

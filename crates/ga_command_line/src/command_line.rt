@@ -2,7 +2,8 @@ ghost use Rattle.std.specs.Prelude.{◌≡◌, IfErr, IfOk, false, map};
 ghost use Rattle.clap.specs.Words.{App, app_of, kind_of, subcommand_rows_of};
 ghost use Rattle.clap.specs.declared.error.kind.ErrorKind.TheVariants.{OutOfMemory};
 ghost use Rattle.ga_command_line.specs.declared.command_line.LineError.TheVariants.{Memory};
-ghost use Rattle.ga_command_line.specs.Command.{IsCommandOf, has_globals, linked};
+ghost use Rattle.ga_command_line.specs.Command.{linked};
+ghost use Rattle.ga_command_line.specs.inner.Command.{IsCommandOf, has_globals};
 ghost use Rattle.ga_command_line.specs.CommandLine.{InRange, IsAskedFor, IsJobOf, IsRight, bare_command, bench_command};
 
 use crate::request::Job;

@@ -1,6 +1,6 @@
 ghost use Rattle.std.specs.Prelude.{◌≡◌, ℕ, IfErr, IfOk, Option, codes};
 ghost use Rattle.clap.specs.Words.{found_of, rows_of};
-ghost use Rattle.ga_command_line.specs.Command.{IsCommandOf};
+ghost use Rattle.ga_command_line.specs.inner.Command.{IsCommandOf};
 ghost use Rattle.ga_command_line.specs.Dis.{IsDisInRange, dis_command};
 ghost use Rattle.ga_command_line.specs.Number.{IsNumberIfAt};
 

@@ -1,6 +1,6 @@
 ghost use Rattle.std.specs.Prelude.{◌≡◌, ℕ, IfErr, IfOk, codes};
 ghost use Rattle.clap.specs.Words.{found_of, rows_of};
-ghost use Rattle.ga_command_line.specs.Command.{IsCommandOf};
+ghost use Rattle.ga_command_line.specs.inner.Command.{IsCommandOf};
 ghost use Rattle.ga_command_line.specs.Number.{IsNumberAt};
 ghost use Rattle.ga_command_line.specs.One.{IsOneInRange, one_command};
 

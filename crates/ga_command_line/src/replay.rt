@@ -1,5 +1,6 @@
 ghost use Rattle.std.specs.Prelude.{IfOk, codes};
-ghost use Rattle.ga_command_line.specs.Command.{IsCommandOf, plain_command};
+ghost use Rattle.ga_command_line.specs.Command.{plain_command};
+ghost use Rattle.ga_command_line.specs.inner.Command.{IsCommandOf};
 
 use clap::Command;
 use std::alloc::{AllocError, Global};

@@ -1,6 +1,6 @@
 ghost use Rattle.std.specs.Prelude.{◌≡◌, ℕ, IfErr, IfOk, codes};
 ghost use Rattle.clap.specs.Words.{Text, found_of, rows_of};
-ghost use Rattle.ga_command_line.specs.Command.{IsCommandOf};
+ghost use Rattle.ga_command_line.specs.inner.Command.{IsCommandOf};
 ghost use Rattle.ga_command_line.specs.CommandLine.{AsksFor, InRange};
 ghost use Rattle.ga_command_line.specs.Run.{IsRunAt, IsRunInRange, routed_command, run_command, shared_command};
 

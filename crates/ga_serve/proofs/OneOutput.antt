@@ -1,10 +1,9 @@
 -- Two outputs of one job for one input are equal.
-use Rattle.std.proofs.Common.{◌≡◌, ℕ, Bool, true, false, List, Result, Err}
+use Rattle.std.proofs.Common.{◌≡◌, ℕ, Bool, true, false, List, Err}
 use Rattle.std.specs.Prelude.{MatchBool, string_bytes}
 use Rattle.ga_asm.specs.Text.{AtMostOne}
 use Rattle.ga_command_line.specs.declared.request.Job.{Job}
 use Rattle.ga_command_line.specs.declared.request.Job.TheVariants.{One, Asm, Dis, Boot, Run, Debug, Replay, Explain}
-use Rattle.ga_jobs.specs.declared.fault.ServeError.{ServeError}
 use Rattle.ga_jobs.specs.declared.fault.ServeError.TheVariants.{Input}
 use Rattle.ga_jobs.specs.declared.fault.InputFault.TheVariants.{TooLong}
 use Rattle.ga_jobs.proofs.OneOutput.{one_asm_output, one_boot_output, one_debug_output, one_replay_output}

@@ -2,3 +2,4 @@ pub mod Answering
 pub mod Reading
 pub mod Writing
 pub mod Engine
+pub mod inner

@@ -1,5 +1,5 @@
 -- What is read of an input.
-use Rattle.std.specs.Prelude.{ℕ, ◌<◌, ◌≤◌, List, length, Option, Result, Err, IfSome, MatchBool}
+use Rattle.std.specs.Prelude.{ℕ, ◌≤◌, List, length, Option, Result, Err, MatchBool}
 use Rattle.std.specs.Io.KnownBytes.{Consumes, IsAtEnd, Keeps}
 use Rattle.ga_command_line.specs.Request.{reads_input}
 use Rattle.ga_command_line.specs.declared.request.Job.{Job}
@@ -10,13 +10,6 @@ use Rattle.ga_jobs.specs.declared.fault.InputFault.TheVariants.{TooLong}
 -- no more than so many of the bytes that a reader has left were taken from it
 abbrev pub ConsumesUpTo : ℕ → Option (List ℕ) → Option (List ℕ) → Type 0
 ConsumesUpTo limit old new = (taken : List ℕ) × Consumes old new taken × (length taken ≤ limit)
-
--- Why an input was not read: a read failed, memory ran out, or it has more than 1,048,576 bytes.
-abbrev pub ReadFails : Option (List ℕ) → ServeError → Type 0
-ReadFails old (Input TooLong) = IfSome old (λ input. 1048576 < length input)
-ReadFails old Read = Unit {0}
-ReadFails old Memory = Unit {0}
-ReadFails old fault = ⊥
 
 -- An input that was answered, or refused for what stands in it, was read to its end, and so was one
 -- whose output could not be written.

@@ -1,6 +1,7 @@
 ghost use Rattle.std.specs.Prelude.{◌≡◌, ℕ, ◌+◌, ◌<◌, ◌≤◌, List, length, vec_len, IfOk, IfErr, IfSome, OnOk, Err};
 ghost use Rattle.std.specs.Io.KnownBytes.{Consumes, IsAtEnd};
-ghost use Rattle.ga_serve.specs.Reading.{ConsumesUpTo, ReadFails};
+ghost use Rattle.ga_serve.specs.Reading.{ConsumesUpTo};
+ghost use Rattle.ga_serve.specs.inner.Reading.{ReadFails};
 
 use crate::answering::INPUT_LIMIT;
 use ga_jobs::{InputFault, ServeError};

@@ -1,6 +1,7 @@
 //! Command lines: the jobs that they name, and what is wrong with others.
 use clap::error::ErrorKind;
 use ga_command_line::{Job, LineError, job};
+use ga_explain::Topic;
 use std::alloc::Global;
 use std::test::Fail;
 
@@ -58,6 +59,16 @@ fn reads_routes(rt: HostRuntime) -> Result<(), Fail> {
 }
 
 #[test]
+fn reads_names(rt: HostRuntime) -> Result<(), Fail> {
+    let alloc = rt.alloc();
+    assert!(rt; named(alloc, &["ga-bench", "explain"])? == Job::Explain { topic: None });
+    let topic = Topic::named(alloc, "NotHeld")?;
+    assert!(rt; topic.is_some());
+    assert!(rt; named(alloc, &["ga-bench", "explain", "NotHeld"])? == Job::Explain { topic });
+    Ok(())
+}
+
+#[test]
 fn refuses_command_lines(rt: HostRuntime) -> Result<(), Fail> {
     let alloc = rt.alloc();
     let table = [
@@ -95,6 +106,14 @@ fn refuses_command_lines(rt: HostRuntime) -> Result<(), Fail> {
         (
             &["ga-bench", "run", "708", "1", "1000001"],
             ErrorKind::ValueValidation,
+        ),
+        (
+            &["ga-bench", "explain", "badtoken"],
+            ErrorKind::InvalidValue,
+        ),
+        (
+            &["ga-bench", "explain", "Empty", "Boot"],
+            ErrorKind::UnknownArgument,
         ),
         (&["ga-bench", "--help"], ErrorKind::DisplayHelp),
         (&["ga-bench", "one", "--help"], ErrorKind::DisplayHelp),

@@ -95,3 +95,12 @@ fn reads_each_length(rt: HostRuntime) -> Result<(), Fail> {
     }
     Ok(())
 }
+
+#[test]
+fn explains_without_reading(rt: HostRuntime) {
+    let mut reader = source_of(WORDS.as_bytes(), 6);
+    let mut writer = sink_of(rt.alloc(), 8192);
+    let outcome = serve(&rt, &mut reader, &mut writer, &Job::Explain { topic: None });
+    assert!(rt; outcome == Ok(()) && reader.calls == 0);
+    assert!(rt; writer.taken.first() == Some(&b'B') && writer.taken.last() == Some(&b'\n'));
+}
