@@ -2,7 +2,7 @@
 """Runs PROGRAM at a terminal, and without one: tests/terminal.py PROGRAM
 
 Where standard input is a terminal, one line on standard error says so and what ends the input; else there is none.
-The output is the same. The last line that is printed is 'N passed, M failed', and the exit status is 0 where M is 0.
+The output is the same. `explain` reads nothing, and says nothing. The last line that is printed is 'N passed, M failed', and the exit status is 0 where M is 0.
 """
 import os
 import pty
@@ -24,6 +24,15 @@ def at_terminal(program):
     return output, messages
 
 
+def reads_nothing(program):
+    """Returns the messages of a run at a terminal that reads no input."""
+    typist, terminal = pty.openpty()
+    run = subprocess.run([program, "explain"], stdin=terminal, capture_output=True, timeout=60)
+    os.close(typist)
+    os.close(terminal)
+    return run.stderr
+
+
 def main():
     if len(sys.argv) != 2:
         sys.exit("usage: tests/terminal.py PROGRAM")
@@ -35,6 +44,7 @@ def main():
         "one line for who types": hint.count(b"\n") == 1 and b"Ctrl-D" in hint,
         "the output of what is piped": piped.stdout == OUTPUT,
         "no line without a terminal": piped.stderr == b"",
+        "no line where nothing is read": reads_nothing(program) == b"",
     }
     for what, held in checks.items():
         if not held:
