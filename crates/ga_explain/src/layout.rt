@@ -34,7 +34,8 @@ Mended:
 const OUT_OF_REACH: &str = "\
 OutOfReach: in brackets, a label that the destination of its slot doesn't reach.
 Slot 0 reaches 000 to 3FF, slot 1 000 to 0FF, and slot 2 the eight addresses
-that agree with P from bit 3 up: P is behind the word and its @p before.
+that agree with P from bit 3 up. P is the address of the word, and 1 more for
+the word and for each @p and !p before the slot.
 
   $ echo 'node 709 x: [ @p @p @p @p ] , 1 , 2 , 3 , 4 [ @p @p jump x ]' |
     ga-bench asm
@@ -49,9 +50,9 @@ Mended, with the jump in slot 1:
 ";
 
 const UNEXT_ALONE: &str = "\
-UnextAlone: an 'unext' that would begin a word, where it repeats nothing but
-itself. It repeats the word that it stands in, so the loop stands in front of it
-in one word: behind 'align', or in brackets.
+UnextAlone: outside brackets, an 'unext' that would begin a word, where it
+repeats nothing but itself. It repeats the word that it stands in, so the loop
+stands in front of it in one word: behind 'align', or in brackets.
 
   $ echo 'node 709 9 push align unext' | ga-bench asm
   ga-bench: asm 709 1:23 UnextAlone

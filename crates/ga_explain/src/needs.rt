@@ -55,8 +55,8 @@ Mended: its neighbour on the right, 708, sends a word.
 
 const POST: &str = "\
 post: the node has a word for a neighbour, and its next step posts it at the
-port. There is always room, so a try posts it; then comes the need check. 'one'
-has no neighbours, so there it waits.
+port. There is always room, so a try posts it; then comes the need check. At a
+side without a neighbour it waits for ever, and in 'one', which has no chip.
 
   $ echo 04B22 001D5 | ga-bench one 9
   node 000 P 002 A 00000 B 1D5 R 00000 S 00000 T 00000 io 00000 at slot2 steps 3
@@ -73,7 +73,8 @@ This is 'right b! !b'. Mended, on the whole chip:
 
 const CHECK: &str = "\
 check: the node has posted a word, and waits until the neighbour has read it. A
-neighbour that is idle reads it too, and executes it.
+neighbour that is idle reads it too, at the next turn to its side, and executes
+it: here 709 would stop at IoRead.
 
   $ printf '%s\\n' 'profile 1' place 'node 708 right b! 5 !b' go 'turn 8' \\
     'regs 708' | ga-bench debug
@@ -121,7 +122,7 @@ says that the node has stopped, and nothing changes.
   node 000 P 001 A 00000 B 15D R 00000 S 00000 T 00000 io 00000 at slot0 steps 1
    need stopped IoRead
 
-Mended: B names memory and not io, as it does after reset.
+Mended: B names memory; after reset it names io.
 
   $ printf '%s\\n' 'profile 1' place 'node 000 0 b! @b' go 'turn 3' \\
     'try 000 r' | ga-bench debug

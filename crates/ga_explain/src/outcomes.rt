@@ -36,8 +36,8 @@ Nothing is to be mended. Of nodes that do nothing it is none:
 
 const WAITS: &str = "\
 waits: the node can't make its step now. It takes a word, and none is there, or
-not at the side that the try names; its own word isn't read yet; or its stream
-has no more words. 'regs' tells its need.
+not at the side that the try names; its own word isn't read yet; its stream has
+no more words; or its port has no neighbour. 'regs' tells its need.
 
   $ printf '%s\\n' 'profile 1' place 'node 709 right a! @' go 'turn 3' \\
     'try 709 r' | ga-bench debug

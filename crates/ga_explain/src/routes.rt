@@ -20,8 +20,8 @@ pub fn topics() -> [Topic; 5]
 
 const BAD_ROUTE: &str = "\
 BadRoute: ROUTE isn't names of nodes, three digits each, with commas between
-them and no blanks; or the second line of a replay text is neither 'place' nor
-'route' and such names.
+them and no blanks; or the second line of a session or of a replay text is
+missing, or is neither 'place' nor 'route' and such names.
 
   $ echo 'node 709 .' | ga-bench boot '708, 709'
   ga-bench: route BadRoute
@@ -52,7 +52,8 @@ Mended:
 
 const NOT_NEIGHBOUR: &str = "\
 NotNeighbour: a node of the route, counted from 0, is no neighbour of the node
-before it. Neighbours are one row apart, or one column.
+before it. Neighbours stand side by side in one row, as 708 and 709, or in one
+column, as 708 and 608. A node twice in a row, as 708,708, is told so too.
 
   $ echo 'node 710 .' | ga-bench boot 708,710
   ga-bench: route NotNeighbour 1

@@ -27,8 +27,10 @@ pub fn topics() -> [Topic; 12]
 
 const BAD_COMMAND: &str = "\
 BadCommand: the first word of a line is no command, in lower case, or words are
-left over; an empty word too, so two spaces or one at the end. In a replay text
-also 'try' or 'turn' without a statement behind '=', and 'regs', 'mem', 'ports'.
+left over: so a blank in front or at the end, and in 'debug' a statement. Two
+blanks in between make an empty word, with the fault of what belongs there. In
+a replay text also 'regs', 'mem', 'ports', and a statement that 'try' or 'turn'
+lacks, that can't be read, or that stands behind another command.
 
   $ printf 'profile 1\\nplace\\nnode 000 .\\ngo\\nTry 000 r\\n' | ga-bench debug
   refused BadCommand
@@ -85,7 +87,7 @@ Mended:
 
 const NOT_HELD: &str = "\
 NotHeld: a pass is for a node that is held: one that is about to fetch at a
-breakpoint, hasn't stopped, and has no pass yet. No try is needed to find out.
+breakpoint, hasn't stopped, and has no pass yet. It needn't have been tried.
 
   $ printf 'profile 1\\nplace\\nnode 000 .\\ngo\\npass 000\\n' | ga-bench debug
   refused NotHeld

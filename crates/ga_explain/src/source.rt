@@ -25,7 +25,8 @@ pub fn topics() -> [Topic; 10]
 
 const BAD_TOKEN: &str = "\
 BadToken: a token that the language doesn't have, or one that may not stand
-there. The line and the column are those of the token. Tokens end at blanks.
+there. The line and the column are those of the token, or of the text's end
+where something is missing. Tokens end at blanks.
 
   $ echo 'node 709 0x15' | ga-bench asm
   ga-bench: source 1:10 BadToken
@@ -37,7 +38,8 @@ Mended:
   049B2 00015
 
 Elsewhere                  Here
-0x15, 15h, #21             $15, or 21: numbers are decimal, or have a $
+0x15, 15h, #21, 1D5        $15, 21, $1D5: decimal, or hex with a $
+123456789                  at most eight digits
 -1                         $3FFFF, or '0 -': there are no signs
 xor, inv, nop, ret         or, -, ., ;
 >r, r>, @a, !a             push, pop, @, !
@@ -45,18 +47,20 @@ DUP                        dup: opcodes are in lower case
 @p, !p                     a number is @p with its word; else in brackets
 : foo, or foo : apart      foo: is one token
 foo!: or a long name       one to sixteen letters, digits and _, no digit first
-foo, as a call             call foo, or jump foo for its last one
+foo, as a call             call foo; where ; follows, jump foo
 table, as a number         [ @p . . . ] , table
 ( a note ), \\note          \\ and a blank, up to the line's end
 if .. then, begin .. until labels, and jumps to them
 for .. next                push again: .. next again
 ..                         align
+] or / outside brackets    only in brackets
+a byte order mark          none: save the text without it, told at 1:1
 r---, north                right; for a direction the side: docs/CHIP.md
 , 5 between instructions   behind a word in brackets with @p, or behind data
 dup behind data            only labels and , words stand there
 jump, and then nothing     a number or a name behind it, and no opcode's name
 
-docs/COMING-FROM.md has each of these with what the program says.
+docs/COMING-FROM.md shows notations of others, with what the program says.
 ";
 
 const NUMBER_RANGE: &str = "\
@@ -148,9 +152,10 @@ Mended:
 ";
 
 const BAD_WORD: &str = "\
-BadWord: of source text, a token in brackets that has no room in the word, a
-number that doesn't fit its slot, or [ ]; or an item where the word before still
-lacks a follower. Slot 3 has room for ; unext @p !p +* + dup . alone.
+BadWord: of source text, the first token in brackets that can't stand there: an
+opcode for which the word has no room, a number or name that no opcode takes, a
+number over its field, the ] of [ ]; or an item where the word before lacks a
+follower. Slot 3 has room for ; unext @p !p +* + dup . alone.
 
   $ echo 'node 709 [ dup dup dup drop ]' | ga-bench asm
   ga-bench: source 1:24 BadWord
@@ -161,7 +166,8 @@ Mended, as two words:
   node 709 entry 000 code 2 words 2
   24D92 3A9B2
 
-Of words it is a token that isn't five hex digits up to 3FFFF, counted from 0:
+Of words it is the first token, counted from 0, that isn't five hex digits up to
+3FFFF:
 
   $ echo '04A12 5' | ga-bench one 5
   ga-bench: words 1 BadWord

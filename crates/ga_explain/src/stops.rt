@@ -26,7 +26,7 @@ is here, since no run gets so far.
 
 const EXTENDED: &str = "\
 Extended: bit 9 of P is set at a fetch, which asks for extended arithmetic. The
-bench doesn't have that, so jump to addresses below 200.
+bench doesn't have that, so jump to addresses below $200.
 
   $ echo 10200 | ga-bench one 9
   node 000 P 200 A 00000 B 15D R 00000 S 00000 T 00000 io 00000 at fetch steps 2
@@ -41,7 +41,7 @@ This is 'jump $200'. Mended, as 'jump 0':
 
 const IO_READ: &str = "\
 IoRead: a read or a fetch at io, 15D, which the bench doesn't model. B is 15D
-after reset, and memory that nothing was put into reads '@b @b @b ..', so a
+after reset, and memory that nothing was put into reads '@b and @b +', so a
 program that runs on behind its last word stops here too.
 
   $ printf '%s\\n' 'profile 1' place 'node 000 5' go 'turn 99' 'regs 000' |
@@ -60,7 +60,7 @@ Mended, with an end at which it waits for a neighbour:
 ";
 
 const ROM: &str = "\
-Rom: a read or a fetch in ROM, 080 to 0FF, but at 0A9 and 0E9, or a write there.
+Rom: any write from 080 to 0FF, or a read or a fetch there but at 0A9 and 0E9.
 The one word of ROM that the bench has is at 0A9, warm: a jump to the ports.
 
   $ echo 10080 | ga-bench one 9
