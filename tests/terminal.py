@@ -2,7 +2,8 @@
 """Runs PROGRAM at a terminal, and without one: tests/terminal.py PROGRAM
 
 Where standard input is a terminal, one line on standard error says so and what ends the input; else there is none.
-The output is the same. `explain` reads nothing, and says nothing. The last line that is printed is 'N passed, M failed', and the exit status is 0 where M is 0.
+The output is the same. `explain` reads nothing, so it has no such line at a terminal either. The last line that is
+printed is 'N passed, M failed', and the exit status is 0 where M is 0.
 """
 import os
 import pty
