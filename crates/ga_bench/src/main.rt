@@ -1,4 +1,4 @@
-//! The bench of the GA144: each subcommand reads one input and writes one text.
+//! The bench of the GA144: each subcommand writes one text, and all but `explain` read one input.
 #![tactic(auto)]
 
 ghost use Rattle.std.specs.Prelude.{◌≡◌, IfErr, IfOk, IfSome, map, string_bytes};

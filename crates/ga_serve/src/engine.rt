@@ -13,8 +13,8 @@ use std::io::{Read, Write};
 use std::thread::Threads;
 
 /// Serves a job, the engine under every subcommand: reads the whole input, makes the whole output, and
-/// then writes it. An input has at most 1,048,576 bytes, and comes in at most 2,097,152 reads. For `explain` nothing
-/// is read.
+/// then writes it. An input has at most 1,048,576 bytes, and comes in at most 2,097,152 reads. For
+/// `explain` nothing is read.
 ///
 /// The first fault is answered. `Read` and `Input(TooLong)` come while the input is read, the faults of
 /// the input in the order of the job's output, and `Write` last; a front of the output may then have
