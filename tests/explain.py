@@ -4,6 +4,8 @@
 - Its names are those of the tables of faults, needs, stops and outcomes in docs/FORMATS.md and docs/CHIP.md, but for
   what comes up in the library alone. The pages have no name that it lacks.
 - A text is 24 lines of 80 columns at most, that of BadToken longer, and begins with its name.
+- A text has an example that shows its name, and a mended one that doesn't, but for the names of which no example can
+  be recorded (UNRECORDED) and those that need no mending (HARMLESS).
 - Each example in a text is a recorded case in tests/cases/explain.jsonl, with the same input, arguments and output, and
   each case but those of `explain` itself is an example. tests/run_cases.py runs the cases.
 
@@ -26,6 +28,10 @@ LINES, COLUMNS = 24, 80
 
 # Faults of tables that no subcommand tells: they come up in the library alone.
 LIBRARY_ALONE = {"NoWorker", "CutHeader", "CutBody", "AfterEnd"}
+
+# No recorded case can make a read, a write or an allocation fail, or a node step 2^64 times.
+UNRECORDED = {"read", "write", "memory", "Counted"}
+HARMLESS = {"own", "moved"}
 
 
 def rows(page, heading):
@@ -87,17 +93,44 @@ def key_of_example(command, printed):
     return key(shlex.split(args), made.stdout, printed)
 
 
+def explain(program, *names):
+    ran = subprocess.run([program, "explain", *names], stdin=subprocess.DEVNULL, capture_output=True, timeout=SECONDS)
+    if ran.returncode != 0 or ran.stderr:
+        sys.exit(f"explain {' '.join(names)}: status {ran.returncode}, {ran.stderr.decode()}")
+    return ran.stdout.decode()
+
+
+def faults_of_text(name, text, recorded, shown):
+    """Returns what is wrong with a text. Its examples are added to those that are shown."""
+    wrong = [line for line in text.split("\n") if len(line) > COLUMNS]
+    if name != "BadToken" and text.count("\n") > LINES:
+        wrong.append(f"more than {LINES} lines")
+    if not text.startswith(f"{name}: "):
+        wrong.append("doesn't begin with its name")
+    has_name = set()
+    for command, printed in examples(text):
+        has_name.add(re.search(rf"\b{name}\b", printed) is not None)
+        try:
+            it = key_of_example(command, printed)
+        except (AttributeError, subprocess.TimeoutExpired) as error:
+            wrong.append(f"{command}: {error!r}")
+            continue
+        shown.add(it)
+        if it not in recorded:
+            wrong.append(f"no recorded case: {command}")
+    if name not in UNRECORDED and True not in has_name:
+        wrong.append("no example shows the name")
+    if name not in UNRECORDED | HARMLESS and False not in has_name:
+        wrong.append("no example is mended")
+    return wrong
+
+
 def main():
     if len(sys.argv) != 2:
         sys.exit("usage: tests/explain.py PROGRAM")
     program = os.path.abspath(sys.argv[1])
-
-    def explain(*names):
-        ran = subprocess.run([program, "explain", *names], stdin=subprocess.DEVNULL, capture_output=True, timeout=SECONDS)
-        return ran.stdout.decode()
-
     checks = []
-    names, wanted = explain().split(), names_of_pages()
+    names, wanted = explain(program).split(), names_of_pages()
     checks.append(("names that no page has", sorted(set(names) - wanted)))
     checks.append(("names of the pages that are missing", sorted(wanted - set(names))))
     with open(CASES, encoding="utf-8") as lines:
@@ -105,22 +138,7 @@ def main():
     recorded = {key_of_case(case): case["name"] for case in cases if case["args"][0] != "explain"}
     shown = set()
     for name in names:
-        text = explain(name)
-        wrong = [line for line in text.split("\n") if len(line) > COLUMNS]
-        if name != "BadToken" and text.count("\n") > LINES:
-            wrong.append(f"more than {LINES} lines")
-        if not text.startswith(f"{name}: "):
-            wrong.append("doesn't begin with its name")
-        for command, printed in examples(text):
-            try:
-                it = key_of_example(command, printed)
-            except (AttributeError, subprocess.TimeoutExpired) as error:
-                wrong.append(f"{command}: {error!r}")
-                continue
-            shown.add(it)
-            if it not in recorded:
-                wrong.append(f"no recorded case: {command}")
-        checks.append((f"explain {name}", wrong))
+        checks.append((f"explain {name}", faults_of_text(name, explain(program, name), recorded, shown)))
     checks.append(("cases that no text shows", sorted(recorded[it] for it in recorded if it not in shown)))
     for what, wrong in checks:
         if wrong:

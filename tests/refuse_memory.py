@@ -43,6 +43,9 @@ RUNS = [
     (["replay"], b"profile 1\nroute 708\nnode 709 .\ngo\n"),
     (["replay"], b"profile 1\nroute 710,708\nnode 709 .\ngo\n"),
     (["replay"], b"profile 1\nplace\nnode 000 jump x\ngo\n"),
+    (["explain"], b""),
+    (["explain", "NotHeld"], b""),
+    (["explain", "notheld"], b""),
     (["one"], b""),
     (["one", "--help"], b""),
 ]
