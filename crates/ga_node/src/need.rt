@@ -1,6 +1,6 @@
 ghost use Rattle.std.specs.Prelude.{◌≡◌, None, Some};
 ghost use Rattle.ga_node.specs.Line.{need_text, stop_text};
-ghost use Rattle.ga_node.specs.Need.{body_need, fetch_need, held_need, input_need, need_of, op_need, read_need, write_need};
+ghost use Rattle.ga_node.specs.Need.{body_need, fetch_need, held_need, input_need, need_of, read_need, write_need};
 ghost use Rattle.ga_node.specs.inner.Work.{load_need, wants_by_work};
 ghost use Rattle.ga_place.specs.Address.{where_is};
 
@@ -8,7 +8,7 @@ use crate::place::Place;
 use crate::state::NodeState;
 use crate::work::Work;
 use ga_place::{Side, Sides, Where, locate};
-use ga_word::{Op, Word18};
+use ga_word::Word18;
 use std::fmt;
 
 /// Why a node stops. A stop is a fact of the state: nothing changes from then on.
@@ -104,24 +104,14 @@ impl NodeState {
         ensures { result ≡ wants_by_work self.now }
     {
         match self.work() {
-            Work::Opcode(op) => self.op_need(op),
+            Work::FetchP => read_need(locate(self.p)),
+            Work::FetchB => read_need(locate(self.b)),
+            Work::FetchPlus | Work::Fetch => read_need(locate(address_in(self.a))),
+            Work::StoreP => write_need(locate(self.p), self.t),
+            Work::StoreB => write_need(locate(self.b), self.t),
+            Work::StorePlus | Work::Store => write_need(locate(address_in(self.a)), self.t),
             Work::Refetch => fetch_need(self.p),
             Work::Load => self.load_need(),
-        }
-    }
-
-    /// What an opcode needs, where it reads and where it writes; each other opcode is the node's own work.
-    #[inline(always)]
-    fn op_need(&self, op: Op) -> Need
-        ensures { result ≡ op_need op self.now }
-    {
-        match op {
-            Op::FetchP => read_need(locate(self.p)),
-            Op::FetchB => read_need(locate(self.b)),
-            Op::FetchPlus | Op::Fetch => read_need(locate(address_in(self.a))),
-            Op::StoreP => write_need(locate(self.p), self.t),
-            Op::StoreB => write_need(locate(self.b), self.t),
-            Op::StorePlus | Op::Store => write_need(locate(address_in(self.a)), self.t),
             _ => Need::Own,
         }
     }
