@@ -1,5 +1,6 @@
-ghost use Rattle.std.specs.Prelude.{◌≡◌, ◌≢◌, ℕ, List, IfErr, IfSome};
+ghost use Rattle.std.specs.Prelude.{◌≡◌, ◌≢◌, ℕ, false, List, IfErr, IfSome};
 ghost use Rattle.std.specs.Io.KnownBytes.{Keeps};
+ghost use Rattle.ga_command_line.specs.Request.{reads_input};
 ghost use Rattle.ga_serve.specs.Answering.{HasOneOutput};
 ghost use Rattle.ga_serve.specs.Reading.{ConsumesUpTo, ReadsFirst};
 ghost use Rattle.ga_serve.specs.Engine.{Serves, status_of};
@@ -33,6 +34,8 @@ pub fn serve<Rt: AllocGlobal + Threads, R: Read, W: Write>(
     ensures read_no_more { ConsumesUpTo 1048577 (R.remaining reader.old) (R.remaining reader.new) }
 
     // At any reader.
+    ensures unread { reads_input job.now ≡ false → reader.new ≡ reader.old }
+    ensures needs_no_read { reads_input job.now ≡ false → IfErr result (λ fault. fault ≢ ServeError.Read) }
     ensures only { (input : List ℕ) → HasOneOutput job.now input }
     ensures unwritten { IfErr result (λ fault. fault ≢ ServeError.Write
         → Keeps (W.contents writer.old) (W.contents writer.new)) }
@@ -52,6 +55,7 @@ fn respond<Rt: AllocGlobal + Threads, W: Write>(
     input: &[u8],
 ) -> Result<(), ServeError>
     ensures served { Serves job.now input.now (W.contents writer.old) (W.contents writer.new) result }
+    ensures no_read { IfErr result (λ fault. fault ≢ ServeError.Read) }
     ensures unwritten { IfErr result (λ fault. fault ≢ ServeError.Write
         → Keeps (W.contents writer.old) (W.contents writer.new)) }
 {

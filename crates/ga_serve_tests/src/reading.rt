@@ -1,6 +1,7 @@
 //! Inputs are read up to the limit, whatever the pieces they come in.
 use crate::streams::{LINE, Restless, WORDS, sink_of, source_of};
 use ga_command_line::Job;
+use ga_explain::Topic;
 use ga_jobs::{ServeError, WordsFault};
 use ga_serve::serve;
 use std::alloc::{AllocError, Global};
@@ -97,10 +98,16 @@ fn reads_each_length(rt: HostRuntime) -> Result<(), Fail> {
 }
 
 #[test]
-fn explains_without_reading(rt: HostRuntime) {
-    let mut reader = source_of(WORDS.as_bytes(), 6);
-    let mut writer = sink_of(rt.alloc(), 8192);
-    let outcome = serve(&rt, &mut reader, &mut writer, &Job::Explain { topic: None });
-    assert!(rt; outcome == Ok(()) && reader.calls == 0);
-    assert!(rt; writer.taken.first() == Some(&b'B') && writer.taken.last() == Some(&b'\n'));
+fn explains_without_reading(rt: HostRuntime) -> Result<(), Fail> {
+    let alloc = rt.alloc();
+    let topic = Topic::named(alloc, "NotHeld")?;
+    assert!(rt; topic.is_some());
+    for (topic, first) in [(None, b'B'), (topic, b'N')] {
+        let mut reader = source_of(WORDS.as_bytes(), 6);
+        let mut writer = sink_of(alloc, 8192);
+        let outcome = serve(&rt, &mut reader, &mut writer, &Job::Explain { topic });
+        assert!(rt; outcome == Ok(()) && reader.calls == 0);
+        assert!(rt; writer.taken.first() == Some(&first) && writer.taken.last() == Some(&b'\n'));
+    }
+    Ok(())
 }
