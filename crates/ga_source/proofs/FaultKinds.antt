@@ -7,7 +7,7 @@ use Rattle.ga_pack.specs.Followers.{followers, is_followed}
 use Rattle.ga_pack.specs.Model.Token.{SourceKind, Token, op, number, name, label, node, node_name, align, data_part, open_mark, close_mark, comma, slash, bad, end, is_node}
 use Rattle.ga_pack.specs.Model.Meaning.{is_reserved}
 use Rattle.ga_pack.specs.Model.Source.{Value, Number, Label, Item, Instruction, Transfer, Literal, Here, Align, Word, WordTo, Plain, Data, Section, Part, Code, Behind, start, part_after, is_among, is_named}
-use Rattle.ga_pack.specs.Model.SourceFault.{in_brackets, in_data, wants_value, kind_at, name_fault, bracket_fault, value_fault, item_fault}
+use Rattle.ga_pack.specs.Model.SourceFault.{in_brackets, in_data, wants_value, kind_at, bracket_fault, value_fault, item_fault}
 use Rattle.ga_pack.specs.Slots.{dest_bound, op_fits}
 use Rattle.ga_source.specs.inner.Machine.{At, between, behind_op, behind_comma, in_word, behind_dest_op, behind_dest, behind_slash, behind_spare, Inside, State, nothing, naming, inside, finished, closed, added, take, take_between, take_first, take_label, with_part, owed_fault, Good}
 use Rattle.ga_source.proofs.Steps.{on_test}
@@ -163,22 +163,6 @@ code_data c u r n rd e = rd.part ∙ ap is_behind e
 part_kind : (c : Inside) (part : Part) (u t : Token) (r : List Token) (k : SourceKind) → c.before.part ≡ part → Read c between u r → k ≡ item_fault (is_behind part) t → k ≡ kind_at (u ∷ r) t
 part_kind c part u t r k e rd h = item_kind_of c u t r k rd (h ∙ ap (λ x. item_fault (is_behind x) t) (sym e))
 
-owed_kind : (t : Token) → (is_node t ≡ false) → ((s : List ℕ) → t ≡ label s → ⊥) → ((k : SourceKind) → t ≡ bad k → ⊥) → (t ≡ end → ⊥) → owed_fault t ≡ item_fault false t
-owed_kind (op o) a b d e = refl
-owed_kind (number n) a b d e = refl
-owed_kind align a b d e = refl
-owed_kind open_mark a b d e = refl
-owed_kind (label s) a b d e = absurd (b s refl)
-owed_kind (bad k) a b d e = absurd (d k refl)
-owed_kind end a b d e = absurd (e refl)
-owed_kind node a b d e = absurd (cc)
-owed_kind (name s) a b d e = refl
-owed_kind (node_name n) a b d e = refl
-owed_kind data_part a b d e = refl
-owed_kind close_mark a b d e = refl
-owed_kind comma a b d e = refl
-owed_kind slash a b d e = refl
-
 abbrev Begins1 : Token → Type 0
 Begins1 (bad k) = ⊥
 Begins1 end = ⊥
@@ -219,10 +203,6 @@ unfolding kind_at
 nothing_shaped (bad k) = λ f. refl
 nothing_shaped node = ([], refl, refl)
 nothing_shaped t = λ f. refl
-
-name_kind : (back : List Token) (t : Token) → kind_at (node ∷ back) t ≡ name_fault t
-unfolding kind_at
-name_kind back t = refl
 
 naming_shaped : (done : List Section) (seen : List ℕ) (t : Token) (r : List Token) → in_brackets r ≡ false → Shaped (naming done seen) (node ∷ r) t (take (naming done seen) t)
 unfolding kind_at

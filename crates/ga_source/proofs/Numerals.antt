@@ -8,16 +8,13 @@ use Rattle.std.proofs.Math.Nat.{mul-le-mul_left, pow-le-pow_right, pow-suc}
 use Rattle.std.proofs.Math.Seq.{drop-cons}
 use Rattle.std.proofs.lemmas.List.{drop_all}
 use Rattle.std.proofs.lemmas.Bool.{le-leb, ltb-true}
-use Rattle.ga_pack.specs.Model.Meaning.{is_numeral, numeral}
+use Rattle.ga_pack.specs.Model.Meaning.{numeral}
 
 -- so many digits are read, and this is the number that they write
 pub record ReadsDigits (radix : ℕ) (digits : List ℕ) (index number : ℕ) : Type 0 where
   pub small : number < 16 ^ index
   pub value : digits_value radix digits ≡ digits_value_after radix number (drop index digits)
   pub all : list_all (λ c. is_digit c radix) digits ≡ list_all (λ c. is_digit c radix) (drop index digits)
-
-pub no_digits : (radix : ℕ) (digits : List ℕ) → ReadsDigits radix digits 0 0
-no_digits radix digits = record { small = omega arith; value = refl; all = refl }
 
 pub small_number : (radix : ℕ) (digits : List ℕ) (index number : ℕ) → ReadsDigits radix digits index number → index < 8 → number < 16 ^ 7
 small_number radix digits index number reads le = let more = pow-le-pow_right {n = 16} (omega arith) {i = index} {j = 7} (omega arith) in let small = reads.small in omega arith
@@ -38,10 +35,6 @@ more_digits radix digits index number d digit reads inside sixteen at is_one val
       value = reads.value ∙ ap (digits_value_after radix number) rest ∙ ap (λ (v : ℕ). digits_value_after radix (number * radix + v) (drop (index + 1) digits)) (sym value);
       all = reads.all ∙ ap (list_all (λ c. is_digit c radix)) rest ∙ ap (λ (t : Bool). t && list_all (λ c. is_digit c radix) (drop (index + 1) digits)) is_one;
     }
-
--- the digits are too few or too many
-pub not_a_numeral : (radix : ℕ) (digits : List ℕ) → is_numeral radix digits ≡ false → numeral radix digits ≡ None
-not_a_numeral radix digits e = rw e refl
 
 -- one of them is no digit
 pub no_digit : (radix : ℕ) (digits : List ℕ) (index number d : ℕ) → ReadsDigits radix digits index number → index < length digits → d ≡ get_or digits index 0 → is_digit d radix ≡ false → numeral radix digits ≡ None

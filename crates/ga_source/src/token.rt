@@ -151,6 +151,7 @@ impl<'a> Iterator for Texts<'a> {
 }
 
 /// The first token of a text, and what stands behind it.
+#[inline(always)]
 fn next_token(text: &[u8]) -> Option<(&[u8], &[u8])>
     ensures some { IfSome result (λ parts. Found text.now parts.0.now parts.1.now) }
     ensures none { result ≡ None → (p : model.Place) (start : ℕ) → lexemes_at p start text.now ≡ [] }
