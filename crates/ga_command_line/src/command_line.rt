@@ -44,7 +44,8 @@ impl From<AllocError> for LineError {
     }
 }
 
-/// Reads a command line, of which the first word is the program's name.
+/// Reads a command line, of which the first word is the program's name. It fails as `Parse` where the words are no
+/// command line, or ask for help or the version, and as `Memory` only where memory is refused.
 pub fn job(alloc: Global, words: &[&str]) -> Result<Job, LineError>
     ensures in_range { IfOk result InRange }
     ensures named { IfOk result (IsJobOf (map (λ word. word.now) words.now)) }

@@ -12,12 +12,13 @@ Writes the reply to each command, or 'refused' and why, and goes on.
 
   break NNN HHH   node NNN, three digits, is held before it fetches at address HHH, three hex digits
   clear NNN HHH   it is held there no more
-  pass NNN        a node that is held makes its fetch
+  pass NNN        a node that is held isn't held at its next fetch
   try NNN SIDE    one try of the node, for the side r, d, l or u where it reads at several ports
   turn K          K turns, to 1000000: each tries all 144 nodes once, with the side right, down, left,
                   up, and again, beginning with right. 'moved 0' of fewer than four turns doesn't show
                   that all nodes stand still
-  regs NNN        the node's registers; mem NNN its memory, ports NNN the words that it has written
+  regs NNN        the node's registers; mem NNN its memory, ports NNN how many words went through
+                  each of its ports
 
 Example: printf 'profile 1\\nplace\\nnode 000 .\\ngo\\nturn 4\\nregs 000\\n' | ga-bench debug
 More: docs/GUIDE.md, and Sessions in docs/FORMATS.md";
