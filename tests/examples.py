@@ -201,7 +201,7 @@ def moving_sum(bench, source, chance):
 
 
 def sort(bench, source, chance):
-    """The nodes hold the words in order, by one worker and by three."""
+    """The nodes hold the words in order."""
     lists = [[0x20000, 5, 0x3FFFF, 0, 0x1FFFF, 5, 0x10000], [*range(7)], [*range(7)][::-1], [5] * 7]
     lists += [[0x1FFFF, 0x20000, 0, 0x3FFFF, 1, 0x20001, 0x1FFFE]]
     lists += [([0] * small + [0x3FFFF] * (7 - small))[::order] for small in range(1, 7) for order in (1, -1)]
@@ -209,10 +209,9 @@ def sort(bench, source, chance):
     lists += [[chance.randrange(WORDS) for _ in range(7)] for _ in range(20)]
     for words in lists:
         text = with_words(source, "words", words)
-        for workers in (1, 3):
-            lines = bench.run(f"run {','.join(ROW)} {workers} 5000", text)
-            held = [field(line, "T") for line in lines if line.startswith("node")]
-            bench.same(f"sorted by {workers}: {shown(words)}", held, sorted(words))
+        lines = bench.run(f"run {','.join(ROW)} 1 5000", text)
+        held = [field(line, "T") for line in lines if line.startswith("node")]
+        bench.same(f"sorted: {shown(words)}", held, sorted(words))
 
 
 def sent_at_boot(images, route):
@@ -394,20 +393,18 @@ def send(bench, source, chance):
 
 
 def sum_(bench, source, chance):
-    """The sum of two words, by one worker and by two."""
+    """The sum of two words."""
     for first in EDGES[::3]:
         for second in EDGES[::3]:
-            for workers in (1, 2):
-                lines = bench.run(f"run 708,709 {workers} 300", source.replace("$5 $7", f"{first} {second}"))
-                bench.same(f"{first:05X} and {second:05X}", field(lines[6], "T"), (first + second) % WORDS)
+            lines = bench.run("run 708,709 1 300", source.replace("$5 $7", f"{first} {second}"))
+            bench.same(f"{first:05X} and {second:05X}", field(lines[6], "T"), (first + second) % WORDS)
 
 
 def ring(bench, source, chance):
-    """Three nodes add 1 each, by one to four workers."""
+    """Three nodes add 1 each."""
     for number in [1, 0, 0x3FFFF, 0x3FFFE, 0x12345]:
-        for workers in (1, 2, 3, 4):
-            lines = bench.run(f"run 708,709,609,608 {workers} 1000", source.replace("$1 !", f"{number} !"))
-            bench.same(f"{number:05X} by {workers}", field(lines[0], "T"), (number + 3) % WORDS)
+        lines = bench.run("run 708,709,609,608 1 1000", source.replace("$1 !", f"{number} !"))
+        bench.same(f"{number:05X} round the ring", field(lines[0], "T"), (number + 3) % WORDS)
 
 
 DATA = [blinker, multiply, echo, fill, two_nodes, send, sum_, ring]

@@ -14,7 +14,7 @@ static long refused(void) {
     return number ? atol(number) : 0;
 }
 
-static int is_refused(void) { return ++calls == refused(); }
+static int is_refused(void) { return __atomic_add_fetch(&calls, 1, __ATOMIC_SEQ_CST) == refused(); }
 
 void *malloc(size_t size) {
     void *(*next)(size_t) = dlsym(RTLD_NEXT, "malloc");

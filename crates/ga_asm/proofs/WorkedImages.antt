@@ -75,6 +75,6 @@ main_second = record {
 }
 
 -- `node 000 jump x`
-pub told : error_text (record { kind = UndefinedLabel; node = 0; line = 1; column = 15 }) ≡ codes "000 1:15 UndefinedLabel"
+pub undefined_text : error_text (record { kind = UndefinedLabel; node = 0; line = 1; column = 15 }) ≡ codes "000 1:15 UndefinedLabel"
 unfolding digits
-told = refl
+undefined_text = refl

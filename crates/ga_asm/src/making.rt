@@ -28,8 +28,8 @@ use ga_word::{Op, Word18};
 use indexmap::IndexMap;
 use std::alloc::Global;
 
-fn number_of(labels: &IndexMap<String, u8>, value: &Value) -> Word18
-    ensures { result ≡ laid.number_of (labels_of labels.now.entries) (value_of value.now) }
+fn value_number(labels: &IndexMap<String, u8>, value: &Value) -> Word18
+    ensures { result ≡ laid.value_number (labels_of labels.now.entries) (value_of value.now) }
 {
     value_among(labels, value).unwrap_or_default()
 }
@@ -38,7 +38,7 @@ fn number_of(labels: &IndexMap<String, u8>, value: &Value) -> Word18
 fn dest_in(labels: &IndexMap<String, u8>, slot: usize, value: &Value) -> u16
     ensures { result ≡ laid.dest_in (labels_of labels.now.entries) slot (value_of value.now) }
 {
-    (number_of(labels, value).get() % u32::from(dest_bound(slot))) as u16
+    (value_number(labels, value).get() % u32::from(dest_bound(slot))) as u16
 }
 
 fn item_dest(labels: &IndexMap<String, u8>, slot: usize, item: &Item) -> Option<u16>
@@ -180,7 +180,7 @@ fn push_alone(
             words.push(word_to(labels, bracketed))?;
         }
         Item::Plain(value) => {
-            words.push(number_of(labels, value))?;
+            words.push(value_number(labels, value))?;
         }
         _ => {}
     }

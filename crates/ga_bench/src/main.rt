@@ -34,7 +34,7 @@ fn main(rt: HostRuntime) -> ExitCode {
 }
 
 /// Serves a job, and tells why it could not be served. Answers the exit status.
-fn serve_job<Rt: AllocGlobal + Eprint + Threads, R: Read, W: Write>(
+fn serve_job<Rt: AllocGlobal + Eprint + Threads + Sync, R: Read, W: Write>(
     rt: &Rt,
     reader: &mut R,
     writer: &mut W,
@@ -89,7 +89,8 @@ fn job_of_words(alloc: Global, words: &[String]) -> Result<Job, LineError>
     ensures in_range { IfOk result InRange }
     ensures named { IfOk result (IsJobOf (map string_bytes words.now)) }
     // Right words are refused only for want of memory.
-    ensures right { IfErr result (λ error. (job : Job) → IsRight (map string_bytes words.now) job → error ≡ LineError.Memory) }
+    ensures right { IfErr result (λ error. (job : Job) → IsRight (map string_bytes words.now) job
+        → error ≡ LineError.Memory) }
 {
     let mut line = Vec::new(alloc);
     for word in words {

@@ -1,5 +1,7 @@
 pub mod Lists
 pub mod Parts
+pub mod Asked
+pub mod Found
 pub mod Events
 pub mod Kept
 pub mod Runs
@@ -22,6 +24,7 @@ pub mod Members
 pub mod Stays
 pub mod Awake
 pub mod Tries
+pub mod Sides
 pub mod Uses
 pub mod Holds
 mod WorkedChip

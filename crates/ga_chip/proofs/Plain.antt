@@ -4,6 +4,7 @@ use Rattle.std.proofs.lemmas.Bool.{false≢true}
 use Rattle.std.specs.Prelude.{◌&&◌, ◌||◌, not, if◌then◌else◌}
 use Rattle.ga_place.specs.declared.side.Side.{Side}
 use Rattle.ga_node.specs.State.{State, is_fetch}
+use Rattle.ga_node.specs.declared.place.Place.{Place}
 use Rattle.ga_node.specs.Need.{is_own, need_of}
 use Rattle.ga_node.specs.Slot.{step_if_own}
 use Rattle.ga_place.specs.Cell.{cell_of, read_cell}
@@ -31,6 +32,10 @@ unset_free fetch pass breaks at e = never fetch pass (get_or breaks at false) (a
     never true true b none = refl
     never true false b none = none
     never false p b none = refl
+
+-- a step of the node's own that isn't a fetch is made
+pub behind_fetch_made : (may_fetch made : Bool) (place : Place) (n : Need) → made ≡ ((not (is_fetch place) || may_fetch) && is_own n) → n ≡ need.Own → is_fetch place ≡ false → made ≡ true
+behind_fetch_made may_fetch made place n e own off = e ∙ ap₂ (λ fetch m. (not fetch || may_fetch) && is_own m) off own
 
 -- a node that isn't held asks by its need
 pub free_asks : (part : Part) (side : Side) (n : Need) → is_held part ≡ false → n ≡ need_of part.state → asks part side ≡ asks_by n part.state.node part.stream side
@@ -126,19 +131,3 @@ after_by part side cells q r e is = is ∙ ap (λ a. after_asked a (found_by a c
 
 pub cells_by : (part : Part) (side : Side) (cells left : List (Option ℕ)) (q : Asks) → asks part side ≡ q → left ≡ cells_after q cells → left ≡ cells_after (asks part side) cells
 cells_by part side cells left q e is = is ∙ ap (λ a. cells_after a cells) (sym e)
-
--- a check leaves the cells
-pub check_keeps : (side : Side) (at : Option ℕ) (cells : List (Option ℕ)) → cells ≡ cells_after (check_of side at) cells
-check_keeps side None cells = refl
-check_keeps side (Some cell) cells = refl
-
--- a word of the stream touches no cell
-pub feed_finds : (stream : Option (List ℕ)) (cells : List (Option ℕ)) → found_by (input_of stream) cells ≡ None
-feed_finds (Some (word ∷ rest)) cells = refl
-feed_finds (Some []) cells = refl
-feed_finds None cells = refl
-
-pub feed_keeps : (stream : Option (List ℕ)) (cells : List (Option ℕ)) → cells ≡ cells_after (input_of stream) cells
-feed_keeps (Some (word ∷ rest)) cells = refl
-feed_keeps (Some []) cells = refl
-feed_keeps None cells = refl

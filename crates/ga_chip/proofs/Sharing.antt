@@ -1,20 +1,17 @@
 -- The ports of a node are what it shares with its neighbours.
-use Rattle.std.proofs.Common.{◌≡◌, ℕ, ◌⊎◌, inl, inr, ◌<◌, List, [], ◌∷◌, length, get_or, zero-add, Option, Some, None, option_map, is_some, refl, sym, ap, ap₂, ◌∙◌, subst}
-use Rattle.std.proofs.lemmas.List.FromFn.{get_or-map-range_with_len}
+use Rattle.std.proofs.Common.{◌≡◌, ℕ, ◌⊎◌, inl, inr, ◌<◌, [], ◌∷◌, Option, Some, None, option_map, is_some, refl, sym, ap, ap₂, ◌∙◌, subst}
 use Rattle.std.proofs.lemmas.Option.{none-some, same_Some}
 use Rattle.std.specs.Option.{option_and_then}
-use Rattle.ga_place.specs.Cell.{cell_of, index_of, name_at, read_cell}
+use Rattle.ga_place.specs.Cell.{cell_of, index_of, read_cell}
 use Rattle.ga_place.specs.Node.{IsNodeName}
 use Rattle.ga_place.specs.Side.{neighbour_of}
 use Rattle.ga_place.specs.declared.side.Side.{Side}
 use Rattle.ga_place.specs.declared.side.Side.TheVariants.{Right, Down, Left, Up}
-use Rattle.ga_place.proofs.Cells.{index_below, is_node}
-use Rattle.ga_place.specs.inner.Index.{index_back}
+use Rattle.ga_place.proofs.Cells.{index_below}
 use Rattle.ga_place.proofs.CellNumbers.{cell_there, no_cell}
 use Rattle.ga_place.proofs.SideLemmas.{neighbour_of-IsNodeName, shared_port}
 use Rattle.ga_chip.specs.declared.port.Port.{Port}
-use Rattle.ga_chip.specs.declared.port.Ports.{Ports}
-use Rattle.ga_chip.specs.inner.Port.{FitsPorts, all_ports, port_at, port_of, port_with, ports_of}
+use Rattle.ga_chip.specs.inner.Port.{FitsPorts, port_at, port_of, port_with, ports_of}
 
 at_side : (name : ℕ) (side : Side) → port_at side (ports_of name) ≡ port_of name side
 unfolding ports_of
@@ -73,18 +70,6 @@ fits_ports name named = record {
         let at : Some port.neighbour ≡ Some (index_of other) =
         ap (option_map (λ port. port.neighbour)) (sym there ∙ at_side name side) ∙ neighbours_with _ _ _ (alike name side named) ∙ ap (option_map index_of) e in
         subst (λ n. n < 144) (sym (same_Some port.neighbour (index_of other) at)) (index_below other (neighbour_of-IsNodeName name other side named e))
-
--- the ports that the code has of the node at a place
-pub ports_at : (ports : List Ports) (index : ℕ) (here : Ports) → ports ≡ all_ports → index < 144 → here ≡ get_or ports index here → FitsPorts (name_at index) here
-unfolding all_ports
-ports_at ports index here e below read =
-    subst (FitsPorts (name_at index))
-    (sym (read ∙ ap (λ l. get_or l index here) e ∙ get_or-map-range_with_len (λ at. ports_of (name_at at)) 0 144 index index here below (zero-add index)))
-    (fits_ports (name_at index) (is_node (name_at index) (subst (λ i. i < 144) (sym (index_back index below)) below)))
-
-pub how_many : length all_ports ≡ 144
-unfolding all_ports
-how_many = refl
 
 -- the ports of a node, as the code makes them
 pub ports_made : (name : ℕ) (right down left up : Option Port) → right ≡ port_of name Right → down ≡ port_of name Down → left ≡ port_of name Left → up ≡ port_of name Up → record { by_side = right ∷ down ∷ left ∷ up ∷ [] } ≡ ports_of name

@@ -1,7 +1,6 @@
 -- A try at a part that is there, and that only Moved changes anything.
-use Rattle.std.proofs.Common.{◌≡◌, ℕ, ◌<◌, length, slice_get, subst, List, take, ◌++◌, set, get_or, Option, Some, None, refl, sym, ap, ap₂, ◌∙◌}
-use Rattle.std.proofs.Math.Seq.{take-append_seam}
-use Rattle.std.proofs.lemmas.List.{set-get_or, get_or_read}
+use Rattle.std.proofs.Common.{◌≡◌, ℕ, ◌<◌, length, slice_get, List, set, get_or, Option, Some, None, refl, sym, ap, ap₂, ◌∙◌}
+use Rattle.std.proofs.lemmas.List.{set-get_or}
 use Rattle.std.proofs.lemmas.Option.{slice_get_read}
 use Rattle.ga_place.specs.declared.side.Side.{Side}
 use Rattle.ga_place.specs.Cell.{index_of}
@@ -11,7 +10,7 @@ use Rattle.ga_chip.specs.Part.{Part, Asks, Nothing, Own, Feed, Post, Take, Check
 use Rattle.ga_chip.specs.Chip.{Chip, part_of, found_by, cells_after, tried, tried_at, tried_by}
 use Rattle.ga_chip.specs.Run.{happened, Try}
 use Rattle.ga_chip.specs.Legal.{IsLegal}
-use Rattle.ga_chip.proofs.Kept.{cells_kept, legal_kept}
+use Rattle.ga_chip.proofs.Kept.{legal_kept}
 use Rattle.ga_chip.proofs.Plain.{after_by, cells_by}
 use Rattle.ga_chip.proofs.Lists.{set-get}
 use Rattle.ga_chip.proofs.Parts.{still_after}
@@ -62,23 +61,13 @@ legal_tried chip name side legal = legal_kept chip (Try name side) legal
 pub part_at : (chip : Chip) (name index : ℕ) (part : Part) → length chip.parts ≡ 144 → index ≡ index_of name → index < 144 → part ≡ get_or chip.parts index part → part_of chip name ≡ Some part
 part_at chip name index part full is below read = ap (slice_get chip.parts) (sym is) ∙ slice_get_read chip.parts 144 index part (sym full) below read
 
--- a row that was lent whole and is put back
-put_back : {A : Type 0} (n : ℕ) (row rest : List A) → length row ≡ n → take n (row ++ rest) ≡ row
-put_back n row rest e = ap (λ m. take m (row ++ rest)) (sym e) ∙ take-append_seam row rest
-
 -- A try as the code makes it: it tries the part with the cells, and puts back what comes of them.
-pub attempt_at : (chip : Chip) (name index : ℕ) (side : Side) (part next : Part) (outcome : Outcome) (n : ℕ) (lent left rest : List (Option ℕ)) → IsLegal chip → index ≡ index_of name → index < 144 → part ≡ get_or chip.parts index part → lent ≡ chip.cells → length lent ≡ n → ◌≡◌ {A = Outcome × Part} (outcome, next) (after part side (found_by (asks part side) lent)) → left ≡ cells_after (asks part side) lent → ◌≡◌ {A = Outcome × Chip} (outcome, record { parts = set chip.parts index next; cells = take n (left ++ rest) }) (tried chip name side)
-attempt_at chip name index side part next outcome n lent left rest legal is below read same count done put =
+pub attempt_at : (chip : Chip) (name index : ℕ) (side : Side) (part next : Part) (outcome : Outcome) (left : List (Option ℕ)) → IsLegal chip → index ≡ index_of name → index < 144 → part ≡ get_or chip.parts index part → ◌≡◌ {A = Outcome × Part} (outcome, next) (after part side (found_by (asks part side) chip.cells)) → left ≡ cells_after (asks part side) chip.cells → ◌≡◌ {A = Outcome × Chip} (outcome, record { parts = set chip.parts index next; cells = left }) (tried chip name side)
+attempt_at chip name index side part next outcome left legal is below read done put =
     let there : part_of chip name ≡ Some part = part_at chip name index part legal.parts is below read in
-    let whole : length left ≡ n = ap length put ∙ cells_kept (asks part side) lent ∙ count in
-    ap₂ (λ r cs. (r.0, record { parts = set chip.parts index r.1; cells = cs })) done (put_back n left rest whole ∙ put)
-    ∙ ap₂ (λ i cs. ((after part side (found_by (asks part side) cs)).0, record { parts = set chip.parts i (after part side (found_by (asks part side) cs)).1; cells = cells_after (asks part side) cs })) is same
+    ap₂ (λ r cs. (r.0, record { parts = set chip.parts index r.1; cells = cs })) done put
+    ∙ ap (λ i. ((after part side (found_by (asks part side) chip.cells)).0, record { parts = set chip.parts i (after part side (found_by (asks part side) chip.cells)).1; cells = cells_after (asks part side) chip.cells })) is
     ∙ sym (tried_there chip name side part there)
-
--- the node at a place has that place
--- what is pending, as the code reads it
-pub found_at : (cells : List (Option ℕ)) (cell index : ℕ) (found : Option ℕ) → length cells ≡ 524 → index ≡ cell → cell < 524 → found ≡ get_or cells index found → found ≡ get_or cells cell None
-found_at cells cell index found full is below read = get_or_read cells cell found (subst (λ n. cell < n) (sym full) below) (read ∙ ap (λ i. get_or cells i found) is) None
 
 -- a try that is the node's own work
 pub own_at : (chip : Chip) (name index : ℕ) (side : Side) (part next : Part) → IsLegal chip → index ≡ index_of name → index < 144 → part ≡ get_or chip.parts index part → asks part side ≡ Own → next ≡ stepped None part → ◌≡◌ {A = Outcome × Chip} (Moved, record chip { parts = set chip.parts index next }) (tried chip name side)

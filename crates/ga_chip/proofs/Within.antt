@@ -1,5 +1,5 @@
 -- A step keeps the bounds of the counts.
-use Rattle.std.proofs.Common.{◌≡◌, None, ℕ, ◌+◌, ◌-◌, ◌^◌, ◌<◌, ◌≤◌, Bool, true, false, refl, sym, ap, ◌∙◌, subst, arith}
+use Rattle.std.proofs.Common.{◌≡◌, Option, None, ℕ, ◌+◌, ◌-◌, ◌^◌, ◌<◌, ◌≤◌, Bool, true, false, refl, sym, ap, ◌∙◌, subst, arith}
 use Rattle.std.specs.Prelude.{if◌then◌else◌}
 use Rattle.std.proofs.lemmas.Bool.{false≢true}
 use Rattle.ga_place.specs.declared.side.Side.{Side}
@@ -9,9 +9,11 @@ use Rattle.ga_node.specs.Need.{is_check, is_own, is_post, need_of, takes_at}
 use Rattle.ga_node.specs.Slot.{if_own, step, step_if_own}
 use Rattle.ga_node.specs.declared.need.Need.{Need}
 use Rattle.ga_node.specs.declared.need.Need.TheVariants.{Own, Take, Post, Check, Input, Stopped}
-use Rattle.ga_node.proofs.Rows.{is_running, running_below, step_steps}
+use Rattle.ga_node.proofs.Rows.{is_running, running_below, step_node, step_steps}
 use Rattle.ga_chip.specs.declared.counts.Counts.{Counts}
 use Rattle.ga_chip.specs.Part.{count_at, counted}
+use Rattle.ga_chip.specs.declared.port.Ports.{Ports}
+use Rattle.ga_chip.specs.inner.Port.{FitsPorts}
 use Rattle.ga_chip.specs.inner.Within.{IsWithin, StepsBound}
 
 -- one step more leaves the counts within
@@ -120,3 +122,15 @@ try_bound state next written read e bound = by (is_own (need_of state)) refl
 pub quick_bound : (state next : State) (quick : Bool) (written read : Counts) → next ≡ (if quick then step_if_own (need_of state) state else state) → StepsBound state.steps written read → StepsBound next.steps written read
 quick_bound state next true written read e bound = try_bound state next written read e bound
 quick_bound state next false written read e bound = subst (λ s. StepsBound s.steps written read) (sym e) bound
+
+-- a step keeps the node, and so its ports
+pub ports_stay : (state next : State) (word : Option ℕ) (ports : Ports) → next ≡ step state word → FitsPorts state.node ports → FitsPorts next.node ports
+ports_stay state next word ports e fits = subst (λ name. FitsPorts name ports) (sym (ap (λ s. s.node) e ∙ step_node state word)) fits
+
+pub quick_ports : (state next : State) (quick : Bool) (ports : Ports) → next ≡ (if quick then step_if_own (need_of state) state else state) → FitsPorts state.node ports → FitsPorts next.node ports
+quick_ports state next true ports e fits = by (is_own (need_of state)) refl
+  where
+    by : (b : Bool) → is_own (need_of state) ≡ b → FitsPorts next.node ports
+    by true own = ports_stay state next None ports (own_step state next own e) fits
+    by false far = subst (λ s. FitsPorts s.node ports) (sym (own_still state next far e)) fits
+quick_ports state next false ports e fits = subst (λ s. FitsPorts s.node ports) (sym e) fits

@@ -1,4 +1,5 @@
 pub mod Part
+pub mod Asks
 pub mod Chip
 pub mod Ledger
 pub mod Run

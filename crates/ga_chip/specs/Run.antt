@@ -29,6 +29,10 @@ pub data Event : Type 0 where
 abbrev pub tries_of : List asked.Try → List Event
 tries_of tries = map (λ one. Try one.node one.side) tries
 
+-- the sides that the tries of a node name, in order
+abbrev pub sides_tried : ℕ → List asked.Try → List Side
+sides_tried name tries = map (λ one. one.side) (filter (λ one. one.node == name) tries)
+
 -- the side of the j-th of some turns, from 0: right, down, left, up, and again
 abbrev pub side_of_turn : ℕ → Side
 side_of_turn turn = slice_index_or SIDES (turn % 4) Right
@@ -114,11 +118,6 @@ move_in chip (SetBreak name at) = []
 move_in chip (ClearBreak name at) = []
 move_in chip (PassBreak name) = []
 move_in chip (Piece name words) = []
-
--- a try was Moved
-abbrev pub is_moved : Outcome → Bool
-is_moved Moved = true
-is_moved _ = false
 
 -- the moves of a run in order
 abbrev pub moves : Chip → List Event → List Move

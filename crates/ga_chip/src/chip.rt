@@ -7,16 +7,16 @@ ghost use Rattle.ga_chip.specs.declared.error.ChipError.TheVariants.{NotHeld};
 ghost use Rattle.ga_chip.specs.declared.outcome.Outcome.TheVariants.{Held, Moved};
 ghost use Rattle.ga_chip.specs.Grow.{LedgersGrow};
 ghost use Rattle.ga_chip.specs.Legal.{IsLegal};
-ghost use Rattle.ga_chip.specs.Run.{ClearBreak, PassBreak, SetBreak, happened, is_moved, moves, ran, tries_of, turn_of, turns_of};
+ghost use Rattle.ga_chip.specs.Run.{ClearBreak, PassBreak, SetBreak, happened, moves, ran, tries_of, turn_of, turns_of};
 ghost use Rattle.ga_chip.specs.inner.Outcome.{moved_by};
 
 use crate::error::ChipError;
 use crate::ledger::Ledger;
 use crate::node_set::NodeSet;
-use crate::order::{index_of, node_at};
+use crate::order::index_of;
 use crate::outcome::{Outcome, Try, side_of_turn};
 use crate::part::NodePart;
-use crate::port::{Ports, all_ports};
+use crate::row::CellRow;
 use ga_node::NodeState;
 use ga_place::{Node, Side, cell, neighbour};
 use ga_word::Word18;
@@ -27,24 +27,21 @@ use std::marker::Model;
 #[derive(Drop)]
 pub struct Chip {
     parts: Vec<NodePart>,
-    cells: Vec<Option<Word18>>,
-    // The ports of each node, so that they aren't worked out at each step.
-    ports: Vec<Ports>,
+    cells: CellRow,
     // The nodes that may move. All others sleep, and a turn leaves them out.
     awake: NodeSet,
 }
 
 impl Model for Chip {
-    ghost use Rattle.std.specs.Prelude.{◌≡◌, vec_items};
-    ghost use Rattle.ga_chip.specs.inner.Port.{all_ports};
+    ghost use Rattle.std.specs.Prelude.{vec_items};
     ghost use Rattle.ga_chip.specs.Chip as chip;
     ghost use Rattle.ga_chip.specs.inner.Awake.{Knows};
 
     ghost Value = { chip.Chip };
 
-    ghost view = { λ c. record { parts = vec_items c.parts; cells = vec_items c.cells } };
+    ghost view = { λ c. record { parts = vec_items c.parts; cells = c.cells } };
 
-    ghost invariant = { λ c. Knows (record { parts = vec_items c.parts; cells = vec_items c.cells }) c.awake × (vec_items c.ports ≡ all_ports) };
+    ghost invariant = { λ c. Knows (record { parts = vec_items c.parts; cells = c.cells }) c.awake };
 }
 
 impl Chip {
@@ -55,16 +52,45 @@ impl Chip {
     {
         let mut parts = Vec::with_capacity(alloc, 144)?;
         for index in 0..144 {
-            parts.push(NodePart::reset(node_at(index)))?;
+            parts.push(NodePart::reset(index))?;
         }
-        let ports = all_ports(alloc)?;
         let cells = Vec::from_array(alloc, [None; 524])?;
         Ok(Chip {
             parts,
-            cells,
-            ports,
+            cells: CellRow::new(cells),
             awake: NodeSet::all(),
         })
+    }
+
+    /// The chip of these parts, which stand in order of name, and these cells: a chip that was taken apart, or one
+    /// that its parts and cells have come to by tries. It keeps both lists, and takes no memory.
+    pub fn from_parts(parts: Vec<NodePart>, cells: CellRow) -> Self
+        requires { IsLegal (record { parts = parts.items; cells = cells }) }
+        ensures { result ≡ record { parts = parts.items; cells = cells } }
+    {
+        Chip {
+            parts,
+            cells,
+            awake: NodeSet::all(),
+        }
+    }
+
+    /// Takes the chip apart: the parts of its nodes in order of name, and its cells. Both lists are the chip's own, and
+    /// no memory is taken.
+    pub fn into_parts(self) -> (Vec<NodePart>, CellRow)
+        ensures parts { result.0.items ≡ self.parts }
+        ensures cells { result.1 ≡ self.cells }
+        ensures legal { IsLegal (record { parts = result.0.items; cells = result.1 }) }
+    {
+        let Chip { parts, cells, .. } = self;
+        (parts, cells)
+    }
+
+    /// The word pending in each cell.
+    pub fn cells(&self) -> &CellRow
+        ensures { result.now ≡ self.now.cells }
+    {
+        &self.cells
     }
 
     /// Gives a node a stream: it is then as `NodeState::booting` says, and loads itself from these words. Refused
@@ -133,7 +159,8 @@ impl Chip {
     /// Gives a node that is held at a breakpoint a pass: its next fetch goes on, and ends the pass. A node of which
     /// a try wouldn't be `Held` is refused, `NotHeld`, so also one that has a pass; the chip is left as it was then.
     pub fn pass_break(&mut self, node: Node) -> Result<(), ChipError>
-        ensures refused { (side : Side) → result ≡ answer_of (unless_held (tried self.old node side).0) }
+        ensures refused { (side : Side)
+            → result ≡ answer_of (unless_held (tried self.old node side).0) }
         ensures chip { self.new ≡ happened self.old (PassBreak node) }
         ensures same { result ≡ Err NotHeld → self.new ≡ self.old }
     {
@@ -157,29 +184,12 @@ impl Chip {
         self.attempt_at(index_of(what.node), what.side)
     }
 
-    /// One try of one node, as by `attempt`, of which only whether it was `Moved` is asked: a node that is known to
-    /// stand still is left alone.
-    #[inline(always)]
-    pub fn attempt_moves(&mut self, what: Try) -> bool
-        ensures chip { self.new ≡ (tried self.old what.node what.side).1 }
-        ensures moved { result ≡ is_moved (tried self.old what.node what.side).0 }
-        ensures unchanged { result ≡ false → self.new ≡ self.old }
-    {
-        let index = index_of(what.node);
-        if self.try_own_at(index) {
-            return true;
-        }
-        if self.sleeps(index) {
-            return false;
-        }
-        self.attempt_far(index, what.side) == Outcome::Moved
-    }
-
     /// Tries in order.
     pub fn run(&mut self, tries: &[Try])
         ensures chip { self.new ≡ ran self.old (tries_of tries.now) }
         ensures ledgers { LedgersGrow self.old self.new (tries_of tries.now) }
     {
+        // From a use of a field the proof has what holds of each chip.
         let _ = &self.parts;
         for what in tries {
             let _outcome = self.attempt(*what);
@@ -224,6 +234,7 @@ impl Chip {
     pub fn legal(&self)
         ensures { IsLegal self.now }
     {
+        // From a use of a field the proof has what holds of each chip.
         let _ = &self.parts;
     }
 
@@ -250,7 +261,7 @@ impl Chip {
         Ledger {
             written: self.parts[index_of(node)].written(side),
             read: self.parts[index_of(other)].read(side),
-            pending: u8::from(self.cells[at.index()].is_some()),
+            pending: u8::from(self.cells.pending(at).is_some()),
         }
     }
 
@@ -271,6 +282,7 @@ impl Chip {
         ensures chip { self.new ≡ ran self.old (turn_of side) }
         ensures moved { result ≡ length (moves self.old (turn_of side)) }
     {
+        // From a use of a field the proof has what holds of each chip.
         let _ = &self.parts;
         let mut moved = 0;
         for index in 0..144 {
@@ -311,9 +323,11 @@ impl Chip {
     #[inline(always)]
     fn try_own_at(&mut self, index: usize) -> bool
         requires { index < 144 }
-        ensures moved { result ≡ true → (side : Side) → (Moved, self.new) ≡ tried self.old (name_at index) side }
+        ensures moved { result ≡ true → (side : Side)
+            → (Moved, self.new) ≡ tried self.old (name_at index) side }
         ensures same { result ≡ false → self.new ≡ self.old }
     {
+        // Written as two ways out, since the proof goes by which of them it was.
         if self.parts[index].try_own() {
             return true;
         }
@@ -326,7 +340,7 @@ impl Chip {
         requires { index < 144 }
         ensures { (result, self.new) ≡ tried self.old (name_at index) side }
     {
-        let far = self.parts[index].attempt_far(&self.ports[index], &mut self.cells, side);
+        let far = self.parts[index].attempt_far(&mut self.cells, side);
         if far.sleeps {
             self.awake.remove(index);
             return far.outcome;
@@ -337,21 +351,13 @@ impl Chip {
         far.outcome
     }
 
-    /// Whether the node at an index in order of name is known to stand still.
-    #[inline(always)]
-    fn sleeps(&self, index: usize) -> bool
-        requires { index < 144 }
-        ensures { result ≡ true → (side : Side) → (tried self.now (name_at index) side).0 ≢ Moved }
-    {
-        !self.awake.has(index)
-    }
-
     /// The index of the first awake node from an index on, or more than 143 where there is none.
     #[inline(always)]
     fn next_awake(&self, from: usize) -> usize
         requires { from ≤ 144 }
         ensures on { from ≤ result }
-        ensures asleep { (index : ℕ) (side : Side) → from ≤ index → index < result → index < 144 → (tried self.now (name_at index) side).0 ≢ Moved }
+        ensures asleep { (index : ℕ) (side : Side) → from ≤ index → index < result → index < 144
+            → (tried self.now (name_at index) side).0 ≢ Moved }
     {
         self.awake.next(from)
     }

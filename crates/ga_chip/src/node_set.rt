@@ -24,19 +24,11 @@ impl NodeSet {
         self.words[0] & self.words[1] == u64::MAX
     }
 
-    /// Whether the node at an index is in the set.
-    #[inline(always)]
-    pub(crate) fn has(&self, index: usize) -> bool
-        requires { index < 144 }
-        ensures { result ≡ is_in index self.now }
-    {
-        self.words[index / 64] >> (index % 64) & 1 == 1
-    }
-
     /// Puts the node at an index into the set.
     pub(crate) fn insert(&mut self, index: usize)
         requires { index < 144 }
-        ensures { (other : ℕ) → is_in other self.new ≡ (if other == index then true else is_in other self.old) }
+        ensures { (other : ℕ)
+            → is_in other self.new ≡ (if other == index then true else is_in other self.old) }
     {
         self.words[index / 64] |= 1 << (index % 64);
     }
@@ -44,7 +36,8 @@ impl NodeSet {
     /// Takes the node at an index out of the set.
     pub(crate) fn remove(&mut self, index: usize)
         requires { index < 144 }
-        ensures { (other : ℕ) → is_in other self.new ≡ (if other == index then false else is_in other self.old) }
+        ensures { (other : ℕ)
+            → is_in other self.new ≡ (if other == index then false else is_in other self.old) }
     {
         self.words[index / 64] &= !(1 << (index % 64));
     }

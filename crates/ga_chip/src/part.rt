@@ -1,21 +1,26 @@
-ghost use Rattle.std.specs.Prelude.{◌≡◌, ◌≢◌, ◌≤◌, ◌<◌, ◌^◌, false, true, if◌then◌else◌, length, IfSome, None, option_map};
-ghost use Rattle.ga_place.specs.Cell.{cell_of, index_of, read_cell};
+ghost use Rattle.std.specs.Prelude.{◌≡◌, ◌≢◌, ℕ, ◌≤◌, ◌<◌, ◌^◌, false, true, if◌then◌else◌, length, IfSome, None, Some, Option, option_map};
+ghost use Rattle.ga_place.specs.Cell.{cell_of, index_of, name_at, read_cell};
 ghost use Rattle.ga_place.specs.Side.{is_among, one_side};
 ghost use Rattle.ga_place.specs.declared.side.Side.{Side};
 ghost use Rattle.ga_node.specs.Need.{is_check, need_of, takes_at};
-ghost use Rattle.ga_node.specs.State.{loaded_state};
+ghost use Rattle.ga_node.specs.State.{is_fetch, loaded_state};
 ghost use Rattle.ga_node.specs.declared.need.Need.TheVariants as need;
-ghost use Rattle.ga_chip.specs.Part.{Nothing, Own, after, after_asked, asks, asks_by, check_of, count_at, input_of, looked_at, post_to, stepped, take_of};
+ghost use Rattle.ga_chip.specs.Part.{Check, Nothing, Own, Post, Take, after, after_asked, asks, asks_by, count_at, input_of, looked_at, stepped, take_from, take_of};
+ghost use Rattle.ga_chip.specs.Asks.{asked_of, look_of, looks_of, told_as};
 ghost use Rattle.ga_chip.specs.Chip.{cells_after, found_by, given, part_refusal, reset_part, streaming};
 ghost use Rattle.ga_chip.specs.inner.Awake.{partner_of};
-ghost use Rattle.ga_chip.specs.inner.Port.{FitsPorts};
 ghost use Rattle.ga_chip.specs.Run.{break_cleared, break_passed, break_set, is_hold};
-ghost use Rattle.ga_chip.specs.declared.outcome.Outcome.TheVariants.{Held, Moved};
+ghost use Rattle.ga_chip.specs.declared.outcome.Outcome.{Outcome};
+ghost use Rattle.ga_chip.specs.declared.outcome.Outcome.TheVariants.{Held, Moved, Waits};
 
+use crate::asks::Asks;
 use crate::counts::Counts;
 use crate::error::ChipError;
+use crate::looks::Looks;
+use crate::order::node_at;
 use crate::outcome::Outcome;
 use crate::port::Ports;
+use crate::row::CellRow;
 use crate::stream::Stream;
 use crate::watch::Watch;
 use ga_node::{Need, NodeState};
@@ -25,13 +30,19 @@ use std::marker::Model;
 
 /// What the chip has of one node: its breakpoints and a pass, its state, how many words it has written and read
 /// at each side, and its stream, if it was given one.
+///
+/// A try of the node can be made by hand, over cells that stand elsewhere: `asks` says what the try asks for, and
+/// when that was done, one of the calls `done_own`, `done_post`, `done_take` and `done_check` makes the try's change
+/// to the node. A contract sees a node's part as the record `Part`.
 #[derive(Drop)]
-pub(crate) struct NodePart {
+pub struct NodePart {
     watch: Watch,
     state: NodeState,
     written: Counts,
     read: Counts,
     stream: Option<Stream>,
+    // So that they aren't worked out at each step.
+    ports: Ports,
 }
 
 /// What came of a try, but for a quick one of the node's own work.
@@ -47,6 +58,7 @@ pub(crate) struct Far {
 
 impl Model for NodePart {
     ghost use Rattle.ga_chip.specs.Part.{Part};
+    ghost use Rattle.ga_chip.specs.inner.Port.{FitsPorts};
     ghost use Rattle.ga_chip.specs.inner.Within.{StepsBound};
 
     ghost Value = { Part };
@@ -60,25 +72,36 @@ impl Model for NodePart {
       read = part.read;
     } };
 
-    ghost invariant = { λ part. StepsBound part.state.steps part.written part.read };
+    ghost invariant = { λ part. StepsBound part.state.steps part.written part.read
+        × FitsPorts part.state.node part.ports };
 }
 
 impl NodePart {
-    /// A node after reset.
-    pub(crate) fn reset(node: Node) -> Self
-        ensures { result ≡ reset_part node }
+    /// The node at an index in order of name, after reset.
+    pub(crate) fn reset(index: u16) -> Self
+        requires { index < 144 }
+        ensures { result ≡ reset_part (name_at index) }
     {
+        let node = node_at(index);
         NodePart {
             watch: Watch::new(),
             state: NodeState::reset(node),
             written: Counts::new(),
             read: Counts::new(),
             stream: None,
+            ports: Ports::new(node),
         }
     }
 
+    /// The node.
+    pub fn node(&self) -> Node
+        ensures { result ≡ self.now.state.node }
+    {
+        self.state.node()
+    }
+
     /// The node's state.
-    pub(crate) fn state(&self) -> &NodeState
+    pub fn state(&self) -> &NodeState
         ensures { result.now ≡ self.now.state }
     {
         &self.state
@@ -98,30 +121,133 @@ impl NodePart {
         self.read.at(side)
     }
 
+    /// What a try of the node that names a side asks for. `Nothing` has what comes of the try, and is never
+    /// `Moved`: a node that makes no step any more is `Stopped`; else one that is about to fetch at a breakpoint,
+    /// without a pass, is `Held`; and one that asks at a side without a neighbour, or for a word of its stream
+    /// where none is left, `Waits`. Such a try changes nothing, and needs no further call.
+    pub fn asks(&self, side: Side) -> Asks
+        ensures value { result ≡ asked_of self.now side }
+        ensures still { (outcome : Outcome) → result ≡ Asks.Nothing outcome → outcome ≢ Moved }
+    {
+        let need = self.state.need();
+        if self.is_held(&need) {
+            return Asks::Nothing(Outcome::Held);
+        }
+        self.asked_by(&need, side)
+    }
+
+    /// Where the node's tries look, if each of them asks to take a word or for nothing, whatever side it names. As long
+    /// as no try finds a word, the node stays as it is, and so do its looks.
+    #[tactic(auto, unfolding(crate::specs::Asks::looks_of))]
+    pub fn looks(&self) -> Option<Looks>
+        ensures { result ≡ looks_of self.now }
+    {
+        let right = self.look(Side::Right)?;
+        let down = self.look(Side::Down)?;
+        let left = self.look(Side::Left)?;
+        let up = self.look(Side::Up)?;
+        Some(Looks::new(right, down, left, up))
+    }
+
+    /// Where a try looks that names a side, if it asks to take a word or for nothing.
+    fn look(&self, side: Side) -> Option<Option<CellId>>
+        ensures { result ≡ look_of (asked_of self.now side) }
+    {
+        match self.asks(side) {
+            Asks::Take(_, cell) => Some(Some(cell)),
+            Asks::Nothing(_) => Some(None),
+            Asks::Own | Asks::Post(..) | Asks::Check(..) => None,
+        }
+    }
+
+    /// Makes a try that asks for `Own`: the node does its own work, or takes the next word of its stream.
+    pub fn done_own(&mut self) -> Outcome
+        requires { (side : Side) × (asked_of self.old side ≡ Asks.Own) }
+        ensures part { (side : Side) → asked_of self.old side ≡ Asks.Own
+            → (result, self.new) ≡ after self.old side None }
+        ensures node { self.new.state.node ≡ self.old.state.node }
+    {
+        let need = self.state.need();
+        self.work(&need)
+    }
+
+    /// Makes a try that asks for a post at this side, after the word was put into the cell.
+    pub fn done_post(&mut self, to: Side) -> Outcome
+        requires { (side : Side) × (cell : ℕ) × (word : ℕ)
+            × (asked_of self.old side ≡ Asks.Post to cell word) }
+        ensures part { (side : Side) (cell word : ℕ)
+            → asked_of self.old side ≡ Asks.Post to cell word
+            → (result, self.new) ≡ after self.old side None }
+        ensures node { self.new.state.node ≡ self.old.state.node }
+    {
+        let Need::Post(_, word) = self.state.need() else {
+            unreachable!();
+        };
+        self.post(to, word)
+    }
+
+    /// Makes a try that asks for a take at this side, by the word that was found in the cell and taken from it: the
+    /// node waits where there was none.
+    pub fn done_take(&mut self, from: Side, found: Option<Word18>) -> Outcome
+        requires { (side : Side) × (cell : ℕ) × (asked_of self.old side ≡ Asks.Take from cell) }
+        ensures part { (side : Side) (cell : ℕ) → asked_of self.old side ≡ Asks.Take from cell
+            → (result, self.new) ≡ after self.old side found }
+        ensures node { self.new.state.node ≡ self.old.state.node }
+    {
+        self.take(from, found)
+    }
+
+    /// Makes a try that asks for a check at this side, by whether the cell was found empty, since its word was read:
+    /// the node waits where it wasn't.
+    pub fn done_check(&mut self, to: Side, empty: bool) -> Outcome
+        requires { (side : Side) × (cell : ℕ) × (asked_of self.old side ≡ Asks.Check to cell) }
+        ensures read { (side : Side) (cell : ℕ) → asked_of self.old side ≡ Asks.Check to cell
+            → empty ≡ true → (result, self.new) ≡ after self.old side None }
+        ensures unread { (side : Side) (cell word : ℕ) → asked_of self.old side ≡ Asks.Check to cell
+            → empty ≡ false → (result, self.new) ≡ after self.old side (Some word) }
+        ensures node { self.new.state.node ≡ self.old.state.node }
+    {
+        self.check(empty)
+    }
+
+    /// The quick way of a try that asks for `Own`, as most do: makes its change to the node and answers true. Where the
+    /// try asks for something else it answers false, and it may do so where the node takes a word of its stream, or is
+    /// about to fetch and has a breakpoint or a pass: then nothing is changed, and `asks` tells what to do.
+    #[inline(always)]
+    pub fn done_if_own(&mut self) -> bool
+        ensures asks { result ≡ true → (side : Side) → asked_of self.old side ≡ Asks.Own }
+        ensures quick { need_of self.old.state ≡ need.Own → is_fetch self.old.state.place ≡ false
+            → result ≡ true }
+        ensures part { result ≡ true → (side : Side)
+            → (Moved, self.new) ≡ after self.old side None }
+        ensures same { result ≡ false → self.new ≡ self.old }
+        ensures node { self.new.state.node ≡ self.old.state.node }
+    {
+        self.try_own()
+    }
+
     /// A step where it is the node's own work, but for a fetch of a node that has a breakpoint or a pass; else
     /// nothing. Answers whether the node made it.
     #[inline(always)]
     pub(crate) fn try_own(&mut self) -> bool
         ensures asks { result ≡ true → (side : Side) → asks self.old side ≡ Own }
+        ensures quick { need_of self.old.state ≡ need.Own → is_fetch self.old.state.place ≡ false
+            → result ≡ true }
         ensures step { self.new ≡ (if result then stepped None self.old else self.old) }
     {
         self.state.try_step(!self.watch.is_on())
     }
 
     /// A try of a node, over the chip's cells.
-    pub(crate) fn attempt_far(
-        &mut self,
-        ports: &Ports,
-        cells: &mut [Option<Word18>],
-        side: Side,
-    ) -> Far
-        requires ports { FitsPorts self.old.state.node ports.now }
-        requires count { length cells.old ≡ 524 }
-        ensures part { (result.outcome, self.new) ≡ after self.old side (found_by (asks self.old side) cells.old) }
+    pub(crate) fn attempt_far(&mut self, cells: &mut CellRow, side: Side) -> Far
+        ensures part { (result.outcome, self.new)
+            ≡ after self.old side (found_by (asks self.old side) cells.old) }
         ensures cells { cells.new ≡ cells_after (asks self.old side) cells.old }
-        ensures wakes { result.outcome ≡ Moved → result.wakes ≡ option_map index_of (partner_of self.old.state.node (need_of self.old.state) side) }
+        ensures wakes { result.outcome ≡ Moved
+            → result.wakes ≡ option_map index_of (partner_of self.old.state.node (need_of self.old.state) side) }
         ensures place { IfSome result.wakes (λ place. place < 144) }
-        ensures sleeps { result.sleeps ≡ true → (other : Side) → (after self.old other (found_by (asks self.old other) cells.old)).0 ≢ Moved }
+        ensures sleeps { result.sleeps ≡ true → (other : Side)
+            → (after self.old other (found_by (asks self.old other) cells.old)).0 ≢ Moved }
     {
         let need = self.state.need();
         if self.is_held(&need) {
@@ -131,16 +257,16 @@ impl NodePart {
                 sleeps: true,
             };
         }
-        let outcome = self.meet(&need, ports, cells, side);
+        let outcome = self.meet(&need, cells, side);
         if let Outcome::Moved = outcome {
-            let wakes = self.partner(&need, ports, side);
+            let wakes = self.partner(&need, side);
             return Far {
                 outcome,
                 wakes,
                 sleeps: false,
             };
         }
-        let sleeps = self.is_still(&need, ports, cells);
+        let sleeps = self.is_still(&need, cells);
         Far {
             outcome,
             wakes: None,
@@ -153,7 +279,8 @@ impl NodePart {
     fn is_held(&self, need: &Need) -> bool
         requires { need.now ≡ need_of self.now.state }
         ensures held { result ≡ true → (side : Side) → asks self.now side ≡ Nothing Held }
-        ensures free { result ≡ false → (side : Side) → asks self.now side ≡ asks_by need.now self.now.state.node self.now.stream side }
+        ensures free { result ≡ false → (side : Side)
+            → asks self.now side ≡ asks_by need.now self.now.state.node self.now.stream side }
     {
         match *need {
             Need::Stopped(_) => false,
@@ -161,39 +288,86 @@ impl NodePart {
         }
     }
 
-    /// Meets a need of a node that isn't held, where it can be met now.
-    fn meet(
-        &mut self,
-        need: &Need,
-        ports: &Ports,
-        cells: &mut [Option<Word18>],
-        side: Side,
-    ) -> Outcome
-        requires ports { FitsPorts self.old.state.node ports.now }
-        requires count { length cells.old ≡ 524 }
-        requires need { need.now ≡ need_of self.old.state }
-        requires free { asks self.old side ≡ asks_by need.now self.old.state.node self.old.stream side }
-        ensures part { (result, self.new) ≡ after self.old side (found_by (asks self.old side) cells.old) }
-        ensures cells { cells.new ≡ cells_after (asks self.old side) cells.old }
+    /// What a try of a node that isn't held asks for, by its need.
+    #[inline(always)]
+    fn asked_by(&self, need: &Need, side: Side) -> Asks
+        requires { need.now ≡ need_of self.now.state }
+        ensures { result ≡ told_as (asks_by need.now self.now.state.node self.now.stream side) }
     {
         match *need {
-            Need::Own => self.own(),
-            Need::Take(sides) => match looked_at(sides, side) {
-                Some(at) => self.take(ports, cells, at),
-                None => Outcome::Waits,
+            Need::Own => Asks::Own,
+            Need::Take(sides) => self.take_at(looked_at(sides, side)),
+            Need::Post(to, word) => match self.writes(to) {
+                Some(cell) => Asks::Post(to, cell, word),
+                None => Asks::Nothing(Outcome::Waits),
             },
-            Need::Post(to, word) => self.post(ports, cells, to, word),
-            Need::Check(to) => self.check(ports, cells, to),
-            Need::Input => self.input(),
-            Need::Stopped(_) => Outcome::Stopped,
+            Need::Check(to) => match self.writes(to) {
+                Some(cell) => Asks::Check(to, cell),
+                None => Asks::Nothing(Outcome::Waits),
+            },
+            Need::Input if self.has_input() => Asks::Own,
+            Need::Input => Asks::Nothing(Outcome::Waits),
+            Need::Stopped(_) => Asks::Nothing(Outcome::Stopped),
+        }
+    }
+
+    /// What a take asks for, by the side at which it looks, if it looks at one.
+    #[inline(always)]
+    fn take_at(&self, from: Option<Side>) -> Asks
+        ensures { result ≡ told_as (take_from self.now.state.node from) }
+    {
+        let Some(from) = from else {
+            return Asks::Nothing(Outcome::Waits);
+        };
+        match self.reads(from) {
+            Some(cell) => Asks::Take(from, cell),
+            None => Asks::Nothing(Outcome::Waits),
+        }
+    }
+
+    /// Whether a word is left of the node's stream.
+    fn has_input(&self) -> bool
+        ensures { told_as (input_of self.now.stream)
+            ≡ (if result then Asks.Own else Asks.Nothing Waits) }
+    {
+        match &self.stream {
+            Some(stream) => !stream.is_empty(),
+            None => false,
+        }
+    }
+
+    /// Meets a need of a node that isn't held, where it can be met now.
+    fn meet(&mut self, need: &Need, cells: &mut CellRow, side: Side) -> Outcome
+        requires need { need.now ≡ need_of self.old.state }
+        requires free { asks self.old side
+            ≡ asks_by need.now self.old.state.node self.old.stream side }
+        ensures part { (result, self.new)
+            ≡ after self.old side (found_by (asks self.old side) cells.old) }
+        ensures cells { cells.new ≡ cells_after (asks self.old side) cells.old }
+    {
+        match self.asked_by(need, side) {
+            Asks::Own => self.work(need),
+            Asks::Post(to, cell, word) => {
+                cells.post(cell, word);
+                self.post(to, word)
+            }
+            Asks::Take(from, cell) => {
+                let found = cells.take(cell);
+                self.take(from, found)
+            }
+            Asks::Check(to, cell) => {
+                let empty = cells.pending(cell).is_none();
+                self.check(empty)
+            }
+            Asks::Nothing(outcome) => outcome,
         }
     }
 
     /// The place in order of name of the neighbour to which a step that meets the need posts a word, or from
     /// which it takes one.
-    fn partner(&self, need: &Need, ports: &Ports, side: Side) -> Option<usize>
-        requires { FitsPorts self.now.state.node ports.now }
-        ensures value { result ≡ option_map index_of (partner_of self.now.state.node need.now side) }
+    fn partner(&self, need: &Need, side: Side) -> Option<usize>
+        ensures value { result
+            ≡ option_map index_of (partner_of self.now.state.node need.now side) }
         ensures bound { IfSome result (λ place. place < 144) }
     {
         let at = match *need {
@@ -201,16 +375,16 @@ impl NodePart {
             Need::Post(to, _) => to,
             _ => return None,
         };
-        Some(usize::from(ports.at(at)?.neighbour))
+        Some(usize::from(self.ports.at(at)?.neighbour))
     }
 
     /// Whether a try would move at no side, where a try at one side didn't. It may say no all the same.
-    fn is_still(&self, need: &Need, ports: &Ports, cells: &[Option<Word18>]) -> bool
-        requires ports { FitsPorts self.now.state.node ports.now }
-        requires count { length cells.now ≡ 524 }
+    fn is_still(&self, need: &Need, cells: &CellRow) -> bool
         requires need { need.now ≡ need_of self.now.state }
-        requires still { (side : Side) × ((after self.now side (found_by (asks self.now side) cells.now)).0 ≢ Moved) }
-        ensures { result ≡ true → (side : Side) → (after self.now side (found_by (asks self.now side) cells.now)).0 ≢ Moved }
+        requires still { (side : Side)
+            × ((after self.now side (found_by (asks self.now side) cells.now)).0 ≢ Moved) }
+        ensures { result ≡ true → (side : Side)
+            → (after self.now side (found_by (asks self.now side) cells.now)).0 ≢ Moved }
     {
         let Need::Take(sides) = *need else {
             return true;
@@ -218,42 +392,53 @@ impl NodePart {
         if sides.only().is_some() {
             return true;
         }
-        let right = self.finds(ports, cells, sides, Side::Right);
-        let down = self.finds(ports, cells, sides, Side::Down);
-        let left = self.finds(ports, cells, sides, Side::Left);
-        let up = self.finds(ports, cells, sides, Side::Up);
+        let right = self.finds(cells, sides, Side::Right);
+        let down = self.finds(cells, sides, Side::Down);
+        let left = self.finds(cells, sides, Side::Left);
+        let up = self.finds(cells, sides, Side::Up);
         !(right | down | left | up)
     }
 
     /// Whether a side is one of several and a word is pending there.
-    fn finds(&self, ports: &Ports, cells: &[Option<Word18>], sides: Sides, side: Side) -> bool
-        requires ports { FitsPorts self.now.state.node ports.now }
-        requires count { length cells.now ≡ 524 }
-        ensures { result ≡ false → is_among side sides ≡ true → found_by (take_of side (read_cell self.now.state.node side)) cells.now ≡ None }
+    fn finds(&self, cells: &CellRow, sides: Sides, side: Side) -> bool
+        ensures { result ≡ false → is_among side sides ≡ true
+            → found_by (take_of side (read_cell self.now.state.node side)) cells.now ≡ None }
     {
         if !sides.has(side) {
             return false;
         }
-        match self.reads(ports, side) {
-            Some(at) => cells[at.index()].is_some(),
+        match self.reads(side) {
+            Some(cell) => cells.pending(cell).is_some(),
             None => false,
         }
     }
 
     /// The cell that the node reads at a side.
-    fn reads(&self, ports: &Ports, side: Side) -> Option<CellId>
-        requires { FitsPorts self.now.state.node ports.now }
+    fn reads(&self, side: Side) -> Option<CellId>
         ensures { result ≡ read_cell self.now.state.node side }
     {
-        Some(ports.at(side)?.reads)
+        Some(self.ports.at(side)?.reads)
     }
 
     /// The cell that the node writes at a side.
-    fn writes(&self, ports: &Ports, side: Side) -> Option<CellId>
-        requires { FitsPorts self.now.state.node ports.now }
+    fn writes(&self, side: Side) -> Option<CellId>
         ensures { result ≡ cell_of self.now.state.node side }
     {
-        Some(ports.at(side)?.writes)
+        Some(self.ports.at(side)?.writes)
+    }
+
+    /// Makes a try that touches no cell: the node does its own work, or takes the next word of its stream.
+    fn work(&mut self, need: &Need) -> Outcome
+        requires need { need.now ≡ need_of self.old.state }
+        requires own { (side : Side)
+            × (told_as (asks_by need.now self.old.state.node self.old.stream side) ≡ Asks.Own) }
+        ensures { (side : Side) → (result, self.new)
+            ≡ after_asked (asks_by need.now self.old.state.node self.old.stream side) None self.old }
+    {
+        match *need {
+            Need::Input => self.input(),
+            _ => self.own(),
+        }
     }
 
     /// The node does its own work.
@@ -264,69 +449,6 @@ impl NodePart {
         self.watch.step(self.state.place());
         self.state.step_own();
         Outcome::Moved
-    }
-
-    /// The node takes a word at a side, where one is pending.
-    fn take(&mut self, ports: &Ports, cells: &mut [Option<Word18>], side: Side) -> Outcome
-        requires ports { FitsPorts self.old.state.node ports.now }
-        requires count { length cells.old ≡ 524 }
-        requires take { takes_at side (need_of self.old.state) ≡ true }
-        ensures part { let asked = take_of side (read_cell self.old.state.node side) in (result, self.new) ≡ after_asked asked (found_by asked cells.old) self.old }
-        ensures cells { cells.new ≡ cells_after (take_of side (read_cell self.old.state.node side)) cells.old }
-    {
-        let Some(at) = self.reads(ports, side) else {
-            return Outcome::Waits;
-        };
-        match cells[at.index()].take() {
-            Some(word) => {
-                self.watch.step(self.state.place());
-                self.state.step_took(side, word);
-                self.read.count(side);
-                Outcome::Moved
-            }
-            None => Outcome::Waits,
-        }
-    }
-
-    /// The node posts its word at a side.
-    fn post(
-        &mut self,
-        ports: &Ports,
-        cells: &mut [Option<Word18>],
-        to: Side,
-        word: Word18,
-    ) -> Outcome
-        requires ports { FitsPorts self.old.state.node ports.now }
-        requires count { length cells.old ≡ 524 }
-        requires post { need_of self.old.state ≡ need.Post to word }
-        ensures part { let asked = post_to to word (cell_of self.old.state.node to) in (result, self.new) ≡ after_asked asked (found_by asked cells.old) self.old }
-        ensures cells { cells.new ≡ cells_after (post_to to word (cell_of self.old.state.node to)) cells.old }
-    {
-        let Some(at) = self.writes(ports, to) else {
-            return Outcome::Waits;
-        };
-        cells[at.index()] = Some(word);
-        self.watch.step(self.state.place());
-        self.state.step_post(to, word);
-        self.written.count(to);
-        Outcome::Moved
-    }
-
-    /// The node goes on where the word that it posted at a side was read.
-    fn check(&mut self, ports: &Ports, cells: &[Option<Word18>], to: Side) -> Outcome
-        requires ports { FitsPorts self.old.state.node ports.now }
-        requires count { length cells.now ≡ 524 }
-        requires check { is_check (need_of self.old.state) ≡ true }
-        ensures { let asked = check_of to (cell_of self.old.state.node to) in (result, self.new) ≡ after_asked asked (found_by asked cells.now) self.old }
-    {
-        match self.writes(ports, to) {
-            Some(at) if cells[at.index()].is_none() => {
-                self.watch.step(self.state.place());
-                self.state.step_checked();
-                Outcome::Moved
-            }
-            _ => Outcome::Waits,
-        }
     }
 
     /// The loader takes the next word of the node's stream, where one is left.
@@ -342,6 +464,47 @@ impl NodePart {
         };
         self.watch.step(self.state.place());
         self.state.step_input(word);
+        Outcome::Moved
+    }
+
+    /// The node has posted its word at a side.
+    fn post(&mut self, to: Side, word: Word18) -> Outcome
+        requires { need_of self.old.state ≡ need.Post to word }
+        ensures { (cell : ℕ) → (result, self.new) ≡ after_asked (Post to cell word) None self.old }
+    {
+        self.watch.step(self.state.place());
+        self.state.step_post(to, word);
+        self.written.count(to);
+        Outcome::Moved
+    }
+
+    /// The node takes the word that was found at a side, if one was.
+    fn take(&mut self, from: Side, found: Option<Word18>) -> Outcome
+        requires { takes_at from (need_of self.old.state) ≡ true }
+        ensures { (cell : ℕ) → (result, self.new) ≡ after_asked (Take from cell) found self.old }
+    {
+        let Some(word) = found else {
+            return Outcome::Waits;
+        };
+        self.watch.step(self.state.place());
+        self.state.step_took(from, word);
+        self.read.count(from);
+        Outcome::Moved
+    }
+
+    /// The node goes on where the word that it posted was read.
+    fn check(&mut self, empty: bool) -> Outcome
+        requires { is_check (need_of self.old.state) ≡ true }
+        ensures read { empty ≡ true → (side : Side) (cell : ℕ)
+            → (result, self.new) ≡ after_asked (Check side cell) None self.old }
+        ensures unread { empty ≡ false → (side : Side) (cell word : ℕ)
+            → (result, self.new) ≡ after_asked (Check side cell) (Some word) self.old }
+    {
+        if !empty {
+            return Outcome::Waits;
+        }
+        self.watch.step(self.state.place());
+        self.state.step_checked();
         Outcome::Moved
     }
 

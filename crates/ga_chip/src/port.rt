@@ -1,9 +1,8 @@
-ghost use Rattle.std.specs.Prelude.{◌≡◌, IfOk};
-ghost use Rattle.ga_chip.specs.inner.Port.{all_ports, port_at, port_of};
+ghost use Rattle.std.specs.Prelude.{◌≡◌};
+ghost use Rattle.ga_chip.specs.inner.Port.{port_at, port_of, ports_of};
 
-use crate::order::{index_of, node_at};
+use crate::order::index_of;
 use ga_place::{CellId, Node, Side, cell, neighbour};
-use std::alloc::{AllocError, Global};
 
 /// What a node shares with its neighbour at a side.
 #[derive(Clone, Copy)]
@@ -24,6 +23,20 @@ pub(crate) struct Ports {
 }
 
 impl Ports {
+    /// The ports of a node.
+    pub(crate) fn new(node: Node) -> Self
+        ensures { result ≡ ports_of node }
+    {
+        Ports {
+            by_side: [
+                port_of(node, Side::Right),
+                port_of(node, Side::Down),
+                port_of(node, Side::Left),
+                port_of(node, Side::Up),
+            ],
+        }
+    }
+
     /// The port at a side.
     #[inline(always)]
     pub(crate) fn at(&self, side: Side) -> Option<Port>
@@ -31,25 +44,6 @@ impl Ports {
     {
         self.by_side[side as usize]
     }
-}
-
-/// The ports of each node in order of name. An error where memory runs out.
-pub(crate) fn all_ports(alloc: Global) -> Result<Vec<Ports>, AllocError>
-    ensures { IfOk result (λ ports. ports.items ≡ all_ports) }
-{
-    let mut ports = Vec::with_capacity(alloc, 144)?;
-    for index in 0..144 {
-        let node = node_at(index);
-        ports.push(Ports {
-            by_side: [
-                port_of(node, Side::Right),
-                port_of(node, Side::Down),
-                port_of(node, Side::Left),
-                port_of(node, Side::Up),
-            ],
-        })?;
-    }
-    Ok(ports)
 }
 
 /// The port of a node at a side.

@@ -1,4 +1,4 @@
-ghost use Rattle.std.specs.Prelude.{◌≡◌, drop, slice_get};
+ghost use Rattle.std.specs.Prelude.{◌≡◌, drop, is_none, slice_get};
 
 use ga_word::Word18;
 use std::marker::Model;
@@ -26,6 +26,13 @@ impl Stream {
         ensures { result ≡ words.items }
     {
         Stream { words, taken: 0 }
+    }
+
+    /// Whether no word is left.
+    pub(crate) fn is_empty(&self) -> bool
+        ensures { result ≡ is_none (slice_get self.now 0) }
+    {
+        self.words.get(self.taken).is_none()
     }
 
     /// Takes the next word, if one is left.

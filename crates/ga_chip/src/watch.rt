@@ -40,7 +40,8 @@ impl Watch {
     /// Whether fetches have to be looked at, since there is a breakpoint or a pass.
     #[inline(always)]
     pub(crate) fn is_on(&self) -> bool
-        ensures { result ≡ false → (self.now.breaks ≡ replicate 512 false) × (self.now.pass ≡ false) }
+        ensures { result ≡ false
+            → (self.now.breaks ≡ replicate 512 false) × (self.now.pass ≡ false) }
     {
         self.on
     }

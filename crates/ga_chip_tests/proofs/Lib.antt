@@ -1,1 +1,2 @@
 pub mod NoTurn
+pub mod Hands

@@ -8,9 +8,9 @@ use Rattle.ga_place.specs.declared.side.Side.{Side}
 use Rattle.ga_chip.specs.declared.outcome.Try.{Try}
 use Rattle.ga_chip.specs.Chip.{Chip}
 use Rattle.ga_chip.specs.Laws.{AgreesWith}
-use Rattle.ga_chip.specs.Run.{sides_of, tries_of}
+use Rattle.ga_chip.specs.Run.{sides_of, sides_tried, tries_of}
 use Rattle.ga_group.specs.Plan.{Groups}
-use Rattle.ga_group.specs.Workers.{IsWorkersRun, sides_tried}
+use Rattle.ga_group.specs.Workers.{IsWorkersRun}
 
 -- where no node is tried there are no tries
 none_tried : (tries : List Try) → ((name : ℕ) → sides_tried name tries ≡ []) → tries ≡ []

@@ -57,30 +57,6 @@ fn sleepers_are_woken(rt: HostRuntime) -> Result<(), Fail> {
 }
 
 #[test]
-fn sleepers_are_left_alone(rt: HostRuntime) -> Result<(), Fail> {
-    let [node_708, node_709] = nodes(&[708, 709])?;
-    let mut chip = Chip::reset(rt.alloc())?;
-    place(&mut chip, node_708, &WRITE_12_RIGHT)?;
-    let writer = Try {
-        node: node_708,
-        side: Side::Down,
-    };
-    let reader = Try {
-        node: node_709,
-        side: Side::Right,
-    };
-    // 709 looks in vain, and is left alone until 708 has posted its word with the seventh step.
-    for _ in 0..6 {
-        assert!(rt; !chip.attempt_moves(reader) && chip.attempt_moves(writer));
-    }
-    assert!(rt; !chip.attempt_moves(reader) && chip.attempt_moves(writer));
-    assert!(rt; !chip.attempt_moves(writer) && chip.attempt_moves(reader));
-    assert!(rt; chip.attempt_moves(writer));
-    assert!(rt; chip.state(node_708).steps() == 8 && chip.state(node_709).steps() == 1);
-    Ok(())
-}
-
-#[test]
 fn a_chip_stands_still(rt: HostRuntime) -> Result<(), Fail> {
     let [node_708, node_709, node_000] = nodes(&[708, 709, 0])?;
     let mut chip = Chip::reset(rt.alloc())?;

@@ -70,7 +70,7 @@ fn two_plans_over_no_turn(rt: HostRuntime) -> Result<(), Fail> {
     let (one, two) = two_chips(rt.alloc())?;
     let together = plan(rt.alloc(), &[&[708, 709]])?;
     let apart = plan(rt.alloc(), &[&[708], &[709]])?;
-    let (first, second) = two_plans(&rt, one, two, &together, &apart, 0, &Open).ok_or("refused")?;
+    let (first, second) = two_plans(&rt, rt.alloc(), one, two, &together, &apart, 0, &Open)?;
     assert!(rt; first.state(node_708).steps() == 0 && second.state(node_708).steps() == 0);
     Ok(())
 }
@@ -81,9 +81,7 @@ fn a_plan_beside_tries(rt: HostRuntime) -> Result<(), Fail> {
     let (one, mut two) = two_chips(rt.alloc())?;
     let together = plan(rt.alloc(), &[&[708, 709]])?;
     let tries = [right(node_708)];
-    let first = plan_beside_tries(&rt, one, &mut two, &together, 0, &tries, &Open).ok_or(
-        "refused",
-    )?;
+    let first = plan_beside_tries(&rt, rt.alloc(), one, &mut two, &together, 0, &tries, &Open)?;
     assert!(rt; first.state(node_708).steps() == 0 && two.state(node_708).steps() == 1);
     Ok(())
 }
@@ -95,8 +93,16 @@ fn a_plan_behind_a_plan(rt: HostRuntime) -> Result<(), Fail> {
     let together = plan(rt.alloc(), &[&[708, 709]])?;
     let apart = plan(rt.alloc(), &[&[708], &[709]])?;
     let tries = [right(node_708)];
-    let first = plan_behind_plan(&rt, one, &mut two, &together, &apart, 0, &tries, &Open).ok_or(
-        "refused",
+    let first = plan_behind_plan(
+        &rt,
+        rt.alloc(),
+        one,
+        &mut two,
+        &together,
+        &apart,
+        0,
+        &tries,
+        &Open,
     )?;
     assert!(rt; first.state(node_708).steps() == 0 && two.state(node_708).steps() == 1);
     Ok(())

@@ -19,4 +19,8 @@ mod loader;
 #[cfg(test)]
 mod node;
 #[cfg(test)]
+mod parts;
+#[cfg(test)]
+mod ports;
+#[cfg(test)]
 mod workers;

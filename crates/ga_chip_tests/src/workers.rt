@@ -1,11 +1,14 @@
-use crate::chips::{WRITE_12_RIGHT, chip_with, outcome};
-use ga_chip::Outcome;
+use crate::chips::{WRITE_12_RIGHT, chip_with, moves, outcome, place};
+use ga_chip::{Chip, Ledger, Outcome};
 use ga_group::{Gate, Plan, PlanError, RunError, run_workers};
+use ga_node::Stop;
 use ga_place::{Node, Side};
 use ga_test_values::{node, nodes};
 use std::alloc::Global;
 use std::sync::atomic::{AtomicU64, Ordering};
 use std::test::Fail;
+use std::thread;
+use std::thread::Threads;
 
 /// A gate that lets all through.
 pub struct Open;
@@ -32,6 +35,31 @@ pub fn plan(alloc: Global, names: &[&[u16]]) -> Result<Plan, Fail> {
     Ok(Plan::new(groups(alloc, names)?).map_err(|_| "no plan")?)
 }
 
+/// The chip after so many turns.
+fn run<R: Threads + Sync, G: Gate>(
+    rt: &R,
+    alloc: Global,
+    chip: Chip,
+    plan: &Plan,
+    turns: u64,
+    gate: &G,
+) -> Result<Chip, RunError> {
+    match run_workers(rt, alloc, chip, plan, turns, gate) {
+        Ok(next) => Ok(next),
+        Err((fault, _)) => Err(fault),
+    }
+}
+
+/// Whether one word has crossed from a node to its neighbour on the right.
+fn has_crossed(chip: &Chip, node: Node) -> bool {
+    let one = Ledger {
+        written: 1,
+        read: 1,
+        pending: 0,
+    };
+    chip.ledger(node, Side::Right) == one
+}
+
 #[test]
 fn refusals_by_name(rt: HostRuntime) -> Result<(), Fail> {
     let [node_708, node_001] = nodes(&[708, 1])?;
@@ -47,7 +75,7 @@ fn refusals_by_name(rt: HostRuntime) -> Result<(), Fail> {
     }
     let chip = chip_with(rt.alloc(), node_708, &WRITE_12_RIGHT)?;
     let plan = plan(rt.alloc(), &[&[708]])?;
-    let (fault, back) = run_workers(&rt, chip, &plan, 1 << 40, &Open)
+    let (fault, back) = run_workers(&rt, rt.alloc(), chip, &plan, 1 << 40, &Open)
         .err()
         .ok_or("a run")?;
     assert!(rt; fault == RunError::TooManyTurns && back.state(node_708).steps() == 0);
@@ -63,20 +91,72 @@ fn a_plan_gives_its_groups_back(rt: HostRuntime) -> Result<(), Fail> {
 }
 
 #[test]
-fn a_word_crosses_between_two_workers(rt: HostRuntime) -> Result<(), Fail> {
+fn a_pending_word_is_taken_in_every_schedule(rt: HostRuntime) -> Result<(), Fail> {
     let [node_708, node_709] = nodes(&[708, 709])?;
-    let chip = chip_with(rt.alloc(), node_708, &WRITE_12_RIGHT)?;
+    let mut chip = chip_with(rt.alloc(), node_708, &WRITE_12_RIGHT)?;
+    assert!(rt; moves(&mut chip, node_708, Side::Right, 7) == 7);
     let plan = plan(rt.alloc(), &[&[708], &[709]])?;
-    // Seven steps of 708 post the word; the side right comes again at turn 8, where 709 looks at it.
-    let Ok(chip) = run_workers(&rt, chip, &plan, 8, &Open) else {
-        return Err("refused".into());
-    };
-    assert!(rt; chip.ledger(node_708, Side::Right).pending == 1);
-    let Ok(chip) = run_workers(&rt, chip, &plan, 1, &Open) else {
-        return Err("refused".into());
-    };
-    assert!(rt; chip.ledger(node_708, Side::Right).read == 1);
-    assert!(rt; chip.state(node_709).word().get() == 0x00012);
+    let chip = run(&rt, rt.alloc(), chip, &plan, 4, &Open)?;
+    let reader = chip.state(node_709);
+    assert!(rt; reader.steps() == 1 && reader.stop() == Some(Stop::IoRead));
+    assert!(rt; has_crossed(&chip, node_708));
+    Ok(())
+}
+
+/// A gate that lets a worker into a turn only when the other one has come to it too.
+#[derive(Drop)]
+struct InStep {
+    // How many turns each worker has come to, and how many of its tries were Moved when it came to the last one.
+    turns: [AtomicU64; 2],
+    moved: [AtomicU64; 2],
+    // How often a worker has given up waiting.
+    given_up: AtomicU64,
+}
+
+impl InStep {
+    fn new() -> Self {
+        InStep {
+            turns: [AtomicU64::new(0), AtomicU64::new(0)],
+            moved: [AtomicU64::new(0), AtomicU64::new(0)],
+            given_up: AtomicU64::new(0),
+        }
+    }
+
+    /// Waits until the other worker has come to this turn, or one has given up.
+    fn wait_for(&self, other: usize, turn: u64) {
+        for _ in 0..10_000_000 {
+            if self.turns[other % 2].load(Ordering::SeqCst) > turn
+                || self.given_up.load(Ordering::SeqCst) > 0
+            {
+                return;
+            }
+            thread::yield_now();
+        }
+        self.given_up.fetch_add(1, Ordering::SeqCst);
+    }
+}
+
+impl Gate for InStep {
+    fn turn(&self, worker: u32, turn: u64, moved: u64) {
+        let own = worker as usize % 2;
+        self.moved[own].store(moved, Ordering::SeqCst);
+        self.turns[own].store(turn.saturating_add(1), Ordering::SeqCst);
+        self.wait_for(1 - own, turn);
+    }
+}
+
+#[test]
+fn words_cross_between_two_workers(rt: HostRuntime) -> Result<(), Fail> {
+    let [node_708, node_709] = nodes(&[708, 709])?;
+    let mut chip = chip_with(rt.alloc(), node_708, &WRITE_12_RIGHT)?;
+    place(&mut chip, node_709, &[0x04B02, 0x001D5, 0x089B2])?;
+    let plan = plan(rt.alloc(), &[&[708], &[709]])?;
+    let gate = InStep::new();
+    let chip = run(&rt, rt.alloc(), chip, &plan, 40, &gate)?;
+    assert!(rt; gate.given_up.load(Ordering::SeqCst) == 0);
+    assert!(rt; gate.moved[0].load(Ordering::SeqCst) == 14);
+    assert!(rt; gate.moved[1].load(Ordering::SeqCst) == 12);
+    assert!(rt; has_crossed(&chip, node_708) && has_crossed(&chip, node_709));
     Ok(())
 }
 
@@ -88,10 +168,7 @@ fn break_and_pass(rt: HostRuntime) -> Result<(), Fail> {
     chip.set_break(node_000, 0x003);
     for steps in [16, 34] {
         for turns in [100, 7] {
-            let Ok(next) = run_workers(&rt, chip, &plan, turns, &Open) else {
-                return Err("refused".into());
-            };
-            chip = next;
+            chip = run(&rt, rt.alloc(), chip, &plan, turns, &Open)?;
             assert!(rt; chip.state(node_000).steps() == steps);
             assert!(rt; outcome(&mut chip, node_000, Side::Right) == Outcome::Held);
         }
@@ -127,9 +204,7 @@ fn the_gate_is_called_before_the_tries(rt: HostRuntime) -> Result<(), Fail> {
         calls: AtomicU64::new(0),
         strange: AtomicU64::new(0),
     };
-    let Ok(_) = run_workers(&rt, chip, &plan, 20, &gate) else {
-        return Err("refused".into());
-    };
+    let _chip = run(&rt, rt.alloc(), chip, &plan, 20, &gate)?;
     let (calls, strange) = (
         gate.calls.load(Ordering::SeqCst),
         gate.strange.load(Ordering::SeqCst),

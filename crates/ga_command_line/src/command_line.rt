@@ -50,7 +50,8 @@ pub fn job(alloc: Global, words: &[&str]) -> Result<Job, LineError>
     ensures in_range { IfOk result InRange }
     ensures named { IfOk result (IsJobOf (map (λ word. word.now) words.now)) }
     // Right words are refused only for want of memory.
-    ensures right { IfErr result (λ error. (job : Job) → IsRight (map (λ word. word.now) words.now) job
+    ensures right { IfErr result (λ error. (job : Job)
+        → IsRight (map (λ word. word.now) words.now) job
         → error ≡ LineError.Memory) }
 {
     let matches = command(alloc)?.try_get_matches_from(words)?;
@@ -61,7 +62,8 @@ pub fn job(alloc: Global, words: &[&str]) -> Result<Job, LineError>
 fn job_in(alloc: Global, matches: &ArgMatches<'_>) -> Result<Job, LineError>
     ensures in_range { IfOk result InRange }
     ensures named { IfOk result (IsAskedFor (subcommand_rows_of matches.now)) }
-    ensures right { IfErr result (λ error. (job : Job) → IsAskedFor (subcommand_rows_of matches.now) job
+    ensures right { IfErr result (λ error. (job : Job)
+        → IsAskedFor (subcommand_rows_of matches.now) job
         → InRange job → error ≡ LineError.Memory) }
 {
     match matches.subcommand() {
@@ -139,7 +141,8 @@ fn link<'a>(
     requires command { IfOk command (λ made. has_globals made ≡ false) }
     requires subcommand { IfOk subcommand (λ made. has_globals made ≡ false) }
     ensures plain { IfOk result (λ made. has_globals made ≡ false) }
-    ensures linked { (app linked_to : App) → IfOk command.entry (IsCommandOf app) → IfOk subcommand.entry (IsCommandOf linked_to)
+    ensures linked { (app linked_to : App) → IfOk command.entry (IsCommandOf app)
+        → IfOk subcommand.entry (IsCommandOf linked_to)
         → IfOk result (IsCommandOf (linked app linked_to)) }
 {
     let command = command?;

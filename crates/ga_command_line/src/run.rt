@@ -74,7 +74,8 @@ fn routed_command<'a>(alloc: Global) -> Result<Command<'a>, AllocError>
 pub fn job_of(alloc: Global, found: &ArgMatches<'_>) -> Result<Job, LineError>
     ensures in_range { IfOk result InRange }
     ensures asked { IfOk result (AsksFor (codes "run", rows_of (found_of found.now))) }
-    ensures right { IfErr result (λ error. (route : Text) (workers turns : ℕ) → IsRunInRange workers turns
+    ensures right { IfErr result (λ error. (route : Text) (workers turns : ℕ)
+        → IsRunInRange workers turns
         → IsRunAt (rows_of (found_of found.now)) route workers turns → error ≡ LineError.Memory) }
 {
     let workers = number_of(alloc, found, "WORKERS", 1, WORKERS_LIMIT)?;

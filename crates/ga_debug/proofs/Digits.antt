@@ -2,7 +2,7 @@
 use Rattle.std.proofs.Common.{◌≡◌, ℕ, ◌^◌, ◌<◌, ◌≤◌, true, List, take, drop, arith, lit<}
 use Rattle.std.proofs.Math.Nat.{pow-le-pow_right}
 use Rattle.std.specs.List.{list_all}
-use Rattle.ga_path.specs.Names.{is_decimal}
+use Rattle.ga_debug.specs.Word.{is_decimal}
 use Rattle.ga_debug.specs.Word.{decimal_from}
 
 -- what a loop over the digits knows of the first ones

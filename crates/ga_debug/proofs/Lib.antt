@@ -5,4 +5,5 @@ pub mod Room
 pub mod Sources
 pub mod Heads
 pub mod OneReplay
+pub mod FrameLoading
 mod WorkedSessions

@@ -26,7 +26,7 @@ use Rattle.ga_debug.specs.Head.{head_in}
 use Rattle.ga_debug.specs.Pieces.{pieces}
 use Rattle.ga_debug.specs.Replaying.{line_on, lines_on, stated_answer, statement_in}
 use Rattle.ga_debug.specs.Session.{reply_to}
-use Rattle.ga_debug.specs.Word.{number_of}
+use Rattle.ga_debug.specs.Word.{decimal_of}
 
 -- ---- heads
 
@@ -87,11 +87,11 @@ unfolding command_in command_first arguments pieces
 a_view = refl
 
 most_turns : command_in (codes "turn 1000000") ≡ Ok (Act (Turn 1000000))
-unfolding command_in command_first arguments pieces number_of
+unfolding command_in command_first arguments pieces decimal_of
 most_turns = refl
 
 too_many_turns : command_in (codes "turn 1000001") ≡ Err BadCount
-unfolding command_in command_first arguments pieces number_of
+unfolding command_in command_first arguments pieces decimal_of
 too_many_turns = refl
 
 no_such_node : command_in (codes "break 720 200") ≡ Err BadNode
@@ -128,11 +128,11 @@ unfolding statement_in action_first arguments stated_answer pieces
 a_statement = refl
 
 nine_digits : statement_in (codes "turn 1 = 000000002") ≡ Ok (Turn 1, Moved 2)
-unfolding statement_in action_first arguments stated_answer pieces number_of
+unfolding statement_in action_first arguments stated_answer pieces decimal_of
 nine_digits = refl
 
 ten_digits : statement_in (codes "turn 1 = 0000000002") ≡ Err BadCommand
-unfolding statement_in action_first arguments stated_answer pieces number_of
+unfolding statement_in action_first arguments stated_answer pieces decimal_of
 ten_digits = refl
 
 one_is_compared : lines_on 5 0 reset_chip (codes "break 709 003" ∷ [] ∷ codes "try 709 r = waits" ∷ []) ≡ Ok 1

@@ -15,15 +15,15 @@ use Rattle.ga_debug.specs.declared.error.DebugError.TheVariants.{NotHeld}
 use Rattle.ga_debug.specs.Word.{outcome_text}
 
 -- a pass is refused where a try wouldn't be held
-abbrev pub passed : Option ChipError → Result Answer DebugError
-passed None = Ok Done
-passed (Some fault) = Err NotHeld
+abbrev pub pass_answer : Option ChipError → Result Answer DebugError
+pass_answer None = Ok Done
+pass_answer (Some fault) = Err NotHeld
 
 -- what an action answers
 abbrev pub answer_to : Action → Chip → Result Answer DebugError
 answer_to (Break node at) chip = Ok Done
 answer_to (Clear node at) chip = Ok Done
-answer_to (Pass node) chip = passed (unless_held (tried chip node Right).0)
+answer_to (Pass node) chip = pass_answer (unless_held (tried chip node Right).0)
 answer_to (Try node side) chip = Ok (Tried (tried chip node side).0)
 answer_to (Turn count) chip = Ok (Moved (length (moves chip (turns_of count))))
 

@@ -18,27 +18,27 @@ all_placed [] chip = chip
 all_placed (image ∷ images) chip =
     all_placed images (unless_refused (refusal chip image.0) (placed chip image.0 image.1.words image.1.entry) chip)
 
--- a node of a chip after reset is given a stream
-abbrev pub given : ℕ → List ℕ → Chip
-given node words = unless_refused (stream_refusal reset_chip node) (streamed reset_chip node words) reset_chip
+-- a node of a chip after reset is stream_chip a stream
+abbrev pub stream_chip : ℕ → List ℕ → Chip
+stream_chip node words = unless_refused (stream_refusal reset_chip node) (streamed reset_chip node words) reset_chip
 
--- a chip after reset that boots along a route: its first node was given both parts of the boot stream, as one stream
+-- a chip after reset that boots along a route: its first node was stream_chip both parts of the boot stream, as one stream
 abbrev pub booted : Images → List ℕ → Chip
-booted images route = given (get_or route 0 0) (load_of images route ++ start_of images route)
+booted images route = stream_chip (get_or route 0 0) (load_of images route ++ start_of images route)
 
 -- where each node with an image is on the route
-abbrev pub reached : Option ℕ → List ℕ → Images → Result Chip ReplayError
-reached None route images = Ok (booted images route)
-reached (Some node) route images = Err (Boot (Unreached node))
+abbrev pub booted_if : Option ℕ → List ℕ → Images → Result Chip ReplayError
+booted_if None route images = Ok (booted images route)
+booted_if (Some node) route images = Err (Boot (Unreached node))
 
-abbrev pub routed : Option RouteError → List ℕ → Images → Result Chip ReplayError
-routed None route images = reached (unreached images route) route images
-routed (Some fault) route images = Err (fault_of_route fault)
+abbrev pub routed_chip : Option RouteError → List ℕ → Images → Result Chip ReplayError
+routed_chip None route images = booted_if (unreached images route) route images
+routed_chip (Some fault) route images = Err (fault_of_route fault)
 
 -- the chip that images are loaded into, or what is wrong with the route
 abbrev pub chip_of : Loading → Images → Result Chip ReplayError
 chip_of None images = Ok (all_placed images reset_chip)
-chip_of (Some nodes) images = routed (route_fault nodes) nodes images
+chip_of (Some nodes) images = routed_chip (route_fault nodes) nodes images
 
 -- the chip that a head leads to, or its first fault: of the source, of the assembly, of the route, of the boot
 abbrev pub IsChipOf : Head → Result Chip ReplayError → Type 0

@@ -9,7 +9,8 @@ use Rattle.ga_debug.specs.declared.command.Command.TheVariants.{Act, Show}
 use Rattle.ga_debug.specs.declared.word.Verb.{Verb}
 use Rattle.ga_debug.specs.declared.word.Verb.TheVariants.{Break, Clear, Pass, Try, Turn}
 use Rattle.ga_debug.specs.Pieces.{pieces}
-use Rattle.ga_debug.specs.Word.{address_of, count_of, node_of, side_of, verb_of, view_of}
+use Rattle.ga_place.specs.Node.{node_named}
+use Rattle.ga_debug.specs.Word.{address_of, count_of, side_of, verb_of, view_of}
 
 abbrev pub Words : Type 0
 Words = List (List ℕ)
@@ -37,7 +38,7 @@ then_with (Ok (value, rest)) next = next value rest
 then_with (Err fault) next = Err fault
 
 abbrev pub node_first : Words → First ℕ
-node_first words = first_word node_of BadNode words
+node_first words = first_word node_named BadNode words
 
 abbrev pub address_first : Words → First ℕ
 address_first words = first_word address_of BadAddress words

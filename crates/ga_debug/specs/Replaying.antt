@@ -18,7 +18,7 @@ use Rattle.ga_debug.specs.Action.{after_action, answer_to}
 use Rattle.ga_debug.specs.Beginning.{IsBegun}
 use Rattle.ga_debug.specs.Command.{Words, action_first, whole, then_with, words_of}
 use Rattle.ga_debug.specs.Head.{Head}
-use Rattle.ga_debug.specs.Word.{number_of, outcome_of}
+use Rattle.ga_debug.specs.Word.{decimal_of, outcome_of}
 
 -- the fault of a line, as a fault of the text
 abbrev pub fault_of_line : LineError → ReplayError
@@ -46,7 +46,7 @@ stated_answer (Break node at) words = whole Done words
 stated_answer (Clear node at) words = whole Done words
 stated_answer (Pass node) words = whole Done words
 stated_answer (Try node side) words = read_by (λ word. option_map Tried (outcome_of word)) (word_behind_sign words)
-stated_answer (Turn count) words = read_by (λ word. option_map Moved (number_of 9 word)) (word_behind_sign words)
+stated_answer (Turn count) words = read_by (λ word. option_map Moved (decimal_of 9 word)) (word_behind_sign words)
 
 abbrev pub with_answer : Action → Result Answer DebugError → Result (Action × Answer) DebugError
 with_answer action (Ok answer) = Ok (action, answer)

@@ -1,12 +1,11 @@
 -- What the words of a command mean, each on its own.
-use Rattle.std.specs.Prelude.{ℕ, ◌+◌, ◌-◌, ◌*◌, nat_lt, nat_le, ◌&&◌, List, [], ◌∷◌, codes, length, find, Option, Some, None, if◌then◌else◌}
+use Rattle.std.specs.Prelude.{ℕ, ◌+◌, ◌-◌, ◌*◌, nat_lt, nat_le, Bool, ◌&&◌, List, [], ◌∷◌, codes, length, find, Option, Some, None, if◌then◌else◌}
 use Rattle.std.specs.Char.{digit_value, is_digit}
 use Rattle.std.specs.List.{list_all}
 use Rattle.std.specs.Str.{bytes_eq}
 use Rattle.ga_place.specs.Side.{SIDES}
 use Rattle.ga_place.specs.declared.side.Side.{Side}
 use Rattle.ga_place.specs.declared.side.Side.TheVariants.{Right, Down, Left, Up}
-use Rattle.ga_path.specs.Names.{is_decimal, node_in}
 use Rattle.ga_chip.specs.declared.outcome.Outcome.{Outcome}
 use Rattle.ga_chip.specs.declared.outcome.Outcome.TheVariants.{Moved, Waits, Held, Stopped}
 use Rattle.ga_debug.specs.declared.word.Verb.{Verb}
@@ -40,11 +39,6 @@ VIEWS = Regs ∷ Mem ∷ Ports ∷ []
 abbrev pub view_of : List ℕ → Option View
 view_of word = find (λ view. bytes_eq (view_name view) word) VIEWS
 
--- a node: the three digits of its name
-abbrev pub node_of : List ℕ → Option ℕ
-node_of (a ∷ b ∷ c ∷ []) = node_in a b c
-node_of word = None
-
 -- the number that three hex digits write
 abbrev pub hex_of : ℕ → ℕ → ℕ → ℕ
 hex_of a b c = (digit_value a * 16 + digit_value b) * 16 + digit_value c
@@ -65,14 +59,18 @@ side_letter Up = codes "u"
 abbrev pub side_of : List ℕ → Option Side
 side_of word = find (λ side. bytes_eq (side_letter side) word) SIDES
 
+-- a decimal digit
+abbrev pub is_decimal : ℕ → Bool
+is_decimal c = nat_lt 47 c && nat_lt c 58
+
 -- the number that decimal digits write behind those of another number
 abbrev pub decimal_from : ℕ → List ℕ → ℕ
 decimal_from number [] = number
 decimal_from number (c ∷ digits) = decimal_from (number * 10 + (c - 48)) digits
 
 -- a number of one to so many decimal digits
-unfoldable pub number_of : ℕ → List ℕ → Option ℕ
-number_of most word =
+unfoldable pub decimal_of : ℕ → List ℕ → Option ℕ
+decimal_of most word =
     if (nat_lt 0 (length word) && nat_le (length word) most) && list_all is_decimal word then Some (decimal_from 0 word) else None
 
 abbrev pub at_most : ℕ → Option ℕ → Option ℕ
@@ -81,7 +79,7 @@ at_most most (Some number) = if nat_le number most then Some number else None
 
 -- a count of turns: one to seven digits, up to 1000000
 abbrev pub count_of : List ℕ → Option ℕ
-count_of word = at_most 1000000 (number_of 7 word)
+count_of word = at_most 1000000 (decimal_of 7 word)
 
 -- what came of a try
 abbrev pub outcome_text : Outcome → List ℕ

@@ -36,7 +36,7 @@ pub(crate) fn chip_after(alloc: Global, head: &Head<'_>) -> Result<Chip, ReplayE
     let images = assemble_text(alloc, head.source.as_str())?;
     match &head.nodes {
         None => all_placed(alloc, &images),
-        Some(nodes) => routed(alloc, nodes, &images),
+        Some(nodes) => routed_chip(alloc, nodes, &images),
     }
 }
 
@@ -52,7 +52,7 @@ fn all_placed(alloc: Global, images: &Images) -> Result<Chip, ReplayError>
 }
 
 /// A chip that boots along a route.
-fn routed(alloc: Global, nodes: &[Node], images: &Images) -> Result<Chip, ReplayError>
+fn routed_chip(alloc: Global, nodes: &[Node], images: &Images) -> Result<Chip, ReplayError>
     ensures { Gives (λ chip. chip) result (chip_of (Some nodes.now) images.now) }
 {
     let route = Route::new(alloc, nodes)?;

@@ -9,7 +9,7 @@ use crate::action::Action;
 use crate::address::Address;
 use crate::error::DebugError;
 use crate::pieces::Pieces;
-use crate::word::{Verb, View, address_of, count_of, node_of, side_of, verb_of, view_of};
+use crate::word::{Verb, View, address_of, count_of, side_of, verb_of, view_of};
 use ga_place::{Node, Side};
 
 /// A command of a session.
@@ -105,7 +105,7 @@ fn node_first(words: &mut Pieces<'_>) -> Result<Node, DebugError>
     let Some(word) = words.next() else {
         return Err(DebugError::BadNode);
     };
-    node_of(word.as_bytes()).ok_or(DebugError::BadNode)
+    Node::from_digits(word.as_bytes()).ok_or(DebugError::BadNode)
 }
 
 fn address_first(words: &mut Pieces<'_>) -> Result<Address, DebugError>

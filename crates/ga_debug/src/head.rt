@@ -55,7 +55,8 @@ pub(crate) fn head_of<'a>(alloc: Global, text: &'a str) -> Result<Head<'a>, Repl
 /// The source lines up to the line `go`, and its number, where the first line has the number 3.
 fn source_of(alloc: Global, lines: &mut Pieces<'_>) -> Result<(String, u64), ReplayError>
     requires { 4 + length (pieces_left lines.old) < 2 ^ 64 }
-    ensures head { (loading : Loading) → Gives (λ found. head_with loading found (pieces_left lines.new)) result (up_to_go loading 3 (pieces_left lines.old)) }
+    ensures head { (loading : Loading)
+        → Gives (λ found. head_with loading found (pieces_left lines.new)) result (up_to_go loading 3 (pieces_left lines.old)) }
     ensures room { IfOk result (λ found. found.1 + 1 + length (pieces_left lines.new) < 2 ^ 64) }
 {
     let mut source = String::new(alloc);

@@ -11,7 +11,7 @@ use crate::error::DebugError;
 use crate::head::head_of;
 use crate::pieces::Pieces;
 use crate::replay_error::ReplayError;
-use crate::word::{number_of, outcome_of};
+use crate::word::{decimal_of, outcome_of};
 use ga_chip::{Chip, Outcome};
 use std::alloc::Global;
 
@@ -111,7 +111,7 @@ fn stated_answer(action: &Action, words: &mut Pieces<'_>) -> Result<Answer, Debu
         }
         Action::Turn { .. } => {
             let word = word_behind_sign(words)?;
-            match number_of(word.as_bytes(), 9) {
+            match decimal_of(word.as_bytes(), 9) {
                 Some(steps) => Ok(Answer::Moved(u64::from(steps))),
                 None => Err(DebugError::BadCommand),
             }

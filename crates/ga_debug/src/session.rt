@@ -40,7 +40,8 @@ impl Session {
     /// The reply to a command, without an LF at its end.
     pub fn command(&mut self, alloc: Global, line: &str) -> Result<String, DebugError>
         ensures reply { IfOk result (λ text. reply_to line.now self.old ≡ Ok (string_bytes text)) }
-        ensures refused { IfErr result (λ error. (error ≡ Memory) ⊎ (reply_to line.now self.old ≡ Err error)) }
+        ensures refused { IfErr result (λ error. (error ≡ Memory)
+            ⊎ (reply_to line.now self.old ≡ Err error)) }
         ensures chip { OnOk result (self.new ≡ after_line line.now self.old) }
         ensures same { OnErr result (self.new ≡ self.old) }
     {
@@ -60,7 +61,8 @@ impl Session {
 
 /// What a view shows of a node, without the last LF.
 fn view_text(alloc: Global, chip: &Chip, view: View, node: Node) -> Result<String, AllocError>
-    ensures { IfOk result (λ text. string_bytes text ≡ without_line_end (view_text view node chip.now)) }
+    ensures { IfOk result (λ text. string_bytes text
+        ≡ without_line_end (view_text view node chip.now)) }
 {
     let mut text = match view {
         View::Regs => chip.state(node).line(alloc)?,

@@ -1,9 +1,9 @@
 ghost use Rattle.std.specs.Prelude.{◌≡◌, ◌<◌, ℕ};
-ghost use Rattle.ga_debug.specs.Word.{address_of, count_of, node_of, number_of, outcome_of, side_of, verb_of, view_of};
+ghost use Rattle.ga_debug.specs.Word.{address_of, count_of, decimal_of, outcome_of, side_of, verb_of, view_of};
 
 use crate::address::Address;
 use ga_chip::Outcome;
-use ga_place::{Node, Side};
+use ga_place::Side;
 
 /// A command that does something to the chip.
 #[derive(Clone, Copy)]
@@ -51,20 +51,6 @@ pub(crate) fn view_of(word: &[u8]) -> Option<View>
     Some(view)
 }
 
-/// The node whose name a word is, in three digits.
-pub(crate) fn node_of(word: &[u8]) -> Option<Node>
-    ensures { result ≡ node_of word.now }
-{
-    let [a, b, c] = word else {
-        return None;
-    };
-    if !(a.is_ascii_digit() && b.is_ascii_digit() && c.is_ascii_digit()) {
-        return None;
-    }
-    let name = u16::from(*a - b'0') * 100 + u16::from(*b - b'0') * 10 + u16::from(*c - b'0');
-    Node::new(name)
-}
-
 /// The address that a word is, in three hex digits of either case.
 pub(crate) fn address_of(word: &[u8]) -> Option<Address>
     ensures { result ≡ address_of word.now }
@@ -94,10 +80,10 @@ pub(crate) fn side_of(word: &[u8]) -> Option<Side>
 }
 
 /// The number that a word is, in one to so many decimal digits.
-#[tactic(auto, unfolding(crate::specs::Word::number_of))]
-pub(crate) fn number_of(word: &[u8], most: usize) -> Option<u32>
+#[tactic(auto, unfolding(crate::specs::Word::decimal_of))]
+pub(crate) fn decimal_of(word: &[u8], most: usize) -> Option<u32>
     requires { most < 10 }
-    ensures { result ≡ number_of most word.now }
+    ensures { result ≡ decimal_of most word.now }
 {
     if word.is_empty() || word.len() > most {
         return None;
@@ -116,7 +102,7 @@ pub(crate) fn number_of(word: &[u8], most: usize) -> Option<u32>
 pub(crate) fn count_of(word: &[u8]) -> Option<u32>
     ensures { result ≡ count_of word.now }
 {
-    let number = number_of(word, 7)?;
+    let number = decimal_of(word, 7)?;
     if number <= 1_000_000 {
         Some(number)
     } else {

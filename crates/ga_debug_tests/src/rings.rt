@@ -1,16 +1,18 @@
-//! Workers in threads: a ring of four nodes ends alike with one worker and with two.
+//! Workers in threads: a ring of four nodes ends alike with one worker, with two and with four.
 use ga_asm::assemble;
 use ga_chip::Chip;
 use ga_debug::booted;
 use ga_dump::node_text;
-use ga_group::{Gate, Plan, run_workers};
+use ga_group::{Gate, Plan, RunError, run_workers};
 use ga_node::NodeState;
 use ga_path::Route;
 use ga_place::Node;
 use ga_source::parse;
 use ga_test_values::nodes;
 use std::alloc::Global;
+use std::sync::atomic::{AtomicBool, AtomicU32, Ordering};
 use std::test::Fail;
+use std::thread;
 use std::thread::Threads;
 
 /// Four nodes that hand a number round, each of which but the first adds 1.
@@ -21,6 +23,7 @@ node 609 down a! right b! @ $1 + !b jump warm
 node 608 right a! down b! @ $1 + !b jump warm
 ";
 
+/// Lets the workers come as they come.
 struct Open;
 
 impl Gate for Open {
@@ -48,32 +51,41 @@ fn are_level(nodes: &[Node; 4], one: &Chip, other: &Chip) -> bool {
     nodes.iter().all(|node| one.state(*node).steps() == other.state(*node).steps())
 }
 
-/// The ring by one worker.
-fn by_one<R: Threads>(rt: &R, alloc: Global, nodes: &[Node; 4]) -> Result<Chip, Fail> {
-    let plan = plan_of(alloc, &[nodes])?;
-    let Ok(chip) = run_workers(rt, ring(alloc, nodes)?, &plan, 4000, &Open) else {
-        return Err("refused".into());
-    };
-    Ok(chip)
+/// The chip after so many turns.
+fn run<R: Threads + Sync, G: Gate>(
+    rt: &R,
+    alloc: Global,
+    chip: Chip,
+    plan: &Plan,
+    turns: u64,
+    gate: &G,
+) -> Result<Chip, RunError> {
+    match run_workers(rt, alloc, chip, plan, turns, gate) {
+        Ok(next) => Ok(next),
+        Err((fault, _)) => Err(fault),
+    }
 }
 
-/// The ring by two workers, until it is as far as another.
-fn by_two<R: Threads>(
+/// The ring by one worker.
+fn by_one<R: Threads + Sync>(rt: &R, alloc: Global, nodes: &[Node; 4]) -> Result<Chip, Fail> {
+    let plan = plan_of(alloc, &[nodes])?;
+    Ok(run(rt, alloc, ring(alloc, nodes)?, &plan, 4000, &Open)?)
+}
+
+/// The ring by several workers, until it is as far as another.
+fn by_several<R: Threads + Sync>(
     rt: &R,
     alloc: Global,
     nodes: &[Node; 4],
+    plan: &Plan,
     other: &Chip,
 ) -> Result<Chip, Fail> {
-    let plan = plan_of(alloc, &[&[nodes[0], nodes[2]], &[nodes[1], nodes[3]]])?;
     let mut chip = ring(alloc, nodes)?;
     for _ in 0..4000 {
         if are_level(nodes, other, &chip) {
             break;
         }
-        let Ok(next) = run_workers(rt, chip, &plan, 16, &Open) else {
-            return Err("refused".into());
-        };
-        chip = next;
+        chip = run(rt, alloc, chip, plan, 16, &Open)?;
     }
     Ok(chip)
 }
@@ -83,18 +95,126 @@ fn are_alike(alloc: Global, one: &NodeState, other: &NodeState) -> Result<bool, 
     Ok(node_text(alloc, one)? == node_text(alloc, other)?)
 }
 
+/// Whether two chips have nodes alike.
+fn have_alike(alloc: Global, nodes: &[Node; 4], one: &Chip, other: &Chip) -> Result<bool, Fail> {
+    for node in nodes {
+        if !are_alike(alloc, one.state(*node), other.state(*node))? {
+            return Ok(false);
+        }
+    }
+    Ok(true)
+}
+
 #[test]
 fn ring_of_four(rt: HostRuntime) -> Result<(), Fail> {
     let alloc = rt.alloc();
     let ring = nodes(&[708, 709, 609, 608])?;
     let one = by_one(&rt, alloc, &ring)?;
     assert!(rt; one.state(ring[0]).t().get() == 4);
-    let two = by_two(&rt, alloc, &ring, &one)?;
-    for node in ring {
-        assert!(rt;
-            are_alike(alloc, one.state(node), two.state(node))?,
-            "{node}"
-        );
+    let [a, b, c, d] = ring;
+    let two = by_several(
+        &rt,
+        alloc,
+        &ring,
+        &plan_of(alloc, &[&[a, c], &[b, d]])?,
+        &one,
+    )?;
+    assert!(rt; have_alike(alloc, &ring, &one, &two)?);
+    let four = by_several(
+        &rt,
+        alloc,
+        &ring,
+        &plan_of(alloc, &[&[a], &[b], &[c], &[d]])?,
+        &one,
+    )?;
+    assert!(rt; have_alike(alloc, &ring, &one, &four)?);
+    Ok(())
+}
+
+/// A gate at which each worker waits in its first turn until it has seen the flags of all others.
+#[derive(Drop)]
+struct Meeting {
+    workers: u32,
+    // A flag for each worker, which it sets when it comes, and how many workers have seen all flags.
+    flags: [AtomicBool; 4],
+    met: AtomicU32,
+    // Whether a worker has given up waiting: then all do.
+    given_up: AtomicBool,
+}
+
+impl Meeting {
+    fn new(workers: u32) -> Self {
+        Meeting {
+            workers,
+            flags: [
+                AtomicBool::new(false),
+                AtomicBool::new(false),
+                AtomicBool::new(false),
+                AtomicBool::new(false),
+            ],
+            met: AtomicU32::new(0),
+            given_up: AtomicBool::new(false),
+        }
     }
+
+    /// Whether the flags of all workers are set.
+    fn all_have_come(&self) -> bool {
+        for worker in 0..4 {
+            if worker < self.workers && !self.flags[worker as usize].load(Ordering::SeqCst) {
+                return false;
+            }
+        }
+        true
+    }
+}
+
+impl Gate for Meeting {
+    fn turn(&self, worker: u32, turn: u64, _moved: u64) {
+        if turn > 0 || worker >= 4 {
+            return;
+        }
+        self.flags[worker as usize].store(true, Ordering::SeqCst);
+        for _ in 0..10_000_000 {
+            if self.all_have_come() {
+                self.met.fetch_add(1, Ordering::SeqCst);
+                return;
+            }
+            if self.given_up.load(Ordering::SeqCst) {
+                return;
+            }
+            thread::yield_now();
+        }
+        self.given_up.store(true, Ordering::SeqCst);
+    }
+}
+
+/// Whether all workers of a plan run at once: each comes to its first turn while the others wait in theirs.
+fn overlap<R: Threads + Sync>(
+    rt: &R,
+    alloc: Global,
+    nodes: &[Node; 4],
+    plan: &Plan,
+    workers: u32,
+) -> Result<bool, Fail> {
+    let gate = Meeting::new(workers);
+    let _chip = run(rt, alloc, ring(alloc, nodes)?, plan, 2, &gate)?;
+    Ok(gate.met.load(Ordering::SeqCst) == workers)
+}
+
+#[test]
+fn workers_overlap(rt: HostRuntime) -> Result<(), Fail> {
+    let alloc = rt.alloc();
+    let ring = nodes(&[708, 709, 609, 608])?;
+    let [a, b, c, d] = ring;
+    assert!(rt; overlap(&rt, alloc, &ring, &plan_of(alloc, &[&[a, c], &[b, d]])?, 2)?);
+    assert!(rt;
+        overlap(
+            &rt,
+            alloc,
+            &ring,
+            &plan_of(alloc, &[&[a], &[b], &[c], &[d]])?,
+            4
+        )?
+    );
     Ok(())
 }

@@ -9,7 +9,7 @@ use Rattle.ga_word.specs.declared.op.Op.{Op}
 use Rattle.ga_word.specs.declared.op.Op.TheVariants.{FetchP, StoreP}
 use Rattle.ga_word.specs.Op.{ends_word, takes_dest}
 use Rattle.ga_pack.specs.Followers.{followers, is_followed}
-use Rattle.ga_pack.specs.Model.Layout.{Labels, Group, Alone, Shared, Arranged, GroupWords, IsWord, Laid, Words, code_end, dest_in, filled, fits, is_loose, items_of, joins, labels_behind, last_dest, literals, number_of, op_of, ops_of, size, stand, with_fillers}
+use Rattle.ga_pack.specs.Model.Layout.{Labels, Group, Alone, Shared, Arranged, GroupWords, IsWord, Laid, Words, code_end, dest_in, filled, fits, is_loose, items_of, joins, labels_behind, last_dest, literals, value_number, op_of, ops_of, size, stand, with_fillers}
 use Rattle.ga_pack.specs.Model.Source as source
 use Rattle.ga_pack.specs.Model.Source.{Item, Value, Instruction, Transfer, Literal, Here, Align, Word, WordTo, Plain, Before, Items, Part, is_below, is_item, is_new, is_spare, part_after, stand_from, start}
 use Rattle.ga_pack.specs.Slots.{dest_bound}
@@ -220,9 +220,9 @@ data_named labels before address owed b (Shared i is ∷ groups) words part (p, 
     absurd (loose_behind i p loose (subst (λ (t : Part). part_after t i ≡ Some p) part next))
 data_named labels before address owed b (Alone (Plain v) ∷ groups) words part (p, right, new, next, items) arranged (first, others, is, more, e) =
     let behind = plain_behind v p (subst (λ (t : Part). part_after t (Plain v) ≡ Some p) part next) in
-    let all : words ≡ number_of labels v ∷ others = e ∙ ap (λ (t : List ℕ). t ++ others) is in
-    data_next owed owed 0 0 (number_of labels v) words others all refl refl refl
-    ∙ ap (λ (t : List ItemView). Data (number_of labels v) ∷ t) (data_named labels before (address + 1) owed (source.after b (Plain v) p) groups others behind items arranged.1 more)
+    let all : words ≡ value_number labels v ∷ others = e ∙ ap (λ (t : List ℕ). t ++ others) is in
+    data_next owed owed 0 0 (value_number labels v) words others all refl refl refl
+    ∙ ap (λ (t : List ItemView). Data (value_number labels v) ∷ t) (data_named labels before (address + 1) owed (source.after b (Plain v) p) groups others behind items arranged.1 more)
 data_named labels before address owed b (Alone (Here s) ∷ groups) words part (p, right, new, next, items) arranged (first, others, is, more, e) =
     let behind = here_part b.part s p next ∙ part in
     let all : words ≡ others = e ∙ ap (λ (t : List ℕ). t ++ others) is in
@@ -278,8 +278,8 @@ code_named labels before address owed left b (Alone (Plain v) ∷ groups) words 
     let (n, some, is) = plain_part owed v p (subst (λ (t : Part). part_after t (Plain v) ≡ Some p) part next) in
     let reach = end_behind (address + 1) groups in
     let rest : ℕ = left - 1 in
-    follower_next owed n left rest (number_of labels v) words others (e ∙ ap (λ (t : List ℕ). t ++ others) cut) some (omega arith)
-    ∙ ap (λ (t : List ItemView). Follower (number_of labels v) ∷ t) (code_named labels before (address + 1) n rest (source.after b (Plain v) p) groups others is behind arranged.1 more (omega arith))
+    follower_next owed n left rest (value_number labels v) words others (e ∙ ap (λ (t : List ℕ). t ++ others) cut) some (omega arith)
+    ∙ ap (λ (t : List ItemView). Follower (value_number labels v) ∷ t) (code_named labels before (address + 1) n rest (source.after b (Plain v) p) groups others is behind arranged.1 more (omega arith))
 code_named labels before address owed left b (Alone (Here s) ∷ groups) words part (p, right, new, next, behind) arranged (first, others, cut, more, e) end =
     ap (items_from owed left) (e ∙ ap (λ (t : List ℕ). t ++ others) cut)
     ∙ code_named labels (labels_behind before address (Alone (Here s))) (address + 0) owed left (source.after b (Here s) p) groups others (here_part b.part s p next ∙ part) behind arranged.1 more (end ∙ omega arith)

@@ -23,7 +23,7 @@ use Rattle.ga_pack.proofs.Encoded.{reading_of-reads}
 use Rattle.ga_pack.proofs.Meanings.{meaning_of-name_of}
 use Rattle.ga_pack.proofs.ReadingFacts.{count_of_ops, dest_below, spare_below}
 use Rattle.ga_disasm.specs.Disassembling.{ItemView, Code, Follower, Data, items_from}
-use Rattle.ga_disasm.specs.Printing.{field_texts, item_line, line, lines_of, node_line, number_text, spare_texts}
+use Rattle.ga_disasm.specs.Printing.{field_texts, item_line, line, item_lines, node_line, number_text, spare_texts}
 use Rattle.ga_disasm.proofs.Meanings.{meaning_of-number_text, meaning_of-spare, name_plain, number_plain, spare_plain}
 use Rattle.ga_disasm.proofs.TextLines.{is_plain, texts_of-line, texts_of-nothing}
 
@@ -187,20 +187,20 @@ data_mark : (rest : List ℕ) → meanings false (texts_of (line (codes "data") 
 data_mark rest = ap (meanings false) (texts_of-line (codes "data") [] rest refl refl) ∙ data_means (texts_of rest)
 
 -- the tokens of the lines are those of the source items
-pub lines_mean : (in_data : Bool) (items : List ItemView) → AreOfWords items → meanings false (texts_of (lines_of in_data items)) ≡ items_tokens (source_items in_data items) (end ∷ [])
+pub lines_mean : (in_data : Bool) (items : List ItemView) → AreOfWords items → meanings false (texts_of (item_lines in_data items)) ≡ items_tokens (source_items in_data items) (end ∷ [])
 unfolding meanings
 lines_mean in_data [] h = ap (meanings false) texts_of-nothing
 lines_mean in_data (Code reading ∷ items) h =
-    code_line reading (lines_of in_data items) h.0 ∙ ap (item_tokens (bracketed reading.ops reading.dest reading.spare)) (lines_mean in_data items h.1)
-lines_mean in_data (Follower word ∷ items) h = plain_line word (lines_of in_data items) h.0 ∙ ap (item_tokens (Plain (Number word))) (lines_mean in_data items h.1)
-lines_mean true (Data word ∷ items) h = plain_line word (lines_of true items) h.0 ∙ ap (item_tokens (Plain (Number word))) (lines_mean true items h.1)
+    code_line reading (item_lines in_data items) h.0 ∙ ap (item_tokens (bracketed reading.ops reading.dest reading.spare)) (lines_mean in_data items h.1)
+lines_mean in_data (Follower word ∷ items) h = plain_line word (item_lines in_data items) h.0 ∙ ap (item_tokens (Plain (Number word))) (lines_mean in_data items h.1)
+lines_mean true (Data word ∷ items) h = plain_line word (item_lines true items) h.0 ∙ ap (item_tokens (Plain (Number word))) (lines_mean true items h.1)
 lines_mean false (Data word ∷ items) h =
-    ap (λ (t : List ℕ). meanings false (texts_of t)) (append_assoc (line (codes "data") []) (item_line (Data word)) (lines_of true items))
-    ∙ data_mark (item_line (Data word) ++ lines_of true items)
-    ∙ ap (item_tokens source.Data) (plain_line word (lines_of true items) h.0 ∙ ap (item_tokens (Plain (Number word))) (lines_mean true items h.1))
+    ap (λ (t : List ℕ). meanings false (texts_of t)) (append_assoc (line (codes "data") []) (item_line (Data word)) (item_lines true items))
+    ∙ data_mark (item_line (Data word) ++ item_lines true items)
+    ∙ ap (item_tokens source.Data) (plain_line word (item_lines true items) h.0 ∙ ap (item_tokens (Plain (Number word))) (lines_mean true items h.1))
 
 -- behind the line of a node they are those of its section
-pub text_means : (items : List ItemView) → AreOfWords items → tokens_of (node_line ++ lines_of false items) ≡ text_tokens (record { name = 0; items = source_items false items } ∷ [])
+pub text_means : (items : List ItemView) → AreOfWords items → tokens_of (node_line ++ item_lines false items) ≡ text_tokens (record { name = 0; items = source_items false items } ∷ [])
 unfolding tokens_of meanings meaning_at meaning_of
 text_means items h =
-    ap (meanings false) (texts_of-line (codes "node") (codes "000" ∷ []) (lines_of false items) refl refl) ∙ ap (λ (t : List Token). node ∷ node_name 0 ∷ t) (lines_mean false items h)
+    ap (meanings false) (texts_of-line (codes "node") (codes "000" ∷ []) (item_lines false items) refl refl) ∙ ap (λ (t : List Token). node ∷ node_name 0 ∷ t) (lines_mean false items h)

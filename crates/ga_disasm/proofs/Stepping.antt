@@ -5,7 +5,7 @@ use Rattle.std.proofs.Math.Seq.{drop-cons}
 use Rattle.std.proofs.lemmas.List.{map-append}
 use Rattle.ga_pack.specs.Decoded.{Reading, reading_of}
 use Rattle.ga_pack.specs.Followers.{followers}
-use Rattle.ga_disasm.specs.Disassembling.{ItemView, Code, Follower, Data, items_from, view_of}
+use Rattle.ga_disasm.specs.Disassembling.{ItemView, Code, Follower, Data, items_from, item_view}
 use Rattle.ga_disasm.specs.declared.item.Item.{Item}
 
 -- the words from an index on
@@ -29,10 +29,10 @@ unfolding items_from
 code_next owed owed' left left' word words rest reading e none more is same = rw (e, none, more, is, same) refl
 
 -- an item more, and what is left behind it
-pub one_more : (items more : List Item) (item : Item) (left left' all : List ItemView) → map view_of items ++ left ≡ all → left ≡ view_of item ∷ left' → more ≡ items ++ item ∷ [] → map view_of more ++ left' ≡ all
+pub one_more : (items more : List Item) (item : Item) (left left' all : List ItemView) → map item_view items ++ left ≡ all → left ≡ item_view item ∷ left' → more ≡ items ++ item ∷ [] → map item_view more ++ left' ≡ all
 one_more items more item left left' all so_far next pushed =
-    ap (λ (t : List Item). map view_of t ++ left') pushed ∙ ap (λ (t : List ItemView). t ++ left') (map-append view_of items (item ∷ [])) ∙ append_assoc (map view_of items) (view_of item ∷ []) left'
-    ∙ ap (λ (t : List ItemView). map view_of items ++ t) (sym next) ∙ so_far
+    ap (λ (t : List Item). map item_view t ++ left') pushed ∙ ap (λ (t : List ItemView). t ++ left') (map-append item_view items (item ∷ [])) ∙ append_assoc (map item_view items) (item_view item ∷ []) left'
+    ∙ ap (λ (t : List ItemView). map item_view items ++ t) (sym next) ∙ so_far
 
 -- nothing is left
 pub all_apart : (owed left : ℕ) (words : List ℕ) (items all : List ItemView) → words ≡ [] → items ++ items_from owed left words ≡ all → items ≡ all

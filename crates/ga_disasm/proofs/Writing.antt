@@ -6,7 +6,7 @@ use Rattle.ga_word.specs.Hex.{hex_digits}
 use Rattle.ga_word.specs.Op.{name_of}
 use Rattle.ga_word.specs.declared.op.Op.{Op}
 use Rattle.ga_disasm.specs.Disassembling.{ItemView, Code}
-use Rattle.ga_disasm.specs.Printing.{behind_spaces, field_texts, item_line, lines_of, text_of}
+use Rattle.ga_disasm.specs.Printing.{behind_spaces, field_texts, item_line, item_lines, text_of}
 
 pub behind_spaces-append : (texts more : List (List ℕ)) → behind_spaces (texts ++ more) ≡ behind_spaces texts ++ behind_spaces more
 behind_spaces-append [] more = refl
@@ -47,6 +47,6 @@ word_line old begun named fielded new ops dest spare e f g h =
 
 -- ---- all lines
 
-pub all_written : (items rest : List ItemView) (in_data : Bool) (text : List ℕ) → rest ≡ [] → text ++ lines_of in_data rest ≡ lines_of false items → text ≡ text_of items
+pub all_written : (items rest : List ItemView) (in_data : Bool) (text : List ℕ) → rest ≡ [] → text ++ item_lines in_data rest ≡ item_lines false items → text ≡ text_of items
 unfolding text_of
 all_written items rest in_data text none e = sym (append-nil text) ∙ rw none at e

@@ -14,10 +14,10 @@ pub data ItemView : Type 0 where
   Data : ℕ → ItemView
 
 -- an item as definitions have it
-abbrev pub view_of : Item → ItemView
-view_of (item.Code packed) = Code (record { ops = packed.ops.items; dest = packed.dest; spare = packed.spare })
-view_of (item.Follower word) = Follower word
-view_of (item.Data word) = Data word
+abbrev pub item_view : Item → ItemView
+item_view (item.Code packed) = Code (record { ops = packed.ops.items; dest = packed.dest; spare = packed.spare })
+item_view (item.Follower word) = Follower word
+item_view (item.Data word) = Data word
 
 -- The items of words, behind a word that is owed so many followers, where so many of the words are code. Each is
 -- code, and as many words as it has followers are its followers, as far as the code part reaches. What stands

@@ -2,7 +2,7 @@
 use Rattle.std.specs.Prelude.{ℕ, Bool, true, false, List, [], ◌∷◌, ◌++◌, length, map, Option, Some, None}
 use Rattle.std.specs.Option.{unwrap_or}
 use Rattle.ga_word.specs.declared.op.Op.{Op}
-use Rattle.ga_pack.specs.Model.Layout.{Group, Labels, Alone, Shared, dest_in, last_dest, literals, number_of, ops_of, with_fillers}
+use Rattle.ga_pack.specs.Model.Layout.{Group, Labels, Alone, Shared, dest_in, last_dest, literals, value_number, ops_of, with_fillers}
 use Rattle.ga_pack.specs.Model.Source as source
 use Rattle.ga_disasm.specs.Disassembling.{ItemView, Code, Follower, Data}
 
@@ -21,7 +21,7 @@ abbrev pub group_items : Labels → Bool → Group → List ItemView
 group_items labels in_data (Shared i is) = code (ops_of (i ∷ is)) (last_dest labels 0 (i ∷ is)) 0 ∷ map Follower (literals (i ∷ is))
 group_items labels in_data (Alone (source.Word ops)) = code ops None 0 ∷ []
 group_items labels in_data (Alone (source.WordTo ops o v spare)) = code (ops ++ o ∷ []) (Some (dest_in labels (length ops) v)) (unwrap_or spare 0) ∷ []
-group_items labels in_data (Alone (source.Plain v)) = plain in_data (number_of labels v) ∷ []
+group_items labels in_data (Alone (source.Plain v)) = plain in_data (value_number labels v) ∷ []
 group_items labels in_data (Alone i) = []
 
 -- behind a group, `data` stands before or not

@@ -45,13 +45,13 @@ is_data_behind in_data (Data word) = true
 is_data_behind in_data item = in_data
 
 -- a line for each item, where the line `data` is written already or not
-abbrev pub lines_of : Bool → List ItemView → List ℕ
-lines_of in_data [] = []
-lines_of in_data (item ∷ items) = data_line item in_data ++ item_line item ++ lines_of (is_data_behind in_data item) items
+abbrev pub item_lines : Bool → List ItemView → List ℕ
+item_lines in_data [] = []
+item_lines in_data (item ∷ items) = data_line item in_data ++ item_line item ++ item_lines (is_data_behind in_data item) items
 
 -- the text of items
 unfoldable pub text_of : List ItemView → List ℕ
-text_of items = lines_of false items
+text_of items = item_lines false items
 
 -- the line that names node 000
 abbrev pub node_line : List ℕ

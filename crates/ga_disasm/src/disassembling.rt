@@ -2,7 +2,7 @@ ghost use Rattle.std.specs.Prelude.{◌≡◌, ◌≤◌, length, map, IfOk, Lis
 ghost use Rattle.ga_pack.specs.Model.Layout.{Labels, Laid};
 ghost use Rattle.ga_pack.specs.Model.Source as grammar;
 ghost use Rattle.ga_disasm.specs.Instructions.{named_items};
-ghost use Rattle.ga_disasm.specs.Disassembling.{items_of, view_of};
+ghost use Rattle.ga_disasm.specs.Disassembling.{items_of, item_view};
 
 use crate::item::Item;
 use ga_pack::{decode, followers};
@@ -18,12 +18,12 @@ use std::alloc::{AllocError, Global};
 /// refused.
 pub fn items(alloc: Global, words: &[Word18], code_len: usize) -> Result<Vec<Item>, AllocError>
     requires { code_len ≤ length words.now }
-    ensures items { IfOk result (λ items. map view_of items.items ≡ items_of code_len words.now) }
+    ensures items { IfOk result (λ items. map item_view items.items ≡ items_of code_len words.now) }
     // of words that source items are laid as, the items that the layout names: only fillers are
     // added
     ensures instructions { IfOk result (λ items. (source : List grammar.Item) (labels : Labels)
         → grammar.Items grammar.start source → (laid : Laid source words.now labels code_len)
-        → map view_of items.items ≡ named_items labels laid.groups) }
+        → map item_view items.items ≡ named_items labels laid.groups) }
 {
     let mut items = Vec::new(alloc);
     let mut owed = 0;

@@ -1,6 +1,6 @@
 ghost use Rattle.std.specs.Prelude.{◌≡◌, ℕ, ◌++◌, List, map, IfOk, OnOk, string_bytes};
 ghost use Rattle.ga_word.specs.Op.{name_of};
-ghost use Rattle.ga_disasm.specs.Disassembling.{items_of, view_of};
+ghost use Rattle.ga_disasm.specs.Disassembling.{items_of, item_view};
 ghost use Rattle.ga_disasm.specs.Printing.{behind_spaces, field_texts, item_line, node_line, text_of};
 ghost use Rattle.ga_disasm.specs.Source.{FitNode, IsSourceOf};
 
@@ -22,10 +22,10 @@ use std::fmt::Write;
 /// text of these words: behind the line `node 000` it is a text without fault, and the assembler's
 /// layout allows for it these words and no others, and the same length of code.
 pub fn print(alloc: Global, items: &[Item]) -> Result<String, AllocError>
-    ensures text { IfOk result (λ text. string_bytes text ≡ text_of (map view_of items.now)) }
+    ensures text { IfOk result (λ text. string_bytes text ≡ text_of (map item_view items.now)) }
     // for the items of any words of a node
     ensures source { IfOk result (λ text. (words : List ℕ) (code_len : ℕ) → FitNode words code_len
-        → map view_of items.now ≡ items_of code_len words
+        → map item_view items.now ≡ items_of code_len words
         → IsSourceOf (node_line ++ string_bytes text) words code_len) }
 {
     let mut text = String::new(alloc);
@@ -43,7 +43,7 @@ pub fn print(alloc: Global, items: &[Item]) -> Result<String, AllocError>
 /// The line of an item.
 fn push_line(text: &mut String, item: &Item) -> Result<(), AllocError>
     ensures { OnOk result (string_bytes text.new ≡ string_bytes text.old
-        ++ item_line (view_of item.now)) }
+        ++ item_line (item_view item.now)) }
 {
     match item {
         Item::Code(packed) => push_word(text, packed)?,
@@ -55,7 +55,7 @@ fn push_line(text: &mut String, item: &Item) -> Result<(), AllocError>
 /// A word in brackets.
 fn push_word(text: &mut String, packed: &Packed) -> Result<(), AllocError>
     ensures { OnOk result (string_bytes text.new ≡ string_bytes text.old
-        ++ item_line (view_of (Item.Code packed.now))) }
+        ++ item_line (item_view (Item.Code packed.now))) }
 {
     text.push_str("[")?;
     push_ops(text, packed.ops.as_slice())?;

@@ -23,7 +23,8 @@ pub fn ledger_text(alloc: Global, chip: &Chip, node: Node) -> Result<String, All
 /// The line of a side, where the node has a neighbour there.
 #[tactic(auto, unfolding(crate::specs::Ledger::ledger_line, crate::specs::Ledger::side_line))]
 fn push_side(text: &mut String, chip: &Chip, node: Node, side: Side) -> Result<(), AllocError>
-    ensures { OnOk result (string_bytes text.new ≡ string_bytes text.old ++ side_line chip.now node side) }
+    ensures { OnOk result (string_bytes text.new
+        ≡ string_bytes text.old ++ side_line chip.now node side) }
 {
     if neighbour(node, side).is_none() {
         return Ok(());

@@ -28,7 +28,8 @@ fn names(alloc: Global) -> Result<String, AllocError>
 
 /// Puts a line for the name of each of these topics behind a text.
 fn push_names(text: &mut String, topics: &[Topic]) -> Result<(), AllocError>
-    ensures { OnOk result (string_bytes text.new ≡ string_bytes text.old ++ flat_map name_line (map entry_of topics.now)) }
+    ensures { OnOk result (string_bytes text.new
+        ≡ string_bytes text.old ++ flat_map name_line (map entry_of topics.now)) }
 {
     for topic in topics {
         text.push_str(topic.name)?;

@@ -23,7 +23,8 @@ impl Topic {
 
     /// The topic of the table with this name, or `None` where none has it. It fails only where memory is refused.
     pub fn named(alloc: Global, name: &str) -> Result<Option<Topic>, AllocError>
-        ensures entry { IfOk result (λ topic. option_map entry_of topic ≡ entry_in entries name.now) }
+        ensures entry { IfOk result (λ topic. option_map entry_of topic
+            ≡ entry_in entries name.now) }
         ensures name { IfOk result (λ topic. IfSome topic (λ found. found.name.now ≡ name.now)) }
     {
         let topics = topics(alloc)?;
@@ -49,7 +50,8 @@ pub fn topics(alloc: Global) -> Result<Vec<Topic>, AllocError>
 
 /// Puts the topics of a group behind others.
 fn append(topics: &mut Vec<Topic>, group: &[Topic]) -> Result<(), AllocError>
-    ensures { OnOk result (map entry_of topics.new.items ≡ map entry_of topics.old.items ++ map entry_of group.now) }
+    ensures { OnOk result (map entry_of topics.new.items
+        ≡ map entry_of topics.old.items ++ map entry_of group.now) }
 {
     topics.extend_from_slice(group)
 }

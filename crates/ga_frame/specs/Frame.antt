@@ -15,8 +15,8 @@ pub record FrameView : Type 0 where
   pub transfer : ℕ
   pub words : List ℕ
 
-abbrev pub view_of : Frame → FrameView
-view_of frame = record { completion = frame.completion; transfer = frame.transfer; words = frame.words.items }
+abbrev pub frame_view : Frame → FrameView
+frame_view frame = record { completion = frame.completion; transfer = frame.transfer; words = frame.words.items }
 
 -- the completion behind which another frame follows
 abbrev pub MORE : ℕ

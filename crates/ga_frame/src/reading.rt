@@ -1,6 +1,6 @@
 ghost use Rattle.std.specs.Prelude.{◌≡◌, ◌++◌, ◌<◌, ◌⊎◌, ℕ, List, IfErr, IfOk, Some, map, not};
 ghost use Rattle.ga_place.specs.Address.{where_is};
-ghost use Rattle.ga_frame.specs.Frame.{AreFrames, FrameView, HasNoFrames, IsFirstFault, WellFormed, fault_at, has_addresses, takes_words, view_of, words_of};
+ghost use Rattle.ga_frame.specs.Frame.{AreFrames, FrameView, HasNoFrames, IsFirstFault, WellFormed, fault_at, has_addresses, takes_words, frame_view, words_of};
 
 use crate::error::FrameError;
 use crate::frame::{Frame, MORE};
@@ -13,10 +13,10 @@ use std::alloc::{AllocError, Global};
 /// counts from 0. It fails as [`FrameError::Memory`] only where memory is refused. (Frames are this
 /// project's own: profile.)
 pub fn read_frames(alloc: Global, words: &[Word18]) -> Result<Vec<Frame>, FrameError>
-    ensures frames { IfOk result (λ frames. AreFrames words.now (map view_of frames.items)) }
+    ensures frames { IfOk result (λ frames. AreFrames words.now (map frame_view frames.items)) }
     // they are the only frames of these words
     ensures only { IfOk result (λ frames. (other : List FrameView) → AreFrames words.now other
-        → other ≡ map view_of frames.items) }
+        → other ≡ map frame_view frames.items) }
     // each fault but `Memory` is the first one
     ensures fault { IfErr result (λ error. IsFirstFault words.now error) }
     // and the words are no frames
@@ -44,8 +44,8 @@ pub fn read_frames(alloc: Global, words: &[Word18]) -> Result<Vec<Frame>, FrameE
 /// The frame that some words begin with, and the words behind it; or what is wrong with it, the
 /// first of them being the word of a stream with this number.
 fn first_frame(alloc: Global, at: usize, words: &[Word18]) -> Result<(Frame, &[Word18]), FrameError>
-    ensures frame { IfOk result (λ first. (words.now ≡ words_of (view_of first.0) ++ first.1.now)
-        × WellFormed (view_of first.0)) }
+    ensures frame { IfOk result (λ first. (words.now ≡ words_of (frame_view first.0) ++ first.1.now)
+        × WellFormed (frame_view first.0)) }
     ensures fault { IfErr result (λ error. (error ≡ FrameError.Memory)
         ⊎ (fault_at at words.now ≡ Some error)) }
 {

@@ -1,5 +1,10 @@
 pub mod Plans
 pub mod Walk
 pub mod Tries
-pub mod Counts
+pub mod Gains
+pub mod Shared
+pub mod Grouped
 pub mod Agreeing
+pub mod Orders
+pub mod Endings
+pub mod Known

@@ -1,11 +1,11 @@
 -- What a plan without a fault is: no node stands in it twice, and so it has 144 nodes at most.
-use Rattle.std.proofs.Common.{◌≡◌, ◌∙◌, ℕ, ◌==◌, ◌+◌, ◌<◌, ◌≤◌, zero, suc, Bool, true, false, ◌||◌, List, [], ◌∷◌, ◌++◌, length, Option, Some, None, option_map, refl, sym, ap, subst, arith, get_or, append_assoc, append-nil, length-append, lit≤, Vec, slice_index_or}
+use Rattle.std.proofs.Common.{◌≡◌, ◌∙◌, ℕ, ◌==◌, ◌+◌, ◌≤◌, Bool, true, false, ◌||◌, List, [], ◌∷◌, ◌++◌, length, Option, Some, None, option_map, refl, sym, ap, arith, append_assoc, append-nil, length-append, lit≤, Vec}
 use Rattle.std.specs.Prelude.{if◌then◌else◌}
 use Rattle.std.specs.List.{AllByRecursion, IsDistinct, concat, list_any}
 use Rattle.std.specs.Option.{option_or}
 use Rattle.std.proofs.lemmas.Bool.{eqb-true, true≢false}
 use Rattle.std.proofs.lemmas.Cmp.{nat_eq_equiv}
-use Rattle.std.proofs.lemmas.List.{get_or-map, length-map}
+use Rattle.std.proofs.lemmas.List.{length-map}
 use Rattle.std.proofs.lemmas.List.Folds.{list_any-append}
 use Rattle.ga_place.specs.Node.{IsNodeName, is_among}
 use Rattle.ga_place.proofs.Names.{apart, few_names}
@@ -120,22 +120,6 @@ pub workers : (plan : Groups) → plan_fault plan ≡ None → length plan ≤ l
 workers [] e = lit≤ tt
 workers (group ∷ groups) e = workers_from 0 [] (group ∷ groups) e
 
-pub group_within : (plan : Groups) (at : ℕ) (d : List ℕ) → at < length plan → length (get_or plan at d) ≤ length (concat plan)
-group_within [] at d e = omega (arith, e)
-group_within (group ∷ groups) zero d e = omega (arith, length-append group (concat groups))
-group_within (group ∷ groups) (suc at) d e = let rest = group_within groups at d (omega (arith, e)) in omega (arith, rest, length-append group (concat groups))
-
--- so many workers, and so many nodes of each, are a plan's at most
+-- so many workers are a plan's at most
 pub workers_few : {A : Type 0} (groups : List (Vec ℕ A)) → plan_fault (groups_in groups) ≡ None → length (concat (groups_in groups)) ≤ 144 → length groups ≤ 144
 workers_few {A = A} groups faultless most = let many = workers (groups_in groups) faultless in omega (arith, most, many, length-map groups (λ (group : Vec ℕ A). group.items))
-
-module _ {A : Type 0} (groups : List (Vec ℕ A)) (at : ℕ) where
-  pub worker_below : plan_fault (groups_in groups) ≡ None → length (concat (groups_in groups)) ≤ 144 → at < length groups → at < 144
-  worker_below faultless most below = let few = workers_few groups faultless most in omega (arith, few, below)
-
-  pub nodes_below : (group : Vec ℕ A) → length (concat (groups_in groups)) ≤ 144 → at < length groups → group ≡ slice_index_or groups at group → length group.items ≤ 144
-  nodes_below group most below is =
-      let there : at < length (groups_in groups) = subst (λ n. at < n) (sym (length-map groups (λ (group : Vec ℕ A). group.items))) below in
-      let few = group_within (groups_in groups) at group.items there in
-      let here : get_or (groups_in groups) at group.items ≡ group.items = get_or-map (λ (group : Vec ℕ A). group.items) groups at group group.items below ∙ ap (λ g. g.items) (sym is) in
-      omega (arith, most, few, ap length here)

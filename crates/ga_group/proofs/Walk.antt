@@ -1,14 +1,12 @@
 -- Loops over groups and over the nodes of a group, by an index.
-use Rattle.std.proofs.Common.{◌≡◌, ◌∙◌, ℕ, ◌==◌, ◌+◌, ◌<◌, suc, Bool, ◌||◌, List, [], ◌∷◌, ◌++◌, length, take, drop, slice_index_or, Vec, Option, option_map, refl, sym, ap, ap₂, arith, append-nil, append_assoc, subst}
+use Rattle.std.proofs.Common.{◌≡◌, ◌∙◌, ℕ, ◌==◌, ◌+◌, ◌<◌, suc, Bool, ◌||◌, List, [], ◌∷◌, ◌++◌, length, take, drop, slice_index_or, Vec, Option, option_map, refl, sym, ap, ap₂, arith, ◌≤◌, length-append, append-nil, append_assoc, subst}
 use Rattle.std.specs.List.{AllByRecursion, concat}
 use Rattle.std.specs.Option.{option_or}
 use Rattle.std.proofs.Math.Seq.{drop-cons}
-use Rattle.std.proofs.lemmas.List.{map-append, take_more}
+use Rattle.std.proofs.lemmas.List.{map-append, take-append-drop, take_more}
 use Rattle.std.proofs.lemmas.List.Folds.{concat-append, list_any-append}
 use Rattle.ga_place.specs.Node.{IsNodeName, is_among}
-use Rattle.ga_place.specs.declared.side.Side.{Side}
 use Rattle.ga_group.specs.Plan.{first_repeated, group_fault, groups_fault, groups_in}
-use Rattle.ga_group.specs.inner.Tries.{group_tries}
 use Rattle.ga_group.specs.declared.error.PlanError.{PlanError}
 use Rattle.ga_group.specs.declared.error.PlanError.TheVariants.{Repeated}
 
@@ -36,6 +34,22 @@ module _ {A : Type 0} where
       ∙ concat-append (groups_in (take at groups)) (group.items ∷ [])
       ∙ ap (λ l. concat (groups_in (take at groups)) ++ l) (append-nil group.items)
 
+  -- how many nodes there are in them
+  pub count_next : (groups : List (Vec ℕ A)) (at : ℕ) (group : Vec ℕ A) → at < length groups → group ≡ slice_index_or groups at group → length (concat (groups_in (take (at + 1) groups))) ≡ length (concat (groups_in (take at groups))) + length group.items
+  count_next groups at group below is = ap length (groups_done groups at group below is) ∙ length-append (concat (groups_in (take at groups))) group.items
+
+  -- groups in front, and those behind them
+  pub groups_cut : (groups : List (Vec ℕ A)) (at : ℕ) → concat (groups_in groups) ≡ concat (groups_in (take at groups)) ++ concat (groups_in (drop at groups))
+  groups_cut groups at =
+      ap (λ l. concat (groups_in l)) (sym (take-append-drop at groups))
+      ∙ ap concat (map-append _ (take at groups) (drop at groups))
+      ∙ concat-append (groups_in (take at groups)) (groups_in (drop at groups))
+
+  pub front_within : (groups : List (Vec ℕ A)) (at : ℕ) → length (concat (groups_in (take at groups))) ≤ length (concat (groups_in groups))
+  front_within groups at =
+      let both = ap length (groups_cut groups at) ∙ length-append (concat (groups_in (take at groups))) (concat (groups_in (drop at groups))) in
+      omega (arith, both)
+
   -- whether a node stands in the groups that are left
   pub among_next : (groups : List (Vec ℕ A)) (at : ℕ) (group : Vec ℕ A) (front : List ℕ) (node : ℕ) (b : Bool) → at < length groups → group ≡ slice_index_or groups at group → is_among node group.items ≡ b → is_among node (concat (groups_in (drop at groups)) ++ front) ≡ (b || is_among node (concat (groups_in (drop (at + 1) groups)) ++ front))
   among_next groups at group front node b below is among =
@@ -58,7 +72,3 @@ module _ {A : Type 0} where
 pub some_group : (worker : ℕ) (before names : List ℕ) → 0 < length names → group_fault worker before names ≡ option_map Repeated (first_repeated before names)
 some_group worker before [] some = absurd (omega (arith, some))
 some_group worker before (name ∷ names) some = refl
-
--- the tries of the nodes that are left
-pub tries_left : (side : Side) (group : List ℕ) (at node : ℕ) → at < length group → node ≡ slice_index_or group at node → group_tries side (drop at group) ≡ record { node = node; side = side } ∷ group_tries side (drop (at + 1) group)
-tries_left side group at node below is = ap (group_tries side) (left group at node below is)

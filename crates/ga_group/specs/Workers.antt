@@ -1,16 +1,12 @@
 -- Runs of workers: each worker tries the nodes of its group, in whatever order the workers come.
-use Rattle.std.specs.Prelude.{◌≡◌, ℕ, ◌==◌, true, false, List, [], map}
-use Rattle.std.specs.List.{concat, filter, range_with_len}
+use Rattle.std.specs.Prelude.{◌≡◌, ℕ, true, false, List, [], map}
+use Rattle.std.specs.List.{concat, range_with_len}
 use Rattle.ga_place.specs.Node.{is_among}
 use Rattle.ga_place.specs.declared.side.Side.{Side}
 use Rattle.ga_chip.specs.declared.outcome.Try.{Try}
 use Rattle.ga_chip.specs.Chip.{Chip}
-use Rattle.ga_chip.specs.Run.{ran, side_of_turn, tries_of}
+use Rattle.ga_chip.specs.Run.{ran, side_of_turn, sides_tried, tries_of}
 use Rattle.ga_group.specs.Plan.{Groups}
-
--- the sides that the tries of a node name, in order
-abbrev pub sides_tried : ℕ → List Try → List Side
-sides_tried name tries = map (λ one. one.side) (filter (λ one. one.node == name) tries)
 
 -- the sides of so many turns
 abbrev pub sides_of_turns : ℕ → List Side

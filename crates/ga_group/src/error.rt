@@ -21,4 +21,7 @@ pub enum RunError {
     /// There are 2^40 turns or more.
     #[error("TooManyTurns")]
     TooManyTurns,
+    /// Memory was refused.
+    #[error("Memory")]
+    Memory,
 }

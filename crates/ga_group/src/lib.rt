@@ -1,10 +1,13 @@
-//! Workers that try the nodes of a chip, each those of its own group.
+//! Workers in threads that try the nodes of a chip, each those of its own group.
 #![tactic(auto)]
 
 mod error;
 mod gate;
+mod halves;
 pub mod laws;
+mod order;
 mod plan;
+mod work;
 mod workers;
 
 pub use error::{PlanError, RunError};

@@ -1,94 +1,140 @@
-ghost use Rattle.std.specs.Prelude.{◌≡◌, ◌≤◌, ◌<◌, ◌+◌, ◌*◌, ◌^◌, ℕ, All, IfErr, IfOk, None, OnOk, length};
+ghost use Rattle.std.specs.Prelude.{◌≡◌, ◌≤◌, ◌<◌, ◌^◌, ℕ, true, IfErr, IfOk, OnOk};
 ghost use Rattle.std.specs.List.{concat};
+ghost use Rattle.ga_place.specs.Node.{IsNodeName, is_among};
 ghost use Rattle.ga_chip.specs.Chip.{IsHeld, part_of};
 ghost use Rattle.ga_chip.specs.Grow.{LedgersGrow};
 ghost use Rattle.ga_chip.specs.Legal.{IsLegal};
-ghost use Rattle.ga_chip.specs.Run.{ran, side_of_turn, tries_of};
-ghost use Rattle.ga_group.specs.Plan.{groups_in, plan_fault};
-ghost use Rattle.ga_group.specs.Workers.{IsWorkersRun};
+ghost use Rattle.ga_chip.specs.Run.{tries_of};
+ghost use Rattle.ga_port.specs.Seat.{untried};
+ghost use Rattle.ga_group.specs.Plan.{groups_in};
+ghost use Rattle.ga_group.specs.Workers.{IsWorkersRun, sides_of_turns};
+ghost use Rattle.ga_group.specs.inner.Work.{AreLent, HasAllNodes, HaveGained, names_of};
 ghost use Rattle.ga_group.specs.declared.error.RunError.TheVariants.{TooManyTurns};
-ghost use Rattle.ga_group.specs.inner.Tries.{group_tries, turn_tries};
 
 use crate::error::RunError;
 use crate::gate::Gate;
+use crate::halves::work_groups;
+use crate::order::{arrange, order_of};
 use crate::plan::Plan;
-use ga_chip::{Chip, Try, side_of_turn};
-use ga_place::{Node, Side};
+use ga_chip::{Chip, NodePart};
+use ga_place::Node;
+use ga_port::{Cells, PortSeat};
+use std::alloc::{AllocError, Global};
 use std::thread::Threads;
 
 /// So many turns are refused, and more.
 const TOO_MANY_TURNS: u64 = 1 << 40;
 
-/// As many workers as there are nodes, since no node stands in a plan twice.
-const MOST_WORKERS: usize = 144;
-
 /// Runs a chip by a plan over so many turns, counted from 0, and hands it back. In each turn each worker calls the gate
 /// and then tries each node of its group once, in the group's order, with the side of the turn: right, down, left, up,
-/// and again. In which order the tries of two nodes come is free: here turn goes after turn, and within a turn worker
-/// after worker, in the caller's thread. From 2^40 turns up it is refused as `TooManyTurns`, and the chip comes back as
-/// it was. It takes no memory. (Runs of workers are this project's own: profile.)
-pub fn run_workers<R: Threads, G: Gate>(
-    _rt: &R,
+/// and again. Each worker runs in a thread of its own, of which one is the caller's; where no thread can be started,
+/// another one works its group. In which order the tries of two nodes come is free. From 2^40 turns up it is refused as
+/// `TooManyTurns`, and where memory runs out as `Memory`, which is before any try; the chip comes back as it was then.
+/// (Runs of workers are this project's own: profile.)
+pub fn run_workers<R: Threads + Sync, G: Gate>(
+    rt: &R,
+    alloc: Global,
     chip: Chip,
     plan: &Plan,
     turns: u64,
     gate: &G,
 ) -> Result<Chip, (RunError, Chip)>
     ensures run { IfOk result (λ next. IsWorkersRun chip plan.now turns next) }
-    ensures held { IfOk result (λ next. (name : ℕ) → IsHeld chip name → part_of next name ≡ part_of chip name) }
-    ensures ledgers { IfOk result (λ next. (run : IsWorkersRun chip plan.now turns next) → LedgersGrow chip next (tries_of run.tries)) }
+    ensures held { IfOk result (λ next. (name : ℕ) → IsHeld chip name
+        → part_of next name ≡ part_of chip name) }
+    ensures ledgers { IfOk result (λ next. (run : IsWorkersRun chip plan.now turns next)
+        → LedgersGrow chip next (tries_of run.tries)) }
     ensures accepted { OnOk result (turns < 2 ^ 40) }
-    ensures refused { IfErr result (λ refused. refused ≡ (TooManyTurns, chip)) }
-    ensures many { IfErr result (λ _. 2 ^ 40 ≤ turns) }
+    ensures refused { IfErr result (λ refused. refused.1 ≡ chip) }
+    ensures many { IfErr result (λ refused. refused.0 ≡ TooManyTurns → 2 ^ 40 ≤ turns) }
+    ensures too_many { IfErr result (λ refused. 2 ^ 40 ≤ turns → refused.0 ≡ TooManyTurns) }
     ensures legal { IsLegal chip }
 {
     chip.legal();
     if turns >= TOO_MANY_TURNS {
         return Err((RunError::TooManyTurns, chip));
     }
-    let groups = plan.groups();
-    let mut chip = chip;
-    let mut moved = [0; MOST_WORKERS];
-    for turn in 0..turns {
-        turn_of_workers(&mut chip, groups, turn, gate, &mut moved);
+    match open(alloc, &chip, plan) {
+        Ok((nodes, cells, seat)) => Ok(run_at(rt, chip, plan, &nodes, cells, seat, turns, gate)),
+        Err(_) => Err((RunError::Memory, chip)),
     }
-    Ok(chip)
 }
 
-/// One turn of all workers. For each worker it is counted how many of its tries were `Moved`.
-fn turn_of_workers<G: Gate>(
-    chip: &mut Chip,
-    groups: &[Vec<Node>],
-    turn: u64,
+/// All that a run takes memory for: the nodes of a plan in order, and the cells of a chip with their first seat.
+fn open(alloc: Global, chip: &Chip, plan: &Plan) -> Result<(Vec<Node>, Cells, PortSeat), AllocError>
+    ensures nodes { IfOk result (λ made. made.0.items ≡ concat plan.now) }
+    ensures opening { IfOk result (λ made. made.1.opening ≡ chip.now) }
+    ensures table { IfOk result (λ made. made.2.table ≡ made.1.table) }
+    ensures untried { IfOk result (λ made. made.2.nodes ≡ untried chip.now.parts) }
+{
+    let nodes = nodes_of(alloc, plan.groups())?;
+    let (cells, seat) = Cells::open(alloc, chip)?;
+    Ok((nodes, cells, seat))
+}
+
+/// The nodes of groups, one group behind the other.
+fn nodes_of(alloc: Global, groups: &[Vec<Node>]) -> Result<Vec<Node>, AllocError>
+    ensures { IfOk result (λ nodes. nodes.items ≡ concat (groups_in groups.now)) }
+{
+    let mut nodes = Vec::new(alloc);
+    for group in groups {
+        nodes.extend_from_slice(group)?;
+    }
+    Ok(nodes)
+}
+
+/// A run at the cells that a chip was opened by. It takes no memory.
+fn run_at<R: Threads + Sync, G: Gate>(
+    rt: &R,
+    chip: Chip,
+    plan: &Plan,
+    nodes: &[Node],
+    cells: Cells,
+    seat: PortSeat,
+    turns: u64,
     gate: &G,
-    moved: &mut [u64; MOST_WORKERS],
-)
-    requires nodes { length (concat (groups_in groups.now)) ≤ 144 }
-    requires faultless { plan_fault (groups_in groups.now) ≡ None }
-    requires turn { turn < 2 ^ 40 }
-    requires counts { All (λ count. count ≤ turn * 20736) moved.old }
-    ensures chip { chip.new ≡ ran chip.old (tries_of (turn_tries (side_of_turn turn) (groups_in groups.now))) }
-    ensures counts { All (λ count. count ≤ (turn + 1) * 20736) moved.new }
+) -> Chip
+    requires nodes { nodes.now ≡ concat plan.now }
+    requires opening { cells.opening ≡ chip }
+    requires table { seat.table ≡ cells.table }
+    requires untried { seat.nodes ≡ untried chip.parts }
+    requires turns { turns < 2 ^ 40 }
+    ensures { IsWorkersRun chip plan.now turns result }
 {
-    let side = side_of_turn(turn);
-    for worker in 0..groups.len() {
-        gate.turn(worker as u32, turn, moved[worker]);
-        moved[worker] += tries_of_group(chip, &groups[worker], side);
-    }
+    let (mut parts, _) = chip.into_parts();
+    let mut seat = seat;
+    work_plan(rt, &cells, gate, turns, plan, nodes, &mut seat, &mut parts);
+    let row = cells.close(seat);
+    Chip::from_parts(parts, row)
 }
 
-/// One try of each node of a group, all with one side. Answers how many were `Moved`.
-#[inline(never)]
-fn tries_of_group(chip: &mut Chip, group: &[Node], side: Side) -> u64
-    ensures chip { chip.new ≡ ran chip.old (tries_of (group_tries side group.now)) }
-    ensures moved { result ≤ length group.now }
+/// The turns of all workers of a plan. The parts of all nodes are lent with the seat: they are brought into the order
+/// of the plan for it, and then back into their own.
+fn work_plan<R: Threads + Sync, G: Gate>(
+    rt: &R,
+    cells: &Cells,
+    gate: &G,
+    turns: u64,
+    plan: &Plan,
+    nodes: &[Node],
+    seat: &mut PortSeat,
+    parts: &mut [NodePart],
+)
+    requires nodes { nodes.now ≡ concat plan.now }
+    requires all { HasAllNodes parts.old }
+    requires table { seat.old.table ≡ cells.now.table }
+    requires lent { AreLent parts.old seat.old.nodes }
+    requires turns { turns < 2 ^ 40 }
+    ensures table { seat.new.table ≡ seat.old.table }
+    ensures names { names_of parts.new ≡ names_of parts.old }
+    ensures lent { AreLent parts.new seat.new.nodes }
+    ensures gained { HaveGained seat.old.nodes seat.new.nodes nodes.now (sides_of_turns turns) }
+    ensures known { (name : ℕ) → is_among name nodes.now ≡ true → IsNodeName name }
 {
-    let mut moved = 0;
-    for node in group {
-        let what = Try { node: *node, side };
-        if chip.attempt_moves(what) {
-            moved += 1;
-        }
-    }
-    moved
+    let groups = plan.groups();
+    let order = order_of(parts);
+    arrange(parts, nodes);
+    let (front, _) = parts.split_at_mut(nodes.len());
+    work_groups(rt, cells, gate, turns, 0, groups, nodes, seat, front);
+    arrange(parts, &order);
 }

@@ -16,7 +16,7 @@ use Rattle.ga_disasm.specs.Source.{FitNode, IsSourceOf}
 use Rattle.ga_jobs.specs.Asm.{IsAsmOutput, images_text}
 use Rattle.ga_jobs.specs.Dis.{AssemblesTo, plain_image}
 use Rattle.ga_jobs.proofs.OneOutput.{one_asm_output}
-use Rattle.ga_jobs.specs.Text.{counted, text_in, words_after, words_found, words_in}
+use Rattle.ga_jobs.specs.Text.{text_in, words_after, words_found, words_in, words_in_node}
 use Rattle.ga_jobs.specs.declared.fault.ServeError.{ServeError}
 use Rattle.ga_jobs.specs.declared.fault.ServeError.TheVariants.{Input, Words}
 use Rattle.ga_jobs.specs.declared.fault.InputFault.TheVariants.{BadText}
@@ -53,7 +53,7 @@ record Counted (found words : List ℕ) : Type 0 where
   some : 0 < length words
   most : length words ≤ 64
 
-counted_by : (found words : List ℕ) → counted found ≡ Ok words → Counted found words
+counted_by : (found words : List ℕ) → words_in_node found ≡ Ok words → Counted found words
 counted_by [] words e = absurd (cc)
 counted_by (word ∷ found) words e = go (nat_lt 64 (length (word ∷ found))) refl e
   where

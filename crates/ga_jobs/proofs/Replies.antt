@@ -7,7 +7,7 @@ use Rattle.ga_chip.specs.Chip.{Chip}
 use Rattle.ga_debug.specs.Head.{lines_of}
 use Rattle.ga_debug.specs.Pieces.{pieces}
 use Rattle.ga_debug.specs.Session.{reply_to}
-use Rattle.ga_jobs.specs.Debug.{after_reply, replied, replies_to}
+use Rattle.ga_jobs.specs.Debug.{after_reply, reply_line, replies_to}
 
 -- the line that comes next is the first of those that are left
 pub next_line : (text : List ℕ) (n m : ℕ) (line : List ℕ) → (n < length (slice_split (λ c. c == 10) text)) × (line ≡ get_or (slice_split (λ c. c == 10) text) n line) → m ≡ n + 1
@@ -32,14 +32,14 @@ skipped out all chip k left (c ∷ line) rest none empty is so_far = absurd (cc)
 
 -- another line has one
 pub answered : (out out' all : List ℕ) (chip chip' : Chip) (k : ℕ) (left : List (List ℕ)) (line : List ℕ) (rest : List (List ℕ)) → k ≡ 0 → (length line ≡ 0 → ⊥) → left ≡ line ∷ rest
-    → out' ≡ out ++ replied (reply_to line chip) → chip' ≡ after_reply (reply_to line chip) line chip
+    → out' ≡ out ++ reply_line (reply_to line chip) → chip' ≡ after_reply (reply_to line chip) line chip
     → out ++ replies_to chip (drop k left) ≡ all → out' ++ replies_to chip' (drop k rest) ≡ all
 answered out out' all chip chip' k left [] rest none some is text next so_far = absurd (some refl)
 answered out out' all chip chip' k left (c ∷ line) rest none some is text next so_far =
     ap (λ n. out' ++ replies_to chip' (drop n rest)) none
     ∙ ap (λ t. t ++ replies_to chip' rest) text
-    ∙ ap (λ (p : Chip). (out ++ replied (reply_to (c ∷ line) chip)) ++ replies_to p rest) next
-    ∙ append_assoc out (replied (reply_to (c ∷ line) chip)) _
+    ∙ ap (λ (p : Chip). (out ++ reply_line (reply_to (c ∷ line) chip)) ++ replies_to p rest) next
+    ∙ append_assoc out (reply_line (reply_to (c ∷ line) chip)) _
     ∙ sym (ap (λ n. out ++ replies_to chip (drop n left)) none ∙ ap (λ lines. out ++ replies_to chip lines) is)
     ∙ so_far
 

@@ -21,9 +21,9 @@ fault_name NotHeld = codes "NotHeld"
 fault_name Memory = codes "Memory"
 
 -- what is written of a reply
-abbrev pub replied : Result (List ℕ) DebugError → List ℕ
-replied (Ok reply) = reply ++ 10 ∷ []
-replied (Err fault) = codes "refused " ++ fault_name fault ++ 10 ∷ []
+abbrev pub reply_line : Result (List ℕ) DebugError → List ℕ
+reply_line (Ok reply) = reply ++ 10 ∷ []
+reply_line (Err fault) = codes "refused " ++ fault_name fault ++ 10 ∷ []
 
 -- the chip behind a command; one that is refused changes nothing
 abbrev pub after_reply : Result (List ℕ) DebugError → List ℕ → Chip → Chip
@@ -35,7 +35,7 @@ abbrev pub replies_to : Chip → List (List ℕ) → List ℕ
 replies_to chip [] = []
 replies_to chip ([] ∷ lines) = replies_to chip lines
 replies_to chip ((c ∷ line) ∷ lines) =
-    replied (reply_to (c ∷ line) chip) ++ replies_to (after_reply (reply_to (c ∷ line) chip) (c ∷ line) chip) lines
+    reply_line (reply_to (c ∷ line) chip) ++ replies_to (after_reply (reply_to (c ∷ line) chip) (c ∷ line) chip) lines
 
 -- the replies to the commands of a text, which stand behind the line `go`, or the first fault in front of them
 abbrev pub IsReplies : List ℕ → Result (List ℕ) ReplayError → Type 0

@@ -36,18 +36,18 @@ abbrev pub plan_by : Groups → Result Groups ServeError
 plan_by groups = plan_if (plan_fault groups) groups
 
 -- the registers and stacks of a node, and the numbers of the cells that it writes
-abbrev pub node_text : Chip → ℕ → List ℕ
-node_text chip name = option_map_or node_dump (state_of chip name) [] ++ ledger_dump chip name
+abbrev pub node_report : Chip → ℕ → List ℕ
+node_report chip name = option_map_or node_dump (state_of chip name) [] ++ ledger_dump chip name
 
-abbrev pub nodes_text : Chip → List ℕ → List ℕ
-nodes_text chip names = flat_map (node_text chip) names
+abbrev pub node_reports : Chip → List ℕ → List ℕ
+node_reports chip names = flat_map (node_report chip) names
 
 -- The text tells the nodes of a route at the end of a run of a chip, in which so many workers share the nodes and make
 -- so many turns.
 pub record IsRunText (chip : Chip) (route : List ℕ) (workers turns : ℕ) (text : List ℕ) : Type 0 where
   pub next : Chip
   pub ran : IsWorkersRun chip (dealt workers route) turns next
-  pub told : text ≡ nodes_text next route
+  pub text_is : text ≡ node_reports next route
 
 -- what comes of a chip and the nodes of a route, or what is wrong with these as a plan
 abbrev pub IsRunFrom : Chip → List ℕ → ℕ → ℕ → Result (List ℕ) ServeError → Type 0

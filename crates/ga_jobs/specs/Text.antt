@@ -19,11 +19,11 @@ IsInText {E = E} told Is input (Err fault) =
     (text_in input ≡ Err fault) ⊎ ((text : List ℕ) × (error : E) × (text_in input ≡ Ok text) × Is text (Err error) × (told error ≡ fault))
 
 -- one to 64 words
-abbrev pub counted : List ℕ → Result (List ℕ) ServeError
-counted found = if is_empty found then Err (Words words.Empty) else (if nat_lt 64 (length found) then Err (Words words.TooLong) else Ok found)
+abbrev pub words_in_node : List ℕ → Result (List ℕ) ServeError
+words_in_node found = if is_empty found then Err (Words words.Empty) else (if nat_lt 64 (length found) then Err (Words words.TooLong) else Ok found)
 
 abbrev pub words_found : Result (List ℕ) ℕ → Result (List ℕ) ServeError
-words_found (Ok found) = counted found
+words_found (Ok found) = words_in_node found
 words_found (Err index) = Err (Words (words.BadWord index))
 
 abbrev pub words_after : Result (List ℕ) ServeError → Result (List ℕ) ServeError

@@ -1,6 +1,5 @@
-ghost use Rattle.std.specs.Prelude.{◌≡◌, ◌++◌, ◌^◌, ◌<◌, IfOk, Some, string_bytes};
+ghost use Rattle.std.specs.Prelude.{◌≡◌, ◌++◌, IfOk, string_bytes};
 ghost use Rattle.ga_asm.specs.Text.{AtMostOne};
-ghost use Rattle.ga_word.specs.Hex.{hex_digits};
 ghost use Rattle.ga_jobs.specs.Asm.{IsAsmOutput, image_line, image_text, images_text};
 ghost use Rattle.ga_jobs.specs.Fault.{Answers};
 
@@ -8,9 +7,8 @@ use crate::fault::ServeError;
 use crate::source::images_of;
 use ga_asm::{Image, Images};
 use ga_place::Node;
-use ga_word::push_words;
+use ga_word::{Hex3, push_words};
 use std::alloc::{AllocError, Global};
-use std::fmt;
 use std::fmt::Write;
 
 /// The most bytes that the text of an image has: a line of 36 bytes, and 64 words.
@@ -42,7 +40,8 @@ fn text_of_images(alloc: Global, images: &Images) -> Result<String, AllocError>
 
 /// Adds a line, and the words, eight on a line.
 fn push_image(text: &mut String, node: Node, image: &Image) -> Result<(), AllocError>
-    ensures { IfOk result (λ done. string_bytes text.new ≡ string_bytes text.old ++ image_text node image.now) }
+    ensures { IfOk result (λ done. string_bytes text.new
+        ≡ string_bytes text.old ++ image_text node image.now) }
 {
     push_line(text, node, image)?;
     push_words(text, image.words())?;
@@ -52,11 +51,10 @@ fn push_image(text: &mut String, node: Node, image: &Image) -> Result<(), AllocE
 /// Adds the line with the node, its entry and the numbers of its words.
 #[tactic(auto, unfolding(crate::specs::Asm::image_line))]
 fn push_line(text: &mut String, node: Node, image: &Image) -> Result<(), AllocError>
-    ensures { IfOk result (λ done. string_bytes text.new ≡ string_bytes text.old ++ image_line node image.now) }
+    ensures { IfOk result (λ done. string_bytes text.new
+        ≡ string_bytes text.old ++ image_line node image.now) }
 {
-    let entry = Address {
-        number: u16::from(image.entry()),
-    };
+    let entry = Hex3::new(u16::from(image.entry()));
     let code_len = image.code_len();
     let words = image.words().len();
     writeln!(
@@ -64,19 +62,4 @@ fn push_line(text: &mut String, node: Node, image: &Image) -> Result<(), AllocEr
         "node {node} entry {entry} code {code_len} words {words}"
     )?;
     Ok(())
-}
-
-/// An address of at most twelve bits, which prints as three hex digits.
-#[derive(Clone, Copy)]
-struct Address {
-    number: u16,
-    ghost bound: { number < 2 ^ 12 },
-}
-
-impl fmt::Display for Address {
-    ghost output = { λ address. Some (hex_digits 3 address.number) };
-
-    fn fmt<W: fmt::Write>(&self, f: &mut fmt::Formatter<W>) -> fmt::Result {
-        write!(f, "{:03X}", self.number)
-    }
 }

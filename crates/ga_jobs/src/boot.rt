@@ -38,7 +38,8 @@ fn boot_text(alloc: Global, route: &str, images: &Images) -> Result<String, Serv
 /// Adds a line with the name of a part and the number of its words, and the words, eight on a line.
 #[tactic(auto, unfolding(crate::specs::Boot::part_text))]
 fn push_part(text: &mut String, name: &str, words: &[Word18]) -> Result<(), AllocError>
-    ensures { IfOk result (λ done. string_bytes text.new ≡ string_bytes text.old ++ part_text name.now words.now) }
+    ensures { IfOk result (λ done. string_bytes text.new
+        ≡ string_bytes text.old ++ part_text name.now words.now) }
 {
     writeln!(text, "{name} {}", words.len())?;
     push_words(text, words)?;

@@ -2,7 +2,7 @@ ghost use Rattle.std.specs.Prelude.{◌≡◌, ◌++◌, IfOk, drop, string_byte
 ghost use Rattle.ga_asm.specs.Text.{AtMostOne};
 ghost use Rattle.ga_debug.specs.Head.{lines_of};
 ghost use Rattle.ga_debug.specs.Session.{reply_to};
-ghost use Rattle.ga_jobs.specs.Debug.{IsDebugOutput, after_reply, fault_name, replied, replies_to};
+ghost use Rattle.ga_jobs.specs.Debug.{IsDebugOutput, after_reply, fault_name, reply_line, replies_to};
 ghost use Rattle.ga_jobs.specs.Fault.{Answers};
 
 use crate::fault::ServeError;
@@ -26,7 +26,8 @@ pub fn output(alloc: Global, input: &[u8]) -> Result<String, ServeError>
 
 /// The replies to the lines of a text behind so many lines, each ended by LF. Empty lines have none.
 fn replies_to(alloc: Global, session: Session, text: &str, line: u64) -> Result<String, AllocError>
-    ensures { IfOk result (λ replies. string_bytes replies ≡ replies_to session (drop line (lines_of text.now))) }
+    ensures { IfOk result (λ replies. string_bytes replies
+        ≡ replies_to session (drop line (lines_of text.now))) }
 {
     let mut session = session;
     let mut replies = String::new(alloc);
@@ -48,8 +49,10 @@ fn push_reply(
     session: &mut Session,
     command: &str,
 ) -> Result<(), AllocError>
-    ensures text { IfOk result (λ done. string_bytes replies.new ≡ string_bytes replies.old ++ replied (reply_to command.now session.old)) }
-    ensures chip { IfOk result (λ done. session.new ≡ after_reply (reply_to command.now session.old) command.now session.old) }
+    ensures text { IfOk result (λ done. string_bytes replies.new
+        ≡ string_bytes replies.old ++ reply_line (reply_to command.now session.old)) }
+    ensures chip { IfOk result (λ done. session.new
+        ≡ after_reply (reply_to command.now session.old) command.now session.old) }
 {
     match session.command(alloc, command) {
         Ok(reply) => writeln!(replies, "{reply}")?,

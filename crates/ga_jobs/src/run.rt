@@ -1,9 +1,10 @@
-ghost use Rattle.std.specs.Prelude.{◌≡◌, ◌<◌, IfOk, string_bytes};
+ghost use Rattle.std.specs.Prelude.{◌≡◌, ◌<◌, IfErr, IfOk, string_bytes};
+ghost use Rattle.ga_jobs.specs.declared.fault.ServeError.TheVariants.{Memory};
 ghost use Rattle.ga_group.specs.Plan.{groups_of};
 ghost use Rattle.ga_group.specs.Workers.{IsWorkersRun};
 ghost use Rattle.ga_jobs.specs.Fault.{Answers, Gives};
 ghost use Rattle.ga_jobs.specs.Route.{route_in};
-ghost use Rattle.ga_jobs.specs.Run.{IsRunFrom, IsRunOf, IsRunOutput, dealt, nodes_for, nodes_text, plan_by};
+ghost use Rattle.ga_jobs.specs.Run.{IsRunFrom, IsRunOf, IsRunOutput, dealt, nodes_for, node_reports, plan_by};
 
 use crate::fault::ServeError;
 use crate::route::route_of;
@@ -12,14 +13,14 @@ use ga_asm::Images;
 use ga_chip::Chip;
 use ga_debug::booted;
 use ga_dump::{ledger_text, node_text};
-use ga_group::{Gate, Plan, run_workers};
+use ga_group::{Gate, Plan, RunError, run_workers};
 use ga_place::Node;
 use std::alloc::{AllocError, Global};
 use std::thread::Threads;
 
 /// The nodes of a route after a run, as text: they boot from the input, which is source text, and so many workers
 /// make so many turns.
-pub fn output<Rt: AllocGlobal + Threads>(
+pub fn output<Rt: AllocGlobal + Threads + Sync>(
     rt: &Rt,
     route: &str,
     workers: u32,
@@ -33,7 +34,7 @@ pub fn output<Rt: AllocGlobal + Threads>(
 }
 
 /// The same of images.
-fn run_text<Rt: AllocGlobal + Threads>(
+fn run_text<Rt: AllocGlobal + Threads + Sync>(
     rt: &Rt,
     route: &str,
     workers: u32,
@@ -49,7 +50,7 @@ fn run_text<Rt: AllocGlobal + Threads>(
 }
 
 /// Nodes of a chip as text, after so many workers, who share them, have made so many turns.
-fn run_chip<Rt: AllocGlobal + Threads>(
+fn run_chip<Rt: AllocGlobal + Threads + Sync>(
     rt: &Rt,
     chip: Chip,
     nodes: &[Node],
@@ -59,8 +60,8 @@ fn run_chip<Rt: AllocGlobal + Threads>(
     ensures { Answers string_bytes (IsRunFrom chip nodes.now workers turns) result }
 {
     let plan = plan_of(rt.alloc(), nodes, workers)?;
-    let chip = after_run(rt, chip, &plan, turns);
-    let text = nodes_text(rt.alloc(), &chip, nodes)?;
+    let chip = after_run(rt, chip, &plan, turns)?;
+    let text = node_reports(rt.alloc(), &chip, nodes)?;
     Ok(text)
 }
 
@@ -111,19 +112,26 @@ impl Gate for Open {
 }
 
 /// The chip after so many turns of workers.
-fn after_run<Rt: Threads>(rt: &Rt, chip: Chip, plan: &Plan, turns: u32) -> Chip
-    ensures { IsWorkersRun chip plan.now turns result }
+fn after_run<Rt: AllocGlobal + Threads + Sync>(
+    rt: &Rt,
+    chip: Chip,
+    plan: &Plan,
+    turns: u32,
+) -> Result<Chip, ServeError>
+    ensures run { IfOk result (λ next. IsWorkersRun chip plan.now turns next) }
+    ensures memory { IfErr result (λ fault. fault ≡ Memory) }
 {
-    match run_workers(rt, chip, plan, u64::from(turns), &Open) {
-        Ok(chip) => chip,
-        Err(_) => unreachable!(),
+    match run_workers(rt, rt.alloc(), chip, plan, u64::from(turns), &Open) {
+        Ok(chip) => Ok(chip),
+        Err((RunError::Memory, _)) => Err(ServeError::Memory),
+        Err((RunError::TooManyTurns, _)) => unreachable!(),
     }
 }
 
 /// The registers and stacks of nodes, and behind those of each node the numbers of its cells.
 #[inline(never)]
-fn nodes_text(alloc: Global, chip: &Chip, nodes: &[Node]) -> Result<String, AllocError>
-    ensures { IfOk result (λ text. string_bytes text ≡ nodes_text chip.now nodes.now) }
+fn node_reports(alloc: Global, chip: &Chip, nodes: &[Node]) -> Result<String, AllocError>
+    ensures { IfOk result (λ text. string_bytes text ≡ node_reports chip.now nodes.now) }
 {
     let mut text = String::new(alloc);
     for node in nodes {

@@ -14,12 +14,15 @@ use ga_chip::{Chip, Try};
 /// cell passes the same words, as far as both go.
 pub fn two_orders(one: &mut Chip, two: &mut Chip, order: &[Try], another: &[Try])
     requires chips { DifferInBreaks one.old two.old }
-    requires sides { (name : ℕ) → AgreesWith (sides_of one.old (tries_of order.now) name) (sides_of two.old (tries_of another.now) name) }
+    requires sides { (name : ℕ)
+        → AgreesWith (sides_of one.old (tries_of order.now) name) (sides_of two.old (tries_of another.now) name) }
     ensures first { one.new ≡ ran one.old (tries_of order.now) }
     ensures second { two.new ≡ ran two.old (tries_of another.now) }
     ensures nodes { LeaveAlike one.new two.new }
-    ensures written { (cell : ℕ) → AgreesWith (written_words one.old (tries_of order.now) cell) (written_words two.old (tries_of another.now) cell) }
-    ensures taken { (cell : ℕ) → AgreesWith (taken_words one.old (tries_of order.now) cell) (taken_words two.old (tries_of another.now) cell) }
+    ensures written { (cell : ℕ)
+        → AgreesWith (written_words one.old (tries_of order.now) cell) (written_words two.old (tries_of another.now) cell) }
+    ensures taken { (cell : ℕ)
+        → AgreesWith (taken_words one.old (tries_of order.now) cell) (taken_words two.old (tries_of another.now) cell) }
 {
     one.legal();
     two.legal();
@@ -31,7 +34,8 @@ pub fn two_orders(one: &mut Chip, two: &mut Chip, order: &[Try], another: &[Try]
 /// The same, where all tries name one side: then nothing has to be known of takes of several sides.
 pub fn one_side(one: &mut Chip, two: &mut Chip, order: &[Try], another: &[Try])
     requires chips { DifferInBreaks one.old two.old }
-    requires named { (side : Side) × All (λ what. what.side ≡ side) order.now × All (λ what. what.side ≡ side) another.now }
+    requires named { (side : Side) × All (λ what. what.side ≡ side) order.now
+        × All (λ what. what.side ≡ side) another.now }
     ensures first { one.new ≡ ran one.old (tries_of order.now) }
     ensures second { two.new ≡ ran two.old (tries_of another.now) }
     ensures nodes { LeaveAlike one.new two.new }
@@ -43,7 +47,8 @@ pub fn one_side(one: &mut Chip, two: &mut Chip, order: &[Try], another: &[Try])
 /// tries of both.
 pub fn two_parts(one: &mut Chip, two: &mut Chip, front: &[Try], rest: &[Try], order: &[Try])
     requires chips { DifferInBreaks one.old two.old }
-    requires sides { (name : ℕ) → AgreesWith (sides_of one.old (tries_of (front.now ++ rest.now)) name) (sides_of two.old (tries_of order.now) name) }
+    requires sides { (name : ℕ)
+        → AgreesWith (sides_of one.old (tries_of (front.now ++ rest.now)) name) (sides_of two.old (tries_of order.now) name) }
     ensures first { one.new ≡ ran one.old (tries_of (front.now ++ rest.now)) }
     ensures second { two.new ≡ ran two.old (tries_of order.now) }
     ensures nodes { LeaveAlike one.new two.new }

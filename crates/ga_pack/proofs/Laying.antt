@@ -10,7 +10,7 @@ use Rattle.ga_word.specs.declared.op.Op.{Op}
 use Rattle.ga_word.specs.declared.op.Op.TheVariants.{Nop}
 use Rattle.ga_word.specs.Op.{takes_dest}
 use Rattle.ga_pack.specs.Encoding.{pack_fault}
-use Rattle.ga_pack.specs.Model.Layout.{Labels, Group, Shared, Alone, Arranged, GroupWords, IsWord, Words, dest_in, filled, is_defined, items_of, labels_after, labels_behind, last_dest, code_end, literals, names_in, number_of, ops_of, size, with_fillers}
+use Rattle.ga_pack.specs.Model.Layout.{Labels, Group, Shared, Alone, Arranged, GroupWords, IsWord, Words, dest_in, filled, is_defined, items_of, labels_after, labels_behind, last_dest, code_end, literals, names_in, value_number, ops_of, size, with_fillers}
 use Rattle.ga_pack.specs.Model.LayoutFault.{IsRight, Passed, fault_behind}
 use Rattle.ga_pack.specs.Model.Source.{Item, Value, Word, WordTo, Plain, is_below, is_item, is_spare, stand_from}
 use Rattle.ga_pack.specs.Slots.{dest_bound, op_fits}
@@ -70,13 +70,13 @@ spare_below (Some spare) h = ltb-true spare 8 h
 packable_to : (labels : Labels) (ops : List Op) (o : Op) (v : Value) (spare : Option ℕ) → stand_from 0 ops ≡ true → length ops < 3 → takes_dest o ≡ true → is_spare (length ops) spare ≡ true
     → pack_fault (ops ++ o ∷ []) (Some (dest_in labels (length ops) v)) (unwrap_or spare 0) ≡ None
 packable_to labels [] o v spare stands few takes fits =
-    readable (dest_after_slot0 o (unwrap_or spare 0) (dest_in labels 0 v) takes (spare_below spare fits) (low (number_of labels v) (2 ^ 10) (lit< tt)))
+    readable (dest_after_slot0 o (unwrap_or spare 0) (dest_in labels 0 v) takes (spare_below spare fits) (low (value_number labels v) (2 ^ 10) (lit< tt)))
 packable_to labels (a ∷ []) o v None stands few takes fits =
-    readable (dest_after_slot1 a o (dest_in labels 1 v) (stand_parts 0 a [] stands).0 takes (low (number_of labels v) (2 ^ 8) (lit< tt)))
+    readable (dest_after_slot1 a o (dest_in labels 1 v) (stand_parts 0 a [] stands).0 takes (low (value_number labels v) (2 ^ 8) (lit< tt)))
 packable_to labels (a ∷ []) o v (Some spare) stands few takes fits = absurd (cc)
 packable_to labels (a ∷ b ∷ []) o v None stands few takes fits =
     let p = stand_parts 0 a (b ∷ []) stands in
-    readable (dest_after_slot2 a b o (dest_in labels 2 v) p.0 (stand_parts 1 b [] p.2).0 takes (low (number_of labels v) (2 ^ 3) (lit< tt)))
+    readable (dest_after_slot2 a b o (dest_in labels 2 v) p.0 (stand_parts 1 b [] p.2).0 takes (low (value_number labels v) (2 ^ 3) (lit< tt)))
 packable_to labels (a ∷ b ∷ []) o v (Some spare) stands few takes fits = absurd (cc)
 packable_to labels (a ∷ b ∷ c ∷ ops) o v spare stands few takes fits = absurd (omega arith)
 
@@ -101,7 +101,7 @@ alone_words labels (Word ops) right = let found = some_word ops None 0 (packable
 alone_words labels (WordTo ops o v spare) right =
     let found = some_word (ops ++ o ∷ []) (Some (dest_in labels (length ops) v)) (unwrap_or spare 0) (packable_word_to labels ops o v spare right) in
     (found.0 ∷ [], (found.0, found.1, refl))
-alone_words labels (Plain v) right = (number_of labels v ∷ [], refl)
+alone_words labels (Plain v) right = (value_number labels v ∷ [], refl)
 alone_words labels i right = ([], refl)
 
 all_parts : (front back : List Item) → list_all is_item (front ++ back) ≡ true → (list_all is_item front ≡ true) × (list_all is_item back ≡ true)

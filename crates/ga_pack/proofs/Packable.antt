@@ -9,7 +9,7 @@ use Rattle.ga_word.specs.declared.op.Op.TheVariants.{Return, Execute, Nop}
 use Rattle.ga_word.specs.Op.{ends_word, takes_dest}
 use Rattle.ga_pack.specs.Encoding.{pack_fault}
 use Rattle.ga_pack.specs.Followers.{is_followed}
-use Rattle.ga_pack.specs.Model.Layout.{Labels, fits, is_unext, joins, last_dest, may_reach, number_of, op_of, ops_of, p_behind, stand, value_of, with_fillers}
+use Rattle.ga_pack.specs.Model.Layout.{Labels, fits, is_unext, joins, last_dest, may_reach, value_number, op_of, ops_of, p_behind, stand, value_of, with_fillers}
 use Rattle.ga_pack.specs.Model.Source.{Item, Instruction, Transfer, Literal, is_below, is_item}
 use Rattle.ga_pack.specs.Slots.{dest_bound, op_fits}
 use Rattle.ga_pack.specs.Reading.{dest_after_slot0, dest_after_slot1, dest_after_slot2, no_dest}
@@ -38,7 +38,7 @@ last_is before labels address ops (Instruction o) right h =
     without (not-true (takes_dest o) (and_parts (not (takes_dest o)) (not (is_followed o)) right).0)
     (and_parts (op_fits (length ops) o) (not (is_unext o) || nat_lt 0 (length ops)) h).0 refl
 last_is before labels address ops (Transfer o v) right h =
-    with_dest (and_parts (takes_dest o) (is_below (2 ^ 10) v) right).0 (reach_slot (length ops) (p_behind address ops) (value_of before v) h) (number_of labels v) refl
+    with_dest (and_parts (takes_dest o) (is_below (2 ^ 10) v) right).0 (reach_slot (length ops) (p_behind address ops) (value_of before v) h) (value_number labels v) refl
 last_is before labels address ops (Literal n) right h = without refl h refl
 last_is before labels address ops i right h = absurd (cc)
 

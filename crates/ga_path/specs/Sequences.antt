@@ -38,16 +38,16 @@ abbrev pub jump_to : ℕ → ℕ
 jump_to address = 0x10000 + address
 
 -- An address goes to A, and a word runs once for each of the words that follow.
-abbrev pub repeated : ℕ → ℕ → List ℕ → List ℕ
-repeated address loop words = SET_A ∷ address ∷ (length words - 1) ∷ PUSH ∷ loop ∷ words
+abbrev pub word_loop : ℕ → ℕ → List ℕ → List ℕ
+word_loop address loop words = SET_A ∷ address ∷ (length words - 1) ∷ PUSH ∷ loop ∷ words
 
 -- a node that executes from a port sends words at a side
 abbrev pub pump : Side → List ℕ → List ℕ
-pump side words = repeated (port_address_of side) SEND words
+pump side words = word_loop (port_address_of side) SEND words
 
 -- a node that executes from a port fills its memory
 abbrev pub load : Option ImageView → List ℕ
-load (Some image) = repeated 0 STORE image.words
+load (Some image) = word_loop 0 STORE image.words
 load None = []
 
 -- where a node starts: at its entry, or without an image at its idle address

@@ -26,16 +26,16 @@ below images from [] = Bare
 below images from (name ∷ names) = Tree name (unwrap_or (side_to from name) Right) (image_of images name) (below images name names) Bare
 
 -- a part of the stream that boots a route
-abbrev pub part_of : Part → Images → List ℕ → List ℕ
-part_of part images [] = []
-part_of part images (root ∷ names) = part_words part root (image_of images root) (below images root names)
+abbrev pub route_words : Part → Images → List ℕ → List ℕ
+route_words part images [] = []
+route_words part images (root ∷ names) = part_words part root (image_of images root) (below images root names)
 
 -- all of it that loads the nodes of a route, and all that starts them
 abbrev pub load_of : Images → List ℕ → List ℕ
-load_of images route = part_of Load images route
+load_of images route = route_words Load images route
 
 abbrev pub start_of : Images → List ℕ → List ℕ
-start_of images route = part_of Start images route
+start_of images route = route_words Start images route
 
 -- the first node in the images' order that isn't on the route
 abbrev pub unreached : Images → List ℕ → Option ℕ

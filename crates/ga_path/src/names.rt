@@ -1,5 +1,6 @@
 ghost use Rattle.std.specs.Prelude.{◌≡◌, ◌⊎◌, IfErr, IfOk, None, Some};
-ghost use Rattle.ga_path.specs.Names.{node_in, nodes_in};
+ghost use Rattle.ga_place.specs.Node.{node_named};
+ghost use Rattle.ga_path.specs.Names.{nodes_in};
 ghost use Rattle.ga_path.specs.declared.error.NamesError.TheVariants.{Memory};
 
 use crate::error::NamesError;
@@ -19,11 +20,11 @@ pub fn read_nodes(alloc: Global, text: &str) -> Result<Vec<Node>, NamesError>
     loop {
         match rest {
             [a, b, c] => {
-                nodes.push(node_in(*a, *b, *c)?)?;
+                nodes.push(node_of(&[*a, *b, *c])?)?;
                 return Ok(nodes);
             }
             [a, b, c, b',', behind @ ..] => {
-                nodes.push(node_in(*a, *b, *c)?)?;
+                nodes.push(node_of(&[*a, *b, *c])?)?;
                 rest = behind;
             }
             _ => return Err(NamesError::BadNames),
@@ -31,14 +32,10 @@ pub fn read_nodes(alloc: Global, text: &str) -> Result<Vec<Node>, NamesError>
     }
 }
 
-/// The node whose name three bytes write.
-fn node_in(a: u8, b: u8, c: u8) -> Result<Node, NamesError>
-    ensures node { IfOk result (λ node. node_in a b c ≡ Some node) }
-    ensures bad { IfErr result (λ error. node_in a b c ≡ None) }
+/// The node that a text names.
+fn node_of(text: &[u8]) -> Result<Node, NamesError>
+    ensures node { IfOk result (λ node. node_named text.now ≡ Some node) }
+    ensures bad { IfErr result (λ error. node_named text.now ≡ None) }
 {
-    if !(a.is_ascii_digit() && b.is_ascii_digit() && c.is_ascii_digit()) {
-        return Err(NamesError::BadNames);
-    }
-    let name = u16::from(a - b'0') * 100 + u16::from(b - b'0') * 10 + u16::from(c - b'0');
-    Node::new(name).ok_or(NamesError::BadNames)
+    Node::from_digits(text).ok_or(NamesError::BadNames)
 }

@@ -2,7 +2,7 @@
 ghost use Rattle.std.specs.Prelude.{◌≡◌, ◌+◌, ◌*◌, ◌<◌, ◌≤◌, ◌^◌, ◌++◌, [], IfErr, IfOk, None, OnOk, Some, length};
 ghost use Rattle.std.specs.Option.{option_copied};
 ghost use Rattle.ga_place.specs.Address.{port_address_of};
-ghost use Rattle.ga_path.specs.Stream.{below, image_of, part_of};
+ghost use Rattle.ga_path.specs.Stream.{below, image_of, route_words};
 ghost use Rattle.ga_path.specs.Route.{route_fault};
 ghost use Rattle.ga_path.specs.inner.Route.{AreHops};
 ghost use Rattle.ga_path.specs.Sequences.{frames, jump_to, load, own_frame, pumps, sent, start_address};
@@ -37,7 +37,7 @@ pub(crate) fn part_words(
 ) -> Result<Vec<Word18>, BootError>
     requires route { route_fault nodes.now ≡ None }
     requires most { length nodes.now ≤ 144 }
-    ensures words { IfOk result (λ words. words.items ≡ part_of part images.now nodes.now) }
+    ensures words { IfOk result (λ words. words.items ≡ route_words part images.now nodes.now) }
     ensures memory { IfErr result (λ error. error ≡ Memory) }
 {
     let Some((root, rest)) = nodes.split_first() else {

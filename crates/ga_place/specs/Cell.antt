@@ -1,15 +1,15 @@
 -- The indices of the nodes in order of name, and the one-way cells between neighbours. A shared port is two cells:
 -- each of its two nodes writes one, which the other reads.
-use Rattle.std.specs.Prelude.{ℕ, ◌+◌, ◌*◌, ◌/◌, ◌%◌, ◌==◌, nat_lt, Bool, ◌&&◌, if◌then◌else◌, List, map, Option}
+use Rattle.std.specs.Prelude.{ℕ, ◌+◌, ◌*◌, ◌/◌, ◌%◌, ◌==◌, Bool, ◌&&◌, if◌then◌else◌, List, map, Option}
 use Rattle.std.specs.List.{filter, flat_map, position, range_with_len}
 use Rattle.std.specs.Option.{option_and_then}
-use Rattle.ga_place.specs.Node.{row_of, column_of}
+use Rattle.ga_place.specs.Node.{row_of, column_of, is_node_name}
 use Rattle.ga_place.specs.Side.{SIDES, has_side, neighbour_of, side_bit}
 use Rattle.ga_place.specs.declared.side.Side.{Side}
 
 -- the index of a node in order of name, from 0 to 143; a name of no node has the index 144
 abbrev pub index_of : ℕ → ℕ
-index_of name = if (nat_lt (row_of name) 8) && (nat_lt (column_of name) 18) then row_of name * 18 + column_of name else 144
+index_of name = if is_node_name name then row_of name * 18 + column_of name else 144
 
 -- the name of the node at an index
 abbrev pub name_at : ℕ → ℕ

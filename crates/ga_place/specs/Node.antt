@@ -1,6 +1,8 @@
 -- The 144 nodes, in 8 rows by 18 columns. A node is seen as its name, the number row * 100 + column.
-use Rattle.std.specs.Prelude.{◌≡◌, ℕ, ◌+◌, ◌/◌, ◌%◌, ◌<◌, ◌==◌, Bool, ◌||◌, List, [], ◌∷◌, ◌⊎◌}
-use Rattle.std.specs.List.{list_any}
+use Rattle.std.specs.Prelude.{◌≡◌, ℕ, ◌+◌, ◌/◌, ◌%◌, ◌<◌, nat_lt, ◌==◌, Bool, ◌||◌, ◌&&◌, List, [], ◌∷◌, length, Option, Some, None, if◌then◌else◌, ◌⊎◌}
+use Rattle.std.specs.Char.{is_digit}
+use Rattle.std.specs.List.{list_all, list_any}
+use Rattle.std.specs.Str.Parse.{digits_value}
 
 -- the row of a node, counted from the south: the hundreds of its name
 abbrev pub row_of : ℕ → ℕ
@@ -13,6 +15,15 @@ column_of name = name % 100
 -- a node has this name: its row is from 0 to 7 and its column from 0 to 17
 abbrev pub IsNodeName : ℕ → Type 0
 IsNodeName name = (row_of name < 8) × (column_of name < 18)
+
+-- whether one has it
+abbrev pub is_node_name : ℕ → Bool
+is_node_name name = nat_lt (row_of name) 8 && nat_lt (column_of name) 18
+
+-- the node that a text names: three decimal digits, which are its name
+abbrev pub node_named : List ℕ → Option ℕ
+node_named text =
+    if (length text == 3) && list_all (λ c. is_digit c 10) text && is_node_name (digits_value 10 text) then Some (digits_value 10 text) else None
 
 -- the node stands in the first or the last row or column
 abbrev pub IsOnEdge : ℕ → Type 0

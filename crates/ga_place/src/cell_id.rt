@@ -44,7 +44,8 @@ pub fn cell(node: Node, side: Side) -> Option<CellId>
     ensures number { result ≡ cell_of node side }
     ensures there { IsSome result ↔ (has_side node side ≡ true) }
     // a cell has one writer, at one side
-    ensures alone { IfSome result (λ number. (name : ℕ) (at : Side) → cell_of name at ≡ Some number → (name ≡ node) × (at ≡ side)) }
+    ensures alone { IfSome result (λ number. (name : ℕ) (at : Side) → cell_of name at ≡ Some number
+        → (name ≡ node) × (at ≡ side)) }
 {
     if neighbour(node, side).is_none() {
         return None;

@@ -7,7 +7,7 @@ ghost use Rattle.std.specs.Ordering.{as_partial_cmp, nat_cmp};
 ghost use Rattle.std.proofs.Common.{rules};
 ghost use Rattle.ga_place.specs.Cell.{index_of, name_at};
 ghost use Rattle.ga_place.specs.inner.Index.{index_back};
-ghost use Rattle.ga_place.specs.Node.{IsNodeName, IsOnEdge, column_of, node_text, row_of};
+ghost use Rattle.ga_place.specs.Node.{IsNodeName, IsOnEdge, column_of, node_named, node_text, row_of};
 ghost use Rattle.ga_place.specs.Side.{LacksSide};
 
 use std::cmp::Ordering;
@@ -50,6 +50,20 @@ impl Node {
         } else {
             None
         }
+    }
+
+    /// The node that a text names: three decimal digits, as 008, which are its name. `None` for every other text,
+    /// and where no node has the name.
+    pub fn from_digits(text: &[u8]) -> Option<Self>
+        ensures { result ≡ node_named text.now }
+    {
+        let [a, b, c] = text else {
+            return None;
+        };
+        let a = char::from(*a).to_digit(10)?;
+        let b = char::from(*b).to_digit(10)?;
+        let c = char::from(*c).to_digit(10)?;
+        Node::new((a * 100 + b * 10 + c) as u16)
     }
 
     /// The name of the node, `row * 100 + column`.

@@ -15,7 +15,7 @@ pub const INPUT_LIMIT: usize = 1_048_576;
 /// neither as `Read` nor as `Write`, and as `Memory` only where memory is refused. (The jobs are this project's own:
 /// profile.)
 #[tactic(auto, using(crate::proofs::OneOutput::one_output))]
-pub fn answer<Rt: AllocGlobal + Threads>(
+pub fn answer<Rt: AllocGlobal + Threads + Sync>(
     rt: &Rt,
     job: &Job,
     input: &[u8],
@@ -32,7 +32,11 @@ pub fn answer<Rt: AllocGlobal + Threads>(
 
 /// What a job writes for an input that is not too long.
 #[tactic(auto, unfolding(crate::specs::Answering::IsJobOutput))]
-fn output<Rt: AllocGlobal + Threads>(rt: &Rt, job: &Job, input: &[u8]) -> Result<String, ServeError>
+fn output<Rt: AllocGlobal + Threads + Sync>(
+    rt: &Rt,
+    job: &Job,
+    input: &[u8],
+) -> Result<String, ServeError>
     ensures { Answers string_bytes (IsJobOutput job.now input.now) result }
 {
     match job {

@@ -21,7 +21,7 @@ use std::thread::Threads;
 /// the input in the order of the job's output, and `Write` last; a front of the output may then have
 /// been written. `Memory` comes where memory was refused, before anything is written.
 #[tactic(auto, using(crate::proofs::OneOutput::one_output))]
-pub fn serve<Rt: AllocGlobal + Threads, R: Read, W: Write>(
+pub fn serve<Rt: AllocGlobal + Threads + Sync, R: Read, W: Write>(
     rt: &Rt,
     reader: &mut R,
     writer: &mut W,
@@ -35,7 +35,8 @@ pub fn serve<Rt: AllocGlobal + Threads, R: Read, W: Write>(
 
     // At any reader.
     ensures unread { reads_input job.now ≡ false → reader.new ≡ reader.old }
-    ensures needs_no_read { reads_input job.now ≡ false → IfErr result (λ fault. fault ≢ ServeError.Read) }
+    ensures needs_no_read { reads_input job.now ≡ false
+        → IfErr result (λ fault. fault ≢ ServeError.Read) }
     ensures only { (input : List ℕ) → HasOneOutput job.now input }
     ensures unwritten { IfErr result (λ fault. fault ≢ ServeError.Write
         → Keeps (W.contents writer.old) (W.contents writer.new)) }
@@ -48,7 +49,7 @@ pub fn serve<Rt: AllocGlobal + Threads, R: Read, W: Write>(
 }
 
 /// Makes the whole output for an input, and then writes it.
-fn respond<Rt: AllocGlobal + Threads, W: Write>(
+fn respond<Rt: AllocGlobal + Threads + Sync, W: Write>(
     rt: &Rt,
     writer: &mut W,
     job: &Job,

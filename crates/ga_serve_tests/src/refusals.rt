@@ -10,7 +10,7 @@ use std::thread::Threads;
 
 /// Serves a job that is refused, and compares the text of its fault and its status. Nothing is written.
 fn refuses(
-    rt: &(impl AllocGlobal + Threads + Abort),
+    rt: &(impl AllocGlobal + Threads + Sync + Abort),
     job: &Job,
     input: &[u8],
     text: &str,

@@ -3,7 +3,7 @@ use Rattle.std.proofs.Common.{◌≡◌, ◌⊎◌, inl, inr, ℕ, true, List, [
 use Rattle.ga_word.specs.declared.op.Op.{Op}
 use Rattle.ga_pack.specs.Model.Token.{Token, op, number, name, label, node, node_name, align, data_part, open_mark, close_mark, comma, slash, bad, end}
 use Rattle.ga_pack.specs.Model.Source.{Value, Item, Instruction, Transfer, Literal, Here, Align, Word, WordTo, Plain, Data, Section, Part, after, part_after, is_item, is_new, Items, Sections, Source, text_tokens, items_tokens, item_tokens, op_tokens, value_token, spare_tokens}
-use Rattle.ga_source.specs.inner.Machine.{At, between, behind_op, behind_comma, in_word, behind_dest_op, behind_dest, behind_slash, behind_spare, Inside, State, nothing, naming, inside, finished, closed}
+use Rattle.ga_source.specs.inner.Machine.{At, between, behind_op, behind_comma, in_word, behind_dest_op, behind_dest, behind_slash, behind_spare, Inside, State, nothing, naming, inside, finished, sections_closed}
 
 -- the open section goes on with these tokens, to the text's end
 abbrev pub Follows : Inside → List Token → List Section → Type 0
@@ -46,8 +46,8 @@ Led c p (align ∷ rest) = Adds c Align rest p
 Led c p (data_part ∷ rest) = Adds c Data rest p
 Led c p (comma ∷ rest) = (i : Item) × (more : List Token) × Rest behind_comma rest more i × Adds c i more p
 Led c p (open_mark ∷ rest) = (i : Item) × (more : List Token) × Rest (in_word []) rest more i × Adds c i more p
-Led c p (end ∷ rest) = (c.before.has_word ≡ true) × (rest ≡ []) × (p ≡ closed c)
-Led c p (node ∷ rest) = (c.before.has_word ≡ true) × Completes (naming (closed c) (c.seen ++ c.name ∷ [])) rest p
+Led c p (end ∷ rest) = (c.before.has_word ≡ true) × (rest ≡ []) × (p ≡ sections_closed c)
+Led c p (node ∷ rest) = (c.before.has_word ≡ true) × Completes (naming (sections_closed c) (c.seen ++ c.name ∷ [])) rest p
 Led c p (_ ∷ rest) = ⊥
 
 pub nothing_more : {A : Type 0} (xs : List A) → xs ++ [] ≡ xs

@@ -9,7 +9,7 @@ use Rattle.ga_pack.specs.Model.Token.{SourceKind, Token, op, number, name, label
 use Rattle.ga_pack.specs.Model.Meaning.{is_reserved}
 use Rattle.ga_pack.specs.Model.Source.{Number, Label, Item, Instruction, Transfer, Literal, Here, Align, Word, WordTo, Plain, Data, Section, Part, Code, Behind, start, part_after, is_among, is_named, labels_with}
 use Rattle.ga_pack.specs.Slots.{dest_bound, op_fits}
-use Rattle.ga_source.specs.inner.Machine.{State, Inside, IsConsistent, between, behind_op, behind_comma, in_word, behind_dest_op, behind_dest, behind_slash, behind_spare, nothing, naming, inside, finished, take, take_first, take_between, added}
+use Rattle.ga_source.specs.inner.Machine.{State, Inside, IsConsistent, between, behind_op, behind_comma, in_word, behind_dest_op, behind_dest, behind_slash, behind_spare, nothing, naming, inside, finished, take, take_first, take_between, item_added}
 use Rattle.ga_source.proofs.Steps.{on_test}
 
 -- the answer to a token keeps it
@@ -36,10 +36,10 @@ names_snoc (x ∷ is) i = names_snoc is i
 abbrev Open : Inside → Type 0
 Open c = (is_named c.name c.seen ≡ false) × (c.before.labels ≡ names_in c.items)
 
-pushed : (c : Inside) (i : Item) (p : Part) → Open c → IsConsistent (added c i p)
+pushed : (c : Inside) (i : Item) (p : Part) → Open c → IsConsistent (item_added c i p)
 pushed c i p o = (o.0, ap (labels_with i) o.1 ∙ sym (names_snoc c.items i))
 
-by_part : (c : Inside) (i : Item) (o : Option Part) → Open c → ConsistentBy (elim o [ None ↦ Err SourceKind.BadToken | Some p ↦ Ok (added c i p) ])
+by_part : (c : Inside) (i : Item) (o : Option Part) → Open c → ConsistentBy (elim o [ None ↦ Err SourceKind.BadToken | Some p ↦ Ok (item_added c i p) ])
 by_part c i None k = tt
 by_part c i (Some p) k = pushed c i p k
 

@@ -12,7 +12,7 @@ use Rattle.ga_pack.specs.Model.Token.{SourceKind, Token, op, number, node, node_
 use Rattle.ga_pack.specs.Model.Source.{Value, Number, Item, Transfer, Word, WordTo, Plain, Data, Section, Part, Code, Behind, Before, start, part_after, is_item, is_new, Items, Sections, Source, items_tokens, stand_from, is_below, is_spare}
 use Rattle.ga_pack.specs.Model.SourceFault.{Begins, GoesOn, ends_in_node}
 use Rattle.ga_pack.specs.Slots.{dest_bound}
-use Rattle.ga_source.specs.inner.Machine.{At, between, behind_op, behind_comma, in_word, behind_dest_op, behind_dest, behind_slash, behind_spare, Inside, State, nothing, naming, inside, finished, closed, take, Good}
+use Rattle.ga_source.specs.inner.Machine.{At, between, behind_op, behind_comma, in_word, behind_dest_op, behind_dest, behind_slash, behind_spare, Inside, State, nothing, naming, inside, finished, sections_closed, take, Good}
 use Rattle.ga_source.proofs.Completes.{Follows, Adds, Rest, Completes, with_item, nothing_more, led, led_back}
 use Rattle.ga_source.proofs.FaultKinds.{Shape}
 use Rattle.ga_source.proofs.Steps.{Right, take_right, on_test, is_word, is_word_to}
@@ -158,8 +158,8 @@ alive (finished q) g = inl (q, refl)
 node_led : (s s' : State) → Good s → take s node ≡ Ok s' → ((s ≡ nothing) × (s' ≡ naming [] [])) ⊎ ((p : List Section) × Completes s (end ∷ []) p)
 node_led nothing s' g e = inl (refl, (cc))
 node_led (naming done seen) s' g e = absurd (cc)
-node_led (inside c between) s' g e = inr (on_test c.before.has_word (λ b. (if b then Ok (naming (closed c) (c.seen ++ c.name ∷ [])) else Err SourceKind.Empty) ≡ Ok s' → (p : List Section) × Follows c (end ∷ []) p)
-    (λ some h. (closed c, led_back c (end ∷ []) (closed c) (some, refl, refl))) (λ none h. absurd (cc)) e)
+node_led (inside c between) s' g e = inr (on_test c.before.has_word (λ b. (if b then Ok (naming (sections_closed c) (c.seen ++ c.name ∷ [])) else Err SourceKind.Empty) ≡ Ok s' → (p : List Section) × Follows c (end ∷ []) p)
+    (λ some h. (sections_closed c, led_back c (end ∷ []) (sections_closed c) (some, refl, refl))) (λ none h. absurd (cc)) e)
 node_led (inside c (behind_op o)) s' g e = absurd (cc)
 node_led (inside c behind_comma) s' g e = absurd (cc)
 node_led (inside c (in_word ops)) s' g e = absurd (cc)
@@ -173,7 +173,7 @@ node_led (finished q) s' g e = absurd (cc)
 node_refused : (s : State) (k : SourceKind) → Good s → take s node ≡ Err k → (p : List Section) → Completes s (end ∷ []) p → ⊥
 node_refused nothing k g e p h = absurd (cc)
 node_refused (naming done seen) k g e p h = take_right (naming done seen) end g [] p h
-node_refused (inside c between) k g e p h = on_test c.before.has_word (λ b. (if b then Ok (naming (closed c) (c.seen ++ c.name ∷ [])) else Err SourceKind.Empty) ≡ Err k → ⊥)
+node_refused (inside c between) k g e p h = on_test c.before.has_word (λ b. (if b then Ok (naming (sections_closed c) (c.seen ++ c.name ∷ [])) else Err SourceKind.Empty) ≡ Err k → ⊥)
     (λ some f. absurd (cc)) (λ none f. both_ways c.before.has_word none (led c (end ∷ []) p h).0) e
 node_refused (inside c (behind_op o)) k g e p h = take_right (inside c (behind_op o)) end g [] p h
 node_refused (inside c behind_comma) k g e p h = take_right (inside c behind_comma) end g [] p h

@@ -9,7 +9,7 @@ use Rattle.ga_pack.specs.Model.Meaning.{is_reserved}
 use Rattle.ga_pack.specs.Model.Source.{Value, Number, Label, Item, Instruction, Transfer, Literal, Here, Align, Word, WordTo, Plain, Data, Section, Part, Code, Behind, start, part_after, is_among, is_named}
 use Rattle.ga_pack.specs.Model.SourceFault.{in_brackets, in_data, wants_value, kind_at, bracket_fault, value_fault, item_fault}
 use Rattle.ga_pack.specs.Slots.{dest_bound, op_fits}
-use Rattle.ga_source.specs.inner.Machine.{At, between, behind_op, behind_comma, in_word, behind_dest_op, behind_dest, behind_slash, behind_spare, Inside, State, nothing, naming, inside, finished, closed, added, take, take_between, take_first, take_label, with_part, owed_fault, Good}
+use Rattle.ga_source.specs.inner.Machine.{At, between, behind_op, behind_comma, in_word, behind_dest_op, behind_dest, behind_slash, behind_spare, Inside, State, nothing, naming, inside, finished, sections_closed, item_added, take, take_between, take_first, take_label, with_part, owed_fault, Good}
 use Rattle.ga_source.proofs.Steps.{on_test}
 
 abbrev is_behind : Part → Bool
@@ -62,8 +62,8 @@ kind_item : (u t : Token) (back : List Token) (d : Bool) → is_node u ≡ false
 unfolding kind_at
 kind_item u t back d n b w e = rw (n, b, w, e) refl
 
-on_part : (s : State) (back : List Token) (t : Token) (c : Inside) (i : Item) (q : Part) → part_after c.before.part i ≡ Some q → Shape (added c i q) (t ∷ back) → Shaped s back t (with_part c i)
-on_part s back t c i q e h = subst (λ x. Shaped s back t (elim x [ None ↦ Err SourceKind.BadToken | Some p ↦ Ok (added c i p) ])) (sym e) h
+on_part : (s : State) (back : List Token) (t : Token) (c : Inside) (i : Item) (q : Part) → part_after c.before.part i ≡ Some q → Shape (item_added c i q) (t ∷ back) → Shaped s back t (with_part c i)
+on_part s back t c i q e h = subst (λ x. Shaped s back t (elim x [ None ↦ Err SourceKind.BadToken | Some p ↦ Ok (item_added c i p) ])) (sym e) h
 
 plain_part : (part q : Part) (v : Value) → part_after part (Plain v) ≡ Some q → is_behind part ≡ is_behind q
 unfolding part_after
@@ -82,7 +82,7 @@ bracket_kind : (c : Inside) (at : At) (u t : Token) (r : List Token) → Read c 
 bracket_kind c at u t r rd b = sym (kind_bracket u t r rd.no_node (rd.brackets ∙ b))
 
 op_shaped : (c : Inside) (o : Op) (u t : Token) (r : List Token) → Good (inside c (behind_op o)) → Read c (behind_op o) u r → Shaped (inside c (behind_op o)) (u ∷ r) t (take (inside c (behind_op o)) t)
-op_shaped c o u (number n) r g rd = on_test (nat_lt n (2 ^ 10)) (λ b. Shaped (inside c (behind_op o)) (u ∷ r) (number n) (if b then Ok (added c (Transfer o (Number n)) (Code 0)) else Err SourceKind.NumberRange))
+op_shaped c o u (number n) r g rd = on_test (nat_lt n (2 ^ 10)) (λ b. Shaped (inside c (behind_op o)) (u ∷ r) (number n) (if b then Ok (item_added c (Transfer o (Number n)) (Code 0)) else Err SourceKind.NumberRange))
     (λ e. (number n, u ∷ r, refl, record { no_node = refl; brackets = rd.brackets; part = code_part c (in_data (u ∷ r)) rd.part g.1; last = refl }))
     (λ e f. value_kind c (behind_op o) u (number n) r rd refl rd.last)
 op_shaped c o u (name s) r g rd = (name s, u ∷ r, refl, record { no_node = refl; brackets = rd.brackets; part = code_part c (in_data (u ∷ r)) rd.part g.1; last = refl })
@@ -147,14 +147,14 @@ item_kind_of : (c : Inside) (u t : Token) (r : List Token) (k : SourceKind) → 
 item_kind_of c u t r k rd e = e ∙ item_kind c u t r rd
 
 label_shaped : (c : Inside) (s : List ℕ) (u : Token) (r : List Token) → Read c between u r → Shaped (inside c between) (u ∷ r) (label s) (take_label c s)
-label_shaped c s u r rd = on_test (is_reserved s) (λ b. Shaped (inside c between) (u ∷ r) (label s) (if b then Err SourceKind.ReservedLabel else if is_among s c.before.labels then Err SourceKind.DuplicateLabel else Ok (added c (Here s) c.before.part)))
+label_shaped c s u r rd = on_test (is_reserved s) (λ b. Shaped (inside c between) (u ∷ r) (label s) (if b then Err SourceKind.ReservedLabel else if is_among s c.before.labels then Err SourceKind.DuplicateLabel else Ok (item_added c (Here s) c.before.part)))
     (λ e f. item_kind_of c u (label s) r SourceKind.ReservedLabel rd (rw e refl))
-    (λ e. on_test (is_among s c.before.labels) (λ b. Shaped (inside c between) (u ∷ r) (label s) (if b then Err SourceKind.DuplicateLabel else Ok (added c (Here s) c.before.part)))
+    (λ e. on_test (is_among s c.before.labels) (λ b. Shaped (inside c between) (u ∷ r) (label s) (if b then Err SourceKind.DuplicateLabel else Ok (item_added c (Here s) c.before.part)))
     (λ h f. item_kind_of c u (label s) r SourceKind.DuplicateLabel rd (rw e refl))
     (λ h. (label s, u ∷ r, refl, record { no_node = refl; brackets = rd.brackets; part = rd.part; last = refl })))
 
 -- a token that makes a whole item of a part
-one_shaped : (c : Inside) (t : Token) (i : Item) (q : Part) (u : Token) (r : List Token) → Read c between u r → is_node t ≡ false → in_brackets (t ∷ u ∷ r) ≡ in_brackets (u ∷ r) → in_data (t ∷ u ∷ r) ≡ is_behind q → wants_value t ≡ false → Shape (added c i q) (t ∷ u ∷ r)
+one_shaped : (c : Inside) (t : Token) (i : Item) (q : Part) (u : Token) (r : List Token) → Read c between u r → is_node t ≡ false → in_brackets (t ∷ u ∷ r) ≡ in_brackets (u ∷ r) → in_data (t ∷ u ∷ r) ≡ is_behind q → wants_value t ≡ false → Shape (item_added c i q) (t ∷ u ∷ r)
 one_shaped c t i q u r rd n b d w = (t, u ∷ r, refl, record { no_node = n; brackets = b ∙ rd.brackets; part = d; last = w })
 
 code_data : (c : Inside) (u : Token) (r : List Token) (n : ℕ) → Read c between u r → c.before.part ≡ Code n → in_data (u ∷ r) ≡ false
@@ -180,9 +180,9 @@ first_shaped c Behind u t r e w rd = λ f. part_kind c Behind u t r SourceKind.B
 first_shaped c (Code (suc n)) u comma r e w rd = (comma, u ∷ r, refl, record { no_node = refl; brackets = rd.brackets; part = rd.part; last = refl })
 first_shaped c (Code (suc n)) u data_part r e w rd = one_shaped c data_part Data Behind u r rd refl refl refl refl
 first_shaped c (Code (suc n)) u t r e w rd = λ f. part_kind c (Code (suc n)) u t r (owed_fault t) e rd refl
-first_shaped c (Code zero) u (op o) r e w rd = on_test (takes_dest o) (λ b. Shaped (inside c between) (u ∷ r) (op o) (if b then Ok (inside c (behind_op o)) else if is_followed o then Err SourceKind.BadToken else Ok (added c (Instruction o) (Code 0))))
+first_shaped c (Code zero) u (op o) r e w rd = on_test (takes_dest o) (λ b. Shaped (inside c between) (u ∷ r) (op o) (if b then Ok (inside c (behind_op o)) else if is_followed o then Err SourceKind.BadToken else Ok (item_added c (Instruction o) (Code 0))))
     (λ takes. (op o, u ∷ r, refl, record { no_node = refl; brackets = rd.brackets; part = rd.part; last = takes }))
-    (λ none. on_test (is_followed o) (λ b. Shaped (inside c between) (u ∷ r) (op o) (if b then Err SourceKind.BadToken else Ok (added c (Instruction o) (Code 0))))
+    (λ none. on_test (is_followed o) (λ b. Shaped (inside c between) (u ∷ r) (op o) (if b then Err SourceKind.BadToken else Ok (item_added c (Instruction o) (Code 0))))
     (λ h f. part_kind c (Code 0) u (op o) r SourceKind.BadToken e rd (rw h refl))
     (λ h. one_shaped c (op o) (Instruction o) (Code 0) u r rd refl refl (code_data c u r 0 rd e) none))
 first_shaped c (Code zero) u (number n) r e w rd = one_shaped c (number n) (Literal n) (Code 0) u r rd refl refl (code_data c u r 0 rd e) refl
@@ -193,8 +193,8 @@ first_shaped c (Code zero) u t r e w rd = λ f. part_kind c (Code 0) u t r Sourc
 
 between_shaped : (c : Inside) (u t : Token) (r : List Token) → Read c between u r → Shaped (inside c between) (u ∷ r) t (take_between c t)
 between_shaped c u (bad k) r rd = λ f. item_kind c u (bad k) r rd
-between_shaped c u end r rd = on_test c.before.has_word (λ b. Shaped (inside c between) (u ∷ r) end (if b then Ok (finished (closed c)) else Err SourceKind.Empty)) (λ e. tt) (λ e f. item_kind c u end r rd)
-between_shaped c u node r rd = on_test c.before.has_word (λ b. Shaped (inside c between) (u ∷ r) node (if b then Ok (naming (closed c) (c.seen ++ c.name ∷ [])) else Err SourceKind.Empty)) (λ e. (u ∷ r, refl, rd.brackets)) (λ e f. item_kind c u node r rd)
+between_shaped c u end r rd = on_test c.before.has_word (λ b. Shaped (inside c between) (u ∷ r) end (if b then Ok (finished (sections_closed c)) else Err SourceKind.Empty)) (λ e. tt) (λ e f. item_kind c u end r rd)
+between_shaped c u node r rd = on_test c.before.has_word (λ b. Shaped (inside c between) (u ∷ r) node (if b then Ok (naming (sections_closed c) (c.seen ++ c.name ∷ [])) else Err SourceKind.Empty)) (λ e. (u ∷ r, refl, rd.brackets)) (λ e f. item_kind c u node r rd)
 between_shaped c u (label s) r rd = label_shaped c s u r rd
 between_shaped c u t r rd = first_shaped c c.before.part u t r refl tt rd
 

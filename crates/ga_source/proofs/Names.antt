@@ -1,14 +1,17 @@
--- Names, and names in front of `:`.
+-- Names, names in front of `:`, and names of nodes.
 use Rattle.std.proofs.Common.{◌≡◌, ◌∙◌, ◌++◌, ◌<◌, ◌≤◌, ℕ, zero, suc, Bool, true, false, List, [], ◌∷◌, Option, Some, None, length, refl, sym, ap, arith, append_assoc, inl, inr, lit<, eq-eqb}
-use Rattle.std.specs.Option.{option_map}
+use Rattle.std.specs.Char.{is_digit}
+use Rattle.std.specs.Option.{option_map, unwrap_or}
 use Rattle.std.specs.Prelude.{◌==◌, ◌&&◌, nat_le, nat_lt, if◌then◌else◌}
 use Rattle.std.specs.List.{list_all}
 use Rattle.std.specs.Str.{IsAscii, IsUtf8}
+use Rattle.std.specs.Str.Parse.{digits_value}
 use Rattle.std.proofs.lemmas.Bool.{and_parts, cases_lt, false≢true, le-leb, le-ltb, lt-leb, ltb-true, ne_eqb}
 use Rattle.std.proofs.lemmas.List.{append-nil}
 use Rattle.std.proofs.lemmas.Str.{IsUtf8-from_ascii}
-use Rattle.ga_pack.specs.Model.Meaning.{as_label, as_name, is_letter, is_letter_or_digit, is_name, label_from}
-use Rattle.ga_pack.specs.Model.Token.{label, name}
+use Rattle.ga_place.specs.Node.{is_node_name, node_named}
+use Rattle.ga_pack.specs.Model.Meaning.{as_label, as_name, as_node, is_letter, is_letter_or_digit, is_name, label_from, meaning_at, meaning_of}
+use Rattle.ga_pack.specs.Model.Token.{label, name, node_name}
 
 -- ---- a name and a last byte
 
@@ -79,3 +82,19 @@ module _ {N : Type 0} (bytes : N → List ℕ) where
 
 pub no_label : (text front : List ℕ) (last : ℕ) → text ≡ front ++ last ∷ [] → (last ≡ 58 → ⊥) → None ≡ as_label text
 no_label text front last cut other = sym (ap (label_from []) cut ∙ label_from-last [] front last ∙ ap (λ (t : Bool). if t && is_name front then Some (label front) else None) (ne_eqb last 58 other))
+
+-- ---- names of nodes
+
+-- a text behind `node` that names a node
+pub node_read : (text : List ℕ) → option_map node_name (node_named text) ≡ as_node text
+node_read text = by ((length text == 3) && list_all (λ c. is_digit c 10) text && is_node_name (digits_value 10 text)) (digits_value 10 text)
+  where
+    by : (t : Bool) (v : ℕ) → option_map node_name (if t then Some v else None) ≡ (if t then Some (node_name v) else None)
+    by true v = refl
+    by false v = refl
+
+-- and one that stands elsewhere, or names none
+pub no_node_read : (is_behind : Bool) (text : List ℕ) → (is_behind ≡ true → node_named text ≡ None) → meaning_at is_behind text ≡ meaning_of text
+unfolding meaning_at
+no_node_read true text none = ap (λ o. unwrap_or o (meaning_of text)) (sym (node_read text) ∙ ap (option_map node_name) (none refl))
+no_node_read false text none = refl

@@ -15,13 +15,13 @@ use Rattle.ga_source.specs.declared.error.SourceErrorKind.TheVariants.{Memory}
 use Rattle.ga_source.specs.declared.parser.Part as standing
 use Rattle.ga_source.specs.declared.parser.Part.TheVariants as part
 use Rattle.ga_source.specs.Error.{kind_of}
-use Rattle.ga_source.specs.inner.Machine.{State, Inside, take_first, with_part, added}
-use Rattle.ga_source.specs.inner.Parser.{Answered, RefusedAs, part_of}
+use Rattle.ga_source.specs.inner.Machine.{State, Inside, take_first, with_part, item_added}
+use Rattle.ga_source.specs.inner.Parser.{Answered, RefusedAs, section_part}
 
--- an item was added, as the parser's machine adds it
+-- an item was item_added, as the parser's machine adds it
 pub answered_added : {A : Type 0} (c : Inside) (i : Item) (q : Part) (r : Result A SourceErrorKind) (s' : State)
-    → part_after c.before.part i ≡ Some q → OnOk r (s' ≡ added c i q) → IfErr r (λ kind. kind ≡ Memory) → Answered (with_part c i) r s'
-answered_added c i q (Ok x) s' f ok err = ap (λ o. elim o [ None ↦ Err token.BadToken | Some p ↦ Ok (added c i p) ]) f ∙ ap Ok (sym ok)
+    → part_after c.before.part i ≡ Some q → OnOk r (s' ≡ item_added c i q) → IfErr r (λ kind. kind ≡ Memory) → Answered (with_part c i) r s'
+answered_added c i q (Ok x) s' f ok err = ap (λ o. elim o [ None ↦ Err token.BadToken | Some p ↦ Ok (item_added c i p) ]) f ∙ ap Ok (sym ok)
 answered_added c i q (Err x) s' f ok err = subst (λ y. RefusedAs (with_part c i) (kind_of y)) (sym err) tt
 
 -- behind a bracketed word its followers are owed
@@ -34,22 +34,22 @@ unfolding part_after
 word_to_after part ops o v k e = ap (λ x. part_after x (WordTo ops o v k)) e
 
 -- one follower less is owed
-pub plain_owed : (p p' : standing.Part) (owed : ℕ) (v : Value) → p ≡ part.Code owed → p' ≡ part.Code (owed - 1) → 0 < owed → part_after (part_of p) (Plain v) ≡ Some (part_of p')
+pub plain_owed : (p p' : standing.Part) (owed : ℕ) (v : Value) → p ≡ part.Code owed → p' ≡ part.Code (owed - 1) → 0 < owed → part_after (section_part p) (Plain v) ≡ Some (section_part p')
 unfolding part_after
 plain_owed p p' zero v e f h = absurd (omega (arith, h))
 plain_owed p p' (suc owed) v e f h =
     let g : owed ≡ suc owed - 1 = omega arith in
-    ap (λ x. part_after (part_of x) (Plain v)) e ∙ ap (λ n. Some (Code n)) g ∙ ap (λ x. Some (part_of x)) (sym f)
+    ap (λ x. part_after (section_part x) (Plain v)) e ∙ ap (λ n. Some (Code n)) g ∙ ap (λ x. Some (section_part x)) (sym f)
 
 -- and the data part goes on
-pub plain_data : (p p' : standing.Part) (v : Value) → p ≡ part.Data → p' ≡ part.Data → part_after (part_of p) (Plain v) ≡ Some (part_of p')
+pub plain_data : (p p' : standing.Part) (v : Value) → p ≡ part.Data → p' ≡ part.Data → part_after (section_part p) (Plain v) ≡ Some (section_part p')
 unfolding part_after
-plain_data p p' v e f = ap (λ x. part_after (part_of x) (Plain v)) e ∙ ap (λ x. Some (part_of x)) (sym f)
+plain_data p p' v e f = ap (λ x. part_after (section_part x) (Plain v)) e ∙ ap (λ x. Some (section_part x)) (sym f)
 
 -- where a plain word may stand in the code part, a follower is owed
-pub owed_more : (p : standing.Part) → ((q : Part) × ((v : Value) → part_after (part_of p) (Plain v) ≡ Some q)) → (owed : ℕ) → p ≡ part.Code owed → 0 < owed
+pub owed_more : (p : standing.Part) → ((q : Part) × ((v : Value) → part_after (section_part p) (Plain v) ≡ Some q)) → (owed : ℕ) → p ≡ part.Code owed → 0 < owed
 unfolding part_after
-owed_more p h zero e = let f = subst (λ x. part_after (part_of x) (Plain (Number 0)) ≡ Some h.0) e (h.1 (Number 0)) in absurd (cc)
+owed_more p h zero e = let f = subst (λ x. part_after (section_part x) (Plain (Number 0)) ≡ Some h.0) e (h.1 (Number 0)) in absurd (cc)
 owed_more p h (suc n) e = omega arith
 
 pub on_ok_to : {A : Type 0} (r : Result A SourceErrorKind) (s' x y : State) → x ≡ y → OnOk r (s' ≡ x) → OnOk r (s' ≡ y)
@@ -97,6 +97,6 @@ module _ {V : Type 0} (same : ℕ → ℕ → Bool) (is_same : (x y : ℕ) → s
 
 -- followers are owed
 pub some_owed : {A : Type 0} (c : Inside) (t : token.Token) (r : Result A SourceErrorKind) (s' : State) (p : standing.Part) (owed : ℕ)
-    → p ≡ part.Code owed → (owed ≡ 0 → ⊥) → ((n : ℕ) → Answered (take_first (Code (suc n)) c t) r s') → Answered (take_first (part_of p) c t) r s'
+    → p ≡ part.Code owed → (owed ≡ 0 → ⊥) → ((n : ℕ) → Answered (take_first (Code (suc n)) c t) r s') → Answered (take_first (section_part p) c t) r s'
 some_owed c t r s' p zero e n h = absurd (n refl)
-some_owed c t r s' p (suc owed) e n h = subst (λ x. Answered (take_first (part_of x) c t) r s') (sym e) (h owed)
+some_owed c t r s' p (suc owed) e n h = subst (λ x. Answered (take_first (section_part x) c t) r s') (sym e) (h owed)

@@ -9,7 +9,7 @@ use Rattle.ga_pack.specs.Model.Token.{SourceKind, Token, op, number, name, label
 use Rattle.ga_pack.specs.Model.Meaning.{is_reserved}
 use Rattle.ga_pack.specs.Model.Source.{Value, Number, Label, Item, Instruction, Transfer, Literal, Here, Align, Word, WordTo, Plain, Data, Section, Part, Code, Behind, start, part_after, is_item, is_new, Sections, Source, text_tokens, items_tokens, op_tokens, value_token, spare_tokens, stand_from, is_below, is_spare, is_among, is_named}
 use Rattle.ga_pack.specs.Slots.{dest_bound, op_fits}
-use Rattle.ga_source.specs.inner.Machine.{between, behind_op, behind_comma, in_word, behind_dest_op, behind_dest, behind_slash, behind_spare, Inside, State, nothing, naming, inside, finished, closed, added, take, take_between, take_first, take_op, take_label, take_slot, with_part, Good}
+use Rattle.ga_source.specs.inner.Machine.{between, behind_op, behind_comma, in_word, behind_dest_op, behind_dest, behind_slash, behind_spare, Inside, State, nothing, naming, inside, finished, sections_closed, item_added, take, take_between, take_first, take_op, take_label, take_slot, with_part, Good}
 use Rattle.ga_source.proofs.Completes.{Follows, Adds, Completes, Led, led, led_back, with_item, nothing_more}
 
 -- the answer to a token is right
@@ -49,14 +49,14 @@ fixed c i q ts p e a = subst (λ x. Follows (with_item c i x) ts p) (same_part a
 whole : (c : Inside) (s : State) (t : Token) (i : Item) (q : Part) → part_after c.before.part i ≡ Some q → is_item i ≡ true → is_new i c.before.labels ≡ true
     → ((rest : List Token) (p : List Section) → Completes s (t ∷ rest) p → Adds c i rest p)
     → ((rest : List Token) (p : List Section) → Adds c i rest p → Completes s (t ∷ rest) p)
-    → Right s t (Ok (added c i q))
+    → Right s t (Ok (item_added c i q))
 whole c s t i q e a b to from = (tt, λ rest p h. fixed c i q rest p e (to rest p h), λ rest p h. from rest p (q, a, b, e, h))
 
 whole_part : (c : Inside) (s : State) (t : Token) (i : Item) (q : Part) → part_after c.before.part i ≡ Some q → is_item i ≡ true → is_new i c.before.labels ≡ true
     → ((rest : List Token) (p : List Section) → Completes s (t ∷ rest) p → Adds c i rest p)
     → ((rest : List Token) (p : List Section) → Adds c i rest p → Completes s (t ∷ rest) p)
     → Right s t (with_part c i)
-whole_part c s t i q e a b to from = subst (λ x. Right s t (elim x [ None ↦ Err SourceKind.BadToken | Some r ↦ Ok (added c i r) ])) (sym e) (whole c s t i q e a b to from)
+whole_part c s t i q e a b to from = subst (λ x. Right s t (elim x [ None ↦ Err SourceKind.BadToken | Some r ↦ Ok (item_added c i r) ])) (sym e) (whole c s t i q e a b to from)
 
 carry : (c : Inside) (i j : Item) (ts us : List Token) (p : List Section) → i ≡ j → ts ≡ us → Adds c i ts p → Adds c j us p
 carry c i j ts us p e f a = subst (λ x. Adds c x us p) e (subst (λ x. Adds c i x p) f a)
@@ -71,7 +71,7 @@ transfer_name c o n rest p (i, more, (v, e, f), a) = let h = is_label n v rest m
 
 behind_op_right : (c : Inside) (o : Op) (t : Token) → Good (inside c (behind_op o)) → Right (inside c (behind_op o)) t (take (inside c (behind_op o)) t)
 unfolding is_item part_after
-behind_op_right c o (number n) g = on_test (nat_lt n (2 ^ 10)) (λ b. Right (inside c (behind_op o)) (number n) (if b then Ok (added c (Transfer o (Number n)) (Code 0)) else Err SourceKind.NumberRange))
+behind_op_right c o (number n) g = on_test (nat_lt n (2 ^ 10)) (λ b. Right (inside c (behind_op o)) (number n) (if b then Ok (item_added c (Transfer o (Number n)) (Code 0)) else Err SourceKind.NumberRange))
     (λ small. whole c (inside c (behind_op o)) (number n) (Transfer o (Number n)) (Code 0) (ap (λ x. part_after x (Transfer o (Number n))) g.1) (and_from (takes_dest o) (nat_lt n (2 ^ 10)) g.0 small) refl (transfer_number c o n) (λ rest p a. (Transfer o (Number n), rest, (Number n, refl, refl), a)))
     (λ large rest p h. both_ways (nat_lt n (2 ^ 10)) large (and_parts (takes_dest o) (nat_lt n (2 ^ 10)) (transfer_number c o n rest p h).1).1)
 behind_op_right c o (name s) g = whole c (inside c (behind_op o)) (name s) (Transfer o (Label s)) (Code 0) (ap (λ x. part_after x (Transfer o (Label s))) g.1) (and_from (takes_dest o) true g.0 refl) refl (transfer_name c o s) (λ rest p a. (Transfer o (Label s), rest, (Label s, refl, refl), a))
@@ -325,7 +325,7 @@ barred_as c part i j ts p f e n a = barred c part j ts p e n (subst (λ x. Adds 
 one_token : (c : Inside) (part : Part) (t : Token) (i : Item) (q : Part) → c.before.part ≡ part → part_after part i ≡ Some q → is_item i ≡ true → is_new i c.before.labels ≡ true
     → ((rest : List Token) (p : List Section) → Led c p (t ∷ rest) → Adds c i rest p)
     → ((rest : List Token) (p : List Section) → Adds c i rest p → Led c p (t ∷ rest))
-    → Right (inside c between) t (Ok (added c i q))
+    → Right (inside c between) t (Ok (item_added c i q))
 one_token c part t i q e f a b to from = whole c (inside c between) t i q (subst (λ x. part_after x i ≡ Some q) (sym e) f) a b (λ rest p h. to rest p (led c (t ∷ rest) p h)) (λ rest p h. led_back c (t ∷ rest) p (from rest p h))
 
 op_barred : (c : Inside) (part : Part) (o : Op) (rest : List Token) (p : List Section) → c.before.part ≡ part → ((v : Value) → part_after part (Transfer o v) ≡ None) → part_after part (Instruction o) ≡ None → Led c p (op o ∷ rest) → ⊥
@@ -352,9 +352,9 @@ op_led c o rest p (inr (i, more, (v, g, f), a)) = inr (is_transfer o v (is_right
 
 op_right : (c : Inside) (o : Op) → c.before.part ≡ Code 0 → Right (inside c between) (op o) (take_op c o)
 unfolding part_after
-op_right c o e = on_test (takes_dest o) (λ b. Right (inside c between) (op o) (if b then Ok (inside c (behind_op o)) else if is_followed o then Err SourceKind.BadToken else Ok (added c (Instruction o) (Code 0))))
+op_right c o e = on_test (takes_dest o) (λ b. Right (inside c between) (op o) (if b then Ok (inside c (behind_op o)) else if is_followed o then Err SourceKind.BadToken else Ok (item_added c (Instruction o) (Code 0))))
     (λ takes. ((takes, e), λ rest p h. ⊎_elim (λ a. absurd (both_ways (takes_dest o) a.0 takes)) (λ a. a.1) (op_led c o rest p (led c (op o ∷ rest) p h)), λ rest p h. led_back c (op o ∷ rest) p (inr h)))
-    (λ none. on_test (is_followed o) (λ b. Right (inside c between) (op o) (if b then Err SourceKind.BadToken else Ok (added c (Instruction o) (Code 0))))
+    (λ none. on_test (is_followed o) (λ b. Right (inside c between) (op o) (if b then Err SourceKind.BadToken else Ok (item_added c (Instruction o) (Code 0))))
     (λ follows rest p h. ⊎_elim (λ a. both_ways (is_followed o) a.1 follows) (λ a. both_ways (takes_dest o) none a.0) (op_led c o rest p (led c (op o ∷ rest) p h)))
     (λ alone. one_token c (Code 0) (op o) (Instruction o) (Code 0) e refl (instruction_is o none alone) refl (λ rest p h. ⊎_elim (λ a. a.2) (λ a. absurd (both_ways (takes_dest o) none a.0)) (op_led c o rest p h)) (λ rest p a. inl a)))
 
@@ -424,18 +424,18 @@ no_node_name (Code zero) c n = refl
 
 label_right : (c : Inside) (s : List ℕ) → Right (inside c between) (label s) (take_label c s)
 unfolding part_after is_item
-label_right c s = on_test (is_reserved s) (λ b. Right (inside c between) (label s) (if b then Err SourceKind.ReservedLabel else if is_among s c.before.labels then Err SourceKind.DuplicateLabel else Ok (added c (Here s) c.before.part)))
+label_right c s = on_test (is_reserved s) (λ b. Right (inside c between) (label s) (if b then Err SourceKind.ReservedLabel else if is_among s c.before.labels then Err SourceKind.DuplicateLabel else Ok (item_added c (Here s) c.before.part)))
     (λ reserved rest p h. both_ways (is_reserved s) (not-true (is_reserved s) (led c (label s ∷ rest) p h).1) reserved)
-    (λ free. on_test (is_among s c.before.labels) (λ b. Right (inside c between) (label s) (if b then Err SourceKind.DuplicateLabel else Ok (added c (Here s) c.before.part)))
+    (λ free. on_test (is_among s c.before.labels) (λ b. Right (inside c between) (label s) (if b then Err SourceKind.DuplicateLabel else Ok (item_added c (Here s) c.before.part)))
     (λ twice rest p h. both_ways (is_among s c.before.labels) (not-true (is_among s c.before.labels) (led c (label s ∷ rest) p h).2) twice)
     (λ new. whole c (inside c between) (label s) (Here s) c.before.part refl (not_from_false (is_reserved s) free) (not_from_false (is_among s c.before.labels) new) (λ rest p h. led c (label s ∷ rest) p h) (λ rest p h. led_back c (label s ∷ rest) p h)))
 
 between_right : (c : Inside) (t : Token) → Right (inside c between) t (take_between c t)
 between_right c (bad k) = λ rest p h. led c (bad k ∷ rest) p h
-between_right c end = on_test c.before.has_word (λ b. Right (inside c between) end (if b then Ok (finished (closed c)) else Err SourceKind.Empty))
+between_right c end = on_test c.before.has_word (λ b. Right (inside c between) end (if b then Ok (finished (sections_closed c)) else Err SourceKind.Empty))
     (λ some. (tt, λ rest p h. let a = led c (end ∷ rest) p h in (a.1, a.2), λ rest p h. led_back c (end ∷ rest) p (some, h.0, h.1)))
     (λ none rest p h. both_ways c.before.has_word none (led c (end ∷ rest) p h).0)
-between_right c node = on_test c.before.has_word (λ b. Right (inside c between) node (if b then Ok (naming (closed c) (c.seen ++ c.name ∷ [])) else Err SourceKind.Empty))
+between_right c node = on_test c.before.has_word (λ b. Right (inside c between) node (if b then Ok (naming (sections_closed c) (c.seen ++ c.name ∷ [])) else Err SourceKind.Empty))
     (λ some. (tt, λ rest p h. (led c (node ∷ rest) p h).1, λ rest p h. led_back c (node ∷ rest) p (some, h)))
     (λ none rest p h. both_ways c.before.has_word none (led c (node ∷ rest) p h).0)
 between_right c (label s) = label_right c s

@@ -39,7 +39,7 @@ pub(crate) fn meaning_at(is_behind_node: bool, text: &[u8]) -> Result<Meaning<'_
     ensures short { IfOk result (λ meaning. IsShort (meaning_of meaning)) }
 {
     if is_behind_node {
-        if let Some(node) = node_named(text) {
+        if let Some(node) = Node::from_digits(text) {
             return Ok(Meaning::NodeName(node));
         }
     }
@@ -169,17 +169,6 @@ fn hex_numeral(text: &[u8]) -> Option<u32>
         return None;
     }
     numeral(16, digits)
-}
-
-/// The node whose name three digits write.
-fn node_named(text: &[u8]) -> Option<Node>
-    ensures { option_map node_name result ≡ model.as_node text.now }
-{
-    if text.len() != 3 {
-        return None;
-    }
-    let name = u16::try_from(numeral(10, text)?).ok()?;
-    Node::new(name)
 }
 
 /// The name in front of `:`.

@@ -1,34 +1,34 @@
 //! The parser: it takes one token at a time, and refuses the first with which no text goes on.
-ghost use Rattle.std.specs.Prelude.{◌≡◌, ◌+◌, ◌<◌, ◌≤◌, ◌++◌, ◌∷◌, [], length, map, false, not, IfOk, IfErr, Ok, OnOk, None, Some, List, ℕ, suc};
+ghost use Rattle.std.specs.Prelude.{◌≡◌, ◌≤◌, ◌++◌, ◌∷◌, [], length, map, false, not, IfOk, IfErr, Ok, OnOk, List, ℕ};
 ghost use Rattle.ga_pack.specs.Model.Layout.{names_in};
 ghost use Rattle.ga_pack.specs.Model.Source as words;
-ghost use Rattle.ga_pack.specs.Model.Source.{Behind, Code, Label, Plain, Transfer, Word, WordTo, labels_with};
-ghost use Rattle.ga_pack.specs.Model.SourceFault as faults;
+ghost use Rattle.ga_pack.specs.Model.Source.{labels_with};
 ghost use Rattle.ga_pack.specs.Model.Meaning as model;
 ghost use Rattle.ga_pack.specs.Model.Token as token;
 ghost use Rattle.ga_pack.specs.Model.Token.{end};
 ghost use Rattle.ga_source.specs.Error.{kind_of};
-ghost use Rattle.ga_source.specs.Item.{item_of, value_of};
+ghost use Rattle.ga_source.specs.Item.{item_of};
 ghost use Rattle.ga_source.specs.Section.{section_of};
 ghost use Rattle.ga_source.specs.inner.Machine as machine;
-ghost use Rattle.ga_source.specs.inner.Machine.{Good, IsConsistent, added, closed, finished, nothing};
+ghost use Rattle.ga_source.specs.inner.Machine.{Good, IsConsistent, item_added, sections_closed, finished, nothing};
 ghost use Rattle.ga_source.specs.inner.Meaning.{IsShort, meaning_of};
-ghost use Rattle.ga_source.specs.inner.Parser.{Answered, RefusedAs, Took, done_of, inside_of, labels_of, names_of, part_of, state_of};
+ghost use Rattle.ga_source.specs.inner.Parser.{Answered, RefusedAs, Took, done_of, inside_of, labels_of, names_of, section_part, state_of};
 ghost use Rattle.ga_source.specs.declared.error.SourceErrorKind.TheVariants.{Memory};
-ghost use Rattle.ga_source.specs.declared.parser.Part.TheVariants as part;
 ghost use Rattle.ga_source.specs.declared.parser.Position.TheVariants as at;
 
+mod brackets;
+mod items;
+
 use crate::error::SourceErrorKind;
-use crate::item::{Item, TransferWord, Value};
+use crate::item::{Item, Value};
 use crate::meaning::{Meaning, is_reserved, meaning_at};
 use crate::name::Name;
 use crate::section::Section;
 use arrayvec::ArrayVec;
-use ga_pack::{dest_bound, followers_of, is_followed, op_fits};
 use ga_place::Node;
 use ga_word::Op;
 use indexmap::{IndexMap, IndexSet};
-use std::alloc::{AllocError, Global};
+use std::alloc::Global;
 
 // Which part of a section an item stands in.
 #[derive(Clone, Copy)]
@@ -76,25 +76,6 @@ pub(crate) struct Parser {
     ops: ArrayVec<Op, 4>,
 }
 
-// A bracketed word with a destination.
-fn word_to(
-    alloc: Global,
-    ops: ArrayVec<Op, 4>,
-    op: Op,
-    dest: Value,
-    spare: Option<u8>,
-) -> Result<Item, AllocError>
-    ensures { IfOk result (λ item. item_of item ≡ WordTo ops.items op (value_of dest) spare) }
-{
-    let word = TransferWord {
-        ops,
-        op,
-        dest,
-        spare,
-    };
-    Ok(Item::WordTo(Box::new(alloc, word)?))
-}
-
 impl Parser {
     /// A parser that has taken no token.
     pub(crate) fn new(alloc: Global) -> Self
@@ -118,8 +99,8 @@ impl Parser {
     #[inline(always)]
     fn add(&mut self, item: Item, part: Part) -> Result<(), SourceErrorKind>
         requires no_label { (labels : List (List ℕ)) → labels_with (item_of item) labels ≡ labels }
-        ensures ok { OnOk result (state_of self.new ≡ added (inside_of self.old) (item_of item)
-            (part_of part)) }
+        ensures ok { OnOk result (state_of self.new ≡ item_added (inside_of self.old) (item_of item)
+            (section_part part)) }
         ensures err { IfErr result (λ kind. kind ≡ Memory) }
     {
         let makes_word = item.makes_word();
@@ -174,281 +155,6 @@ impl Parser {
         }
     }
 
-    // An opcode outside brackets and its destination are whole.
-    fn add_transfer(&mut self, op: Op, dest: Value) -> Result<(), SourceErrorKind>
-        ensures ok { OnOk result (state_of self.new ≡ added (inside_of self.old)
-            (Transfer op (value_of dest)) (Code 0)) }
-        ensures err { IfErr result (λ kind. kind ≡ Memory) }
-    {
-        self.add(Item::Transfer { op, dest }, Part::Code(0))
-    }
-
-    // Behind an opcode that takes a destination, outside brackets.
-    fn take_dest(&mut self, op: Op, token: &Meaning<'_>) -> Result<(), SourceErrorKind>
-        requires position { self.old.position ≡ at.BehindOp op }
-        requires short { IsShort (meaning_of token.now) }
-        ensures { Took (state_of self.old) (meaning_of token.now) result (state_of self.new) }
-    {
-        match *token {
-            Meaning::Number(number) if number.get() < u32::from(dest_bound(0)) => {
-                self.add_transfer(op, Value::Number(number))
-            }
-            Meaning::Number(_) => Err(SourceErrorKind::NumberRange),
-            Meaning::Name(name) => self.add_transfer(op, Value::Label(name_of(name))),
-            _ => Err(SourceErrorKind::BadToken),
-        }
-    }
-
-    // A plain word is whole.
-    fn add_plain(&mut self, value: Value) -> Result<(), SourceErrorKind>
-        requires owed { (owed : ℕ) → self.old.part ≡ part.Code owed → 0 < owed }
-        ensures { Answered (machine.with_part (inside_of self.old) (Plain (value_of value))) result
-            (state_of self.new) }
-    {
-        let part = match self.part {
-            Part::Code(owed) => Part::Code(owed - 1),
-            Part::Data => Part::Data,
-        };
-        self.add(Item::Plain(value), part)
-    }
-
-    // Behind a comma.
-    fn take_plain(&mut self, token: &Meaning<'_>) -> Result<(), SourceErrorKind>
-        requires position { self.old.position ≡ at.BehindComma }
-        requires owed { (owed : ℕ) → self.old.part ≡ part.Code owed → 0 < owed }
-        requires short { IsShort (meaning_of token.now) }
-        ensures { Took (state_of self.old) (meaning_of token.now) result (state_of self.new) }
-    {
-        match *token {
-            Meaning::Number(number) => self.add_plain(Value::Number(number)),
-            Meaning::Name(name) => self.add_plain(Value::Label(name_of(name))),
-            _ => Err(SourceErrorKind::BadToken),
-        }
-    }
-
-    // In brackets, where no opcode with a destination stands yet.
-    fn take_slot(&mut self, token: &Meaning<'_>) -> Result<(), SourceErrorKind>
-        requires position { self.old.position ≡ at.InWord }
-        requires code { part_of self.old.part ≡ Code 0 }
-        ensures { Took (state_of self.old) (meaning_of token.now) result (state_of self.new) }
-    {
-        match *token {
-            Meaning::Op(op) => {
-                let slot = self.ops.len();
-                if op.takes_dest() {
-                    if slot >= 3 {
-                        return Err(SourceErrorKind::BadWord);
-                    }
-                    self.position = Position::BehindDestOp(op);
-                    return Ok(());
-                }
-                if op_fits(slot, op) {
-                    self.ops.push(op);
-                    return Ok(());
-                }
-                Err(SourceErrorKind::BadWord)
-            }
-            Meaning::CloseMark => {
-                if self.ops.is_empty() {
-                    return Err(SourceErrorKind::BadWord);
-                }
-                self.close_word()
-            }
-            _ => Err(bracket_fault(token)),
-        }
-    }
-
-    // In brackets, behind an opcode that takes a destination.
-    fn take_field(&mut self, op: Op, token: &Meaning<'_>) -> Result<(), SourceErrorKind>
-        requires position { self.old.position ≡ at.BehindDestOp op }
-        requires short { IsShort (meaning_of token.now) }
-        ensures { Took (state_of self.old) (meaning_of token.now) result (state_of self.new) }
-    {
-        match *token {
-            Meaning::Number(number) => {
-                if number.get() >= u32::from(dest_bound(self.ops.len())) {
-                    return Err(SourceErrorKind::BadWord);
-                }
-                self.position = Position::BehindDest(op, Value::Number(number));
-                Ok(())
-            }
-            Meaning::Name(name) => {
-                self.position = Position::BehindDest(op, Value::Label(name_of(name)));
-                Ok(())
-            }
-            _ => Err(bracket_fault(token)),
-        }
-    }
-
-    // In brackets, behind a destination.
-    fn take_behind_dest(
-        &mut self,
-        op: Op,
-        dest: Value,
-        token: &Meaning<'_>,
-    ) -> Result<(), SourceErrorKind>
-        requires position { self.old.position ≡ at.BehindDest op dest }
-        requires code { part_of self.old.part ≡ Code 0 }
-        ensures { Took (state_of self.old) (meaning_of token.now) result (state_of self.new) }
-    {
-        match *token {
-            Meaning::Slash => {
-                if !self.ops.is_empty() {
-                    return Err(SourceErrorKind::BadWord);
-                }
-                self.position = Position::BehindSlash(op, dest);
-                Ok(())
-            }
-            Meaning::CloseMark => self.close(op, dest, None),
-            _ => Err(bracket_fault(token)),
-        }
-    }
-
-    // A bracketed word without a destination is whole.
-    fn close_word(&mut self) -> Result<(), SourceErrorKind>
-        requires code { part_of self.old.part ≡ Code 0 }
-        ensures { Answered (machine.with_part (inside_of self.old) (Word self.old.ops.items)) result
-            (state_of self.new) }
-    {
-        let owed = followers_of(&self.ops);
-        let ops = std::mem::replace(&mut self.ops, ArrayVec::new());
-        self.add(Item::Word(ops), Part::Code(owed))
-    }
-
-    // A bracketed word with a destination is whole.
-    fn close(&mut self, op: Op, dest: Value, spare: Option<u8>) -> Result<(), SourceErrorKind>
-        requires code { part_of self.old.part ≡ Code 0 }
-        ensures { Answered (machine.with_part (inside_of self.old)
-            (WordTo self.old.ops.items op (value_of dest) spare)) result (state_of self.new) }
-    {
-        let owed = followers_of(&self.ops);
-        let ops = std::mem::replace(&mut self.ops, ArrayVec::new());
-        let item = word_to(self.alloc, ops, op, dest, spare)?;
-        self.add(item, Part::Code(owed))
-    }
-
-    // In brackets, behind `/`.
-    fn take_spare(
-        &mut self,
-        op: Op,
-        dest: Value,
-        token: &Meaning<'_>,
-    ) -> Result<(), SourceErrorKind>
-        requires position { self.old.position ≡ at.BehindSlash op dest }
-        ensures { Took (state_of self.old) (meaning_of token.now) result (state_of self.new) }
-    {
-        match *token {
-            Meaning::Number(spare) if spare.get() < 8 => {
-                self.position = Position::BehindSpare(op, dest, spare.get() as u8);
-                Ok(())
-            }
-            Meaning::Number(_) => Err(SourceErrorKind::BadWord),
-            _ => Err(bracket_fault(token)),
-        }
-    }
-
-    // In brackets, behind spare bits.
-    fn take_close(
-        &mut self,
-        op: Op,
-        dest: Value,
-        spare: u8,
-        token: &Meaning<'_>,
-    ) -> Result<(), SourceErrorKind>
-        requires position { self.old.position ≡ at.BehindSpare op dest spare }
-        requires code { part_of self.old.part ≡ Code 0 }
-        ensures { Took (state_of self.old) (meaning_of token.now) result (state_of self.new) }
-    {
-        match *token {
-            Meaning::CloseMark => self.close(op, dest, Some(spare)),
-            _ => Err(bracket_fault(token)),
-        }
-    }
-
-    // An opcode outside brackets, where no follower is owed.
-    fn take_op(&mut self, op: Op) -> Result<(), SourceErrorKind>
-        requires position { self.old.position ≡ at.Between }
-        ensures { Answered (machine.take_op (inside_of self.old) op) result (state_of self.new) }
-    {
-        if op.takes_dest() {
-            self.position = Position::BehindOp(op);
-            return Ok(());
-        }
-        if is_followed(op) {
-            return Err(SourceErrorKind::BadToken);
-        }
-        self.add(Item::Instruction(op), Part::Code(0))
-    }
-
-    // Behind `data`.
-    fn take_data(&mut self, token: &Meaning<'_>) -> Result<(), SourceErrorKind>
-        requires position { self.old.position ≡ at.Between }
-        ensures { Answered (machine.take_first Behind (inside_of self.old) (meaning_of token.now))
-            result (state_of self.new) }
-    {
-        match *token {
-            Meaning::Comma => {
-                self.position = Position::BehindComma;
-                Ok(())
-            }
-            _ => Err(SourceErrorKind::BadToken),
-        }
-    }
-
-    // In the code part, where followers are owed.
-    fn take_owed(&mut self, token: &Meaning<'_>) -> Result<(), SourceErrorKind>
-        requires position { self.old.position ≡ at.Between }
-        ensures { (owed : ℕ)
-            → Answered (machine.take_first (Code (suc owed)) (inside_of self.old)
-            (meaning_of token.now)) result (state_of self.new) }
-    {
-        match *token {
-            Meaning::Comma => {
-                self.position = Position::BehindComma;
-                Ok(())
-            }
-            Meaning::Data => self.add(Item::Data, Part::Data),
-            Meaning::Op(op) if !is_followed(op) => Err(SourceErrorKind::BadWord),
-            Meaning::Number(_) | Meaning::Align | Meaning::OpenMark => Err(
-                SourceErrorKind::BadWord,
-            ),
-            _ => Err(SourceErrorKind::BadToken),
-        }
-    }
-
-    // In the code part, where no follower is owed.
-    fn take_code(&mut self, token: &Meaning<'_>) -> Result<(), SourceErrorKind>
-        requires position { self.old.position ≡ at.Between }
-        ensures { Answered (machine.take_first (Code 0) (inside_of self.old) (meaning_of token.now))
-            result (state_of self.new) }
-    {
-        match *token {
-            Meaning::Op(op) => self.take_op(op),
-            Meaning::Number(number) => self.add(Item::Literal(number), Part::Code(0)),
-            Meaning::Align => self.add(Item::Align, Part::Code(0)),
-            Meaning::Data => self.add(Item::Data, Part::Data),
-            Meaning::OpenMark => {
-                self.ops = ArrayVec::new();
-                self.position = Position::InWord;
-                Ok(())
-            }
-            _ => Err(SourceErrorKind::BadToken),
-        }
-    }
-
-    // What begins an item, but for a label.
-    fn take_item(&mut self, token: &Meaning<'_>) -> Result<(), SourceErrorKind>
-        requires position { self.old.position ≡ at.Between }
-        ensures { Answered (machine.take_first (part_of self.old.part) (inside_of self.old)
-            (meaning_of token.now)) result (state_of self.new) }
-    {
-        match self.part {
-            Part::Data => self.take_data(token),
-            Part::Code(0) => self.take_code(token),
-            Part::Code(_) => self.take_owed(token),
-        }
-    }
-
     // Where an item is whole.
     fn take_between(&mut self, token: &Meaning<'_>) -> Result<(), SourceErrorKind>
         requires position { self.old.position ≡ at.Between }
@@ -474,7 +180,7 @@ impl Parser {
     fn end_section(&mut self) -> Result<(), SourceErrorKind>
         requires new { words.is_named self.old.node (names_of self.old) ≡ false }
         requires labels { labels_of self.old ≡ names_in (map item_of self.old.items.items) }
-        ensures done { OnOk result (done_of self.new ≡ closed (inside_of self.old)) }
+        ensures done { OnOk result (done_of self.new ≡ sections_closed (inside_of self.old)) }
         ensures names { OnOk result (names_of self.new ≡ names_of self.old ++ self.old.node ∷ []) }
         ensures err { IfErr result (λ kind. kind ≡ Memory) }
     {
@@ -596,15 +302,5 @@ fn name_of(text: &str) -> Name
     match Name::new(text) {
         Some(name) => name,
         None => unreachable!(),
-    }
-}
-
-// The fault of a token that may not stand in brackets.
-fn bracket_fault(token: &Meaning<'_>) -> SourceErrorKind
-    ensures { kind_of result ≡ Some (faults.bracket_fault (meaning_of token.now)) }
-{
-    match *token {
-        Meaning::OpenMark => SourceErrorKind::OpenBracket,
-        _ => SourceErrorKind::BadWord,
     }
 }

@@ -154,7 +154,8 @@ impl<'a> Iterator for Texts<'a> {
 #[inline(always)]
 fn next_token(text: &[u8]) -> Option<(&[u8], &[u8])>
     ensures some { IfSome result (λ parts. Found text.now parts.0.now parts.1.now) }
-    ensures none { result ≡ None → (p : model.Place) (start : ℕ) → lexemes_at p start text.now ≡ [] }
+    ensures none { result ≡ None → (p : model.Place) (start : ℕ)
+        → lexemes_at p start text.now ≡ [] }
 {
     let mut rest = text;
     loop {
@@ -172,7 +173,8 @@ fn next_token(text: &[u8]) -> Option<(&[u8], &[u8])>
 /// The first run of bytes that are no blanks, and what stands behind it.
 fn first_run(text: &[u8]) -> Option<(&[u8], &[u8])>
     ensures some { IfSome result (λ parts. Begins text.now parts.0.now parts.1.now) }
-    ensures none { result ≡ None → (p : model.Place) (start : ℕ) → lexemes_at p start text.now ≡ [] }
+    ensures none { result ≡ None → (p : model.Place) (start : ℕ)
+        → lexemes_at p start text.now ≡ [] }
 {
     let (_, rest) = text.split_at(first_non_blank(text)?);
     match first_blank(rest) {

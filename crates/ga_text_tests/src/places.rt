@@ -24,6 +24,7 @@ fn nodes(rt: HostRuntime) -> Result<(), Fail> {
             "at {name}"
         );
         assert!(rt; node.to_string(rt.alloc())?.as_str() == text);
+        assert!(rt; Node::from_digits(text.as_bytes()) == Some(node));
     }
     assert!(rt;
         [820, 718, 800]

@@ -1,6 +1,7 @@
 use ga_test_values::array;
 use ga_word::{
-    Op, Word18, WordsError, first_blank, first_non_blank, hex5, read_hex5, read_words, words_text,
+    Hex3, Op, Word18, WordsError, first_blank, first_non_blank, hex5, read_hex5, read_words,
+    words_text,
 };
 use std::test::Fail;
 
@@ -55,6 +56,7 @@ fn texts(rt: HostRuntime) -> Result<(), Fail> {
     let [nops, one] = array::<2>(&[0x2C9B2, 1])?;
     assert!(rt; hex5(nops).as_slice() == b"2C9B2".as_slice());
     assert!(rt; nops.to_string(rt.alloc())?.as_str() == "2C9B2");
+    assert!(rt; Hex3::new(0x2A).to_string(rt.alloc())?.as_str() == "02A");
     assert!(rt; read_hex5(b"2c9B2") == Some(nops));
     for refused in ["2C9B", "02C9B2", "40000", "2C9G2", "+2C9B"] {
         assert!(rt; read_hex5(refused.as_bytes()).is_none(), "{refused}");

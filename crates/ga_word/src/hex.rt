@@ -1,8 +1,45 @@
-ghost use Rattle.std.specs.Prelude.{◌≡◌, ℕ, ◌<◌, Some, true};
+ghost use Rattle.std.specs.Prelude.{◌≡◌, ℕ, ◌<◌, ◌^◌, Some, true};
 ghost use Rattle.std.specs.Fmt.{digit_glyph};
 ghost use Rattle.ga_word.specs.Hex.{hex_digits, word_of};
 
 use crate::word::Word18;
+use std::fmt;
+use std::marker::Model;
+
+/// A number below 2^12, as an address is, which prints as three hex digits in upper case. A contract sees it as this
+/// number.
+#[derive(Clone, Copy, Debug, PartialEq, Eq)]
+pub struct Hex3 {
+    number: u16,
+}
+
+impl Model for Hex3 {
+    ghost Value = { ℕ };
+
+    ghost view = { λ hex. hex.number };
+
+    ghost invariant = { λ hex. hex.number < 2 ^ 12 };
+
+    ghost inverse = { λ n. record { number = n } };
+}
+
+impl Hex3 {
+    /// A number below 2^12.
+    pub fn new(number: u16) -> Self
+        requires { number < 2 ^ 12 }
+        ensures { result ≡ number }
+    {
+        Hex3 { number }
+    }
+}
+
+impl fmt::Display for Hex3 {
+    ghost output = { λ number. Some (hex_digits 3 number) };
+
+    fn fmt<W: fmt::Write>(&self, f: &mut fmt::Formatter<W>) -> fmt::Result {
+        write!(f, "{:03X}", self.number)
+    }
+}
 
 /// The five hex digits of a word, in upper case.
 pub fn hex5(word: Word18) -> [u8; 5]

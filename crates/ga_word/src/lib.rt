@@ -7,7 +7,7 @@ mod text;
 mod tokens;
 mod word;
 
-pub use hex::{hex5, read_hex5};
+pub use hex::{Hex3, hex5, read_hex5};
 pub use op::Op;
 pub use text::{WordsError, push_words, read_words, words_text};
 pub use tokens::{first_blank, first_non_blank};

@@ -1,7 +1,6 @@
 -- The ports of a node: what it shares with its neighbour at each side.
-use Rattle.std.specs.Prelude.{◌≡◌, ◌<◌, ℕ, List, [], ◌∷◌, get_or, map, Option, Some, None, option_map}
-use Rattle.std.specs.List.{range_with_len}
-use Rattle.ga_place.specs.Cell.{cell_of, index_of, name_at, read_cell}
+use Rattle.std.specs.Prelude.{◌≡◌, ◌<◌, ℕ, [], ◌∷◌, get_or, Option, Some, None, option_map}
+use Rattle.ga_place.specs.Cell.{cell_of, index_of, read_cell}
 use Rattle.ga_place.specs.Side.{neighbour_of}
 use Rattle.ga_place.specs.declared.side.Side.{Side}
 use Rattle.ga_place.specs.declared.side.Side.TheVariants.{Right, Down, Left, Up}
@@ -39,7 +38,3 @@ pub record FitsPorts (name : ℕ) (ports : Ports) : Type 0 where
   pub writes : (side : Side) → option_map (λ port. port.writes) (port_at side ports) ≡ cell_of name side
   pub neighbours : (side : Side) → option_map (λ port. port.neighbour) (port_at side ports) ≡ option_map index_of (neighbour_of name side)
   pub places : (side : Side) (port : Port) → port_at side ports ≡ Some port → port.neighbour < 144
-
--- the ports of all nodes, in order of name
-unfoldable pub all_ports : List Ports
-all_ports = map (λ index. ports_of (name_at index)) (range_with_len 0 144)

@@ -185,8 +185,8 @@ code_end address (group ∷ groups) = code_end (address + size group) groups
 -- ---- the words
 
 -- The number of a value. For a name that is no label 0 stands here, and no such items are laid.
-abbrev pub number_of : Labels → Value → ℕ
-number_of labels v = unwrap_or (value_of labels v) 0
+abbrev pub value_number : Labels → Value → ℕ
+value_number labels v = unwrap_or (value_of labels v) 0
 
 -- these opcodes, and fillers behind them up to so many
 abbrev pub filled : ℕ → List Op → List Op
@@ -196,7 +196,7 @@ filled (suc room) (o ∷ ops) = o ∷ filled room ops
 
 -- the low bits of a value, as many as a destination has behind a slot
 abbrev pub dest_in : Labels → ℕ → Value → ℕ
-dest_in labels slot v = number_of labels v % dest_bound slot
+dest_in labels slot v = value_number labels v % dest_bound slot
 
 -- the destination of the last of some items, the first of which stands in a slot
 abbrev pub last_dest : Labels → ℕ → List Item → Option ℕ
@@ -222,7 +222,7 @@ GroupWords labels (Shared i is) words =
 GroupWords labels (Alone (Word ops)) words = (word : ℕ) × IsWord word ops None 0 × (words ≡ word ∷ [])
 GroupWords labels (Alone (WordTo ops o v spare)) words =
     (word : ℕ) × IsWord word (ops ++ o ∷ []) (Some (dest_in labels (length ops) v)) (unwrap_or spare 0) × (words ≡ word ∷ [])
-GroupWords labels (Alone (Plain v)) words = words ≡ number_of labels v ∷ []
+GroupWords labels (Alone (Plain v)) words = words ≡ value_number labels v ∷ []
 GroupWords labels (Alone i) words = words ≡ []
 
 unfoldable pub Words : Labels → List Group → List ℕ → Type 0

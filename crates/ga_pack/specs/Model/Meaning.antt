@@ -1,5 +1,5 @@
 -- What the text of a token means.
-use Rattle.std.specs.Prelude.{◌==◌, ◌&&◌, ◌||◌, ℕ, ◌%◌, ◌^◌, Bool, true, false, List, [], ◌∷◌, ◌++◌, codes, find, length, nat_le, nat_lt, Option, Some, None, if◌then◌else◌}
+use Rattle.std.specs.Prelude.{◌==◌, ◌&&◌, ◌||◌, ℕ, ◌/◌, ◌%◌, ◌^◌, Bool, true, false, List, [], ◌∷◌, ◌++◌, codes, find, length, nat_le, nat_lt, Option, Some, None, if◌then◌else◌}
 use Rattle.std.specs.Char.{is_digit}
 use Rattle.std.specs.List.{list_all}
 use Rattle.std.specs.Option.{is_some, option_map, option_or, unwrap_or}
@@ -83,7 +83,7 @@ meaning_of text = unwrap_or (option_or (as_op text) (option_or (as_number_name t
 -- three digits: a row from 0 to 7 and a column from 00 to 17
 abbrev pub as_node : List ℕ → Option Token
 as_node text =
-    if (length text == 3) && list_all (λ c. is_digit c 10) text && nat_lt (digits_value 10 text) 800 && nat_lt (digits_value 10 text % 100) 18
+    if (length text == 3) && list_all (λ c. is_digit c 10) text && (nat_lt (digits_value 10 text / 100) 8 && nat_lt (digits_value 10 text % 100) 18)
     then Some (node_name (digits_value 10 text)) else None
 
 -- what a token means that stands behind `node` or not

@@ -37,13 +37,13 @@ pub data State : Type 0 where
   inside : Inside → At → State
   finished : List Section → State
 
--- the section that is open, closed
-abbrev pub closed : Inside → List Section
-closed c = c.done ++ record { name = c.name; items = c.items } ∷ []
+-- the section that is open, sections_closed
+abbrev pub sections_closed : Inside → List Section
+sections_closed c = c.done ++ record { name = c.name; items = c.items } ∷ []
 
 -- the item is whole
-abbrev pub added : Inside → Item → Part → State
-added c i p = inside (record { done = c.done; seen = c.seen; name = c.name; items = c.items ++ i ∷ []; before = after c.before i p }) between
+abbrev pub item_added : Inside → Item → Part → State
+item_added c i p = inside (record { done = c.done; seen = c.seen; name = c.name; items = c.items ++ i ∷ []; before = after c.before i p }) between
 
 -- the fault of a token where followers are owed
 abbrev pub owed_fault : Token → SourceKind
@@ -54,32 +54,32 @@ owed_fault open_mark = BadWord
 owed_fault _ = BadToken
 
 abbrev pub take_op : Inside → Op → Result State SourceKind
-take_op c o = if takes_dest o then Ok (inside c (behind_op o)) else if is_followed o then Err BadToken else Ok (added c (Instruction o) (Code 0))
+take_op c o = if takes_dest o then Ok (inside c (behind_op o)) else if is_followed o then Err BadToken else Ok (item_added c (Instruction o) (Code 0))
 
 abbrev pub take_label : Inside → List ℕ → Result State SourceKind
-take_label c s = if is_reserved s then Err ReservedLabel else if is_among s c.before.labels then Err DuplicateLabel else Ok (added c (Here s) c.before.part)
+take_label c s = if is_reserved s then Err ReservedLabel else if is_among s c.before.labels then Err DuplicateLabel else Ok (item_added c (Here s) c.before.part)
 
 -- a token that begins an item, and is no label, `node` or end, in a part
 abbrev pub take_first : Part → Inside → Token → Result State SourceKind
 take_first Behind c comma = Ok (inside c behind_comma)
 take_first Behind c _ = Err BadToken
 take_first (Code (suc owed)) c comma = Ok (inside c behind_comma)
-take_first (Code owed) c data_part = Ok (added c Data Behind)
+take_first (Code owed) c data_part = Ok (item_added c Data Behind)
 take_first (Code (suc owed)) c t = Err (owed_fault t)
 take_first (Code zero) c (op o) = take_op c o
-take_first (Code zero) c (number n) = Ok (added c (Literal n) (Code 0))
-take_first (Code zero) c align = Ok (added c Align (Code 0))
+take_first (Code zero) c (number n) = Ok (item_added c (Literal n) (Code 0))
+take_first (Code zero) c align = Ok (item_added c Align (Code 0))
 take_first (Code zero) c open_mark = Ok (inside c (in_word []))
 take_first (Code zero) c _ = Err BadToken
 
 -- an item that may have to stand in another part
 abbrev pub with_part : Inside → Item → Result State SourceKind
-with_part c i = elim (part_after c.before.part i) [ None ↦ Err BadToken | Some p ↦ Ok (added c i p) ]
+with_part c i = elim (part_after c.before.part i) [ None ↦ Err BadToken | Some p ↦ Ok (item_added c i p) ]
 
 abbrev pub take_between : Inside → Token → Result State SourceKind
 take_between c (bad k) = Err k
-take_between c end = if c.before.has_word then Ok (finished (closed c)) else Err Empty
-take_between c node = if c.before.has_word then Ok (naming (closed c) (c.seen ++ c.name ∷ [])) else Err Empty
+take_between c end = if c.before.has_word then Ok (finished (sections_closed c)) else Err Empty
+take_between c node = if c.before.has_word then Ok (naming (sections_closed c) (c.seen ++ c.name ∷ [])) else Err Empty
 take_between c (label s) = take_label c s
 take_between c t = take_first c.before.part c t
 
@@ -98,8 +98,8 @@ take (naming done seen) (bad k) = Err k
 take (naming done seen) (node_name n) = if is_named n seen then Err DuplicateNode else Ok (inside (record { done = done; seen = seen; name = n; items = []; before = start }) between)
 take (naming done seen) _ = Err BadNode
 take (inside c between) t = take_between c t
-take (inside c (behind_op o)) (number n) = if nat_lt n (2 ^ 10) then Ok (added c (Transfer o (Number n)) (Code 0)) else Err NumberRange
-take (inside c (behind_op o)) (name s) = Ok (added c (Transfer o (Label s)) (Code 0))
+take (inside c (behind_op o)) (number n) = if nat_lt n (2 ^ 10) then Ok (item_added c (Transfer o (Number n)) (Code 0)) else Err NumberRange
+take (inside c (behind_op o)) (name s) = Ok (item_added c (Transfer o (Label s)) (Code 0))
 take (inside c (behind_op o)) t = Err (value_fault t)
 take (inside c behind_comma) (number n) = with_part c (Plain (Number n))
 take (inside c behind_comma) (name s) = with_part c (Plain (Label s))

@@ -14,9 +14,9 @@ use Rattle.ga_source.specs.inner.Machine.{Inside, State, nothing, naming, inside
 use Rattle.ga_pack.specs.Model.Token.{SourceKind, Token}
 use Rattle.ga_pack.specs.Model.Source.{Section, Part, Code, Behind}
 
-abbrev pub part_of : standing.Part → Part
-part_of (part.Code owed) = Code owed
-part_of part.Data = Behind
+abbrev pub section_part : standing.Part → Part
+section_part (part.Code owed) = Code owed
+section_part part.Data = Behind
 
 abbrev pub done_of : written.Parser → List Section
 done_of p = map section_of p.sections.entries
@@ -28,7 +28,7 @@ abbrev pub labels_of : written.Parser → List (List ℕ)
 labels_of p = map (λ name. name.bytes) p.labels.keys
 
 abbrev pub inside_of : written.Parser → Inside
-inside_of p = record { done = done_of p; seen = names_of p; name = p.node; items = map item_of p.items.items; before = record { part = part_of p.part; labels = labels_of p; has_word = p.has_word } }
+inside_of p = record { done = done_of p; seen = names_of p; name = p.node; items = map item_of p.items.items; before = record { part = section_part p.part; labels = labels_of p; has_word = p.has_word } }
 
 abbrev pub at_position : Position → written.Parser → State
 at_position position.Nothing p = nothing

@@ -1,8 +1,8 @@
 use Rattle.std.proofs.Common.{◌≡◌, ◌-◌, ◌++◌, drop, map}
-use Rattle.ga_disasm.specs.Disassembling.{items_from, items_of, view_of}
+use Rattle.ga_disasm.specs.Disassembling.{items_from, items_of, item_view}
 use Rattle.ga_disasm.proofs.disassembling.items.Given as goal
 
 -- the items so far, and those of the words that are left
 abbrev pub invariant-loop-index : goal.invariant-loop-index
 invariant-loop-index l =
-    map view_of l.items.items ++ items_from l.owed (l.code_len - l.index) (drop l.index l.words) ≡ items_of l.code_len l.words
+    map item_view l.items.items ++ items_from l.owed (l.code_len - l.index) (drop l.index l.words) ≡ items_of l.code_len l.words

@@ -1,7 +1,7 @@
 use Rattle.std.proofs.Common.{◌≡◌, ◌∙◌, ◌≤◌, ◌++◌, ℕ, List, Option, Result, Ok, length, map, refl, sym, ap, subst, string_bytes, unwrap_or, arith}
 use Rattle.std.proofs.lemmas.Bool.{le-ltb}
 use Rattle.std.proofs.lemmas.Str.{IsUtf8-string_bytes}
-use Rattle.ga_disasm.specs.Disassembling.{items_of, view_of}
+use Rattle.ga_disasm.specs.Disassembling.{item_view, items_of}
 use Rattle.ga_disasm.specs.Printing.{node_line, text_of}
 use Rattle.ga_disasm.specs.declared.item.Item.{Item}
 use Rattle.ga_disasm.specs.Source.{IsSourceOf}
@@ -27,12 +27,12 @@ returns c =
       | in-None w ↦ rw w.in-None.is (omega (arith, w.code_len-is, w.len-code_len.ensures))
     ] in
     let items = c.in_ok-items.ensures.items ∙ ap (items_of code_len) c.deref.ensures.value in
-    let printed = c.in_ok-print.ensures.text ∙ ap (λ (items : List Item). text_of (map view_of items)) c.deref-2.ensures.value ∙ ap text_of items in
+    let printed = c.in_ok-print.ensures.text ∙ ap (λ (items : List Item). text_of (map item_view items)) c.deref-2.ensures.value ∙ ap text_of items in
     let within : code_len ≤ length words = omega (arith, c.len.ensures) in
     let text =
     c.in_ok-push_str.ensures.bytes ∙ ap (λ (front : List ℕ). front ++ c.deref-3.result.now) c.in_ok-text.ensures.ok
     ∙ ap (λ (lines : List ℕ). node_line ++ lines) c.deref-3.ensures in
-    let items_are = ap (λ (items : List Item). map view_of items) c.deref-2.ensures.value ∙ items in
+    let items_are = ap (λ (items : List Item). map item_view items) c.deref-2.ensures.value ∙ items in
     record {
       output = is_text c.args.code _ words code_len _ c.in_ok-words.ensures.words same within (text ∙ ap (λ (lines : List ℕ). node_line ++ lines) printed);
       again = λ words' is.

@@ -1,8 +1,16 @@
 use Rattle.std.proofs.Common.{string_bytes, subst, sym}
+use Rattle.ga_jobs.specs.Boot.{IsBootOutput}
 use Rattle.ga_jobs.specs.Fault.{Answers}
 use Rattle.ga_jobs.specs.Run.{IsRunOutput}
 use Rattle.ga_serve.specs.Answering.{IsJobOutput}
 use Rattle.ga_serve.proofs.answering.output.Goals as goal
+
+pub returns-in-Boot : goal.returns-in-Boot
+unfolding IsJobOutput
+returns-in-Boot g c =
+    let boot = c.in-Boot in
+    subst (λ job. Answers string_bytes (IsJobOutput job c.args.input.now) c.output-in-Boot.result) (sym boot.is)
+    (subst (λ route. Answers string_bytes (IsBootOutput route c.args.input.now) c.output-in-Boot.result) c.deref.ensures c.output-in-Boot.ensures.output)
 
 pub returns-in-Run : goal.returns-in-Run
 unfolding IsJobOutput

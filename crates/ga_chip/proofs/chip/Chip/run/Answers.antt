@@ -18,4 +18,4 @@ returns-clause-chip c = ap (λ l. ran c.loop-what.self (tries_of l)) (sym (drop_
 
 pub returns-clause-ledgers : goal.returns-clause-ledgers
 returns-clause-ledgers c =
-    subst (λ z. LedgersGrow c.args.self.now z (tries_of c.args.tries.now)) (sym (returns-clause-chip c)) (ledgers_grow c.args.self.now (tries_of c.args.tries.now) (subst IsLegal c.self.view_is c.self.invariant.0.legal))
+    subst (λ z. LedgersGrow c.args.self.now z (tries_of c.args.tries.now)) (sym (returns-clause-chip c)) (ledgers_grow c.args.self.now (tries_of c.args.tries.now) (subst IsLegal c.self.view_is c.self.invariant.legal))

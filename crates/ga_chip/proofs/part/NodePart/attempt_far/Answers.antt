@@ -1,9 +1,8 @@
-use Rattle.std.proofs.Common.{length, ap, ap₂, ◌∙◌, refl, subst, sym}
+use Rattle.std.proofs.Common.{ap, ap₂, ◌∙◌, refl, subst, sym}
 use Rattle.ga_node.specs.Need.{need_of}
 use Rattle.ga_chip.specs.inner.Awake.{partner_of}
 use Rattle.ga_place.specs.Cell.{index_of}
 use Rattle.std.specs.Prelude.{option_map}
-use Rattle.ga_chip.specs.inner.Port.{FitsPorts}
 use Rattle.ga_chip.specs.Part.{Nothing, asks}
 use Rattle.ga_chip.specs.declared.outcome.Outcome.TheVariants.{Held}
 use Rattle.ga_chip.specs.Chip.{found_by}
@@ -21,12 +20,6 @@ returns-then-is_held-clause-cells c = cells_by c.args.self.now c.args.side c.arg
 pub returns-then-is_held-clause-sleeps : goal.returns-then-is_held-clause-sleeps
 returns-then-is_held-clause-sleeps c = λ yes other. held_stays c.args.self.now c.args.cells.now other (c.is_held.ensures.held c.if-is_held.true other)
 
-pub partner-wakes-requires : goal.partner-wakes-requires
-partner-wakes-requires c =
-    subst (λ name. FitsPorts name c.args.ports.now)
-    (sym (ap (λ r. r.1.state.node) c.meet-outcome.ensures.part ∙ name_after c.args.self.now c.args.side (found_by (asks c.args.self.now c.args.side) c.args.cells.now)))
-    c.requires.ports
-
 pub returns-in-Moved-clause-wakes : goal.returns-in-Moved-clause-wakes
 returns-in-Moved-clause-wakes c = λ moved.
     c.partner-wakes.ensures.value
@@ -37,8 +30,6 @@ pub is_still-sleeps-requires : goal.is_still-sleeps-requires
 is_still-sleeps-requires c =
     let same = still_all c.args.self.now c.meet-outcome.new.self c.args.cells.now c.meet-outcome.new.cells c.args.side c.meet-outcome.result c.meet-outcome.ensures.part c.meet-outcome.ensures.cells c.in_default.not-Moved in
     record {
-      ports = subst (λ p. FitsPorts p.state.node c.args.ports.now) (sym same.0) c.requires.ports;
-      count = ap length same.1 ∙ c.requires.count;
       need = c.need-need.ensures ∙ ap (λ p. need_of p.state) (c.self.view_is ∙ sym same.0);
       still = (c.args.side, subst (λ p. Stays p c.meet-outcome.new.cells c.args.side) (sym same.0) (subst (λ cells. Stays c.args.self.now cells c.args.side) (sym same.1) (λ moved. c.in_default.not-Moved (ap (λ r. r.0) c.meet-outcome.ensures.part ∙ moved))));
     }

@@ -1,78 +1,47 @@
-use Rattle.std.proofs.Common.{ap, ◌∙◌, refl, sym}
-use Rattle.ga_place.specs.Cell.{cell_of, read_cell}
-use Rattle.ga_chip.specs.declared.outcome.Outcome.TheVariants.{Stopped, Waits}
-use Rattle.ga_chip.specs.Part.{Nothing, Own, after_asked, asks_by, check_of, input_of, post_to, take_from, take_of}
-use Rattle.ga_chip.proofs.Plain.{after_by, cells_by, check_keeps, feed_finds, feed_keeps}
+use Rattle.std.proofs.Common.{◌≡◌, ℕ, Bool, true, false, Option, Some, None, ap, ◌∙◌, refl, sym}
+use Rattle.std.specs.Prelude.{is_some, not}
+use Rattle.std.proofs.lemmas.Bool.{false≢true}
+use Rattle.ga_place.specs.declared.side.Side.{Side}
+use Rattle.ga_chip.specs.declared.outcome.Outcome.{Outcome}
+use Rattle.ga_chip.specs.Part.{Part, Check, Nothing, Post, Take, after_asked, asks_by}
+use Rattle.ga_chip.proofs.Asked.{own_finds, take_need, told_check, told_nothing, told_post, told_take}
+use Rattle.ga_chip.proofs.Plain.{after_by}
 use Rattle.ga_chip.proofs.part.NodePart.meet.Goals as goal
 
-pub returns-in-Some-clause-part : goal.returns-in-Some-clause-part
-returns-in-Some-clause-part c =
-    after_by c.args.self.now c.args.side c.args.cells.now (take_of c.in-Some.at (read_cell c.args.self.now.state.node c.in-Some.at)) (c.take.result, c.take.new.self)
-    (c.requires.free ∙ ap (λ n. asks_by n c.args.self.now.state.node c.args.self.now.stream c.args.side) c.in-Take.is ∙ ap (take_from c.args.self.now.state.node) (sym c.in-Some.ensures)) c.take.ensures.part
-
-pub returns-in-Some-clause-cells : goal.returns-in-Some-clause-cells
-returns-in-Some-clause-cells c =
-    cells_by c.args.self.now c.args.side c.args.cells.now c.take.new.cells (take_of c.in-Some.at (read_cell c.args.self.now.state.node c.in-Some.at))
-    (c.requires.free ∙ ap (λ n. asks_by n c.args.self.now.state.node c.args.self.now.stream c.args.side) c.in-Take.is ∙ ap (take_from c.args.self.now.state.node) (sym c.in-Some.ensures)) c.take.ensures.cells
-
-pub returns-in-None-clause-part : goal.returns-in-None-clause-part
-returns-in-None-clause-part c =
-    after_by c.args.self.now c.args.side c.args.cells.now (Nothing Waits) (Waits, c.args.self.now)
-    (c.requires.free ∙ ap (λ n. asks_by n c.args.self.now.state.node c.args.self.now.stream c.args.side) c.in-Take.is ∙ ap (take_from c.args.self.now.state.node) (sym c.in-None.ensures)) refl
-
-pub returns-in-None-clause-cells : goal.returns-in-None-clause-cells
-returns-in-None-clause-cells c =
-    cells_by c.args.self.now c.args.side c.args.cells.now c.args.cells.now (Nothing Waits)
-    (c.requires.free ∙ ap (λ n. asks_by n c.args.self.now.state.node c.args.self.now.stream c.args.side) c.in-Take.is ∙ ap (take_from c.args.self.now.state.node) (sym c.in-None.ensures)) refl
-
-pub returns-in-Post-clause-part : goal.returns-in-Post-clause-part
-returns-in-Post-clause-part c =
-    after_by c.args.self.now c.args.side c.args.cells.now (post_to c.in-Post.to c.in-Post.word (cell_of c.args.self.now.state.node c.in-Post.to)) (c.post.result, c.post.new.self)
-    (c.requires.free ∙ ap (λ n. asks_by n c.args.self.now.state.node c.args.self.now.stream c.args.side) c.in-Post.is) c.post.ensures.part
-
-pub returns-in-Post-clause-cells : goal.returns-in-Post-clause-cells
-returns-in-Post-clause-cells c =
-    cells_by c.args.self.now c.args.side c.args.cells.now c.post.new.cells (post_to c.in-Post.to c.in-Post.word (cell_of c.args.self.now.state.node c.in-Post.to))
-    (c.requires.free ∙ ap (λ n. asks_by n c.args.self.now.state.node c.args.self.now.stream c.args.side) c.in-Post.is) c.post.ensures.cells
-
-pub returns-in-Check-clause-part : goal.returns-in-Check-clause-part
-returns-in-Check-clause-part c =
-    after_by c.args.self.now c.args.side c.args.cells.now (check_of c.in-Check.to (cell_of c.args.self.now.state.node c.in-Check.to)) (c.check.result, c.check.new.self)
-    (c.requires.free ∙ ap (λ n. asks_by n c.args.self.now.state.node c.args.self.now.stream c.args.side) c.in-Check.is) c.check.ensures
-
-pub returns-in-Check-clause-cells : goal.returns-in-Check-clause-cells
-returns-in-Check-clause-cells c =
-    cells_by c.args.self.now c.args.side c.args.cells.now c.args.cells.now (check_of c.in-Check.to (cell_of c.args.self.now.state.node c.in-Check.to))
-    (c.requires.free ∙ ap (λ n. asks_by n c.args.self.now.state.node c.args.self.now.stream c.args.side) c.in-Check.is) (check_keeps c.in-Check.to (cell_of c.args.self.now.state.node c.in-Check.to) c.args.cells.now)
-
-pub returns-in-Stopped-clause-part : goal.returns-in-Stopped-clause-part
-returns-in-Stopped-clause-part c =
-    after_by c.args.self.now c.args.side c.args.cells.now (Nothing Stopped) (Stopped, c.args.self.now)
-    (c.requires.free ∙ ap (λ n. asks_by n c.args.self.now.state.node c.args.self.now.stream c.args.side) c.in-Stopped.is) refl
-
-pub returns-in-Stopped-clause-cells : goal.returns-in-Stopped-clause-cells
-returns-in-Stopped-clause-cells c =
-    cells_by c.args.self.now c.args.side c.args.cells.now c.args.cells.now (Nothing Stopped)
-    (c.requires.free ∙ ap (λ n. asks_by n c.args.self.now.state.node c.args.self.now.stream c.args.side) c.in-Stopped.is) refl
-
-pub returns-in-Input-clause-part : goal.returns-in-Input-clause-part
-returns-in-Input-clause-part c =
-    after_by c.args.self.now c.args.side c.args.cells.now (input_of c.args.self.now.stream) (c.input.result, c.input.new.self)
-    (c.requires.free ∙ ap (λ n. asks_by n c.args.self.now.state.node c.args.self.now.stream c.args.side) c.in-Input.is)
-    (c.input.ensures ∙ ap (λ found. after_asked (input_of c.args.self.now.stream) found c.args.self.now) (sym (feed_finds c.args.self.now.stream c.args.cells.now)))
-
-pub returns-in-Input-clause-cells : goal.returns-in-Input-clause-cells
-returns-in-Input-clause-cells c =
-    cells_by c.args.self.now c.args.side c.args.cells.now c.args.cells.now (input_of c.args.self.now.stream)
-    (c.requires.free ∙ ap (λ n. asks_by n c.args.self.now.state.node c.args.self.now.stream c.args.side) c.in-Input.is)
-    (feed_keeps c.args.self.now.stream c.args.cells.now)
+pub take-requires : goal.take-requires
+take-requires c = take_need c.args.self.now c.args.side c.in-Take.from c.in-Take.cell (c.requires.free ∙ told_take _ c.in-Take.from c.in-Take.cell (sym c.in-Take.ensures))
 
 pub returns-in-Own-clause-part : goal.returns-in-Own-clause-part
 returns-in-Own-clause-part c =
-    after_by c.args.self.now c.args.side c.args.cells.now Own (c.own.result, c.own.new.self)
-    (c.requires.free ∙ ap (λ n. asks_by n c.args.self.now.state.node c.args.self.now.stream c.args.side) c.in-Own.is) c.own.ensures
+    let asked = asks_by c.args.need.now c.args.self.now.state.node c.args.self.now.stream c.args.side in
+    after_by c.args.self.now c.args.side c.args.cells.now asked (c.work.result, c.work.new.self) c.requires.free
+    (c.work.ensures c.args.side ∙ ap (λ found. after_asked asked found c.args.self.now) (sym (own_finds asked c.args.cells.now (sym c.in-Own.ensures))))
 
-pub returns-in-Own-clause-cells : goal.returns-in-Own-clause-cells
-returns-in-Own-clause-cells c =
-    cells_by c.args.self.now c.args.side c.args.cells.now c.args.cells.now Own
-    (c.requires.free ∙ ap (λ n. asks_by n c.args.self.now.state.node c.args.self.now.stream c.args.side) c.in-Own.is) refl
+pub returns-in-Post-clause-part : goal.returns-in-Post-clause-part
+returns-in-Post-clause-part c =
+    after_by c.args.self.now c.args.side c.args.cells.now (Post c.in-Post.to c.in-Post.cell c.in-Post.word) (c.post-in-Post.result, c.post-in-Post.new.self)
+    (c.requires.free ∙ told_post _ c.in-Post.to c.in-Post.cell c.in-Post.word (sym c.in-Post.ensures)) (c.post-in-Post.ensures c.in-Post.cell)
+
+pub returns-in-Take-clause-part : goal.returns-in-Take-clause-part
+returns-in-Take-clause-part c =
+    after_by c.args.self.now c.args.side c.args.cells.now (Take c.in-Take.from c.in-Take.cell) (c.take.result, c.take.new.self)
+    (c.requires.free ∙ told_take _ c.in-Take.from c.in-Take.cell (sym c.in-Take.ensures))
+    (c.take.ensures c.in-Take.cell ∙ ap (λ found. after_asked (Take c.in-Take.from c.in-Take.cell) found c.args.self.now) c.take-found.ensures.word)
+
+pub returns-in-Check-clause-part : goal.returns-in-Check-clause-part
+returns-in-Check-clause-part c =
+    after_by c.args.self.now c.args.side c.args.cells.now (Check c.in-Check.to c.in-Check.cell) (c.check.result, c.check.new.self)
+    (c.requires.free ∙ told_check _ c.in-Check.to c.in-Check.cell (sym c.in-Check.ensures))
+    (by c.args.self.now c.in-Check.to c.in-Check.cell (c.check.result, c.check.new.self) c.is_none-empty.result c.pending.result c.is_none-empty.ensures (λ e. c.check.ensures.read e c.in-Check.to c.in-Check.cell) (λ e word. c.check.ensures.unread e c.in-Check.to c.in-Check.cell word)
+    ∙ ap (λ found. after_asked (Check c.in-Check.to c.in-Check.cell) found c.args.self.now) c.pending.ensures)
+  where
+    by : (part : Part) (to : Side) (cell : ℕ) (r : Outcome × Part) (empty : Bool) (found : Option ℕ) → is_some found ≡ not empty → (empty ≡ true → r ≡ after_asked (Check to cell) None part) → (empty ≡ false → (word : ℕ) → r ≡ after_asked (Check to cell) (Some word) part) → r ≡ after_asked (Check to cell) found part
+    by part to cell r true None is read unread = read refl
+    by part to cell r false (Some word) is read unread = unread refl word
+    by part to cell r false None is read unread = absurd (false≢true is)
+    by part to cell r true (Some word) is read unread = absurd (false≢true (sym is))
+
+pub returns-in-Nothing-clause-part : goal.returns-in-Nothing-clause-part
+returns-in-Nothing-clause-part c =
+    after_by c.args.self.now c.args.side c.args.cells.now (Nothing c.in-Nothing.outcome) (c.in-Nothing.outcome, c.args.self.now)
+    (c.requires.free ∙ told_nothing _ c.in-Nothing.outcome (sym c.in-Nothing.ensures)) refl

@@ -1,0 +1,2 @@
+-- What only the tests of this crate speak of.
+pub mod Hands

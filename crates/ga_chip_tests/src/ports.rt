@@ -1,0 +1,183 @@
+ghost use Rattle.std.specs.Prelude.{◌≡◌, IfOk};
+ghost use Rattle.ga_chip_tests.specs.inner.Hands.{AreKept};
+
+use crate::chips::{WRITE_12_RIGHT, moves, place};
+use ga_chip::{Asks, Chip, NodePart, Outcome, Try};
+use ga_place::{Node, Side, cell};
+use ga_port::{Cells, PortSeat};
+use ga_test_values::{nodes, word};
+use ga_word::Word18;
+use std::alloc::Global;
+use std::test::Fail;
+
+/// A look at the cell of a node that asks to take a word: whether one is pending. Where none is, this was a try.
+fn poll(
+    cells: &Cells,
+    seat: &mut PortSeat,
+    parts: &mut Vec<NodePart>,
+    node: Node,
+    side: Side,
+) -> bool
+    requires own { seat.old.table ≡ cells.now.table }
+    requires parts { AreKept seat.old.nodes parts.old.items }
+    ensures own { seat.new.table ≡ cells.now.table }
+    ensures parts { AreKept seat.new.nodes parts.new.items }
+{
+    let part = &mut parts[node.index()];
+    let Asks::Take(from, cell) = part.asks(side) else {
+        return false;
+    };
+    if cells.poll(seat, Try { node, side }, cell) {
+        return true;
+    }
+    let _outcome = part.done_take(from, None);
+    false
+}
+
+/// A try of a node that asks to take a word: the word, if one is pending.
+fn take(
+    cells: &Cells,
+    seat: &mut PortSeat,
+    parts: &mut Vec<NodePart>,
+    node: Node,
+    side: Side,
+) -> Option<Word18>
+    requires own { seat.old.table ≡ cells.now.table }
+    requires parts { AreKept seat.old.nodes parts.old.items }
+    ensures own { seat.new.table ≡ cells.now.table }
+    ensures parts { AreKept seat.new.nodes parts.new.items }
+{
+    let part = &mut parts[node.index()];
+    let Asks::Take(from, cell) = part.asks(side) else {
+        return None;
+    };
+    let Some(word) = cells.take(seat, Try { node, side }, cell) else {
+        let _outcome = part.done_take(from, None);
+        return None;
+    };
+    let _outcome = part.done_take(from, Some(word));
+    Some(word)
+}
+
+/// A try of a node that asks whether its word was read.
+fn check(
+    cells: &Cells,
+    seat: &mut PortSeat,
+    parts: &mut Vec<NodePart>,
+    node: Node,
+    side: Side,
+) -> Option<bool>
+    requires own { seat.old.table ≡ cells.now.table }
+    requires parts { AreKept seat.old.nodes parts.old.items }
+    ensures own { seat.new.table ≡ cells.now.table }
+    ensures parts { AreKept seat.new.nodes parts.new.items }
+{
+    let part = &mut parts[node.index()];
+    let Asks::Check(to, cell) = part.asks(side) else {
+        return None;
+    };
+    let empty = cells.check(seat, Try { node, side }, cell);
+    let _outcome = part.done_check(to, empty);
+    Some(empty)
+}
+
+/// A try of a node that asks for nothing: what comes of it.
+fn own(
+    cells: &Cells,
+    seat: &mut PortSeat,
+    parts: &mut Vec<NodePart>,
+    node: Node,
+    side: Side,
+) -> Option<Outcome>
+    requires own { seat.old.table ≡ cells.now.table }
+    requires parts { AreKept seat.old.nodes parts.old.items }
+    ensures own { seat.new.table ≡ cells.now.table }
+    ensures parts { AreKept seat.new.nodes parts.new.items }
+{
+    let part = &mut parts[node.index()];
+    let Asks::Nothing(outcome) = part.asks(side) else {
+        return None;
+    };
+    cells.own(seat, Try { node, side });
+    Some(outcome)
+}
+
+/// A try of a node that asks to post its word.
+fn post(
+    cells: &Cells,
+    seat: &mut PortSeat,
+    parts: &mut Vec<NodePart>,
+    node: Node,
+    side: Side,
+) -> Option<Word18>
+    requires own { seat.old.table ≡ cells.now.table }
+    requires parts { AreKept seat.old.nodes parts.old.items }
+    ensures own { seat.new.table ≡ cells.now.table }
+    ensures parts { AreKept seat.new.nodes parts.new.items }
+{
+    let part = &mut parts[node.index()];
+    let Asks::Post(to, cell, word) = part.asks(side) else {
+        return None;
+    };
+    cells.post(seat, Try { node, side }, cell, word);
+    let _outcome = part.done_post(to);
+    Some(word)
+}
+
+/// The cells of a chip on which 708 has made so many tries of those that write 12 to its right, a seat with all nodes, and
+/// their parts.
+fn opened(alloc: Global, node: Node, tries: u32) -> Result<(Cells, PortSeat, Vec<NodePart>), Fail>
+    ensures own { IfOk result (λ made. made.1.table ≡ made.0.table) }
+    ensures parts { IfOk result (λ made. AreKept made.1.nodes made.2.items) }
+{
+    let mut chip = Chip::reset(alloc)?;
+    place(&mut chip, node, &WRITE_12_RIGHT)?;
+    let moved = moves(&mut chip, node, Side::Right, tries);
+    if moved != tries {
+        return Err("a try waits".into());
+    }
+    let (cells, seat) = Cells::open(alloc, &chip)?;
+    let (parts, _row) = chip.into_parts();
+    Ok((cells, seat, parts))
+}
+
+#[test]
+fn cells_by_hand(rt: HostRuntime) -> Result<(), Fail> {
+    let [node_708, node_709] = nodes(&[708, 709])?;
+    let (cells, mut seat, mut parts) = opened(rt.alloc(), node_708, 7)?;
+    let pending = poll(&cells, &mut seat, &mut parts, node_709, Side::Right);
+    let found = take(&cells, &mut seat, &mut parts, node_709, Side::Right);
+    let read = check(&cells, &mut seat, &mut parts, node_708, Side::Right);
+    let outcome = own(&cells, &mut seat, &mut parts, node_709, Side::Right);
+    let row = cells.close(seat);
+    assert!(rt; pending && found == Some(word(0x00012)?));
+    assert!(rt; read == Some(true));
+    // The word is run: `@b` reads io.
+    assert!(rt; outcome == Some(Outcome::Stopped));
+    assert!(rt; row.words().iter().all(|pending| pending.is_none()));
+    Ok(())
+}
+
+#[test]
+fn a_word_is_posted_by_hand(rt: HostRuntime) -> Result<(), Fail> {
+    let [node_708, node_709] = nodes(&[708, 709])?;
+    let (cells, mut seat, mut parts) = opened(rt.alloc(), node_708, 6)?;
+    let pending = poll(&cells, &mut seat, &mut parts, node_709, Side::Right);
+    let found = take(&cells, &mut seat, &mut parts, node_709, Side::Right);
+    let posted = post(&cells, &mut seat, &mut parts, node_708, Side::Right);
+    let read = check(&cells, &mut seat, &mut parts, node_708, Side::Right);
+    let other = cells.share(&mut seat, &[node_709]);
+    cells.gather(&mut seat, other);
+    let row = cells.close(seat);
+    assert!(rt; !pending && found == None && posted == Some(word(0x00012)?) && read == Some(false));
+    let at = cell(node_708, Side::Right).ok_or("no such cell")?;
+    assert!(rt; row.pending(at) == posted);
+    assert!(rt;
+        row.words()
+            .iter()
+            .filter(|pending| pending.is_some())
+            .count()
+            == 1
+    );
+    Ok(())
+}

@@ -1,0 +1,77 @@
+-- What workers keep: the parts in memory are what their seats have of the nodes.
+use Rattle.std.specs.Prelude.{◌≡◌, ℕ, ◌<◌, ◌≤◌, true, false, List, [], ◌++◌, length, map, Vec, Option, Some, None, slice_get}
+use Rattle.std.specs.List.{concat}
+use Rattle.ga_place.specs.Cell.{index_of}
+use Rattle.ga_place.specs.Node.{IsNodeName, is_among}
+use Rattle.ga_place.specs.declared.side.Side.{Side}
+use Rattle.ga_chip.specs.Asks.{asked_of, look_of, looks_of}
+use Rattle.ga_chip.specs.declared.outcome.Try.{Try}
+use Rattle.ga_chip.specs.Part.{Part}
+use Rattle.ga_port.specs.declared.seat.Kept.{Kept}
+use Rattle.ga_port.specs.Seat.{CellsId, SeatView, kept}
+use Rattle.ga_group.specs.Plan.{first_repeated, groups_in}
+
+-- the names of the nodes of parts
+abbrev pub names_of : List Part → List ℕ
+names_of parts = map (λ part. part.state.node) parts
+
+-- the seat has this part of its node
+pub record IsLent (part : Part) (nodes : List (Option Kept)) : Type 0 where
+  pub one : Kept
+  pub has : kept nodes part.state.node ≡ Some one
+  pub same : one.part ≡ part
+  pub below : index_of part.state.node < 144
+
+-- so with each of some parts
+pub record AreLent (parts : List Part) (nodes : List (Option Kept)) : Type 0 where
+  pub at : (index : ℕ) (part : Part) → slice_get parts index ≡ Some part → IsLent part nodes
+
+-- A worker may try the nodes of these parts with this seat: no node has two of the parts.
+pub record IsReady (table : CellsId) (seat : SeatView) (parts : List Part) : Type 0 where
+  pub own : seat.table ≡ table
+  pub lent : AreLent parts seat.nodes
+  pub once : first_repeated [] (names_of parts) ≡ None
+
+-- The nodes with these names have got tries that name these sides, and of the others nothing has changed.
+pub record HaveGained (old new : List (Option Kept)) (names : List ℕ) (sides : List Side) : Type 0 where
+  pub tried : (name : ℕ) (one : Kept) → is_among name names ≡ true → kept old name ≡ Some one → (part : Part) × (kept new name ≡ Some (record { part = part; sides = one.sides ++ sides }))
+  pub others : (name : ℕ) → is_among name names ≡ false → kept new name ≡ kept old name
+
+-- What becomes of a seat, and of parts that are lent with it: each node of theirs has got tries that name these sides.
+pub record HasWorked (before after : SeatView) (old new : List Part) (sides : List Side) : Type 0 where
+  pub table : after.table ≡ before.table
+  pub names : names_of new ≡ names_of old
+  pub lent : AreLent new after.nodes
+  pub gained : HaveGained before.nodes after.nodes (names_of old) sides
+
+-- Parts, nodes and groups of nodes are in one order.
+pub record AreGrouped {A : Type 0} (groups : List (Vec ℕ A)) (nodes : List ℕ) (parts : List Part) : Type 0 where
+  pub nodes_is : concat (groups_in groups) ≡ nodes
+  pub parts_is : names_of parts ≡ nodes
+  pub few : length nodes ≤ 144
+
+-- No two of the names are one.
+pub record AreApart (names : List ℕ) : Type 0 where
+  pub places : (here there name : ℕ) → slice_get names here ≡ Some name → slice_get names there ≡ Some name → here ≡ there
+
+-- Each node of the chip has one of the parts, and no node two.
+pub record HasAllNodes (parts : List Part) : Type 0 where
+  pub count : length parts ≡ 144
+  pub at : (name : ℕ) → IsNodeName name → (place : ℕ) × (slice_get (names_of parts) place ≡ Some name)
+  pub once : AreApart (names_of parts)
+
+-- Each of some parts is one of others.
+pub record AreSome (parts others : List Part) : Type 0 where
+  pub at : (index : ℕ) (part : Part) → slice_get parts index ≡ Some part → (place : ℕ) × (slice_get others place ≡ Some part)
+
+-- where the tries of a node look, if it is known
+abbrev pub IsKnown : Part → Option (List (Option ℕ)) → Type 0
+IsKnown part known = (looks : List (Option ℕ)) → known ≡ Some looks → looks_of part ≡ Some looks
+
+-- so of each of some parts
+pub record AreKnown (parts : List Part) (known : List (Option (List (Option ℕ)))) : Type 0 where
+  pub at : (index : ℕ) (part : Part) (one : Option (List (Option ℕ))) → slice_get parts index ≡ Some part → slice_get known index ≡ Some one → IsKnown part one
+
+-- A try of a node of the seat looks at this cell, or at none.
+abbrev pub LooksAt : List (Option Kept) → Try → Option ℕ → Type 0
+LooksAt nodes what look = (one : Kept) × (kept nodes what.node ≡ Some one) × (look_of (asked_of one.part what.side) ≡ Some look)

@@ -1,0 +1,7 @@
+pub mod Nodes
+pub mod Rows
+pub mod Runs
+pub mod Steps
+pub mod Shares
+pub mod Ends
+pub mod Moves

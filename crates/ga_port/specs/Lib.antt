@@ -1,0 +1,3 @@
+pub mod Seat
+pub mod Cells
+pub mod inner

@@ -1,0 +1,42 @@
+ghost use Rattle.std.specs.Prelude.{◌≡◌, ◌<◌, ◌^◌, IfSome, Some};
+ghost use Rattle.ga_port.specs.inner.Rule.{IsCellWord, pending_of, word_of};
+
+use ga_word::Word18;
+
+/// What a cell holds where no word is pending in it.
+pub(crate) const EMPTY: u64 = 0;
+
+/// What a full cell holds beside its word.
+const FULL: u64 = 1 << 18;
+
+/// What a cell holds where this word is pending in it.
+#[inline]
+pub(crate) fn full(word: Word18) -> u64
+    ensures value { result ≡ word_of (Some word) }
+    ensures bound { word < 2 ^ 18 }
+{
+    FULL + u64::from(word.get())
+}
+
+/// What a cell holds where this word is pending in it, or none.
+pub(crate) fn held_by(pending: Option<Word18>) -> u64
+    ensures value { result ≡ word_of pending }
+    ensures bound { IfSome pending (λ word. word < 2 ^ 18) }
+{
+    match pending {
+        Some(word) => full(word),
+        None => EMPTY,
+    }
+}
+
+/// The word that is pending in a cell, if one is, by what the cell holds.
+#[inline]
+pub(crate) fn pending(held: u64) -> Option<Word18>
+    requires { IsCellWord held }
+    ensures { result ≡ pending_of held }
+{
+    if held == EMPTY {
+        return None;
+    }
+    Word18::new((held - FULL) as u32)
+}
