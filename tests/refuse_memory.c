@@ -5,6 +5,7 @@
 #include <errno.h>
 #include <stddef.h>
 #include <stdlib.h>
+#include <sys/syscall.h>
 #include <unistd.h>
 
 static long calls;
@@ -14,7 +15,13 @@ static long refused(void) {
     return number ? atol(number) : 0;
 }
 
-static int is_refused(void) { return __atomic_add_fetch(&calls, 1, __ATOMIC_SEQ_CST) == refused(); }
+static int is_refused(void) {
+    if (__atomic_add_fetch(&calls, 1, __ATOMIC_SEQ_CST) != refused()) {
+        return 0;
+    }
+    errno = ENOMEM;
+    return 1;
+}
 
 void *malloc(size_t size) {
     void *(*next)(size_t) = dlsym(RTLD_NEXT, "malloc");
@@ -41,8 +48,8 @@ int posix_memalign(void **out, size_t align, size_t size) {
     return is_refused() ? ENOMEM : next(out, align, size);
 }
 
-__attribute__((destructor)) static void at_end(void) {
-    if (calls < refused()) {
-        _exit(77);
-    }
+/* The program ends by _exit, and not by exit, where it may start threads. */
+void _exit(int status) {
+    syscall(SYS_exit_group, calls < refused() ? 77 : status);
+    __builtin_unreachable();
 }
