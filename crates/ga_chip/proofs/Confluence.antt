@@ -1,6 +1,6 @@
 -- Two runs agree as far as both go. By induction along the first run: the next move of a node is the move that the node
 -- makes in the second run after the same moves, since both find the node alike.state, and a take finds the same word.
-use Rattle.std.proofs.Common.{◌≡◌, ℕ, ◌+◌, arith, length-append, List, [], ◌∷◌, ◌++◌, ◌⊎◌, inl, inr, take, length, ◌≤◌, flat_map, slice_get, option_map, Option, Some, None, refl, sym, ap, ap₂, ◌∙◌, subst, append_assoc, append-nil}
+use Rattle.std.proofs.Common.{◌≡◌, Bool, ℕ, ◌+◌, arith, length-append, List, [], ◌∷◌, ◌++◌, ◌⊎◌, inl, inr, take, length, ◌≤◌, flat_map, slice_get, option_map, Option, Some, None, refl, sym, ap, ap₂, ◌∙◌, subst, append_assoc, append-nil}
 use Rattle.std.proofs.lemmas.Option.{same_Some, slice_get-map}
 use Rattle.std.proofs.lemmas.List.Concat.{flat_map-append}
 use Rattle.std.proofs.lemmas.List.{append_cancel_left, take-append-le, nil_from_length}
@@ -15,7 +15,7 @@ use Rattle.ga_node.specs.declared.need.Need.TheVariants as need
 use Rattle.ga_place.specs.Cell.{index_of, read_cell}
 use Rattle.ga_chip.specs.Part.{input_of, Part, Asks, Nothing, Own, Feed, Post, Check, Take, asks_by, picked_by, picked_of}
 use Rattle.ga_chip.specs.Chip.{Chip, part_of, pending, found_by}
-use Rattle.ga_chip.specs.Run.{words_left, piece_of, pieces, Event, happened, ran, Move, move_in, moves, moves_of, posted_by, taken_by, fed_after, fed_words, written_words, taken_words, sides_of, node_after}
+use Rattle.ga_chip.specs.Run.{words_left, words_fed, is_open, piece_of, pieces, Event, happened, ran, Move, move_in, moves, moves_of, posted_by, taken_by, input_after, input_words, written_words, taken_words, sides_of, node_after}
 use Rattle.ga_chip.specs.Legal.{IsLegal, DifferInBreaks, unbroken}
 use Rattle.ga_chip.specs.Laws.{AgreesWith, Confluence}
 use Rattle.ga_chip.proofs.Lists.{agree_left, agree_right, agree_flat_map, agree_front, agree_after, agree_first, agree_push}
@@ -25,7 +25,7 @@ use Rattle.ga_chip.proofs.Events.{replay}
 use Rattle.ga_chip.proofs.Kept.{has_name, legal_ran}
 use Rattle.ga_chip.proofs.Runs.{moves-append, moves_of-append, stand_ran, part_first, flow_ran, posts, takes, posts_ran, takes_ran, HasWriter, HasReader, written_or_none, taken_or_none}
 use Rattle.ga_chip.proofs.Moments.{Makes, makes_event, moment, one_at_most}
-use Rattle.ga_chip.proofs.Streams.{fed_moves, fed_now, fed_ran}
+use Rattle.ga_chip.proofs.Streams.{fed_moves, fed_now, fed_ran, open_there}
 use Rattle.ga_chip.proofs.NodeAfter.{stands_after_moves}
 
 -- by the same need, sides that agree are the same
@@ -94,17 +94,20 @@ same_move one two name m y a b alike xs ys sides words fed = same_fields m y (a.
     found = same_found m.asked one two m.found y.found a.looks (b.looks ∙ ap (λ q. found_by q two.cells) (sym asked)) a.passed (subst (λ q. Passed q y.found) (sym asked) b.passed) words
 
 -- chips that differ in breakpoints and passes have nodes that stand alike
-alike_first : (one two : Chip) (name : ℕ) (p q : Part) → DifferInBreaks one two → part_of one name ≡ Some p → part_of two name ≡ Some q → p.state ≡ q.state
-alike_first one two name p q differ here there =
+bare_first : (one two : Chip) (name : ℕ) (p q : Part) → DifferInBreaks one two → part_of one name ≡ Some p → part_of two name ≡ Some q → unbroken p ≡ unbroken q
+bare_first one two name p q differ here there =
     let bare : Some (unbroken p) ≡ Some (unbroken q) =
     ap (option_map unbroken) (sym here) ∙ sym (slice_get-map unbroken one.parts (index_of name)) ∙ ap (λ ps. slice_get ps (index_of name)) differ.parts ∙ slice_get-map unbroken two.parts (index_of name) ∙ ap (option_map unbroken) there in
-    ap (λ p. p.state) (same_Some (unbroken p) (unbroken q) bare)
+    same_Some (unbroken p) (unbroken q) bare
+
+alike_first : (one two : Chip) (name : ℕ) (p q : Part) → DifferInBreaks one two → part_of one name ≡ Some p → part_of two name ≡ Some q → p.state ≡ q.state
+alike_first one two name p q differ here there = ap (λ x. x.state) (bare_first one two name p q differ here there)
 
 stream_first : (one two : Chip) (name : ℕ) (p q : Part) → DifferInBreaks one two → part_of one name ≡ Some p → part_of two name ≡ Some q → p.stream ≡ q.stream
-stream_first one two name p q differ here there =
-    let bare : Some (unbroken p) ≡ Some (unbroken q) =
-    ap (option_map unbroken) (sym here) ∙ sym (slice_get-map unbroken one.parts (index_of name)) ∙ ap (λ ps. slice_get ps (index_of name)) differ.parts ∙ slice_get-map unbroken two.parts (index_of name) ∙ ap (option_map unbroken) there in
-    ap (λ x. x.stream) (same_Some (unbroken p) (unbroken q) bare)
+stream_first one two name p q differ here there = ap (λ x. x.stream) (bare_first one two name p q differ here there)
+
+opened_first : (one two : Chip) (name : ℕ) (p q : Part) → DifferInBreaks one two → part_of one name ≡ Some p → part_of two name ≡ Some q → p.opened ≡ q.opened
+opened_first one two name p q differ here there = ap (λ x. x.opened) (bare_first one two name p q differ here there)
 
 -- and after equal moves they still do
 alike_later : (one two : Chip) (done before : List Event) (name : ℕ) (p q : Part) → IsLegal one → IsLegal two → DifferInBreaks one two → moves_of name (moves one done) ≡ moves_of name (moves two before) → part_of (ran one done) name ≡ Some p → part_of (ran two before) name ≡ Some q → p.state ≡ q.state
@@ -139,16 +142,21 @@ same_word one two done before more name cell w v side legal legal' differ agree 
     (agree_front (option_to_list (pending one cell)) (posts cell (moves one done)) (posts cell (moves two before)) so_far))))
 
 -- The next word of two streams is the same in two runs where the node was fed as many.
-same_fed : (one two : Chip) (done rest before more : List Event) (event : Event) (name : ℕ) (m y : Move) (w v : ℕ) (a : Makes (ran one done) name m) (b : Makes (ran two before) name y) → IsLegal one → IsLegal two → DifferInBreaks one two → AgreesWith (pieces name (done ++ event ∷ rest)) (pieces name (before ++ more)) → moves_of name (moves one done) ≡ moves_of name (moves two before) → m.asked ≡ Feed w → y.asked ≡ Feed v → w ≡ v
+same_fed : (one two : Chip) (done rest before more : List Event) (event : Event) (name : ℕ) (m y : Move) (w v : ℕ) (a : Makes (ran one done) name m) (b : Makes (ran two before) name y) → IsLegal one → IsLegal two → DifferInBreaks one two → AgreesWith (words_fed one (done ++ event ∷ rest) name) (words_fed two (before ++ more) name) → moves_of name (moves one done) ≡ moves_of name (moves two before) → m.asked ≡ Feed w → y.asked ≡ Feed v → w ≡ v
 same_fed one two done rest before more event name m y w v a b legal legal' differ given same e f =
     let p = fed_now one done name m w a legal e in
     let q = fed_now two before name y v b legal' f in
     let first : words_left p.first.stream ≡ words_left q.first.stream = ap words_left (stream_first one two name p.first q.first differ p.there q.there) in
-    let cut : AgreesWith (pieces name done) (pieces name before) = agree_right (pieces name done) (pieces name before) (pieces name more) (subst (λ l. AgreesWith (pieces name done) l) (flat_map-append (piece_of name) before more)
-    (agree_left (pieces name done) (pieces name (event ∷ rest)) (pieces name (before ++ more)) (subst (λ l. AgreesWith l (pieces name (before ++ more))) (flat_map-append (piece_of name) done (event ∷ rest)) given))) in
+    let opened : Bool = q.first.opened in
+    let same_open : p.first.opened ≡ opened = opened_first one two name p.first q.first differ p.there q.there in
+    let given_here : AgreesWith (pieces opened name (done ++ event ∷ rest)) (pieces opened name (before ++ more)) =
+    subst (λ b. AgreesWith (pieces b name (done ++ event ∷ rest)) (pieces opened name (before ++ more))) (open_there one name p.first p.there ∙ same_open)
+    (subst (λ b. AgreesWith (pieces (is_open one name) name (done ++ event ∷ rest)) (pieces b name (before ++ more))) (open_there two name q.first q.there) given) in
+    let cut : AgreesWith (pieces opened name done) (pieces opened name before) = agree_right (pieces opened name done) (pieces opened name before) (pieces opened name more) (subst (λ l. AgreesWith (pieces opened name done) l) (flat_map-append (piece_of opened name) before more)
+    (agree_left (pieces opened name done) (pieces opened name (event ∷ rest)) (pieces opened name (before ++ more)) (subst (λ l. AgreesWith l (pieces opened name (before ++ more))) (flat_map-append (piece_of opened name) done (event ∷ rest)) given_here))) in
     let fed : AgreesWith (fed_moves (moves_of name (moves two before)) ++ w ∷ p.rest) (fed_moves (moves_of name (moves two before)) ++ v ∷ q.rest) =
-    subst (λ l. AgreesWith l (fed_moves (moves_of name (moves two before)) ++ v ∷ q.rest)) (ap (λ l. l ++ pieces name done) (sym first) ∙ p.words ∙ ap (λ ms. fed_moves ms ++ w ∷ p.rest) same)
-    (subst (λ l. AgreesWith (words_left q.first.stream ++ pieces name done) l) q.words (agree_front (words_left q.first.stream) (pieces name done) (pieces name before) cut)) in
+    subst (λ l. AgreesWith l (fed_moves (moves_of name (moves two before)) ++ v ∷ q.rest)) (ap₂ (λ l b. l ++ pieces b name done) (sym first) (sym same_open) ∙ p.words ∙ ap (λ ms. fed_moves ms ++ w ∷ p.rest) same)
+    (subst (λ l. AgreesWith (words_left q.first.stream ++ pieces opened name done) l) q.words (agree_front (words_left q.first.stream) (pieces opened name done) (pieces opened name before) cut)) in
     agree_first w v p.rest q.rest (agree_after (fed_moves (moves_of name (moves two before))) (w ∷ p.rest) (v ∷ q.rest) fed)
 
 -- The moves of a run up to an event, the event's move, and the rest.
@@ -162,7 +170,7 @@ abbrev picks : List Move → List Side
 picks ms = flat_map (λ move. move.picked) ms
 
 -- the next move of a node in the one run is the one that it makes after the same moves in the other
-same_next : (one two : Chip) (done rest others : List Event) (event : Event) (name : ℕ) (m y : Move) (r : List Move) → IsLegal one → IsLegal two → DifferInBreaks one two → AgreesWith (sides_of one (done ++ event ∷ rest) name) (sides_of two others name) → AgreesWith (pieces name (done ++ event ∷ rest)) (pieces name others) → ((n : ℕ) → AgreesWith (moves_of n (moves one done)) (moves_of n (moves two others))) → moves_of name (move_in (ran one done) event) ≡ m ∷ [] → moves_of name (moves two others) ≡ moves_of name (moves one done) ++ y ∷ r → m ≡ y
+same_next : (one two : Chip) (done rest others : List Event) (event : Event) (name : ℕ) (m y : Move) (r : List Move) → IsLegal one → IsLegal two → DifferInBreaks one two → AgreesWith (sides_of one (done ++ event ∷ rest) name) (sides_of two others name) → AgreesWith (words_fed one (done ++ event ∷ rest) name) (words_fed two others name) → ((n : ℕ) → AgreesWith (moves_of n (moves one done)) (moves_of n (moves two others))) → moves_of name (move_in (ran one done) event) ≡ m ∷ [] → moves_of name (moves two others) ≡ moves_of name (moves one done) ++ y ∷ r → m ≡ y
 same_next one two done rest others event name m y r legal legal' differ sides given agree now next =
     let mo = moment two others name (moves_of name (moves one done)) y r next in
     let a = makes_event (ran one done) event name m now in
@@ -182,10 +190,10 @@ same_next one two done rest others event name m y r legal legal' differ sides gi
     same_word one two done mo.before (mo.event ∷ mo.later) name cell w v side legal legal' differ
     (λ n. subst (λ es. AgreesWith (moves_of n (moves one done)) (moves_of n (moves two es))) mo.cut (agree n))
     (sym mo.so_far) named (ap (λ n. read_cell n side) (sym (legal_now.named name a.part a.there)) ∙ fits.1) is is')
-    (λ w v e f. same_fed one two done rest mo.before (mo.event ∷ mo.later) event name m y w v a b legal legal' differ (subst (λ es. AgreesWith (pieces name (done ++ event ∷ rest)) (pieces name es)) mo.cut given) (sym mo.so_far) e f)
+    (λ w v e f. same_fed one two done rest mo.before (mo.event ∷ mo.later) event name m y w v a b legal legal' differ (subst (λ es. AgreesWith (words_fed one (done ++ event ∷ rest) name) (words_fed two es name)) mo.cut given) (sym mo.so_far) e f)
 
 -- runs whose moves agree up to an event agree after it
-agree_more : (one two : Chip) (done rest others : List Event) (event : Event) → IsLegal one → IsLegal two → DifferInBreaks one two → ((n : ℕ) → AgreesWith (sides_of one (done ++ event ∷ rest) n) (sides_of two others n)) → ((n : ℕ) → AgreesWith (pieces n (done ++ event ∷ rest)) (pieces n others)) → ((n : ℕ) → AgreesWith (moves_of n (moves one done)) (moves_of n (moves two others))) → (name : ℕ) → AgreesWith (moves_of name (moves one (done ++ event ∷ []))) (moves_of name (moves two others))
+agree_more : (one two : Chip) (done rest others : List Event) (event : Event) → IsLegal one → IsLegal two → DifferInBreaks one two → ((n : ℕ) → AgreesWith (sides_of one (done ++ event ∷ rest) n) (sides_of two others n)) → ((n : ℕ) → AgreesWith (words_fed one (done ++ event ∷ rest) n) (words_fed two others n)) → ((n : ℕ) → AgreesWith (moves_of n (moves one done)) (moves_of n (moves two others))) → (name : ℕ) → AgreesWith (moves_of name (moves one (done ++ event ∷ []))) (moves_of name (moves two others))
 agree_more one two done rest others event legal legal' differ sides given agree name = by (one_at_most (ran one done) event name)
   where
     by : (moves_of name (move_in (ran one done) event) ≡ []) ⊎ ((m : Move) × (moves_of name (move_in (ran one done) event) ≡ m ∷ [])) → AgreesWith (moves_of name (moves one (done ++ event ∷ []))) (moves_of name (moves two others))
@@ -198,17 +206,17 @@ agree_more one two done rest others event legal legal' differ sides given agree 
         subst (λ l. AgreesWith l (moves_of name (moves two others))) (sym (moves_cut one done [] event name m now))
         (agree_push (moves_of name (moves one done)) (moves_of name (moves two others)) m (agree name) (λ y r next. same_next one two done rest others event name m y r legal legal' differ (sides name) (given name) agree now next))
 
-agree_on : (one two : Chip) (done rest others : List Event) → IsLegal one → IsLegal two → DifferInBreaks one two → ((n : ℕ) → AgreesWith (sides_of one (done ++ rest) n) (sides_of two others n)) → ((n : ℕ) → AgreesWith (pieces n (done ++ rest)) (pieces n others)) → ((n : ℕ) → AgreesWith (moves_of n (moves one done)) (moves_of n (moves two others))) → (name : ℕ) → AgreesWith (moves_of name (moves one (done ++ rest))) (moves_of name (moves two others))
+agree_on : (one two : Chip) (done rest others : List Event) → IsLegal one → IsLegal two → DifferInBreaks one two → ((n : ℕ) → AgreesWith (sides_of one (done ++ rest) n) (sides_of two others n)) → ((n : ℕ) → AgreesWith (words_fed one (done ++ rest) n) (words_fed two others n)) → ((n : ℕ) → AgreesWith (moves_of n (moves one done)) (moves_of n (moves two others))) → (name : ℕ) → AgreesWith (moves_of name (moves one (done ++ rest))) (moves_of name (moves two others))
 agree_on one two done [] others legal legal' differ sides given agree name = subst (λ es. AgreesWith (moves_of name (moves one es)) (moves_of name (moves two others))) (sym (append-nil done)) (agree name)
 agree_on one two done (event ∷ rest) others legal legal' differ sides given agree name =
     subst (λ es. AgreesWith (moves_of name (moves one es)) (moves_of name (moves two others))) (append_assoc done (event ∷ []) rest)
     (agree_on one two (done ++ event ∷ []) rest others legal legal' differ
     (λ n. subst (λ es. AgreesWith (sides_of one es n) (sides_of two others n)) (sym (append_assoc done (event ∷ []) rest)) (sides n))
-    (λ n. subst (λ es. AgreesWith (pieces n es) (pieces n others)) (sym (append_assoc done (event ∷ []) rest)) (given n))
+    (λ n. subst (λ es. AgreesWith (words_fed one es n) (words_fed two others n)) (sym (append_assoc done (event ∷ []) rest)) (given n))
     (agree_more one two done rest others event legal legal' differ sides given agree) name)
 
 -- THE MOVES AGREE: each node makes the same moves in two runs, as far as both go
-pub moves_agree : (one two : Chip) (events others : List Event) → IsLegal one → IsLegal two → DifferInBreaks one two → ((n : ℕ) → AgreesWith (sides_of one events n) (sides_of two others n)) → ((n : ℕ) → AgreesWith (pieces n events) (pieces n others)) → (name : ℕ) → AgreesWith (moves_of name (moves one events)) (moves_of name (moves two others))
+pub moves_agree : (one two : Chip) (events others : List Event) → IsLegal one → IsLegal two → DifferInBreaks one two → ((n : ℕ) → AgreesWith (sides_of one events n) (sides_of two others n)) → ((n : ℕ) → AgreesWith (words_fed one events n) (words_fed two others n)) → (name : ℕ) → AgreesWith (moves_of name (moves one events)) (moves_of name (moves two others))
 moves_agree one two events others legal legal' differ sides given name = agree_on one two [] events others legal legal' differ sides given (λ n. inl (moves_of n (moves two others), refl)) name
 
 -- the first k of two lists that agree are the same
@@ -223,7 +231,7 @@ nodes_agree one two events others name k here there legal legal' differ agree e 
     let b = stands_after_moves two others name k there legal' f in
     a.stands ∙ ap₂ replay (alike_first one two name a.part b.part differ a.there b.there) (take_agree k (moves_of name (moves one events)) (moves_of name (moves two others)) agree a.many b.many) ∙ sym b.stands
 
-fed_agree : (one two : Chip) (events others : List Event) (name k : ℕ) (here there : State) → IsLegal one → IsLegal two → AgreesWith (moves_of name (moves one events)) (moves_of name (moves two others)) → node_after one events name k ≡ Some here → node_after two others name k ≡ Some there → fed_after one events name k ≡ fed_after two others name k
+fed_agree : (one two : Chip) (events others : List Event) (name k : ℕ) (here there : State) → IsLegal one → IsLegal two → AgreesWith (moves_of name (moves one events)) (moves_of name (moves two others)) → node_after one events name k ≡ Some here → node_after two others name k ≡ Some there → input_after one events name k ≡ input_after two others name k
 fed_agree one two events others name k here there legal legal' agree e f =
     let a = stands_after_moves one events name k here legal e in
     let b = stands_after_moves two others name k there legal' f in
@@ -255,14 +263,16 @@ same_moves one two events others name p q legal legal' differ agree here there s
     agree_long (moves_of name (moves one events)) (moves_of name (moves two others)) agree (same_rest first'.0.state.steps _ _ many)
 
 -- the same words are left of a stream to which equal words came, after equal moves
-same_left : (one two : Chip) (events others : List Event) (name : ℕ) (p q : Part) → IsLegal one → IsLegal two → DifferInBreaks one two → moves_of name (moves one events) ≡ moves_of name (moves two others) → part_of (ran one events) name ≡ Some p → part_of (ran two others) name ≡ Some q → pieces name events ≡ pieces name others → words_left p.stream ≡ words_left q.stream
+same_left : (one two : Chip) (events others : List Event) (name : ℕ) (p q : Part) → IsLegal one → IsLegal two → DifferInBreaks one two → moves_of name (moves one events) ≡ moves_of name (moves two others) → part_of (ran one events) name ≡ Some p → part_of (ran two others) name ≡ Some q → words_fed one events name ≡ words_fed two others name → words_left p.stream ≡ words_left q.stream
 same_left one two events others name p q legal legal' differ same here there given =
     let first = part_first one events name p legal here in
     let first' = part_first two others name q legal' there in
-    append_cancel_left (fed_words two others name) (words_left p.stream) (words_left q.stream)
+    let given_here : pieces first.0.opened name events ≡ pieces first'.0.opened name others =
+    ap (λ opened. pieces opened name events) (sym (open_there one name first.0 first.1)) ∙ given ∙ ap (λ opened. pieces opened name others) (open_there two name first'.0 first'.1) in
+    append_cancel_left (input_words two others name) (words_left p.stream) (words_left q.stream)
     (ap (λ ms. fed_moves ms ++ words_left p.stream) (sym same)
     ∙ sym (fed_ran one events name first.0 p legal first.1 here)
-    ∙ ap₂ (λ s l. words_left s ++ l) (stream_first one two name first.0 first'.0 differ first.1 first'.1) given
+    ∙ ap₂ (λ s l. words_left s ++ l) (stream_first one two name first.0 first'.0 differ first.1 first'.1) given_here
     ∙ fed_ran two others name first'.0 q legal' first'.1 there)
 
 -- each cell has the same words written and taken
@@ -293,9 +303,9 @@ confluence one two events others legal legal' differ sides given =
     let same : (name : ℕ) (p q : Part) → part_of (ran one events) name ≡ Some p → part_of (ran two others) name ≡ Some q → p.state.steps ≡ q.state.steps → moves_of name (moves one events) ≡ moves_of name (moves two others) = λ name p q here there steps. same_moves one two events others name p q legal legal' differ (agree name) here there steps in
     record {
       nodes = λ name k here there e f. nodes_agree one two events others name k here there legal legal' differ (agree name) e f;
-      fed = λ name k here there e f. fed_agree one two events others name k here there legal legal' (agree name) e f;
+      inputs = λ name k here there e f. fed_agree one two events others name k here there legal legal' (agree name) e f;
       ends = λ name p q here there steps. alike_later one two events others name p q legal legal' differ (same name p q here there steps) here there;
-      ends_fed = λ name p q here there steps. ap fed_moves (same name p q here there steps);
+      ends_inputs = λ name p q here there steps. ap fed_moves (same name p q here there steps);
       left = λ name p q here there steps given. same_left one two events others name p q legal legal' differ (same name p q here there steps) here there given;
       written = λ cell. written_agree one two events others cell legal legal' agree;
       taken = λ cell. taken_agree one two events others cell legal legal' agree;

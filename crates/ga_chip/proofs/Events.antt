@@ -1,6 +1,6 @@
 -- What one event does to a chip.
 use Rattle.std.proofs.Common.{◌≡◌, ℕ, ◌+◌, ◌≤◌, ◌<◌, ◌==◌, Bool, true, List, [], ◌∷◌, ◌++◌, append-nil, false, None, ◌⊎◌, inl, inr, length, set, Option, Some, refl, sym, ap, ◌∙◌, subst, add-zero}
-use Rattle.std.specs.Prelude.{if◌then◌else◌}
+use Rattle.std.specs.Prelude.{◌&&◌, if◌then◌else◌}
 use Rattle.std.proofs.lemmas.Option.{none-some, same_Some, slice_get_within}
 use Rattle.std.proofs.lemmas.Bool.{cases_eq, eq-eqb, ne_eqb}
 use Rattle.ga_place.specs.Node.{IsNodeName}
@@ -14,10 +14,10 @@ use Rattle.ga_chip.specs.declared.outcome.Outcome.TheVariants.{Moved, Waits, Hel
 use Rattle.ga_chip.specs.Part.{Part, count_at, Asks, Nothing, asks, asks_by, picked_by, after}
 use Rattle.ga_chip.specs.Chip.{Chip, part_of, found_by, cells_after, tried, tried_at}
 use Rattle.ga_chip.specs.Chip.{with_changed}
-use Rattle.ga_chip.specs.Run.{Event, Try, SetBreak, ClearBreak, PassBreak, Piece, break_set, break_cleared, break_passed, words_left, piece_come, piece_of, happened, Move, if_moved, move_at, move_in, fed_by, posted_by, taken_by, moves_of}
+use Rattle.ga_chip.specs.Run.{Event, Try, SetBreak, ClearBreak, PassBreak, Piece, break_set, break_cleared, break_passed, words_left, stream_with, piece_come, piece_of, happened, Move, if_moved, move_at, move_in, input_by, posted_by, taken_by, moves_of}
 use Rattle.ga_chip.proofs.Lists.{get-set_here, get-set_else}
 use Rattle.ga_place.proofs.Cells.{one_place}
-use Rattle.ga_chip.proofs.Parts.{Fits, asks_fits, moved_asks, stand_after, stands_after, feeds_after, name_after, written_after, read_after, Quiet, quiet_after, steps_after, Passed, passed_after, counts_after}
+use Rattle.ga_chip.proofs.Parts.{Fits, asks_fits, moved_asks, stand_after, stands_after, feeds_after, opened_after, name_after, written_after, read_after, Quiet, quiet_after, steps_after, Passed, passed_after, counts_after}
 
 -- An event that changes one node's part, as a try or a use of its breakpoints does: the part after it, what was asked
 -- for and found, and what came of it.
@@ -40,15 +40,16 @@ pub record Does (chip : Chip) (event : Event) : Type 0 where
   pub quiet : (outcome ≡ Moved → ⊥) → Quiet asked found
   pub stands : next.state ≡ stand_after asked found part.state
   pub named : next.state.node ≡ part.state.node
-  pub elsewhere : (other : ℕ) → (other ≡ name → ⊥) → piece_of other event ≡ []
-  pub fed : words_left part.stream ++ piece_of name event ≡ fed_by asked ++ words_left next.stream
+  pub opens : next.opened ≡ part.opened
+  pub elsewhere : (opened : Bool) (other : ℕ) → (other ≡ name → ⊥) → piece_of opened other event ≡ []
+  pub fed : words_left part.stream ++ piece_of part.opened name event ≡ input_by asked ++ words_left next.stream
   pub wrote : (at : Side) (cell : ℕ) → cell_of part.state.node at ≡ Some cell → count_at at next.written ≡ count_at at part.written + length (posted_by cell asked)
   pub took : (at : Side) (cell : ℕ) → IsNodeName part.state.node → read_cell part.state.node at ≡ Some cell → count_at at next.read ≡ count_at at part.read + length (taken_by cell asked found)
   pub steps : (at : Side) → count_at at part.written ≤ part.state.steps → count_at at next.written ≤ next.state.steps
 
 -- an event that changes nothing
 abbrev pub DoesNothing : Chip → Event → Type 0
-DoesNothing chip event = (happened chip event ≡ chip) × (move_in chip event ≡ []) × ((name : ℕ) (part : Part) → part_of chip name ≡ Some part → piece_of name event ≡ [])
+DoesNothing chip event = (happened chip event ≡ chip) × (move_in chip event ≡ []) × ((opened : Bool) (name : ℕ) (part : Part) → part_of chip name ≡ Some part → piece_of opened name event ≡ [])
 
 tries : (chip : Chip) (name : ℕ) (side : Side) (part : Part) → part_of chip name ≡ Some part → Does chip (Try name side)
 unfolding happened tried move_in
@@ -71,7 +72,8 @@ tries chip name side part there = record {
   quiet = quiet_after part side _;
   stands = stands_after part side _;
   named = name_after part side _;
-  elsewhere = λ other apart. refl;
+  opens = opened_after part side _;
+  elsewhere = λ opened other apart. refl;
   fed = append-nil (words_left part.stream) ∙ feeds_after part side (found_by (asks part side) chip.cells);
   wrote = written_after part side _;
   took = read_after part side _;
@@ -84,9 +86,9 @@ bared part = record part { breaks = []; pass = false; stream = None }
 
 -- a change of a node's breakpoints, its pass and its stream alone, by an event that gives words to the stream
 abbrev OnlyBreaks : (Part → Part) → Event → ℕ → Type 0
-OnlyBreaks change event name = (part : Part) → (bared (change part) ≡ bared part) × (words_left part.stream ++ piece_of name event ≡ words_left (change part).stream)
+OnlyBreaks change event name = (part : Part) → (bared (change part) ≡ bared part) × (words_left part.stream ++ piece_of part.opened name event ≡ words_left (change part).stream)
 
-breaks : (chip : Chip) (event : Event) (name : ℕ) (change : Part → Part) (part : Part) → OnlyBreaks change event name → ((other : ℕ) → (other ≡ name → ⊥) → piece_of other event ≡ []) → happened chip event ≡ with_changed change (part_of chip name) chip name → move_in chip event ≡ [] → part_of chip name ≡ Some part → Does chip event
+breaks : (chip : Chip) (event : Event) (name : ℕ) (change : Part → Part) (part : Part) → OnlyBreaks change event name → ((opened : Bool) (other : ℕ) → (other ≡ name → ⊥) → piece_of opened other event ≡ []) → happened chip event ≡ with_changed change (part_of chip name) chip name → move_in chip event ≡ [] → part_of chip name ≡ Some part → Does chip event
 breaks chip event name change part only others leads none there =
     let same : bared (change part) ≡ bared part = (only part).0 in
     record {
@@ -108,6 +110,7 @@ breaks chip event name change part only others leads none there =
       quiet = λ e. record { posts = λ cell. refl; takes = λ cell. refl; stays = λ at. refl; feeds = refl };
       stands = ap (λ p. p.state) same;
       named = ap (λ p. p.state.node) same;
+      opens = ap (λ p. p.opened) same;
       elsewhere = others;
       fed = (only part).1;
       wrote = λ at cell here. ap (λ p. count_at at p.written) same ∙ sym (add-zero _);
@@ -115,29 +118,31 @@ breaks chip event name change part only others leads none there =
       steps = λ at h. subst (λ p. count_at at p.written ≤ p.state.steps) (sym same) h;
     }
 
-breaks_or_not : (chip : Chip) (event : Event) (name : ℕ) (change : Part → Part) (found : Option Part) → part_of chip name ≡ found → OnlyBreaks change event name → ((other : ℕ) → (other ≡ name → ⊥) → piece_of other event ≡ []) → happened chip event ≡ with_changed change (part_of chip name) chip name → move_in chip event ≡ [] → DoesNothing chip event ⊎ Does chip event
-breaks_or_not chip event name change None e only others leads none = inl (leads ∙ ap (λ o. with_changed change o chip name) e, none, λ n part there. others n (λ same. none-some part (sym e ∙ ap (part_of chip) (sym same) ∙ there)))
+breaks_or_not : (chip : Chip) (event : Event) (name : ℕ) (change : Part → Part) (found : Option Part) → part_of chip name ≡ found → OnlyBreaks change event name → ((opened : Bool) (other : ℕ) → (other ≡ name → ⊥) → piece_of opened other event ≡ []) → happened chip event ≡ with_changed change (part_of chip name) chip name → move_in chip event ≡ [] → DoesNothing chip event ⊎ Does chip event
+breaks_or_not chip event name change None e only others leads none = inl (leads ∙ ap (λ o. with_changed change o chip name) e, none, λ opened n part there. others opened n (λ same. none-some part (sym e ∙ ap (part_of chip) (sym same) ∙ there)))
 breaks_or_not chip event name change (Some part) e only others leads none = inr (breaks chip event name change part only others leads none e)
 
 tries_or_not : (chip : Chip) (name : ℕ) (side : Side) (found : Option Part) → part_of chip name ≡ found → DoesNothing chip (Try name side) ⊎ Does chip (Try name side)
 unfolding happened tried move_in
-tries_or_not chip name side None e = inl (ap (λ o. (tried_at o chip name side).1) e, ap (λ o. move_at o chip name side) e, λ n part there. refl)
+tries_or_not chip name side None e = inl (ap (λ o. (tried_at o chip name side).1) e, ap (λ o. move_at o chip name side) e, λ opened n part there. refl)
 tries_or_not chip name side (Some part) e = inr (tries chip name side part e)
 
 -- each event does one of the two
 pub does : (chip : Chip) (event : Event) → DoesNothing chip event ⊎ Does chip event
 unfolding happened move_in
 does chip (Try name side) = tries_or_not chip name side (part_of chip name) refl
-does chip (SetBreak name at) = breaks_or_not chip (SetBreak name at) name (break_set at) (part_of chip name) refl (λ p. (refl, append-nil (words_left p.stream))) (λ other apart. refl) refl refl
-does chip (ClearBreak name at) = breaks_or_not chip (ClearBreak name at) name (break_cleared at) (part_of chip name) refl (λ p. (refl, append-nil (words_left p.stream))) (λ other apart. refl) refl refl
-does chip (Piece name words) = breaks_or_not chip (Piece name words) name (piece_come words) (part_of chip name) refl (λ p. (refl, pick (name == name) (eq-eqb name name refl) p)) (λ other apart. none (name == other) (ne_eqb name other (λ e. apart (sym e)))) refl refl
+does chip (SetBreak name at) = breaks_or_not chip (SetBreak name at) name (break_set at) (part_of chip name) refl (λ p. (refl, append-nil (words_left p.stream))) (λ opened other apart. refl) refl refl
+does chip (ClearBreak name at) = breaks_or_not chip (ClearBreak name at) name (break_cleared at) (part_of chip name) refl (λ p. (refl, append-nil (words_left p.stream))) (λ opened other apart. refl) refl refl
+does chip (Piece name words) = breaks_or_not chip (Piece name words) name (piece_come words) (part_of chip name) refl (λ p. (refl, pick p.opened (name == name) (eq-eqb name name refl) p.stream)) (λ opened other apart. none opened (name == other) (ne_eqb name other (λ e. apart (sym e)))) refl refl
   where
-    none : (b : Bool) → b ≡ false → (if b then words else []) ≡ []
-    none b e = rw e refl
+    none : (opened b : Bool) → b ≡ false → (if opened && b then words else []) ≡ []
+    none true b e = rw e refl
+    none false b e = refl
 
-    pick : (b : Bool) → b ≡ true → (p : Part) → words_left p.stream ++ (if b then words else []) ≡ words_left p.stream ++ words
-    pick b e p = rw e refl
-does chip (PassBreak name) = breaks_or_not chip (PassBreak name) name break_passed (part_of chip name) refl (λ p. (refl, append-nil (words_left p.stream))) (λ other apart. refl) refl refl
+    pick : (opened b : Bool) → b ≡ true → (stream : Option (List ℕ)) → words_left stream ++ (if opened && b then words else []) ≡ words_left (stream_with opened words stream)
+    pick true b e stream = rw e refl
+    pick false b e stream = append-nil (words_left stream)
+does chip (PassBreak name) = breaks_or_not chip (PassBreak name) name break_passed (part_of chip name) refl (λ p. (refl, append-nil (words_left p.stream))) (λ opened other apart. refl) refl refl
 
 -- The node's part after the event.
 pub part_here : (chip : Chip) (event : Event) (d : Does chip event) → part_of (happened chip event) d.name ≡ Some d.next

@@ -26,5 +26,6 @@ pub mod Awake
 pub mod Tries
 pub mod Sides
 pub mod Uses
+pub mod Feeding
 pub mod Holds
 mod WorkedChip

@@ -17,7 +17,7 @@ use Rattle.ga_place.specs.Cell.{cell_of, read_cell}
 use Rattle.ga_chip.specs.declared.outcome.Outcome.TheVariants.{Moved}
 use Rattle.ga_chip.specs.declared.counts.Counts.{Counts}
 use Rattle.ga_chip.specs.Part.{Part, count_at, counted, Asks, Nothing, Own, Feed, Post, Check, Take, asks, asks_by, asks_if, held_by, is_held, looked_at, take_of, take_from, post_to, check_of, input_of, picked_of, picked_by, rest_of, after, after_asked}
-use Rattle.ga_chip.specs.Run.{fed_by, posted_by, taken_by, words_left}
+use Rattle.ga_chip.specs.Run.{input_by, posted_by, taken_by, words_left}
 use Rattle.ga_place.proofs.Cells.{one_writer, one_reader, same_bit}
 use Rattle.ga_node.proofs.Rows.{step_node, step_steps}
 
@@ -230,7 +230,7 @@ pub record Quiet (q : Asks) (found : Option ℕ) : Type 0 where
   pub posts : (cell : ℕ) → posted_by cell q ≡ []
   pub takes : (cell : ℕ) → taken_by cell q found ≡ []
   pub stays : (at : State) → stand_after q found at ≡ at
-  pub feeds : fed_by q ≡ []
+  pub feeds : input_by q ≡ []
 
 quiet_asked : (q : Asks) (found : Option ℕ) (part : Part) → ((after_asked q found part).0 ≡ Moved → ⊥) → Quiet q found
 quiet_asked (Nothing outcome) found part still = record { posts = λ cell. refl; takes = λ cell. refl; stays = λ at. refl; feeds = refl }
@@ -313,7 +313,7 @@ stream_by _ stream = stream
 
 -- a try is fed the next word of the stream
 abbrev pub Feeds : Asks → Option (List ℕ) → Type 0
-Feeds q stream = words_left stream ≡ fed_by q ++ words_left (stream_by q stream)
+Feeds q stream = words_left stream ≡ input_by q ++ words_left (stream_by q stream)
 
 feeds_take : (name : ℕ) (side : Side) (at : Option ℕ) (stream : Option (List ℕ)) → Feeds (take_of side at) stream
 feeds_take name side (Some cell) stream = refl
@@ -362,6 +362,20 @@ stream_asked (Check side cell) (Some word) part = refl
 stream_asked (Take side cell) None part = refl
 stream_asked (Take side cell) (Some word) part = refl
 
-pub feeds_after : (part : Part) (side : Side) (found : Option ℕ) → words_left part.stream ≡ fed_by (asks part side) ++ words_left (after part side found).1.stream
+opened_asked : (q : Asks) (found : Option ℕ) (part : Part) → (after_asked q found part).1.opened ≡ part.opened
+opened_asked (Nothing outcome) found part = refl
+opened_asked Own found part = refl
+opened_asked (Feed fed) found part = refl
+opened_asked (Post side cell word) found part = refl
+opened_asked (Check side cell) None part = refl
+opened_asked (Check side cell) (Some word) part = refl
+opened_asked (Take side cell) None part = refl
+opened_asked (Take side cell) (Some word) part = refl
+
+pub opened_after : (part : Part) (side : Side) (found : Option ℕ) → (after part side found).1.opened ≡ part.opened
+unfolding after
+opened_after part side found = opened_asked (asks part side) found part
+
+pub feeds_after : (part : Part) (side : Side) (found : Option ℕ) → words_left part.stream ≡ input_by (asks part side) ++ words_left (after part side found).1.stream
 unfolding asks after
-feeds_after part side found = feeds_if (is_held part) part side ∙ ap (λ s. fed_by (asks part side) ++ words_left s) (sym (stream_asked (asks part side) found part))
+feeds_after part side found = feeds_if (is_held part) part side ∙ ap (λ s. input_by (asks part side) ++ words_left s) (sym (stream_asked (asks part side) found part))

@@ -15,7 +15,7 @@ use Rattle.ga_chip.proofs.Lists.{set-get}
 use Rattle.ga_chip.proofs.Placed.{changed_there}
 use Rattle.ga_chip.proofs.Tries.{part_at, tried_there}
 
-changed_at : (change : Part → Part) (chip : Chip) (name index : ℕ) (part next : Part) → length chip.parts ≡ 144 → index ≡ index_of name → index < 144 → part ≡ get_or chip.parts index part → next ≡ change part → record chip { parts = set chip.parts index next } ≡ with_changed change (part_of chip name) chip name
+pub changed_at : (change : Part → Part) (chip : Chip) (name index : ℕ) (part next : Part) → length chip.parts ≡ 144 → index ≡ index_of name → index < 144 → part ≡ get_or chip.parts index part → next ≡ change part → record chip { parts = set chip.parts index next } ≡ with_changed change (part_of chip name) chip name
 changed_at change chip name index part next full is below read e =
     ap₂ (λ i p. record chip { parts = set chip.parts i p }) is e ∙ sym (changed_there change chip name part (part_at chip name index part full is below read))
 

@@ -1,5 +1,5 @@
 -- The chip: the nodes' parts in order of name, and the word pending in each cell. A try of one node.
-use Rattle.std.specs.Prelude.{◌≡◌, ℕ, ◌==◌, false, List, map, replicate, Option, Some, None, Result, Ok, Err, is_some, option_map, set, slice_get, slice_index_or, if◌then◌else◌}
+use Rattle.std.specs.Prelude.{◌≡◌, ℕ, ◌==◌, true, false, List, [], map, replicate, Option, Some, None, Result, Ok, Err, is_some, option_map, set, slice_get, slice_index_or, if◌then◌else◌}
 use Rattle.std.specs.Option.{option_and_then}
 use Rattle.std.specs.List.{range_with_len}
 use Rattle.ga_place.specs.Cell.{index_of, name_at}
@@ -82,7 +82,7 @@ no_counts = record { right = 0; down = 0; left = 0; up = 0 }
 
 -- a node's part after reset: no breakpoint, no pass, no stream, and nothing written or read
 abbrev pub reset_part : ℕ → Part
-reset_part name = record { state = reset_state name; breaks = replicate 512 false; pass = false; stream = None; written = no_counts; read = no_counts }
+reset_part name = record { state = reset_state name; breaks = replicate 512 false; pass = false; stream = None; opened = false; written = no_counts; read = no_counts }
 
 -- The chip after reset: each node's part, and nothing pending.
 unfoldable pub reset_chip : Chip
@@ -128,8 +128,16 @@ placed chip name words entry = with_changed (given words entry) (part_of chip na
 
 -- a part whose node is as after reset, and loads itself from these words
 abbrev pub streaming : List ℕ → Part → Part
-streaming words part = record part { state = booting_state part.state.node; stream = Some words }
+streaming words part = record part { state = booting_state part.state.node; stream = Some words; opened = false }
 
 -- The chip where a node was given a stream.
 unfoldable pub streamed : Chip → ℕ → List ℕ → Chip
 streamed chip name words = with_changed (streaming words) (part_of chip name) chip name
+
+-- a part whose node is as after reset, and loads itself from words that are still to come
+abbrev pub opening : Part → Part
+opening part = record part { state = booting_state part.state.node; stream = Some []; opened = true }
+
+-- The chip where a node's stream was opened.
+unfoldable pub stream_opened : Chip → ℕ → Chip
+stream_opened chip name = with_changed opening (part_of chip name) chip name

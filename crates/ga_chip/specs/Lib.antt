@@ -3,6 +3,7 @@ pub mod Asks
 pub mod Chip
 pub mod Ledger
 pub mod Run
+pub mod Stream
 pub mod Grow
 pub mod Legal
 pub mod Laws

@@ -38,6 +38,8 @@ pub record Part : Type 0 where
   pub pass : Bool
   -- the words left of the node's stream, where one was given
   pub stream : Option (List ℕ)
+  -- whether the stream was opened, so that it goes on in pieces
+  pub opened : Bool
   -- how many words the node has written at each side, and how many it has read there
   pub written : Counts
   pub read : Counts

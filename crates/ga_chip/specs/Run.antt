@@ -1,5 +1,6 @@
 -- Runs of the chip along a list of events, and the words written and taken in them.
-use Rattle.std.specs.Prelude.{ℕ, zero, suc, ◌%◌, ◌==◌, Bool, true, false, ◌||◌, set, slice_index_or, if◌then◌else◌, List, [], ◌∷◌, ◌++◌, map, take, Option, Some, None}
+use Rattle.std.specs.Prelude.{ℕ, zero, suc, ◌%◌, ◌==◌, Bool, true, false, ◌&&◌, ◌||◌, set, slice_index_or, if◌then◌else◌, List, [], ◌∷◌, ◌++◌, map, take, Option, Some, None}
+use Rattle.std.specs.Option.{option_map_or}
 use Rattle.std.specs.List.{filter, flat_map, range_with_len}
 use Rattle.ga_place.specs.Side.{SIDES}
 use Rattle.ga_place.specs.declared.side.Side.{Side}
@@ -22,7 +23,7 @@ pub data Event : Type 0 where
   ClearBreak : ℕ → ℕ → Event
   -- a pass, where the node is held
   PassBreak : ℕ → Event
-  -- the node's stream goes on with these words
+  -- the node's stream goes on with these words, where it was opened
   Piece : ℕ → List ℕ → Event
 
 -- a list of tries
@@ -64,18 +65,30 @@ abbrev pub words_left : Option (List ℕ) → List ℕ
 words_left (Some words) = words
 words_left None = []
 
--- a part whose stream goes on with more words
+-- a stream that was opened goes on with more words, and no other does
+abbrev pub stream_with : Bool → List ℕ → Option (List ℕ) → Option (List ℕ)
+stream_with true words stream = Some (words_left stream ++ words)
+stream_with false words stream = stream
+
+-- a part to whose stream a piece has come
 abbrev pub piece_come : List ℕ → Part → Part
-piece_come words part = record part { stream = Some (words_left part.stream ++ words) }
+piece_come words part = record part { stream = stream_with part.opened words part.stream }
 
--- the words that an event gives to a node's stream
-abbrev pub piece_of : ℕ → Event → List ℕ
-piece_of name (Piece other words) = if other == name then words else []
-piece_of name _ = []
+-- the words that an event feeds to a node's stream, by whether that was opened
+abbrev pub piece_of : Bool → ℕ → Event → List ℕ
+piece_of opened name (Piece other words) = if opened && (other == name) then words else []
+piece_of opened name _ = []
 
--- the words that events give to a node's stream
-abbrev pub pieces : ℕ → List Event → List ℕ
-pieces name events = flat_map (piece_of name) events
+abbrev pub pieces : Bool → ℕ → List Event → List ℕ
+pieces opened name events = flat_map (piece_of opened name) events
+
+-- whether a node's stream was opened; no event opens one
+abbrev pub is_open : Chip → ℕ → Bool
+is_open chip name = option_map_or (λ part. part.opened) (part_of chip name) false
+
+-- the words that a node's stream is fed in a run
+abbrev pub words_fed : Chip → List Event → ℕ → List ℕ
+words_fed chip events name = pieces (is_open chip name) name events
 
 -- the chip after an event
 unfoldable pub happened : Chip → Event → Chip
@@ -138,9 +151,9 @@ taken_by cell (Take side at) (Some word) = if at == cell then word ∷ [] else [
 taken_by cell _ _ = []
 
 -- the word that a try takes of its node's stream
-abbrev pub fed_by : Asks → List ℕ
-fed_by (Feed word) = word ∷ []
-fed_by _ = []
+abbrev pub input_by : Asks → List ℕ
+input_by (Feed word) = word ∷ []
+input_by _ = []
 
 -- the words posted in a run at a cell, in order, and those taken from it
 abbrev pub written_words : Chip → List Event → ℕ → List ℕ
@@ -150,11 +163,11 @@ abbrev pub taken_words : Chip → List Event → ℕ → List ℕ
 taken_words chip events cell = flat_map (λ move. taken_by cell move.asked move.found) (moves chip events)
 
 -- the words that a node takes of its stream in a run, in order, and those of its first k moves
-abbrev pub fed_words : Chip → List Event → ℕ → List ℕ
-fed_words chip events name = flat_map (λ move. fed_by move.asked) (moves_of name (moves chip events))
+abbrev pub input_words : Chip → List Event → ℕ → List ℕ
+input_words chip events name = flat_map (λ move. input_by move.asked) (moves_of name (moves chip events))
 
-abbrev pub fed_after : Chip → List Event → ℕ → ℕ → List ℕ
-fed_after chip events name k = flat_map (λ move. fed_by move.asked) (take k (moves_of name (moves chip events)))
+abbrev pub input_after : Chip → List Event → ℕ → ℕ → List ℕ
+input_after chip events name k = flat_map (λ move. input_by move.asked) (take k (moves_of name (moves chip events)))
 
 -- the sides of a node's takes of several sides in a run
 abbrev pub sides_of : Chip → List Event → ℕ → List Side

@@ -1,13 +1,14 @@
 ghost use Rattle.std.specs.Prelude.{◌≡◌, ◌≢◌, ◌↔◌, ℕ, ◌+◌, ◌<◌, ◌≤◌, ◌^◌, Err, IfOk, false, if◌then◌else◌, length, true};
 ghost use Rattle.ga_place.specs.Cell.{name_at};
-ghost use Rattle.ga_chip.specs.Chip.{IsHeld, answer_of, placed, refusal, reset_chip, state_of, stream_refusal, streamed, tried, unless_held, unless_refused, with_words};
+ghost use Rattle.ga_chip.specs.Chip.{IsHeld, answer_of, placed, refusal, reset_chip, state_of, stream_opened, stream_refusal, streamed, tried, unless_held, unless_refused, with_words};
 ghost use Rattle.ga_place.specs.declared.side.Side.{Side};
 ghost use Rattle.ga_chip.specs.Ledger.{ledger_of};
 ghost use Rattle.ga_chip.specs.declared.error.ChipError.TheVariants.{NotHeld};
 ghost use Rattle.ga_chip.specs.declared.outcome.Outcome.TheVariants.{Held, Moved};
 ghost use Rattle.ga_chip.specs.Grow.{LedgersGrow};
 ghost use Rattle.ga_chip.specs.Legal.{IsLegal};
-ghost use Rattle.ga_chip.specs.Run.{ClearBreak, PassBreak, SetBreak, happened, moves, ran, tries_of, turn_of, turns_of};
+ghost use Rattle.ga_chip.specs.Stream.{feed_refusal, left_of};
+ghost use Rattle.ga_chip.specs.Run.{ClearBreak, PassBreak, Piece, SetBreak, happened, moves, ran, tries_of, turn_of, turns_of};
 ghost use Rattle.ga_chip.specs.inner.Outcome.{moved_by};
 
 use crate::error::ChipError;
@@ -116,6 +117,53 @@ impl Chip {
         part.give_stream(words);
         self.awake.insert(index);
         Ok(())
+    }
+
+    /// Opens a node's stream: the node is then as `NodeState::booting` says, and loads itself from words that `feed`
+    /// brings. Refused are the nodes that `give_stream` refuses, and the chip is left as it was then. It takes no
+    /// memory. (Streams in pieces are this project's own: profile.)
+    pub fn open_stream(&mut self, node: Node) -> Result<(), ChipError>
+        ensures refused { result ≡ answer_of (stream_refusal self.old node) }
+        ensures chip { self.new ≡ unless_refused (stream_refusal self.old node)
+            (stream_opened self.old node) self.old }
+    {
+        if !node.is_edge() {
+            return Err(ChipError::NotEdge);
+        }
+        let index = index_of(node);
+        let part = &mut self.parts[index];
+        if let Some(fault) = part.refusal() {
+            return Err(fault);
+        }
+        part.open_stream();
+        self.awake.insert(index);
+        Ok(())
+    }
+
+    /// Feeds a piece to a node's stream: the node takes its words when it comes to them. Refused are a node whose
+    /// stream wasn't opened by `open_stream`, `NotOpen`, and one that has not taken all words of the last piece,
+    /// `NotTaken`, whatever the new one holds; the chip is left as it was then, and the words come back. An empty
+    /// piece changes nothing. It takes no memory. (Profile.)
+    pub fn feed(&mut self, node: Node, words: Vec<Word18>) -> Result<(), (ChipError, Vec<Word18>)>
+        ensures refused { result ≡ with_words words (feed_refusal self.old node) }
+        ensures chip { self.new ≡ unless_refused (feed_refusal self.old node)
+            (happened self.old (Piece node words.items)) self.old }
+    {
+        let index = index_of(node);
+        let part = &mut self.parts[index];
+        if let Some(fault) = part.feed_refusal() {
+            return Err((fault, words));
+        }
+        part.feed(words);
+        self.awake.insert(index);
+        Ok(())
+    }
+
+    /// How many words of its stream a node has not yet taken: 0 where it has none.
+    pub fn stream_left(&self, node: Node) -> usize
+        ensures { result ≡ left_of self.now node }
+    {
+        self.parts[index_of(node)].stream_left()
     }
 
     /// Gives a node words, at most 64, and an entry, an address of ten bits: it is then as

@@ -12,6 +12,12 @@ pub enum ChipError {
     /// The node has made a step.
     #[error("Begun")]
     Begun,
+    /// The node's stream wasn't opened, so it can't be fed.
+    #[error("NotOpen")]
+    NotOpen,
+    /// Words of the last piece of the node's stream are left, so it can't be fed another.
+    #[error("NotTaken")]
+    NotTaken,
     /// A try of the node wouldn't be held at a breakpoint, so it can't be given a pass.
     #[error("NotHeld")]
     NotHeld,

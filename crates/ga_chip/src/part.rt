@@ -7,9 +7,10 @@ ghost use Rattle.ga_node.specs.State.{is_fetch, loaded_state};
 ghost use Rattle.ga_node.specs.declared.need.Need.TheVariants as need;
 ghost use Rattle.ga_chip.specs.Part.{Check, Nothing, Own, Post, Take, after, after_asked, asks, asks_by, count_at, input_of, looked_at, stepped, take_from, take_of};
 ghost use Rattle.ga_chip.specs.Asks.{asked_of, look_of, looks_of, told_as};
-ghost use Rattle.ga_chip.specs.Chip.{cells_after, found_by, given, part_refusal, reset_part, streaming};
+ghost use Rattle.ga_chip.specs.Chip.{cells_after, found_by, given, opening, part_refusal, reset_part, streaming};
+ghost use Rattle.ga_chip.specs.Stream.{part_feed_refusal};
 ghost use Rattle.ga_chip.specs.inner.Awake.{partner_of};
-ghost use Rattle.ga_chip.specs.Run.{break_cleared, break_passed, break_set, is_hold};
+ghost use Rattle.ga_chip.specs.Run.{break_cleared, break_passed, break_set, is_hold, piece_come, words_left};
 ghost use Rattle.ga_chip.specs.declared.outcome.Outcome.{Outcome};
 ghost use Rattle.ga_chip.specs.declared.outcome.Outcome.TheVariants.{Held, Moved, Waits};
 
@@ -41,6 +42,7 @@ pub struct NodePart {
     written: Counts,
     read: Counts,
     stream: Option<Stream>,
+    opened: bool,
     // So that they aren't worked out at each step.
     ports: Ports,
 }
@@ -68,6 +70,7 @@ impl Model for NodePart {
       breaks = part.watch.breaks;
       pass = part.watch.pass;
       stream = part.stream;
+      opened = part.opened;
       written = part.written;
       read = part.read;
     } };
@@ -89,6 +92,7 @@ impl NodePart {
             written: Counts::new(),
             read: Counts::new(),
             stream: None,
+            opened: false,
             ports: Ports::new(node),
         }
     }
@@ -556,6 +560,48 @@ impl NodePart {
         ensures { self.new ≡ streaming words.items self.old }
     {
         self.state = NodeState::booting(self.state.node());
+        self.stream = Some(Stream::new(words));
+        self.opened = false;
+    }
+
+    /// Opens the stream of a node that has made no step: it loads itself from words that are still to come.
+    pub(crate) fn open_stream(&mut self)
+        requires new { self.old.state.steps ≡ 0 }
+        ensures { self.new ≡ opening self.old }
+    {
+        self.state = NodeState::booting(self.state.node());
+        self.stream = Some(Stream::open());
+        self.opened = true;
+    }
+
+    /// How many words of its stream the node has not yet taken.
+    pub(crate) fn stream_left(&self) -> usize
+        ensures { result ≡ length (words_left self.now.stream) }
+    {
+        match &self.stream {
+            Some(stream) => stream.len(),
+            None => 0,
+        }
+    }
+
+    /// Why the node's stream can't be fed, if it can't.
+    pub(crate) fn feed_refusal(&self) -> Option<ChipError>
+        ensures { result ≡ part_feed_refusal self.now }
+    {
+        if !self.opened {
+            Some(ChipError::NotOpen)
+        } else if self.stream_left() == 0 {
+            None
+        } else {
+            Some(ChipError::NotTaken)
+        }
+    }
+
+    /// Feeds a piece to the node's stream, of which no word is left.
+    pub(crate) fn feed(&mut self, words: Vec<Word18>)
+        requires taken { part_feed_refusal self.old ≡ None }
+        ensures { self.new ≡ piece_come words.items self.old }
+    {
         self.stream = Some(Stream::new(words));
     }
 

@@ -1,4 +1,4 @@
-ghost use Rattle.std.specs.Prelude.{◌≡◌, drop, is_none, slice_get};
+ghost use Rattle.std.specs.Prelude.{◌≡◌, [], drop, is_none, length, slice_get};
 
 use ga_word::Word18;
 use std::marker::Model;
@@ -6,18 +6,20 @@ use std::marker::Model;
 /// The words of a node's stream that it has not yet taken. A contract sees their list.
 #[derive(Drop)]
 pub(crate) struct Stream {
-    words: Vec<Word18>,
+    // None as long as no piece has come, since without an allocator there is no empty `Vec`.
+    words: Option<Vec<Word18>>,
     taken: usize,
 }
 
 impl Model for Stream {
-    ghost use Rattle.std.specs.Prelude.{ℕ, ◌≤◌, List, drop, length, vec_items};
+    ghost use Rattle.std.specs.Prelude.{ℕ, ◌≤◌, List, [], drop, length, vec_items};
+    ghost use Rattle.std.specs.Option.{option_map_or};
 
     ghost Value = { List ℕ };
 
-    ghost view = { λ stream. drop stream.taken (vec_items stream.words) };
+    ghost view = { λ stream. drop stream.taken (option_map_or vec_items stream.words []) };
 
-    ghost invariant = { λ stream. stream.taken ≤ length (vec_items stream.words) };
+    ghost invariant = { λ stream. stream.taken ≤ length (option_map_or vec_items stream.words []) };
 }
 
 impl Stream {
@@ -25,14 +27,40 @@ impl Stream {
     pub(crate) fn new(words: Vec<Word18>) -> Self
         ensures { result ≡ words.items }
     {
-        Stream { words, taken: 0 }
+        Stream {
+            words: Some(words),
+            taken: 0,
+        }
+    }
+
+    /// A stream to which no word has come yet.
+    pub(crate) fn open() -> Self
+        ensures { result ≡ [] }
+    {
+        Stream {
+            words: None,
+            taken: 0,
+        }
+    }
+
+    /// How many words are left.
+    pub(crate) fn len(&self) -> usize
+        ensures { result ≡ length self.now }
+    {
+        match &self.words {
+            Some(words) => words.len() - self.taken,
+            None => 0,
+        }
     }
 
     /// Whether no word is left.
     pub(crate) fn is_empty(&self) -> bool
         ensures { result ≡ is_none (slice_get self.now 0) }
     {
-        self.words.get(self.taken).is_none()
+        match &self.words {
+            Some(words) => words.get(self.taken).is_none(),
+            None => true,
+        }
     }
 
     /// Takes the next word, if one is left.
@@ -40,7 +68,8 @@ impl Stream {
         ensures word { result ≡ slice_get self.old 0 }
         ensures rest { self.new ≡ drop 1 self.old }
     {
-        let word = self.words.get(self.taken).copied()?;
+        let words = self.words.as_ref()?;
+        let word = words.get(self.taken).copied()?;
         self.taken += 1;
         Some(word)
     }

@@ -6,14 +6,14 @@ use Rattle.ga_law_examples.proofs.orders.two_orders.Goals as goal
 
 pub returns : goal.returns
 returns c =
-    let agreed = c.confluence.ensures.agree c.args.one.now c.args.two.now (tries_of c.args.order.now) (tries_of c.args.another.now) c.legal.ensures c.legal-2.ensures c.requires.chips c.requires.sides (pieces_agree c.args.order.now c.args.another.now) in
+    let agreed = c.confluence.ensures.agree c.args.one.now c.args.two.now (tries_of c.args.order.now) (tries_of c.args.another.now) c.legal.ensures c.legal-2.ensures c.requires.chips c.requires.sides (pieces_agree c.args.one.now c.args.two.now c.args.order.now c.args.another.now) in
     record {
       first = c.run.ensures.chip;
       second = c.run-2.ensures.chip;
       nodes = λ name here there at then steps.
           let at' = ap (λ chip. part_of chip name) (sym c.run.ensures.chip) ∙ at in
           let then' = ap (λ chip. part_of chip name) (sym c.run-2.ensures.chip) ∙ then in
-          record { state = agreed.ends name here there at' then' steps; stream = agreed.left name here there at' then' steps (same_pieces name c.args.order.now c.args.another.now) };
+          record { state = agreed.ends name here there at' then' steps; stream = agreed.left name here there at' then' steps (same_pieces c.args.one.now c.args.two.now name c.args.order.now c.args.another.now) };
       written = agreed.written;
       taken = agreed.taken;
     }

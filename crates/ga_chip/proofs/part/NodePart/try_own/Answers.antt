@@ -16,7 +16,7 @@ invariant_of-self c = (
 
 pub returns-clause-asks : goal.returns-clause-asks
 returns-clause-asks c = λ yes side.
-    let part : Part = record { state = c.self.inside.state; breaks = c.self.inside.watch.breaks; pass = c.self.inside.watch.pass; stream = c.self.inside.stream; written = c.self.inside.written; read = c.self.inside.read } in
+    let part : Part = record { state = c.self.inside.state; breaks = c.self.inside.watch.breaks; pass = c.self.inside.watch.pass; stream = c.self.inside.stream; opened = c.self.inside.opened; written = c.self.inside.written; read = c.self.inside.read } in
     sym (ap (λ p. asks p side) c.self.view_is)
     ∙ own_asks part (not c.is_on.result) side (sym c.try_step.ensures.own ∙ yes) (λ off. (c.is_on.ensures (not-true _ off)).0)
 
@@ -26,6 +26,6 @@ returns-clause-quick c = λ own off.
 
 pub returns-clause-step : goal.returns-clause-step
 returns-clause-step c =
-    let part : Part = record { state = c.self.inside.state; breaks = c.self.inside.watch.breaks; pass = c.self.inside.watch.pass; stream = c.self.inside.stream; written = c.self.inside.written; read = c.self.inside.read } in
+    let part : Part = record { state = c.self.inside.state; breaks = c.self.inside.watch.breaks; pass = c.self.inside.watch.pass; stream = c.self.inside.stream; opened = c.self.inside.opened; written = c.self.inside.written; read = c.self.inside.read } in
     own_part part c.try_step.new.self c.try_step.result (not c.is_on.result) c.try_step.ensures.own c.try_step.ensures.step (λ off. (c.is_on.ensures (not-true _ off)).1)
     ∙ ap (λ p. if c.try_step.result then stepped None p else p) c.self.view_is
