@@ -10,10 +10,11 @@ use Rattle.ga_node.specs.declared.place.Place.TheVariants.{Slot0, Slot1}
 use Rattle.ga_place.specs.Cell.{cell_of, all_cells}
 use Rattle.ga_chip.specs.declared.outcome.Outcome.TheVariants.{Held, Moved, Stopped, Waits}
 use Rattle.ga_node.specs.declared.need.Need.TheVariants as need
-use Rattle.ga_chip.specs.declared.error.ChipError.TheVariants.{AlreadyGiven, NotEdge}
+use Rattle.ga_chip.specs.declared.error.ChipError.TheVariants.{AlreadyGiven, NotEdge, NotOpen, NotTaken}
 use Rattle.ga_chip.specs.Part.{Part, Check, Feed, Post, Take, Nothing, asks, asks_by, after, is_held, rest_of, stepped}
-use Rattle.ga_chip.specs.Run.{break_cleared, break_passed, break_set}
-use Rattle.ga_chip.specs.Chip.{cells_after, pending_in, refusal, reset_chip, reset_part, stream_refusal, streamed, tried}
+use Rattle.ga_chip.specs.Run.{Piece, break_cleared, break_passed, break_set, happened, words_fed}
+use Rattle.ga_chip.specs.Chip.{cells_after, pending_in, refusal, reset_chip, reset_part, stream_opened, stream_refusal, streamed, tried}
+use Rattle.ga_chip.specs.Stream.{feed_refusal, left_of}
 use Rattle.ga_chip.specs.Ledger.{ledger_of}
 
 -- after reset a node takes at the side that is named: 709 reads the cell 495 of 708 on its right
@@ -153,6 +154,32 @@ inner_101 = refl
 given_000 : refusal (streamed reset_chip 0 (0x000AE ∷ [])) 0 ≡ Some AlreadyGiven
 unfolding streamed reset_chip
 given_000 = refl
+
+-- a stream that was opened takes a piece as long as no word is left, and one that was given takes none
+opened_708 : feed_refusal (stream_opened reset_chip 708) 708 ≡ None
+unfolding stream_opened reset_chip
+opened_708 = refl
+
+fed_708 : left_of (happened (stream_opened reset_chip 708) (Piece 708 (0x000AE ∷ 0x001D5 ∷ []))) 708 ≡ 2
+unfolding happened stream_opened reset_chip
+fed_708 = refl
+
+fed_twice : feed_refusal (happened (stream_opened reset_chip 708) (Piece 708 (0x000AE ∷ []))) 708 ≡ Some NotTaken
+unfolding happened stream_opened reset_chip
+fed_twice = refl
+
+given_708 : feed_refusal (streamed reset_chip 708 []) 708 ≡ Some NotOpen
+unfolding streamed reset_chip
+given_708 = refl
+
+-- and only the words that an opened stream takes count as fed
+words_708 : words_fed (stream_opened reset_chip 708) (Piece 708 (0x000AE ∷ []) ∷ Piece 709 (0x001D5 ∷ []) ∷ []) 708 ≡ 0x000AE ∷ []
+unfolding stream_opened reset_chip
+words_708 = refl
+
+words_709 : words_fed (stream_opened reset_chip 708) (Piece 709 (0x001D5 ∷ []) ∷ []) 709 ≡ []
+unfolding stream_opened reset_chip
+words_709 = refl
 
 -- a word of the stream is taken from its front
 feeds : asks_by need.Input 0 (Some (0x000AE ∷ 0x00000 ∷ [])) Up ≡ Feed 0x000AE

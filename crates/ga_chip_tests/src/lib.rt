@@ -23,4 +23,6 @@ mod parts;
 #[cfg(test)]
 mod ports;
 #[cfg(test)]
+mod streams;
+#[cfg(test)]
 mod workers;

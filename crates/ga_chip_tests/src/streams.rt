@@ -1,0 +1,118 @@
+//! Tests of streams that come in pieces.
+
+use crate::chips::{give, moves, outcome};
+use ga_chip::{Chip, ChipError, Outcome};
+use ga_node::{Need, Stop};
+use ga_place::{Node, Side};
+use ga_test_values::{TWO_HOPS, array, nodes, words};
+use std::alloc::Global;
+use std::test::Fail;
+
+/// The load of 709 from 708, with the one word `. . . .`, and its start.
+const LOAD: [u32; 14] = [
+    0x000AE, 0x001D5, 0x00008, 0x101D5, 0x04A12, 0x00000, 0x00000, 0x2E9B2, 0x05872, 0x2C9B2,
+    0x2C9B2, 0x000AE, 0x00000, 0x00000,
+];
+
+const START: [u32; 7] = [
+    0x000AE, 0x001D5, 0x00001, 0x10000, 0x001B5, 0x00000, 0x00000,
+];
+
+/// Feeds a piece to a node's stream. Answers the fault with the number of words that came back, where it is refused.
+fn feed(
+    alloc: Global,
+    chip: &mut Chip,
+    node: Node,
+    numbers: &[u32],
+) -> Result<Option<(ChipError, usize)>, Fail> {
+    match chip.feed(node, words(alloc, numbers)?) {
+        Ok(()) => Ok(None),
+        Err((fault, back)) => Ok(Some((fault, back.len()))),
+    }
+}
+
+#[test]
+fn boot_one_neighbour_in_pieces(rt: HostRuntime) -> Result<(), Fail> {
+    let [node_708, node_709] = nodes(&[708, 709])?;
+    let memory = array::<64>(&[0x2C9B2])?;
+    let alloc = rt.alloc();
+    let mut chip = Chip::reset(alloc)?;
+    assert!(rt; chip.open_stream(node_708).is_ok() && chip.stream_left(node_708) == 0);
+    assert!(rt; feed(alloc, &mut chip, node_708, &LOAD)?.is_none());
+    assert!(rt; chip.stream_left(node_708) == 14);
+    let _moved = chip.turns(4000);
+    assert!(rt; chip.stream_left(node_708) == 0);
+    let loaded = chip.state(node_709);
+    assert!(rt; loaded.p() == 0x1D5 && matches!(loaded.need(), Need::Take(_)));
+    assert!(rt; loaded.ram() == memory.as_slice());
+    assert!(rt; feed(alloc, &mut chip, node_708, &START)?.is_none());
+    assert!(rt; feed(alloc, &mut chip, node_708, &START)? == Some((ChipError::NotTaken, 7)));
+    assert!(rt; chip.stream_left(node_708) == 7);
+    let _moved = chip.turns(4000);
+    let started = chip.state(node_709);
+    assert!(rt; started.stop() == Some(Stop::IoRead) && started.p() == 2);
+    Ok(())
+}
+
+#[test]
+fn pieces_refused_by_name(rt: HostRuntime) -> Result<(), Fail> {
+    let [node_001, node_101, node_708, node_709] = nodes(&[1, 101, 708, 709])?;
+    let alloc = rt.alloc();
+    let mut chip = Chip::reset(alloc)?;
+    assert!(rt; chip.open_stream(node_101) == Err(ChipError::NotEdge));
+    assert!(rt; moves(&mut chip, node_709, Side::Right, 1) == 0);
+    assert!(rt; feed(alloc, &mut chip, node_709, &LOAD)? == Some((ChipError::NotOpen, 14)));
+    // a stream that was given is whole, and isn't fed
+    give(alloc, &mut chip, node_001, &[0x000AE])?;
+    assert!(rt; feed(alloc, &mut chip, node_001, &LOAD)? == Some((ChipError::NotOpen, 14)));
+    assert!(rt; chip.stream_left(node_001) == 1);
+    assert!(rt; chip.open_stream(node_001) == Err(ChipError::AlreadyGiven));
+    // one that was opened isn't given
+    assert!(rt; chip.open_stream(node_708).is_ok());
+    assert!(rt; chip.open_stream(node_708) == Err(ChipError::AlreadyGiven));
+    assert!(rt; chip.place(node_708, &[], 0) == Err(ChipError::AlreadyGiven));
+    let Err((fault, back)) = chip.give_stream(node_708, words(alloc, &LOAD)?) else {
+        return Err("given")?;
+    };
+    assert!(rt; fault == ChipError::AlreadyGiven && back.len() == 14);
+    // an empty piece changes nothing, and a word wakes the node
+    assert!(rt; feed(alloc, &mut chip, node_708, &[])?.is_none());
+    assert!(rt; outcome(&mut chip, node_708, Side::Right) == Outcome::Waits);
+    assert!(rt; chip.turn(Side::Right) == 1 && chip.turn(Side::Right) == 0);
+    assert!(rt; feed(alloc, &mut chip, node_708, &[0x000AE])?.is_none());
+    assert!(rt; chip.turn(Side::Right) == 1 && chip.stream_left(node_708) == 0);
+    Ok(())
+}
+
+/// The chip that TWO_HOPS boots, cut into two pieces at this place, of which the second comes when the first is taken.
+fn booted_in_two(alloc: Global, node: Node, place: usize) -> Result<Chip, Fail> {
+    let mut chip = Chip::reset(alloc)?;
+    let (first, second) = TWO_HOPS.split_at(place);
+    chip.open_stream(node)?;
+    for piece in [first, second] {
+        if feed(alloc, &mut chip, node, piece)?.is_some() {
+            return Err("a piece is refused")?;
+        }
+        let _moved = chip.turns(400);
+    }
+    Ok(chip)
+}
+
+#[test]
+fn boot_two_hops_in_every_cut(rt: HostRuntime) -> Result<(), Fail> {
+    let [node_708, node_709, node_710] = nodes(&[708, 709, 710])?;
+    let alloc = rt.alloc();
+    let mut whole = Chip::reset(alloc)?;
+    give(alloc, &mut whole, node_708, &TWO_HOPS)?;
+    let _moved = whole.turns(800);
+    assert!(rt; whole.state(node_710).p() == 2 && whole.stream_left(node_708) == 0);
+    for place in 0..=TWO_HOPS.len() {
+        let chip = booted_in_two(alloc, node_708, place)?;
+        for node in [node_708, node_709, node_710] {
+            let (here, there) = (chip.state(node), whole.state(node));
+            assert!(rt; here.p() == there.p() && here.steps() == there.steps());
+            assert!(rt; here.ram() == there.ram());
+        }
+    }
+    Ok(())
+}
