@@ -4,7 +4,7 @@ use crate::chips::{give, moves, outcome};
 use ga_chip::{Chip, ChipError, Outcome};
 use ga_node::{Need, Stop};
 use ga_place::{Node, Side};
-use ga_test_values::{TWO_HOPS, array, nodes, words};
+use ga_test_values::{array, nodes, words};
 use std::alloc::Global;
 use std::test::Fail;
 
@@ -81,38 +81,5 @@ fn pieces_refused_by_name(rt: HostRuntime) -> Result<(), Fail> {
     assert!(rt; chip.turn(Side::Right) == 1 && chip.turn(Side::Right) == 0);
     assert!(rt; feed(alloc, &mut chip, node_708, &[0x000AE])?.is_none());
     assert!(rt; chip.turn(Side::Right) == 1 && chip.stream_left(node_708) == 0);
-    Ok(())
-}
-
-/// The chip that TWO_HOPS boots, cut into two pieces at this place, of which the second comes when the first is taken.
-fn booted_in_two(alloc: Global, node: Node, place: usize) -> Result<Chip, Fail> {
-    let mut chip = Chip::reset(alloc)?;
-    let (first, second) = TWO_HOPS.split_at(place);
-    chip.open_stream(node)?;
-    for piece in [first, second] {
-        if feed(alloc, &mut chip, node, piece)?.is_some() {
-            return Err("a piece is refused")?;
-        }
-        let _moved = chip.turns(400);
-    }
-    Ok(chip)
-}
-
-#[test]
-fn boot_two_hops_in_every_cut(rt: HostRuntime) -> Result<(), Fail> {
-    let [node_708, node_709, node_710] = nodes(&[708, 709, 710])?;
-    let alloc = rt.alloc();
-    let mut whole = Chip::reset(alloc)?;
-    give(alloc, &mut whole, node_708, &TWO_HOPS)?;
-    let _moved = whole.turns(800);
-    assert!(rt; whole.state(node_710).p() == 2 && whole.stream_left(node_708) == 0);
-    for place in 0..=TWO_HOPS.len() {
-        let chip = booted_in_two(alloc, node_708, place)?;
-        for node in [node_708, node_709, node_710] {
-            let (here, there) = (chip.state(node), whole.state(node));
-            assert!(rt; here.p() == there.p() && here.steps() == there.steps());
-            assert!(rt; here.ram() == there.ram());
-        }
-    }
     Ok(())
 }
