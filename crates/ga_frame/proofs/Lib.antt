@@ -1,2 +1,3 @@
+mod OneReading
 mod Taking
 mod WorkedFrames

@@ -1,14 +1,19 @@
--- A reader that takes frame after frame off the front of words reads exactly their frames, and finds their first fault.
-use Rattle.std.proofs.Common.{◌≡◌, ◌∙◌, ◌++◌, ◌+◌, ◌-◌, ◌<◌, ◌⊎◌, ℕ, false, List, [], ◌∷◌, inl, inr, All, length, Option, Some, None, refl, sym, ap, subst, append-nil, append_assoc, arith, length-append}
-use Rattle.std.specs.Prelude.{◌==◌, nat_lt}
+-- A reader that takes frame after frame off the front of words stands behind those that it has read, and finds the first
+-- fault of the words and of all that follow them.
+use Rattle.std.proofs.Common.{◌≡◌, ◌∙◌, ◌++◌, ◌+◌, ◌-◌, ◌<◌, ◌⊎◌, ℕ, Bool, true, false, List, [], ◌∷◌, inl, inr, All, length, drop, Some, None, refl, sym, ap, subst, append-nil, append_assoc, arith, length-append}
+use Rattle.std.specs.Prelude.{◌==◌, ◌&&◌, nat_lt, if◌then◌else◌, not}
+use Rattle.std.proofs.lemmas.Bool.{false≢true}
 use Rattle.std.proofs.lemmas.Bool.Decides.{nat_tests}
 use Rattle.std.specs.List.{flat_map}
-use Rattle.std.proofs.lemmas.Bool.{false≢true}
+use Rattle.std.proofs.Math.Seq.{drop-append_seam}
 use Rattle.std.proofs.lemmas.List.Concat.{flat_map-append}
-use Rattle.std.proofs.lemmas.List.Elements.{All-head, All-nil, All-push, All-tail}
-use Rattle.ga_frame.specs.Frame.{AreFrames, FrameView, GoesOn, HasNoFrames, IsFirstFault, IsFrameFault, MORE, WellFormed, fault_at, words_of}
+use Rattle.std.proofs.lemmas.List.Elements.{All-append, All-nil, All-push}
+use Rattle.ga_frame.specs.Frame.{AreFrames, FrameView, GoesOn, IsAfterEnd, IsFirstFault, IsFrameFault, MORE, WellFormed, fault_at, has_addresses, words_of}
+use Rattle.ga_frame.specs.Feed.{FeedView, HasRead, cut_at, is_cut}
+use Rattle.ga_frame.specs.inner.Taking.{BeginsWith, HasFaultBehind}
 use Rattle.ga_frame.specs.declared.error.FrameError.{FrameError}
-use Rattle.ga_frame.specs.declared.error.FrameError.TheVariants.{AfterEnd, BadAddress, CutBody, CutHeader, Memory, TooLong}
+use Rattle.ga_frame.specs.declared.error.FrameError.TheVariants.{AfterEnd, BadAddress, Counted, CutBody, CutHeader, Memory}
+use Rattle.ga_frame.proofs.OneReading.{are_behind, ends_of, frame_fault_none}
 
 -- some frames that go on were read, and these words are left
 pub record ReadSoFar (words rest : List ℕ) (frames : List FrameView) : Type 0 where
@@ -23,156 +28,174 @@ whole_more words rest behind frames frame e f =
     let sent : flat_map words_of (frames ++ frame ∷ []) ≡ flat_map words_of frames ++ words_of frame = flat_map-append words_of frames (frame ∷ []) ∙ ap (λ l. flat_map words_of frames ++ l) (append-nil (words_of frame)) in
     e ∙ ap (λ l. flat_map words_of frames ++ l) f ∙ sym (append_assoc (flat_map words_of frames) (words_of frame) behind) ∙ ap (λ l. l ++ behind) (sym sent)
 
-pub read_more : (words rest behind : List ℕ) (frames : List FrameView) (frame : FrameView) → ReadSoFar words rest frames → rest ≡ words_of frame ++ behind → GoesOn frame → ReadSoFar words behind (frames ++ frame ∷ [])
-read_more words rest behind frames frame r e on = record {
+pub read_more : (words rest behind : List ℕ) (frames : List FrameView) (frame : FrameView) → ReadSoFar words rest frames → BeginsWith rest frame behind → (frame.completion == MORE) ≡ true → ReadSoFar words behind (frames ++ frame ∷ [])
+read_more words rest behind frames frame r (e, right) more = record {
   whole = whole_more words rest behind frames frame r.whole e;
-  go_on = All-push GoesOn frames frame r.go_on on;
+  go_on = All-push GoesOn frames frame r.go_on (right, more);
 }
 
--- ---- words begin with one frame at most
+-- ---- where the reader stands
 
-same_front : (xs ys rest rest' : List ℕ) → length xs ≡ length ys → xs ++ rest ≡ ys ++ rest' → (xs ≡ ys) × (rest ≡ rest')
-same_front [] [] rest rest' l e = (refl, e)
-same_front [] (y ∷ ys) rest rest' l e = absurd (omega (arith, l))
-same_front (x ∷ xs) [] rest rest' l e = absurd (omega (arith, l))
-same_front (x ∷ xs) (y ∷ ys) rest rest' l e =
-    let heads : x ≡ y = cc in
-    let more = same_front xs ys rest rest' (omega (arith, l)) (cc) in
-    (cc, more.1)
-
-same_frame : (f g : FrameView) (rest rest' : List ℕ) → words_of f ++ rest ≡ words_of g ++ rest' → (f ≡ g) × (rest ≡ rest')
-same_frame f g rest rest' e =
-    let completions : f.completion ≡ g.completion = cc in
-    let transfers : f.transfer ≡ g.transfer = cc in
-    let counts : length f.words ≡ length g.words = cc in
-    let bodies : f.words ++ rest ≡ g.words ++ rest' = cc in
-    let parts = same_front f.words g.words rest rest' counts bodies in
-    (rw (completions, transfers, parts.0) refl, parts.1)
-
--- the first of some frames, where one that goes on stands in front
-first_is : (f : FrameView) (rest : List ℕ) (frames : List FrameView) → AreFrames (words_of f ++ rest) frames → GoesOn f → (others : List FrameView) × (frames ≡ f ∷ others) × AreFrames rest others
-unfolding AreFrames
-first_is f rest [] are on = absurd are
-first_is f rest (g ∷ []) are on =
-    let same = same_frame f g rest [] (are.0 ∙ sym (append-nil (words_of g))) in
-    let ends : (f.completion == MORE) ≡ (g.completion == MORE) = ap (λ h. h.completion == MORE) same.0 in
-    absurd (false≢true (sym are.2 ∙ sym ends ∙ on.1))
-first_is f rest (g ∷ next ∷ frames) are on =
-    let same = same_frame f g rest are.0 are.1 in
-    (next ∷ frames, ap (λ h. h ∷ next ∷ frames) (sym same.0), subst (λ l. AreFrames l (next ∷ frames)) (sym same.1) are.4)
-
--- and where the last one stands in front
-last_is : (f : FrameView) (rest : List ℕ) (frames : List FrameView) → AreFrames (words_of f ++ rest) frames → (f.completion == MORE) ≡ false → (frames ≡ f ∷ []) × (rest ≡ [])
-unfolding AreFrames
-last_is f rest [] are ends = absurd are
-last_is f rest (g ∷ []) are ends = let same = same_frame f g rest [] (are.0 ∙ sym (append-nil (words_of g))) in (ap (λ h. h ∷ []) (sym same.0), same.1)
-last_is f rest (g ∷ next ∷ frames) are ends =
-    let same = same_frame f g rest are.0 are.1 in
-    let goes_on : (f.completion == MORE) ≡ (g.completion == MORE) = ap (λ h. h.completion == MORE) same.0 in
-    absurd (false≢true (sym ends ∙ goes_on ∙ are.3))
-
--- behind frames that go on stand the other frames
-others_are : (front : List FrameView) (rest : List ℕ) (frames : List FrameView) → All GoesOn front → AreFrames (flat_map words_of front ++ rest) frames → (others : List FrameView) × (frames ≡ front ++ others) × AreFrames rest others
-others_are [] rest frames on are = (frames, refl, are)
-others_are (f ∷ front) rest frames on are =
-    let whole = append_assoc (words_of f) (flat_map words_of front) rest in
-    let first = first_is f (flat_map words_of front ++ rest) frames (subst (λ l. AreFrames l frames) whole are) (All-head GoesOn f front on) in
-    let more = others_are front rest first.0 (All-tail GoesOn f front on) first.2 in
-    (more.0, first.1 ∙ ap (λ l. f ∷ l) more.1, more.2)
-
--- ---- the last frame was read
-
-are_frames : (front : List FrameView) (last : FrameView) → All GoesOn front → WellFormed last → (last.completion == MORE) ≡ false → AreFrames (flat_map words_of front ++ words_of last) (front ++ last ∷ [])
-unfolding AreFrames
-are_frames [] last on right ends = (refl, right, ends)
-are_frames (f ∷ []) last on right ends =
-    let first = All-head GoesOn f [] on in
-    (words_of last, append_assoc (words_of f) [] (words_of last), first.0, first.1, (refl, right, ends))
-are_frames (f ∷ g ∷ front) last on right ends =
-    let first = All-head GoesOn f (g ∷ front) on in
-    (flat_map words_of (g ∷ front) ++ words_of last, append_assoc (words_of f) (flat_map words_of (g ∷ front)) (words_of last), first.0, first.1, are_frames (g ∷ front) last (All-tail GoesOn f (g ∷ front) on) right ends)
-
-pub record IsWhole (words : List ℕ) (frames : List FrameView) : Type 0 where
-  pub are : AreFrames words frames
-  pub only : (other : List FrameView) → AreFrames words other → other ≡ frames
+abbrev pub stands : Bool → List ℕ → ℕ → FeedView
+stands ended words count = record { at = count; begun = drop count words; ended = ended }
 
 no_words : (words : List ℕ) → length words ≡ 0 → words ≡ []
 no_words [] e = refl
 no_words (word ∷ words) e = absurd (omega (arith, e))
 
--- no word is left behind the last frame
-pub whole_read : (words rest behind : List ℕ) (frames : List FrameView) (last : FrameView) → ReadSoFar words rest frames → rest ≡ words_of last ++ behind → length behind ≡ 0 → WellFormed last → (last.completion == MORE) ≡ false
-    → IsWhole words (frames ++ last ∷ [])
-whole_read words rest behind frames last r e none right ends =
+-- the last frame was read, and no word is left behind it
+pub has_ended : (words rest behind : List ℕ) (frames : List FrameView) (last : FrameView) → ReadSoFar words rest frames → BeginsWith rest last behind → length behind ≡ 0 → (last.completion == MORE) ≡ false
+    → HasRead words (frames ++ last ∷ []) (stands true words (length words))
+unfolding AreFrames
+has_ended words rest behind frames last r (e, right) none ends =
     let sent : words ≡ flat_map words_of frames ++ words_of last = r.whole ∙ ap (λ l. flat_map words_of frames ++ l) (e ∙ ap (λ l. words_of last ++ l) (no_words behind none) ∙ append-nil (words_of last)) in
+    let all : flat_map words_of (frames ++ last ∷ []) ≡ words = flat_map-append words_of frames (last ∷ []) ∙ ap (λ l. flat_map words_of frames ++ l) (append-nil (words_of last)) ∙ sym sent in
+    let left : drop (length words) words ≡ [] = ap (drop (length words)) (sym (append-nil words)) ∙ drop-append_seam words [] in
     record {
-      are = subst (λ l. AreFrames l (frames ++ last ∷ [])) (sym sent) (are_frames frames last r.go_on right ends);
-      only = λ other are.
-          let others = others_are frames rest other r.go_on (subst (λ l. AreFrames l other) r.whole are) in
-          let one = last_is last behind others.0 (subst (λ l. AreFrames l others.0) e others.2) ends in
-          others.1 ∙ ap (λ l. frames ++ l) one.0;
+      whole = sym all ∙ sym (append-nil (flat_map words_of (frames ++ last ∷ []))) ∙ ap (λ l. flat_map words_of (frames ++ last ∷ []) ++ l) (sym left);
+      place = ap length (sym all);
+      goes_on = λ going. absurd (false≢true (sym going));
+      ends = λ ended. (subst (λ l. AreFrames l (frames ++ last ∷ [])) (sym sent) (are_behind frames (words_of last) (last ∷ []) r.go_on (refl, right, ends)), left);
     }
 
--- ---- a fault was found
+-- the reader goes on in words that it had begun
+pub read_on : (words piece rest : List ℕ) (frames more : List FrameView) (feed : FeedView) (count : ℕ) (ended : Bool) → HasRead words frames feed → feed.ended ≡ false
+    → HasRead (feed.begun ++ piece) more (record { at = count; begun = rest; ended = ended }) → HasRead (words ++ piece) (frames ++ more) (record { at = feed.at + count; begun = rest; ended = ended })
+read_on words piece rest frames more feed count ended r going next =
+    let all : words ++ piece ≡ flat_map words_of frames ++ (feed.begun ++ piece) = ap (λ l. l ++ piece) r.whole ∙ append_assoc (flat_map words_of frames) feed.begun piece in
+    let both = flat_map-append words_of frames more in
+    let before = (r.goes_on going).0 in
+    record {
+      whole = all ∙ ap (λ l. flat_map words_of frames ++ l) next.whole ∙ sym (append_assoc (flat_map words_of frames) (flat_map words_of more) rest) ∙ ap (λ l. l ++ rest) (sym both);
+      place = ap (λ n. n + count) r.place ∙ ap (λ n. length (flat_map words_of frames) + n) next.place ∙ sym (length-append (flat_map words_of frames) (flat_map words_of more)) ∙ ap length (sym both);
+      goes_on = λ still. (All-append GoesOn frames more before (next.goes_on still).0, (next.goes_on still).1);
+      ends = λ done.
+          (subst (λ l. AreFrames l (frames ++ more)) (sym all) (are_behind frames (feed.begun ++ piece) more before (next.ends done).0), (next.ends done).1);
+    }
 
-pub record HasFault (words : List ℕ) (fault : FrameError) : Type 0 where
-  pub first : IsFirstFault words fault
-  pub none : HasNoFrames words fault
+-- ---- faults
 
--- words that begin with a frame have no fault there
-frame_right : (f : FrameView) (rest : List ℕ) (at : ℕ) → WellFormed f → fault_at at (words_of f ++ rest) ≡ None
-frame_right f rest at right =
-    let long : nat_lt (length (f.words ++ rest)) (length f.words) ≡ false = grind (arith, nat_tests, length-append f.words rest) in
-    rw (right, long) refl
-
-some_fault : (o : Option FrameError) (fault : FrameError) → o ≡ Some fault → o ≡ None → ⊥
-some_fault o fault e f = absurd (cc)
-
-no_frames : (at : ℕ) (rest : List ℕ) (frames : List FrameView) (fault : FrameError) → fault_at at rest ≡ Some fault → AreFrames rest frames → ⊥
-unfolding AreFrames
-no_frames at rest [] fault wrong are = are
-no_frames at rest (f ∷ []) fault wrong are =
-    some_fault (fault_at at rest) fault wrong (ap (fault_at at) (are.0 ∙ sym (append-nil (words_of f))) ∙ frame_right f [] at are.1)
-no_frames at rest (f ∷ g ∷ frames) fault wrong are = some_fault (fault_at at rest) fault wrong (ap (fault_at at) are.1 ∙ frame_right f are.0 at are.2)
-
--- the frame at which the reader stands has a fault, or memory was refused
-pub frame_fault : (words rest : List ℕ) (at : ℕ) (frames : List FrameView) (fault : FrameError) → ReadSoFar words rest frames → at ≡ length words - length rest → (fault ≡ Memory) ⊎ (fault_at at rest ≡ Some fault) → HasFault words fault
-frame_fault words rest at frames fault r here (inl refused) = subst (HasFault words) (sym refused) (record { first = tt; none = tt })
-frame_fault words rest at frames fault r here (inr wrong) =
-    let place : at ≡ length (flat_map words_of frames) = omega (arith, here, ap length r.whole, length-append (flat_map words_of frames) rest) in
-    fault_found fault
-    (record { frames = frames; rest = rest; whole = r.whole; go_on = r.go_on; wrong = ap (λ n. fault_at n rest) (sym place) ∙ wrong })
-    (λ other are. let others = others_are frames rest other r.go_on (subst (λ l. AreFrames l other) r.whole are) in no_frames at rest others.0 fault wrong others.2)
+-- the fault of an address stands in the first three words of a frame, so it stays whatever follows
+bad_address_stays : (at : ℕ) (rest more : List ℕ) → fault_at at rest ≡ Some (BadAddress at) → fault_at at (rest ++ more) ≡ Some (BadAddress at)
+bad_address_stays at [] more e = absurd (cc)
+bad_address_stays at (completion ∷ []) more e = absurd (cc)
+bad_address_stays at (completion ∷ transfer ∷ []) more e = absurd (cc)
+bad_address_stays at (completion ∷ transfer ∷ count ∷ body) more e = by (has_addresses completion transfer) (nat_lt (length body) count) e
   where
-    fault_found : (f : FrameError) → IsFrameFault words f → ((other : List FrameView) → AreFrames words other → ⊥) → HasFault words f
-    fault_found Memory is none = record { first = tt; none = tt }
-    fault_found TooLong is none = record { first = inl is; none = none }
-    fault_found (CutHeader n) is none = record { first = inl is; none = none }
-    fault_found (BadAddress n) is none = record { first = inl is; none = none }
-    fault_found (CutBody n) is none = record { first = inl is; none = none }
-    fault_found (AfterEnd n) is none = record { first = inl is; none = none }
+    by : (right short : Bool) → (if not right then Some (BadAddress at) else if short then Some (CutBody at) else None) ≡ Some (BadAddress at) → (if not right then Some (BadAddress at) else if nat_lt (length (body ++ more)) count then Some (CutBody at) else None) ≡ Some (BadAddress at)
+    by false short f = refl
+    by true true f = absurd (cc)
+    by true false f = absurd (cc)
+
+-- words behind others that were read
+behind_all : (front words rest more : List ℕ) (mine : List ℕ) → words ≡ mine ++ rest → front ++ (words ++ more) ≡ (front ++ mine) ++ (rest ++ more)
+behind_all front words rest more mine e = ap (λ l. front ++ (l ++ more)) e ∙ ap (λ l. front ++ l) (append_assoc mine rest more) ∙ sym (append_assoc front mine (rest ++ more))
+
+-- frames of which the first were read before, and the others of these words
+both_read : (front frames : List FrameView) (words rest more : List ℕ) → ReadSoFar words rest frames → flat_map words_of front ++ (words ++ more) ≡ flat_map words_of (front ++ frames) ++ (rest ++ more)
+both_read front frames words rest more r = behind_all (flat_map words_of front) words rest more (flat_map words_of frames) r.whole ∙ ap (λ l. l ++ (rest ++ more)) (sym (flat_map-append words_of front frames))
+
+place_of : (front frames : List FrameView) (words rest : List ℕ) (at : ℕ) → length (flat_map words_of front) ≡ at → ReadSoFar words rest frames → at + (length words - length rest) ≡ length (flat_map words_of (front ++ frames))
+place_of front frames words rest at before r =
+    omega (arith, before, ap length r.whole, length-append (flat_map words_of frames) rest, ap length (flat_map-append words_of front frames), length-append (flat_map words_of front) (flat_map words_of frames))
+
+-- the frame at which the reader stands has a bad address
+bad_address : (front frames : List FrameView) (words rest more : List ℕ) (at : ℕ) → All GoesOn front → length (flat_map words_of front) ≡ at → ReadSoFar words rest frames
+    → fault_at (at + (length words - length rest)) rest ≡ Some (BadAddress (at + (length words - length rest))) → IsFrameFault (flat_map words_of front ++ (words ++ more)) (BadAddress (at + (length words - length rest)))
+bad_address front frames words rest more at on before r wrong = record {
+  frames = front ++ frames;
+  rest = rest ++ more;
+  whole = both_read front frames words rest more r;
+  go_on = All-append GoesOn front frames on r.go_on;
+  wrong = ap (λ n. fault_at n (rest ++ more)) (sym (place_of front frames words rest at before r)) ∙ bad_address_stays _ rest more wrong;
+}
+
+-- the next frame can't be read: memory was refused, or its address is bad
+pub stops_at : (words rest : List ℕ) (frames : List FrameView) (at : ℕ) (fault : FrameError) → ReadSoFar words rest frames
+    → (fault ≡ Memory) ⊎ ((fault ≡ BadAddress (at + (length words - length rest))) × (fault_at (at + (length words - length rest)) rest ≡ Some fault)) → HasFaultBehind at words fault
+stops_at words rest frames at fault r (inl refused) = subst (HasFaultBehind at words) (sym refused) (record { first = λ front more on before. tt })
+stops_at words rest frames at fault r (inr (bad, wrong)) =
+    subst (HasFaultBehind at words) (sym bad) (record { first = λ front more on before. inl (bad_address front frames words rest more at on before r (wrong ∙ ap Some bad)) })
 
 -- a word stands behind the last frame
-pub after_end : (words rest behind : List ℕ) (at : ℕ) (frames : List FrameView) (last : FrameView) → ReadSoFar words rest frames → rest ≡ words_of last ++ behind → WellFormed last → (last.completion == MORE) ≡ false
-    → 0 < length behind → at ≡ length words - length behind → HasFault words (AfterEnd at)
-after_end words rest [] at frames last r e right ends some here = absurd (omega (arith, some))
-after_end words rest (word ∷ behind) at frames last r e right ends some here =
-    let place : at ≡ length (flat_map words_of frames) + length (words_of last) =
-    omega (arith, here, ap length r.whole, length-append (flat_map words_of frames) rest, ap length e, length-append (words_of last) (word ∷ behind)) in
+after_end : (front frames : List FrameView) (words rest behind more : List ℕ) (at : ℕ) (last : FrameView) → All GoesOn front → length (flat_map words_of front) ≡ at → ReadSoFar words rest frames
+    → rest ≡ words_of last ++ behind → WellFormed last → (last.completion == MORE) ≡ false → 0 < length behind → IsAfterEnd (flat_map words_of front ++ (words ++ more)) (AfterEnd (at + (length words - length behind)))
+after_end front frames words rest [] more at last on before r e right ends some = absurd (omega (arith, some))
+after_end front frames words rest (word ∷ behind) more at last on before r e right ends some =
+    let place : at + (length words - length (word ∷ behind)) ≡ length (flat_map words_of (front ++ frames)) + length (words_of last) =
+    omega (arith, sym (place_of front frames words rest at before r), ap length r.whole, length-append (flat_map words_of frames) rest, ap length e, length-append (words_of last) (word ∷ behind)) in
     record {
-      first = inr (record {
-        frames = frames;
-        last = last;
-        word = word;
-        rest = behind;
-        whole = r.whole ∙ ap (λ l. flat_map words_of frames ++ l) e;
-        go_on = r.go_on;
-        well_formed = right;
-        ends = ends;
-        wrong = ap AfterEnd place;
-      });
-      none = λ other are.
-          let others = others_are frames rest other r.go_on (subst (λ l. AreFrames l other) r.whole are) in
-          let one = last_is last (word ∷ behind) others.0 (subst (λ l. AreFrames l others.0) e others.2) ends in
-          absurd (omega (arith, ap length one.1));
+      frames = front ++ frames;
+      last = last;
+      word = word;
+      rest = behind ++ more;
+      whole = both_read front frames words rest more r ∙ ap (λ l. flat_map words_of (front ++ frames) ++ (l ++ more)) e ∙ ap (λ l. flat_map words_of (front ++ frames) ++ l) (append_assoc (words_of last) (word ∷ behind) more);
+      go_on = All-append GoesOn front frames on r.go_on;
+      well_formed = right;
+      ends = ends;
+      wrong = ap AfterEnd place;
     }
+
+pub stops_behind : (words rest behind : List ℕ) (frames : List FrameView) (at : ℕ) (last : FrameView) → ReadSoFar words rest frames → BeginsWith rest last behind → (last.completion == MORE) ≡ false → 0 < length behind
+    → HasFaultBehind at words (AfterEnd (at + (length words - length behind)))
+stops_behind words rest behind frames at last r (e, right) ends some = record {
+  first = λ front more on before. inr (after_end front frames words rest behind more at last on before r e right ends some);
+}
+
+-- a fault behind the frames that were handed out is the first one of all words
+pub fault_on : (words piece more : List ℕ) (frames : List FrameView) (feed : FeedView) (fault : FrameError) → HasRead words frames feed → feed.ended ≡ false → HasFaultBehind feed.at (feed.begun ++ piece) fault → IsFirstFault (words ++ (piece ++ more)) fault
+fault_on words piece more frames feed fault r going behind =
+    subst (λ l. IsFirstFault l fault) (sym (ap (λ l. l ++ (piece ++ more)) r.whole ∙ append_assoc (flat_map words_of frames) feed.begun (piece ++ more) ∙ ap (λ l. flat_map words_of frames ++ l) (sym (append_assoc feed.begun piece more))))
+    (behind.first frames more (r.goes_on going).0 (sym r.place))
+
+-- a word comes when the last frame was read
+pub comes_late : (words piece more : List ℕ) (frames : List FrameView) (feed : FeedView) → HasRead words frames feed → feed.ended ≡ true → 0 < length piece → IsAfterEnd (words ++ (piece ++ more)) (AfterEnd feed.at)
+comes_late words [] more frames feed r done some = absurd (omega (arith, some))
+comes_late words (word ∷ piece) more frames feed r done some =
+    let e = ends_of words frames (r.ends done).0 in
+    let all : words ≡ flat_map words_of frames = r.whole ∙ ap (λ l. flat_map words_of frames ++ l) (r.ends done).1 ∙ append-nil (flat_map words_of frames) in
+    record {
+      frames = e.front;
+      last = e.last;
+      word = word;
+      rest = piece ++ more;
+      whole = ap (λ l. l ++ (word ∷ piece ++ more)) e.whole ∙ append_assoc (flat_map words_of e.front) (words_of e.last) (word ∷ piece ++ more);
+      go_on = e.go_on;
+      well_formed = e.well_formed;
+      ends = e.ends;
+      wrong = ap AfterEnd (r.place ∙ ap length (sym all) ∙ ap length e.whole ∙ length-append (flat_map words_of e.front) (words_of e.last));
+    }
+
+-- ---- the stream ends
+
+cut_fault : (at : ℕ) (begun : List ℕ) → is_cut begun ≡ true → fault_at at begun ≡ Some (cut_at at (length begun))
+cut_fault at [] cut = refl
+cut_fault at (completion ∷ []) cut = refl
+cut_fault at (completion ∷ transfer ∷ []) cut = refl
+cut_fault at (completion ∷ transfer ∷ count ∷ body) cut =
+    let long : nat_lt (length (completion ∷ transfer ∷ count ∷ body)) 3 ≡ false = grind (arith, nat_tests) in
+    by (has_addresses completion transfer) (nat_lt (length body) count) cut ∙ sym (ap (λ b. Some (if b then CutHeader at else CutBody at)) long)
+  where
+    by : (right short : Bool) → (right && short) ≡ true → (if not right then Some (BadAddress at) else if short then Some (CutBody at) else None) ≡ Some (CutBody at)
+    by true true f = refl
+    by true false f = absurd (false≢true f)
+    by false short f = absurd (false≢true f)
+
+-- a frame that isn't whole is cut
+pub cut_short : (words : List ℕ) (frames : List FrameView) (feed : FeedView) → HasRead words frames feed → feed.ended ≡ false → IsFrameFault words (cut_at feed.at (length feed.begun))
+cut_short words frames feed r going = record {
+  frames = frames;
+  rest = feed.begun;
+  whole = r.whole;
+  go_on = (r.goes_on going).0;
+  wrong = ap (λ n. fault_at n feed.begun) (sym r.place) ∙ cut_fault feed.at feed.begun (r.goes_on going).1;
+}
+
+pub cut_none : (words : List ℕ) (frames : List FrameView) (feed : FeedView) → HasRead words frames feed → feed.ended ≡ false → (other : List FrameView) → AreFrames words other → ⊥
+cut_none words frames feed r going = frame_fault_none words (cut_at feed.at (length feed.begun)) (cut_short words frames feed r going)
+
+-- the words are one piece
+pub first_of_whole : (words : List ℕ) (fault : FrameError) (feed : FeedView) → HasRead [] [] feed → (fault ≡ Counted → ⊥)
+    → (fault ≡ Counted) ⊎ ((before : List ℕ) (frames : List FrameView) (more : List ℕ) → HasRead before frames feed → IsFirstFault (before ++ (words ++ more)) fault) → IsFirstFault words fault
+first_of_whole words fault feed r not_counted (inl counted) = absurd (not_counted counted)
+first_of_whole words fault feed r not_counted (inr first) = subst (λ l. IsFirstFault l fault) (append-nil words) (first [] [] [] r)

@@ -12,17 +12,20 @@ pub enum FrameError {
     TooLong,
     /// Fewer than three words stand where a frame begins, at this word.
     #[error("{0} CutHeader")]
-    CutHeader(usize),
+    CutHeader(u64),
     /// The frame that begins at this word has a completion over 3FF, or a transfer address over 1FF
     /// or one that is none of RAM, of io, or of one port.
     #[error("{0} BadAddress")]
-    BadAddress(usize),
+    BadAddress(u64),
     /// The frame that begins at this word has fewer words than its count says.
     #[error("{0} CutBody")]
-    CutBody(usize),
+    CutBody(u64),
     /// Behind the last frame stands this word.
     #[error("{0} AfterEnd")]
-    AfterEnd(usize),
+    AfterEnd(u64),
+    /// The words of a stream are more than a number of 64 bits counts.
+    #[error("Counted")]
+    Counted,
     /// Memory ran out.
     #[error("memory")]
     Memory,

@@ -1,7 +1,7 @@
 use Rattle.std.proofs.Common.{length, map}
 use Rattle.ga_frame.specs.Frame.{frame_view}
 use Rattle.ga_frame.proofs.Taking.{ReadSoFar}
-use Rattle.ga_frame.proofs.reading.read_frames.Given as goal
+use Rattle.ga_frame.proofs.parsing.take_frames.Given as goal
 
 abbrev pub invariant-loop-frames : goal.invariant-loop-frames
 invariant-loop-frames l = ReadSoFar l.words l.rest (map frame_view l.frames.items)
