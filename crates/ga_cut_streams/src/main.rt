@@ -1,0 +1,88 @@
+//! Cuts a boot stream into pieces, so that a test sees that nothing comes of the cuts: neither to its frames nor to a
+//! chip.
+//!
+//! The arguments are the name of the route's first node, and the words of the stream, of five digits each. It writes one
+//! line, `alike` with the number of ways in which the stream was cut, or what differs first. Where the stream could not
+//! be cut the line tells why, and the status is 1.
+#![tactic(auto)]
+
+mod cut;
+mod fault;
+mod frames;
+mod runs;
+
+use crate::cut::Cut;
+use crate::fault::Fault;
+use crate::frames::frames_differ;
+use crate::runs::WholeRun;
+use ga_place::Node;
+use ga_word::{Word18, read_hex5};
+use std::alloc::{AllocGlobal, Global};
+use std::env;
+use std::process::ExitCode;
+use std::rt::Env;
+
+/// How many times chance cuts a stream.
+const CHANCES: u64 = 8;
+
+/// A chip runs with each cut in two of a stream of up to so many words. With a longer one a cut behind each word at once
+/// stands for them, since each run of it takes long.
+const SHORT: usize = 512;
+
+fn main(rt: HostRuntime) -> ExitCode {
+    match tell_cuts(&rt) {
+        Ok(()) => ExitCode::from(0),
+        Err(fault) => {
+            let _ = println!(&rt; "{fault}");
+            ExitCode::from(1)
+        }
+    }
+}
+
+/// Cuts the stream that the arguments name, and writes what came of it.
+fn tell_cuts<R: Env + AllocGlobal + Print>(rt: &R) -> Result<(), Fault> {
+    let (node, words) = stream(rt)?;
+    let whole = WholeRun::new(rt.alloc(), node, &words)?;
+    let cuts = cuts(rt.alloc(), words.len())?;
+    for cut in &cuts {
+        if frames_differ(rt.alloc(), &words, *cut)? {
+            let _ = println!(rt; "other frames");
+            return Ok(());
+        }
+        let is_run = words.len() <= SHORT || !matches!(cut, Cut::Behind(_));
+        if is_run && whole.differs(rt.alloc(), node, &words, *cut)? {
+            let _ = println!(rt; "another chip");
+            return Ok(());
+        }
+    }
+    let count = cuts.len();
+    let _ = println!(rt; "alike {count}");
+    Ok(())
+}
+
+/// The ways to cut a stream of so many words.
+fn cuts(alloc: Global, count: usize) -> Result<Vec<Cut>, Fault> {
+    let mut cuts = Vec::new(alloc);
+    cuts.push(Cut::Everywhere)?;
+    for place in 1..=count {
+        cuts.push(Cut::Behind(place))?;
+    }
+    for seed in 0..CHANCES {
+        cuts.push(Cut::Chance(seed))?;
+    }
+    Ok(cuts)
+}
+
+/// The node and the stream that the arguments name.
+fn stream<R: Env + AllocGlobal>(rt: &R) -> Result<(Node, Vec<Word18>), Fault> {
+    let Ok(mut arguments) = env::args(rt) else {
+        return Err(Fault::Arguments);
+    };
+    let name = arguments.nth(1).ok_or(Fault::Arguments)?;
+    let node = Node::from_digits(name.as_bytes()).ok_or(Fault::Arguments)?;
+    let mut words = Vec::new(rt.alloc());
+    for argument in arguments {
+        words.push(read_hex5(argument.as_bytes()).ok_or(Fault::Arguments)?)?;
+    }
+    Ok((node, words))
+}

@@ -1,0 +1,103 @@
+use crate::cut::Cut;
+use crate::fault::Fault;
+use ga_chip::{Chip, side_of_turn};
+use ga_dump::{ledger_text, memory_text, node_text};
+use ga_place::Node;
+use ga_word::Word18;
+use std::alloc::{AllocError, Global};
+
+/// How many turns a stream may take, and how many a run goes on behind it.
+const MOST: u64 = 1_000_000;
+
+const BEHIND: u64 = 64;
+
+/// A run of a chip to which a boot stream was given as a whole.
+#[derive(Drop)]
+pub struct WholeRun {
+    turns: u64,
+    dump: String,
+}
+
+impl WholeRun {
+    /// The run from a reset chip until the stream is taken, and some turns more.
+    pub fn new(alloc: Global, node: Node, words: &[Word18]) -> Result<Self, Fault> {
+        let mut chip = Chip::reset(alloc)?;
+        let stream = Vec::from_slice(alloc, words)?;
+        if chip.give_stream(node, stream).is_err() {
+            return Err(Fault::Refused);
+        }
+        let taken = take_stream(&mut chip, node)?;
+        let turns = taken.saturating_add(BEHIND);
+        for turn in taken..turns {
+            chip.turn(side_of_turn(turn));
+        }
+        Ok(WholeRun {
+            turns,
+            dump: dump(alloc, &chip)?,
+        })
+    }
+
+    /// Whether a run ends otherwise in which the stream is cut so, and each piece is fed as soon as the one before it is
+    /// taken.
+    pub fn differs(
+        &self,
+        alloc: Global,
+        node: Node,
+        words: &[Word18],
+        cut: Cut,
+    ) -> Result<bool, Fault> {
+        let mut chip = Chip::reset(alloc)?;
+        if chip.open_stream(node).is_err() {
+            return Err(Fault::Refused);
+        }
+        let pieces = cut.pieces(alloc, words)?;
+        let mut next = pieces.iter();
+        for turn in 0..self.turns {
+            if chip.stream_left(node) == 0 {
+                feed_next(alloc, &mut chip, node, next.next())?;
+            }
+            chip.turn(side_of_turn(turn));
+        }
+        Ok(dump(alloc, &chip)? != self.dump)
+    }
+}
+
+/// Feeds the next piece to a node, if there is one.
+fn feed_next(
+    alloc: Global,
+    chip: &mut Chip,
+    node: Node,
+    piece: Option<&&[Word18]>,
+) -> Result<(), Fault> {
+    if let Some(piece) = piece {
+        let words = Vec::from_slice(alloc, piece)?;
+        if chip.feed(node, words).is_err() {
+            return Err(Fault::Refused);
+        }
+    }
+    Ok(())
+}
+
+/// Runs a chip until the stream of a node is taken. Answers how many turns that took.
+fn take_stream(chip: &mut Chip, node: Node) -> Result<u64, Fault> {
+    for turn in 0..MOST {
+        if chip.stream_left(node) == 0 {
+            return Ok(turn);
+        }
+        chip.turn(side_of_turn(turn));
+    }
+    Err(Fault::NotTaken)
+}
+
+/// The registers, stacks and memory of each node, and the numbers of its cells.
+fn dump(alloc: Global, chip: &Chip) -> Result<String, AllocError> {
+    let mut text = String::new(alloc);
+    for name in 0..800 {
+        if let Some(node) = Node::new(name) {
+            text.push_str(&node_text(alloc, chip.state(node))?)?;
+            text.push_str(&memory_text(alloc, chip.state(node))?)?;
+            text.push_str(&ledger_text(alloc, chip, node)?)?;
+        }
+    }
+    Ok(text)
+}
