@@ -106,7 +106,7 @@ one_among sides only e = by (bits_of sides == 0x80) (bits_of sides == 0x40) (bit
     by false false false false e f g h is = cc
 
 -- a take looks at a side that it names
-among_looked : (sides : Sides) (side from : Side) → looked_at (one_side sides) sides side ≡ Some from → is_among from sides ≡ true
+pub among_looked : (sides : Sides) (side from : Side) → looked_at (one_side sides) sides side ≡ Some from → is_among from sides ≡ true
 among_looked sides side from e = by (one_side sides) refl e
   where
     named : (b : Bool) → is_among side sides ≡ b → (if b then Some side else None) ≡ Some from → is_among from sides ≡ true

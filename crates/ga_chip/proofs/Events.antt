@@ -17,7 +17,11 @@ use Rattle.ga_chip.specs.Chip.{with_changed}
 use Rattle.ga_chip.specs.Run.{Event, Try, SetBreak, ClearBreak, PassBreak, Piece, break_set, break_cleared, break_passed, words_left, stream_with, piece_come, piece_of, happened, Move, if_moved, move_at, move_in, input_by, posted_by, taken_by, moves_of}
 use Rattle.ga_chip.proofs.Lists.{get-set_here, get-set_else}
 use Rattle.ga_place.proofs.Cells.{one_place}
-use Rattle.ga_chip.proofs.Parts.{Fits, asks_fits, moved_asks, stand_after, stands_after, feeds_after, opened_after, name_after, written_after, read_after, Quiet, quiet_after, steps_after, Passed, passed_after, counts_after}
+use Rattle.ga_chip.proofs.Parts.{Fits, asks_fits, moved_asks, stand_after, stands_after, feeds_after, opened_after, name_after, written_after, read_after, Quiet, quiet_after, still_after, steps_after, Passed, passed_after, counts_after}
+
+-- a part without its breakpoints, its pass and its stream
+abbrev pub bared : Part → Part
+bared part = record part { breaks = []; pass = false; stream = None }
 
 -- An event that changes one node's part, as a try or a use of its breakpoints does: the part after it, what was asked
 -- for and found, and what came of it.
@@ -38,6 +42,7 @@ pub record Does (chip : Chip) (event : Event) : Type 0 where
   pub passed : outcome ≡ Moved → Passed asked found
   pub counts : outcome ≡ Moved → next.state.steps ≡ part.state.steps + 1
   pub quiet : (outcome ≡ Moved → ⊥) → Quiet asked found
+  pub rests : (outcome ≡ Moved → ⊥) → bared next ≡ bared part
   pub stands : next.state ≡ stand_after asked found part.state
   pub named : next.state.node ≡ part.state.node
   pub opens : next.opened ≡ part.opened
@@ -70,6 +75,7 @@ tries chip name side part there = record {
   passed = passed_after part side _;
   counts = counts_after part side _;
   quiet = quiet_after part side _;
+  rests = λ still. ap bared (still_after part side _ still);
   stands = stands_after part side _;
   named = name_after part side _;
   opens = opened_after part side _;
@@ -79,10 +85,6 @@ tries chip name side part there = record {
   took = read_after part side _;
   steps = steps_after part side _;
 }
-
--- a part without its breakpoints, its pass and its stream
-abbrev bared : Part → Part
-bared part = record part { breaks = []; pass = false; stream = None }
 
 -- a change of a node's breakpoints, its pass and its stream alone, by an event that gives words to the stream
 abbrev OnlyBreaks : (Part → Part) → Event → ℕ → Type 0
@@ -108,6 +110,7 @@ breaks chip event name change part only others leads none there =
       passed = λ e. cc;
       counts = λ e. cc;
       quiet = λ e. record { posts = λ cell. refl; takes = λ cell. refl; stays = λ at. refl; feeds = refl };
+      rests = λ e. same;
       stands = ap (λ p. p.state) same;
       named = ap (λ p. p.state.node) same;
       opens = ap (λ p. p.opened) same;

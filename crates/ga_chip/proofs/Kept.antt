@@ -119,7 +119,7 @@ takes_else (Take to at) n (Some word) a name cell side fits na nb here apart = g
 pub has_name : (chip : Chip) (name : ℕ) (part : Part) → IsLegal chip → part_of chip name ≡ Some part → IsNodeName name
 has_name chip name part legal there = is_node name (subst (λ n. index_of name < n) legal.parts (slice_get_within chip.parts (index_of name) part there))
 
-fits_name : (chip : Chip) (event : Event) (d : Does chip event) → IsLegal chip → Fits d.asked (need_of d.part.state) d.name
+pub fits_name : (chip : Chip) (event : Event) (d : Does chip event) → IsLegal chip → Fits d.asked (need_of d.part.state) d.name
 fits_name chip event d legal = subst (λ n. Fits d.asked (need_of d.part.state) n) (legal.named d.name d.part d.there) d.fits
 
 pub posted_else : (chip : Chip) (event : Event) (d : Does chip event) (name cell : ℕ) (side : Side) → IsLegal chip → cell_of name side ≡ Some cell → (d.name ≡ name → ⊥) → posted_by cell d.asked ≡ []

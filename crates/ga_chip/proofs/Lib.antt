@@ -10,6 +10,7 @@ pub mod NodeAfter
 pub mod Confluence
 pub mod Commuting
 pub mod Streams
+pub mod Stuck
 pub mod Numbers
 pub mod Grow
 pub mod Reset
@@ -29,3 +30,4 @@ pub mod Uses
 pub mod Feeding
 pub mod Holds
 mod WorkedChip
+mod WorkedStuck

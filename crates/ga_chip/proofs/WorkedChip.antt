@@ -56,7 +56,7 @@ passed : is_held (record (reset_part 0) { breaks = replicate 512 true; pass = tr
 passed = refl
 
 -- it is held by the low nine bits of P: at 003, but neither at the mirror 043 nor before a slot
-abbrev at_3 : Part
+abbrev pub at_3 : Part
 at_3 = break_set 3 (record (reset_part 0) { state = record (reset_state 0) { p = 3 } })
 
 held_at_3 : asks at_3 Right ≡ Nothing Held
@@ -95,10 +95,10 @@ stays = refl
 
 -- A node that stands before `!b` with B at its right port posts T there, waits while the word is pending,
 -- and goes on where it was read.
-abbrev writer : Part
+abbrev pub writer : Part
 writer = record (reset_part 708) { state = record (reset_state 708) { word = 0x089B2; place = Slot0; b = 0x1D5; t = 0x12 } }
 
-abbrev posted : Part
+abbrev pub posted : Part
 posted = (after writer Down None).1
 
 posts : asks writer Down ≡ Post Right 495 0x12

@@ -7,4 +7,5 @@ pub mod Stream
 pub mod Grow
 pub mod Legal
 pub mod Laws
+pub mod Stuck
 pub mod inner

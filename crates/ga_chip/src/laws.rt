@@ -1,5 +1,6 @@
 //! Laws of the definitions. They do nothing when run.
 ghost use Rattle.ga_chip.specs.Laws.{Commuting, Confluence};
+ghost use Rattle.ga_chip.specs.Stuck.{Stuck};
 
 /// Where the takes of several sides name the same sides and the streams get the same words, as far as both runs go, two
 /// runs of legal chips go alike as far as both go, whatever the order of their tries. The chips may differ in
@@ -7,4 +8,13 @@ ghost use Rattle.ga_chip.specs.Laws.{Commuting, Confluence};
 pub fn confluence()
     ensures agree { Confluence }
     ensures commuting { Commuting }
+{}
+
+/// The nodes of a closed set are stuck. A set is closed where each of its nodes has stopped; or takes a word at sides at
+/// none of which one is pending, and whose neighbours are in the set; or has posted a word that is pending still, and
+/// its reader is in the set; or waits at sides without a neighbour alone; or waits for a stream of which no word is
+/// left. From a legal chip no run of events changes such a node, or makes one of its tries `Moved`, where it feeds
+/// nothing to the streams of the set's nodes: other nodes are tried in any order, and breakpoints are used anywhere.
+pub fn stuck()
+    ensures stuck { Stuck }
 {}
