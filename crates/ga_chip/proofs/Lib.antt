@@ -10,7 +10,8 @@ pub mod NodeAfter
 pub mod Confluence
 pub mod Commuting
 pub mod Streams
-pub mod Stuck
+pub mod Closed
+pub mod Largest
 pub mod Numbers
 pub mod Grow
 pub mod Reset

@@ -5,6 +5,7 @@ use Rattle.std.specs.Option.{option_map_or}
 use Rattle.ga_place.specs.Cell.{cell_of, index_of, read_cell}
 use Rattle.ga_place.specs.Side.{SIDES, has_side, is_among, neighbour_of}
 use Rattle.ga_place.specs.declared.side.Side.{Side}
+use Rattle.ga_place.specs.declared.side.Sides.{Sides}
 use Rattle.ga_node.specs.Need.{need_of}
 use Rattle.ga_node.specs.declared.need.Need.{Need}
 use Rattle.ga_node.specs.declared.need.Need.TheVariants as need
@@ -31,6 +32,10 @@ is_shut inside waits (Some neighbour) = waits && inside neighbour
 abbrev pub is_dry : (ℕ → Bool) → List (Option ℕ) → ℕ → Side → Bool
 is_dry inside cells name side = is_shut inside (not (is_full cells (read_cell name side))) (neighbour_of name side)
 
+-- nor at any of some sides
+abbrev pub is_dry_at : (ℕ → Bool) → List (Option ℕ) → ℕ → Sides → Bool
+is_dry_at inside cells name sides = list_all (λ side. not (is_among side sides) || is_dry inside cells name side) SIDES
+
 -- the word that a node posted at a side can't be read: it is pending, and its reader is in the set
 abbrev pub is_unread : (ℕ → Bool) → List (Option ℕ) → ℕ → Side → Bool
 is_unread inside cells name side = is_shut inside (is_full cells (cell_of name side)) (neighbour_of name side)
@@ -40,7 +45,7 @@ is_unread inside cells name side = is_shut inside (is_full cells (cell_of name s
 -- that it posted can't be read; or it posts at a side without a neighbour; or no word of its stream is left.
 abbrev pub is_stuck_by : (ℕ → Bool) → List (Option ℕ) → ℕ → List ℕ → Need → Bool
 is_stuck_by inside cells name words need.Own = false
-is_stuck_by inside cells name words (need.Take sides) = list_all (λ side. not (is_among side sides) || is_dry inside cells name side) SIDES
+is_stuck_by inside cells name words (need.Take sides) = is_dry_at inside cells name sides
 is_stuck_by inside cells name words (need.Post to word) = not (has_side name to)
 is_stuck_by inside cells name words (need.Check to) = is_unread inside cells name to
 is_stuck_by inside cells name words need.Input = length words == 0

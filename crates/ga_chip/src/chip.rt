@@ -8,6 +8,7 @@ ghost use Rattle.ga_chip.specs.declared.outcome.Outcome.TheVariants.{Held, Moved
 ghost use Rattle.ga_chip.specs.Grow.{LedgersGrow};
 ghost use Rattle.ga_chip.specs.Legal.{IsLegal};
 ghost use Rattle.ga_chip.specs.Stream.{feed_refusal, left_of};
+ghost use Rattle.ga_chip.specs.Stuck.{HoldsEachClosed, IsClosed, has_node};
 ghost use Rattle.ga_chip.specs.Run.{ClearBreak, PassBreak, Piece, SetBreak, happened, moves, ran, tries_of, turn_of, turns_of};
 ghost use Rattle.ga_chip.specs.inner.Outcome.{moved_by};
 
@@ -18,6 +19,7 @@ use crate::order::index_of;
 use crate::outcome::{Outcome, Try, side_of_turn};
 use crate::part::NodePart;
 use crate::row::CellRow;
+use crate::stuck::{StuckNodes, stuck_nodes};
 use ga_node::NodeState;
 use ga_place::{Node, Side, cell, neighbour};
 use ga_word::Word18;
@@ -284,6 +286,17 @@ impl Chip {
     {
         // From a use of a field the proof has what holds of each chip.
         let _ = &self.parts;
+    }
+
+    /// The nodes that are stuck: the largest closed set of nodes, as `laws::stuck` says what that is. No tries in any
+    /// order move one of them, wherever breakpoints are used and whatever the streams of other nodes are fed. A node that
+    /// is held at a breakpoint is one of them only if it would be so without it. The call takes no memory. (It is this
+    /// project's own: profile.)
+    pub fn stuck(&self) -> StuckNodes
+        ensures closed { IsClosed self.now (has_node result) }
+        ensures largest { HoldsEachClosed self.now (has_node result) }
+    {
+        stuck_nodes(&self.parts, &self.cells)
     }
 
     /// A node's state.

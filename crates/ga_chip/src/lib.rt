@@ -16,6 +16,7 @@ mod part;
 mod port;
 mod row;
 mod stream;
+mod stuck;
 mod watch;
 
 pub use asks::Asks;
@@ -26,3 +27,4 @@ pub use looks::Looks;
 pub use outcome::{Outcome, Try, side_of_turn};
 pub use part::NodePart;
 pub use row::CellRow;
+pub use stuck::StuckNodes;

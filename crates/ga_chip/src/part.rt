@@ -1,6 +1,6 @@
 ghost use Rattle.std.specs.Prelude.{◌≡◌, ◌≢◌, ℕ, ◌≤◌, ◌<◌, ◌^◌, false, true, if◌then◌else◌, length, IfSome, None, Some, Option, option_map};
 ghost use Rattle.ga_place.specs.Cell.{cell_of, index_of, name_at, read_cell};
-ghost use Rattle.ga_place.specs.Side.{is_among, one_side};
+ghost use Rattle.ga_place.specs.Side.{is_among, neighbour_of, one_side};
 ghost use Rattle.ga_place.specs.declared.side.Side.{Side};
 ghost use Rattle.ga_node.specs.Need.{is_check, need_of, takes_at};
 ghost use Rattle.ga_node.specs.State.{is_fetch, loaded_state};
@@ -20,7 +20,7 @@ use crate::error::ChipError;
 use crate::looks::Looks;
 use crate::order::node_at;
 use crate::outcome::Outcome;
-use crate::port::Ports;
+use crate::port::{Port, Ports};
 use crate::row::CellRow;
 use crate::stream::Stream;
 use crate::watch::Watch;
@@ -415,6 +415,19 @@ impl NodePart {
             Some(cell) => cells.pending(cell).is_some(),
             None => false,
         }
+    }
+
+    /// What the node shares with its neighbour at a side, if it has one there.
+    pub(crate) fn port(&self, side: Side) -> Option<Port>
+        ensures reads { option_map (λ port. port.reads) result
+            ≡ read_cell self.now.state.node side }
+        ensures writes { option_map (λ port. port.writes) result
+            ≡ cell_of self.now.state.node side }
+        ensures neighbour { option_map (λ port. port.neighbour) result
+            ≡ option_map index_of (neighbour_of self.now.state.node side) }
+        ensures place { IfSome result (λ port. port.neighbour < 144) }
+    {
+        self.ports.at(side)
     }
 
     /// The cell that the node reads at a side.
