@@ -1,6 +1,6 @@
 -- The nodes of a closed set are stuck.
 use Rattle.std.proofs.Common.{◌≡◌, ◌≢◌, ℕ, ◌==◌, Bool, true, false, List, [], ◌∷◌, ◌++◌, ◌⊎◌, inl, inr, length, set, Option, Some, None, refl, sym, ap, ap₂, ◌∙◌, subst, arith, append-nil}
-use Rattle.std.specs.Prelude.{◌||◌, not, is_some, if◌then◌else◌}
+use Rattle.std.specs.Prelude.{◌||◌, not, is_some, option_map, if◌then◌else◌}
 use Rattle.std.specs.List.{list_all}
 use Rattle.std.specs.Option.{option_and_then, option_map_or}
 use Rattle.std.proofs.lemmas.Bool.{and_from, and_parts, cases_eq, eq-eqb, eqb-true, false≢true, not-true}
@@ -20,8 +20,8 @@ use Rattle.ga_node.specs.declared.need.Need.TheVariants as need
 use Rattle.ga_chip.specs.declared.outcome.Outcome.{Outcome}
 use Rattle.ga_chip.specs.declared.outcome.Outcome.TheVariants.{Held, Moved, Stopped, Waits}
 use Rattle.ga_chip.specs.Part.{Part, Asks, Nothing, Own, Feed, Post, Take, Check, after, asks, asks_by, check_of, input_of, looked_at, post_to, take_from, take_of}
-use Rattle.ga_chip.specs.Chip.{Chip, cells_after, found_by, part_of, pending_in, tried}
-use Rattle.ga_chip.specs.Run.{Event, Move, happened, if_moved, is_open, move_in, moves, moves_of, piece_of, pieces, words_left}
+use Rattle.ga_chip.specs.Chip.{Chip, cells_after, found_by, part_of, pending_in, state_of, tried}
+use Rattle.ga_chip.specs.Run.{Event, Move, happened, if_moved, is_open, move_in, moves, moves_of, piece_of, pieces, ran, words_left}
 use Rattle.ga_chip.specs.Legal.{IsLegal}
 use Rattle.ga_chip.specs.Stuck.{IsClosed, IsUnfed, LeavesStuck, StandsStill, Stuck, is_dry, is_full, is_shut, is_stuck, is_stuck_by, is_unread}
 use Rattle.ga_chip.proofs.Asked.{among_looked}
@@ -362,3 +362,12 @@ stuck chip inside [] legal closed unfed = record {
 stuck chip inside (event ∷ events) legal closed unfed =
     let first = first_leaves chip inside event events legal closed unfed in
     leaves_more chip inside event events first (stuck (happened chip event) inside events (legal_kept chip event legal) first.closed (still_unfed chip inside event events closed first unfed))
+
+-- What the law says of a node's state, for those who use it.
+pub state_kept : (chip : Chip) (events : List Event) (inside : ℕ → Bool) (name : ℕ) → IsClosed chip inside → LeavesStuck chip events inside → inside name ≡ true → state_of (ran chip events) name ≡ state_of chip name
+state_kept chip events inside name closed left member =
+    let old = in_closed chip inside name closed member in
+    let new = in_closed (ran chip events) inside name left.closed member in
+    ap (option_map (λ part. part.state)) new.there
+    ∙ ap Some (left.parts name old.part new.part member old.there new.there).state
+    ∙ sym (ap (option_map (λ part. part.state)) old.there)

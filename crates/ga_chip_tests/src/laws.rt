@@ -6,7 +6,8 @@ use crate::chips::WRITE_12_RIGHT;
 use crate::workers::{Open, plan};
 use ga_chip::{Chip, Try};
 use ga_law_examples::{
-    one_side, plan_behind_plan, plan_beside_tries, two_orders, two_parts, two_plans,
+    one_side, plan_behind_plan, plan_beside_tries, tries_beside_stuck, two_orders, two_parts,
+    two_plans,
 };
 use ga_place::{Node, Side};
 use ga_test_values::{array, node, nodes};
@@ -105,5 +106,23 @@ fn a_plan_behind_a_plan(rt: HostRuntime) -> Result<(), Fail> {
         &Open,
     )?;
     assert!(rt; first.state(node_708).steps() == 0 && two.state(node_708).steps() == 1);
+    Ok(())
+}
+
+#[test]
+fn tries_beside_two_stuck_nodes(rt: HostRuntime) -> Result<(), Fail> {
+    let [node_708, node_709, node_000] = nodes(&[708, 709, 0])?;
+    let words = array::<64>(&WRITE_12_RIGHT)?;
+    let mut chip = Chip::reset(rt.alloc())?;
+    for node in [node_708, node_709, node_000] {
+        chip.place(node, &words, 0)?;
+    }
+    let (a, b, c) = (right(node_708), right(node_709), right(node_000));
+    chip.run(&[a, a, a, a, a, a, a, b, b, b, b, b, b, b]);
+    let tries = [a, c, b, c, a, b];
+    assert!(rt; tries_beside_stuck(&mut chip, node_708, &tries));
+    assert!(rt; chip.state(node_708).steps() == 7 && chip.state(node_000).steps() == 2);
+    assert!(rt; !tries_beside_stuck(&mut chip, node_000, &tries));
+    assert!(rt; chip.state(node_709).steps() == 7 && chip.state(node_000).steps() == 4);
     Ok(())
 }

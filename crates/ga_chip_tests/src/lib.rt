@@ -25,4 +25,6 @@ mod ports;
 #[cfg(test)]
 mod streams;
 #[cfg(test)]
+mod stuck;
+#[cfg(test)]
 mod workers;
