@@ -74,10 +74,7 @@ some3 a b c d none_a none_b none_c fits =
 parts_of : (shape slot3 fits none : Bool) → (if not shape then Some Shape else if not slot3 then Some Slot3 else if not fits then Some Dest else if not none then Some Spare else None) ≡ None
     → (shape ≡ true) × (slot3 ≡ true) × (fits ≡ true) × (none ≡ true)
 parts_of true true true true h = (refl, refl, refl, refl)
-parts_of true true true false h = absurd (cc)
-parts_of true true false none h = absurd (cc)
-parts_of true false fits none h = absurd (cc)
-parts_of false slot3 fits none h = absurd (cc)
+parts_of _ _ _ _ h = absurd (cc)
 
 no_fault_parts : (ops : List Op) (dest : Option ℕ) (spare : ℕ) → pack_fault ops dest spare ≡ None
     → (has_shape ops dest ≡ true) × (slot3_fits ops ≡ true) × (dest_fits ops dest ≡ true) × (spare_fits ops spare ≡ true)
@@ -90,16 +87,13 @@ zero_spare ops spare more h = grind (arith, common_steps)
 pub encodable : (ops : List Op) (dest : Option ℕ) (spare : ℕ) → pack_fault ops dest spare ≡ None → SomeWord ops dest spare
 unfolding pack_fault
 encodable [] (Some dest) spare h = absurd (cc)
-encodable [] None spare h = absurd (cc)
 encodable (a ∷ []) (Some dest) spare h =
     let parts = no_fault_parts (a ∷ []) (Some dest) spare h in some0 a dest spare parts.0 (ltb-true dest 1024 parts.2) (ltb-true spare 8 (and_parts _ _ parts.3).0)
-encodable (a ∷ []) None spare h = absurd (cc)
 encodable (a ∷ b ∷ []) (Some dest) spare h =
     let parts = no_fault_parts (a ∷ b ∷ []) (Some dest) spare h in
     let none : spare ≡ 0 = zero_spare (a ∷ b ∷ []) spare refl parts.3 in
     let shape = and_parts (not (takes_dest a)) (takes_dest b) parts.0 in
     rw none (some1 a b dest (not-true (takes_dest a) shape.0) shape.1 (ltb-true dest 256 parts.2))
-encodable (a ∷ b ∷ []) None spare h = absurd (cc)
 encodable (a ∷ b ∷ c ∷ []) (Some dest) spare h =
     let parts = no_fault_parts (a ∷ b ∷ c ∷ []) (Some dest) spare h in
     let shape : ends_at_dest (a ∷ b ∷ c ∷ []) ≡ true = parts.0 in
@@ -107,7 +101,6 @@ encodable (a ∷ b ∷ c ∷ []) (Some dest) spare h =
     let first = and_parts (not (takes_dest a)) (ends_at_dest (b ∷ c ∷ [])) shape in
     let second = and_parts (not (takes_dest b)) (takes_dest c) first.1 in
     rw none (some2 a b c dest (not-true (takes_dest a) first.0) (not-true (takes_dest b) second.0) second.1 (ltb-true dest 8 parts.2))
-encodable (a ∷ b ∷ c ∷ []) None spare h = absurd (cc)
 encodable (a ∷ b ∷ c ∷ d ∷ []) None spare h =
     let parts = no_fault_parts (a ∷ b ∷ c ∷ d ∷ []) None spare h in
     let is_none : Op → Bool = λ op. not (takes_dest op) in
@@ -117,5 +110,5 @@ encodable (a ∷ b ∷ c ∷ d ∷ []) None spare h =
     let second = and_parts (is_none b) (list_all is_none (c ∷ d ∷ [])) first.1 in
     let third = and_parts (is_none c) (list_all is_none (d ∷ [])) second.1 in
     rw none (some3 a b c d (not-true (takes_dest a) first.0) (not-true (takes_dest b) second.0) (not-true (takes_dest c) third.0) parts.1)
-encodable (a ∷ b ∷ c ∷ d ∷ []) (Some dest) spare h = absurd (cc)
 encodable (a ∷ b ∷ c ∷ d ∷ e ∷ ops) dest spare h = absurd (let shape = shapeless_many (a ∷ b ∷ c ∷ d ∷ e ∷ ops) dest spare (omega arith) in cc)
+encodable _ _ spare h = absurd (cc)

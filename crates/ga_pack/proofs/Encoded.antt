@@ -7,7 +7,7 @@ use Rattle.std.proofs.lemmas.Nat.{and_mask, shr_below, xor_lt}
 use Rattle.ga_word.specs.Op.{code_of, fits_slot3, op_with, takes_dest}
 use Rattle.ga_word.specs.Word.{bits}
 use Rattle.ga_word.specs.declared.op.Op.{Op}
-use Rattle.ga_word.specs.declared.op.Op.TheVariants.{Jump, Call, Next, If, MinusIf}
+use Rattle.ga_word.specs.declared.op.Op.TheVariants.{Jump}
 use Rattle.ga_pack.specs.Decoded.{Reading, reading_of, op_in_slot0, op_in_slot1, op_in_slot2, op_in_slot3}
 use Rattle.ga_pack.specs.Encoding.{pack_fault}
 use Rattle.ga_pack.specs.Reading.{Reads, dest_after_slot0, dest_after_slot1, dest_after_slot2, no_dest, stored, stored_upper}
@@ -22,11 +22,7 @@ use Rattle.ga_pack.proofs.StoredOpcodes.{HasKey, key0, key1, key2, stored-field,
 -- an opcode that slot 3 takes has no destination
 pub takes_none : (op : Op) → fits_slot3 op ≡ true → takes_dest op ≡ false
 takes_none Jump fits = cc
-takes_none Call fits = cc
-takes_none Next fits = cc
-takes_none If fits = cc
-takes_none MinusIf fits = cc
-takes_none _ fits = refl
+takes_none _ fits = cc
 
 -- what a word reads as has no fault
 pub readable : {word : List ℕ} {ops : List Op} {dest : Option ℕ} {spare : ℕ} → Reads word ops dest spare → pack_fault ops dest spare ≡ None

@@ -6,16 +6,14 @@ use Rattle.std.specs.List.{list_any}
 use Rattle.ga_word.specs.declared.op.Op.{Op}
 use Rattle.ga_word.specs.Op.{ends_word}
 use Rattle.ga_pack.specs.Model.Layout.{Labels, Group, Shared, Alone, Arranged, GroupWords, IsWord, Laid, StandIn, Words, code_end, fits, is_loose, items_of, joins, labels_after, labels_behind, literals, more_join, op_of, ops_of, size, stand}
-use Rattle.ga_pack.specs.Model.Source.{Item, Instruction, Transfer, Literal, Word, WordTo, Plain}
+use Rattle.ga_pack.specs.Model.Source.{Item, Instruction, Word, WordTo}
 use Rattle.ga_pack.proofs.OneReading.{one_number}
 
 -- what fits a slot stands outside brackets
 fits_loose : (labels : Labels) (address : ℕ) (ops : List Op) (i : Item) → fits labels address ops i ≡ true → is_loose i ≡ true
 unfolding fits
-fits_loose labels address ops (Instruction o) h = refl
-fits_loose labels address ops (Transfer o v) h = refl
-fits_loose labels address ops (Literal n) h = refl
-fits_loose labels address ops i h = cc
+fits_loose labels address ops (Instruction o) h = cc
+fits_loose labels address ops _ h = cc
 
 pub joins_loose : (labels : Labels) (address : ℕ) (ops : List Op) (i : Item) → joins labels address ops i ≡ true → is_loose i ≡ true
 joins_loose labels address ops i h = fits_loose labels address ops i (and_parts (not (list_any ends_word ops)) (fits labels address ops i) h).1
@@ -55,9 +53,6 @@ pub one_arrangement : (labels : Labels) (address : ℕ) (gs hs : List Group) →
 unfolding Arranged
 one_arrangement labels address [] [] p q e = refl
 one_arrangement labels address [] (Shared i is ∷ hs) p q e = absurd (cc)
-one_arrangement labels address [] (Alone i ∷ hs) p q e = absurd (cc)
-one_arrangement labels address (Shared i is ∷ gs) [] p q e = absurd (cc)
-one_arrangement labels address (Alone i ∷ gs) [] p q e = absurd (cc)
 one_arrangement labels address (Shared i is ∷ gs) (Alone j ∷ hs) (stands, full, more) (alone, more') e =
     let same : i ≡ j = cc in
     let loose = joins_loose labels address [] i (and_parts (joins labels address [] i) (stand labels address (op_of i ∷ []) is) stands).0 in
@@ -78,6 +73,7 @@ one_arrangement labels address (Shared i is ∷ gs) (Shared j js ∷ hs) (stands
     let more'' = subst (λ t. Arranged labels (address + (1 + length (literals t))) hs) (sym same) more' in
     let rest = one_arrangement labels (address + size (Shared i is)) gs hs more more'' word.1 in
     cc
+one_arrangement labels address _ _ p q e = absurd (cc)
 
 pub one_standing : {items : List Item} {gs hs : List Group} → StandIn items gs → StandIn items hs → gs ≡ hs
 one_standing {gs = gs} {hs = hs} p q = one_arrangement [] 0 gs hs p.arranged q.arranged (p.in_order ∙ sym q.in_order)
@@ -92,7 +88,6 @@ unfolding GroupWords
 one_group labels (Shared i is) us vs (v, p, e) (w, q, f) = let same = one_word_of p q in cc
 one_group labels (Alone (Word ops)) us vs (v, p, e) (w, q, f) = let same = one_word_of p q in cc
 one_group labels (Alone (WordTo ops o d spare)) us vs (v, p, e) (w, q, f) = let same = one_word_of p q in cc
-one_group labels (Alone (Plain v)) us vs p q = p ∙ sym q
 one_group labels (Alone i) us vs p q = p ∙ sym q
 
 one_list : (labels : Labels) (groups : List Group) (us vs : List ℕ) → Words labels groups us → Words labels groups vs → us ≡ vs

@@ -1,6 +1,6 @@
 -- A list of tokens is spelled by one program at most.
 use Rattle.std.proofs.Common.{◌≡◌, ◌∙◌, ℕ, suc, true, false, List, [], ◌∷◌, ◌++◌, length, Option, Some, None, refl, sym, ap}
-use Rattle.std.specs.Prelude.{◌&&◌, ◌||◌, ◌==◌, ◌^◌, nat_lt, not}
+use Rattle.std.specs.Prelude.{◌&&◌, ◌^◌, nat_lt, not}
 use Rattle.std.proofs.lemmas.Bool.{and_parts, not-true}
 use Rattle.ga_word.specs.declared.op.Op.{Op}
 use Rattle.ga_word.specs.Op.{takes_dest}
@@ -113,20 +113,8 @@ one_item i j rest rest' h h' e = absurd (cc)
 no_item : (i : Item) (rest : List Token) (ss : List Section) → text_tokens ss ≡ item_tokens i rest → ⊥
 no_item (Instruction o) rest [] e = cc
 no_item (Instruction o) rest (s ∷ ss) e = cc
-no_item (Transfer o v) rest [] e = cc
-no_item (Transfer o v) rest (s ∷ ss) e = cc
-no_item (Literal n) rest [] e = cc
-no_item (Literal n) rest (s ∷ ss) e = cc
-no_item (Here s) rest [] e = cc
-no_item (Here s) rest (t ∷ ss) e = cc
-no_item (Word ops) rest [] e = cc
-no_item (Word ops) rest (s ∷ ss) e = cc
-no_item (WordTo ops o v spare) rest [] e = cc
-no_item (WordTo ops o v spare) rest (s ∷ ss) e = cc
-no_item (Plain v) rest [] e = cc
-no_item (Plain v) rest (s ∷ ss) e = cc
-no_item i rest [] e = cc
-no_item i rest (s ∷ ss) e = cc
+no_item _ rest [] e = cc
+no_item _ rest (s ∷ ss) e = cc
 
 one_list : (b b' : Before) (is js : List Item) (ss ss' : List Section) → Items b is → Items b' js → items_tokens is (text_tokens ss) ≡ items_tokens js (text_tokens ss')
     → (is ≡ js) × (text_tokens ss ≡ text_tokens ss')

@@ -4,7 +4,7 @@ use Rattle.ga_word.specs.declared.op.Op.{Op}
 use Rattle.ga_pack.specs.Model.Text.{Place, places_of, texts_of}
 use Rattle.ga_pack.specs.Model.Token.{SourceKind, Token, close_mark, end, is_node, node, node_name, op}
 use Rattle.ga_pack.specs.Model.Meaning.{meaning_at, meanings}
-use Rattle.ga_pack.specs.Model.Source.{Instruction, Transfer, Literal, Here, Align, Word, WordTo, Plain, Data, Item, Section, Source, item_tokens, items_tokens, op_tokens, spare_tokens, text_tokens, value_token}
+use Rattle.ga_pack.specs.Model.Source.{Word, WordTo, Item, Section, Source, item_tokens, items_tokens, op_tokens, spare_tokens, text_tokens, value_token}
 use Rattle.ga_pack.specs.Model.SourceFault.{Begins, GoesOn, SourceFault, ends_in_node, kind_at}
 use Rattle.ga_pack.specs.Model.Program.{IsFault, place_at, tokens_of}
 use Rattle.ga_pack.proofs.OneFault.{Cuts, here, nearer, farther, cuts}
@@ -78,18 +78,12 @@ spare_more None a b = refl
 spare_more (Some n) a b = refl
 
 item_more : (i : Item) (a b : List Token) → item_tokens i (a ++ b) ≡ item_tokens i a ++ b
-item_more (Instruction o) a b = refl
-item_more (Transfer o v) a b = refl
-item_more (Literal n) a b = refl
-item_more (Here s) a b = refl
-item_more Align a b = refl
 item_more (Word ops) a b = let e = op_more ops (close_mark ∷ a) b in cc
 item_more (WordTo ops o v spare) a b =
     let e = op_more ops (op o ∷ value_token v ∷ spare_tokens spare a) b in
     let f = spare_more spare a b in
     cc
-item_more (Plain v) a b = refl
-item_more Data a b = refl
+item_more _ a b = refl
 
 items_more : (is : List Item) (a b : List Token) → items_tokens is (a ++ b) ≡ items_tokens is a ++ b
 items_more [] a b = refl
