@@ -1,7 +1,7 @@
 -- What tokens lead from a state of the parser to a program.
 use Rattle.std.proofs.Common.{◌≡◌, ◌⊎◌, inl, inr, ℕ, true, List, [], ◌∷◌, ◌++◌, Option, Some, refl, sym, ap, ◌∙◌, subst, append_assoc}
 use Rattle.ga_word.specs.declared.op.Op.{Op}
-use Rattle.ga_pack.specs.Model.Token.{Token, op, number, name, label, node, node_name, align, data_part, open_mark, close_mark, comma, slash, bad, end}
+use Rattle.ga_pack.specs.Model.Token.{Token, op, number, label, node, node_name, align, data_part, open_mark, close_mark, comma, end}
 use Rattle.ga_pack.specs.Model.Source.{Value, Item, Instruction, Transfer, Literal, Here, Align, Word, WordTo, Plain, Data, Section, Part, after, part_after, is_item, is_new, Items, Sections, Source, text_tokens, items_tokens, item_tokens, op_tokens, value_token, spare_tokens}
 use Rattle.ga_source.specs.inner.Machine.{At, between, behind_op, behind_comma, in_word, behind_dest_op, behind_dest, behind_slash, behind_spare, Inside, State, nothing, naming, inside, finished, sections_closed}
 
@@ -100,7 +100,6 @@ rest_follows c at ts more i p t first r a = subst (λ x. Follows c x p) (first m
 
 pub led_back : (c : Inside) (ts : List Token) (p : List Section) → Led c p ts → Follows c ts p
 unfolding Items Sections
-led_back c [] p h = absurd h
 led_back c (op o ∷ rest) p (inl a) = adds_follows c (Instruction o) rest p a
 led_back c (op o ∷ rest) p (inr (i, more, (v, e, f), a)) = rest_follows c (behind_op o) rest more i p (op o) (λ more i (v, e, f). cc) (v, e, f) a
 led_back c (number n ∷ rest) p a = adds_follows c (Literal n) rest p a
@@ -112,8 +111,4 @@ led_back c (open_mark ∷ rest) p (i, more, inl (later, e, f), a) = subst (λ x.
 led_back c (open_mark ∷ rest) p (i, more, inr (later, o, v, k, e, f), a) = subst (λ x. Follows c x p) (ap (λ j. item_tokens j more) f ∙ ap (λ x. open_mark ∷ x) (sym e)) (adds_follows c i more p a)
 led_back c (end ∷ rest) p (w, e, pe) = ([], [], ap (λ x. end ∷ x) e, w, tt, simp (nothing_more {A = Item}) pe)
 led_back c (node ∷ rest) p (w, (s, ss, e, more, pe)) = ([], s ∷ ss, ap (λ x. node ∷ x) e, w, more, simp (nothing_more {A = Item}) (simp append_assoc at pe))
-led_back c (name s ∷ rest) p h = absurd h
-led_back c (node_name s ∷ rest) p h = absurd h
-led_back c (close_mark ∷ rest) p h = absurd h
-led_back c (slash ∷ rest) p h = absurd h
-led_back c (bad k ∷ rest) p h = absurd h
+led_back c _ p h = absurd h

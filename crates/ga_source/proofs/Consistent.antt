@@ -9,7 +9,7 @@ use Rattle.ga_pack.specs.Model.Token.{SourceKind, Token, op, number, name, label
 use Rattle.ga_pack.specs.Model.Meaning.{is_reserved}
 use Rattle.ga_pack.specs.Model.Source.{Number, Label, Item, Instruction, Transfer, Literal, Here, Align, Word, WordTo, Plain, Data, Section, Part, Code, Behind, start, part_after, is_among, is_named, labels_with}
 use Rattle.ga_pack.specs.Slots.{dest_bound, op_fits}
-use Rattle.ga_source.specs.inner.Machine.{State, Inside, IsConsistent, between, behind_op, behind_comma, in_word, behind_dest_op, behind_dest, behind_slash, behind_spare, nothing, naming, inside, finished, take, take_first, take_between, item_added}
+use Rattle.ga_source.specs.inner.Machine.{State, Inside, IsConsistent, between, behind_op, behind_comma, in_word, behind_dest_op, behind_dest, behind_slash, behind_spare, nothing, naming, inside, take, take_first, take_between, item_added}
 use Rattle.ga_source.proofs.Steps.{on_test}
 
 -- the answer to a token keeps it
@@ -47,16 +47,14 @@ by_part c i (Some p) k = pushed c i p k
 
 first_consistent : (part : Part) (c : Inside) (t : Token) → Open c → ConsistentBy (take_first part c t)
 first_consistent Behind c comma o = o
-first_consistent Behind c t o = tt
 first_consistent (Code (suc n)) c comma o = o
 first_consistent (Code (suc n)) c data_part o = pushed c Data Behind o
-first_consistent (Code (suc n)) c t o = tt
 first_consistent (Code zero) c (op x) o = by_if (takes_dest x) _ _ o (by_if (is_followed x) _ _ tt (pushed c (Instruction x) (Code 0) o))
 first_consistent (Code zero) c (number m) o = pushed c (Literal m) (Code 0) o
 first_consistent (Code zero) c align o = pushed c Align (Code 0) o
 first_consistent (Code zero) c data_part o = pushed c Data Behind o
 first_consistent (Code zero) c open_mark o = o
-first_consistent (Code zero) c t o = tt
+first_consistent _ c _ o = tt
 
 between_consistent : (c : Inside) (t : Token) → Open c → ConsistentBy (take_between c t)
 between_consistent c (bad k) o = tt
@@ -86,9 +84,7 @@ word_consistent c ops close_mark k = by_if (nat_lt 0 (length ops)) _ _ (by_part 
 word_consistent c ops t k = tt
 
 pub take_consistent : (s : State) (t : Token) → IsConsistent s → ConsistentBy (take s t)
-take_consistent nothing (bad k) h = tt
 take_consistent nothing node h = tt
-take_consistent nothing t h = tt
 take_consistent (naming done seen) t h = naming_consistent done seen t
 take_consistent (inside c between) t h = between_consistent c t h
 take_consistent (inside c (behind_op o)) t h = dest_consistent c o t h
@@ -96,12 +92,8 @@ take_consistent (inside c behind_comma) t h = plain_consistent c t h
 take_consistent (inside c (in_word ops)) t h = word_consistent c ops t h
 take_consistent (inside c (behind_dest_op ops o)) (number m) h = by_if (nat_lt m (dest_bound (length ops))) _ _ h tt
 take_consistent (inside c (behind_dest_op ops o)) (name s) h = h
-take_consistent (inside c (behind_dest_op ops o)) t h = tt
 take_consistent (inside c (behind_dest ops o v)) slash h = by_if (length ops == 0) _ _ h tt
 take_consistent (inside c (behind_dest ops o v)) close_mark h = by_part c (WordTo ops o v None) (part_after c.before.part (WordTo ops o v None)) h
-take_consistent (inside c (behind_dest ops o v)) t h = tt
 take_consistent (inside c (behind_slash ops o v)) (number m) h = by_if (nat_lt m 8) _ _ h tt
-take_consistent (inside c (behind_slash ops o v)) t h = tt
 take_consistent (inside c (behind_spare ops o v k)) close_mark h = by_part c (WordTo ops o v (Some k)) (part_after c.before.part (WordTo ops o v (Some k))) h
-take_consistent (inside c (behind_spare ops o v k)) t h = tt
-take_consistent (finished p) t h = tt
+take_consistent _ _ h = tt

@@ -28,30 +28,19 @@ first_is : (b : Bool) (t : List ℕ) (ts : List (List ℕ)) (u : Token) → mean
 unfolding meanings
 first_is b t ts u e n = ap (λ x. meaning_at b t ∷ meanings x ts) (ap is_node e ∙ n) ∙ ap (λ x. x ∷ meanings false ts) e
 
-zero_is : (b : Bool) → meaning_at b (codes "0") ≡ number 0
-unfolding meaning_at meaning_of
-zero_is true = refl
-zero_is false = refl
+-- what these texts are, wherever they stand
+record Spelled (b : Bool) : Type 0 where
+  zero_is : meaning_at b (codes "0") ≡ number 0
+  close_is : meaning_at b (codes "]") ≡ close_mark
+  nop_is : meaning_at b (codes ".") ≡ op Nop
+  comma_is : meaning_at b (codes ",") ≡ comma
+  data_is : meaning_at b (codes "data") ≡ data_part
+  node_is : meaning_at b (codes "node") ≡ node
 
-close_is : (b : Bool) → meaning_at b (codes "]") ≡ close_mark
+spelled : (b : Bool) → Spelled b
 unfolding meaning_at meaning_of
-close_is true = refl
-close_is false = refl
-
-nop_is : (b : Bool) → meaning_at b (codes ".") ≡ op Nop
-unfolding meaning_at meaning_of
-nop_is true = refl
-nop_is false = refl
-
-comma_is : (b : Bool) → meaning_at b (codes ",") ≡ comma
-unfolding meaning_at meaning_of
-comma_is true = refl
-comma_is false = refl
-
-data_is : (b : Bool) → meaning_at b (codes "data") ≡ data_part
-unfolding meaning_at meaning_of
-data_is true = refl
-data_is false = refl
+spelled true = record { zero_is = refl; close_is = refl; nop_is = refl; comma_is = refl; data_is = refl; node_is = refl }
+spelled false = record { zero_is = refl; close_is = refl; nop_is = refl; comma_is = refl; data_is = refl; node_is = refl }
 
 -- from any part a word of data can be reached
 last_items : Part → List Item
@@ -64,8 +53,8 @@ last_texts (Code n) = codes "data" ∷ codes "," ∷ codes "0" ∷ []
 
 last_tokens : (b : Bool) (part : Part) → meanings b (last_texts part) ≡ items_tokens (last_items part) (end ∷ [])
 unfolding meanings last_texts last_items
-last_tokens b Behind = first_is b (codes ",") (codes "0" ∷ []) comma (comma_is b) refl ∙ ap (λ x. comma ∷ x) (first_is false (codes "0") [] (number 0) (zero_is false) refl)
-last_tokens b (Code n) = first_is b (codes "data") (codes "," ∷ codes "0" ∷ []) data_part (data_is b) refl ∙ ap (λ x. data_part ∷ x) (first_is false (codes ",") (codes "0" ∷ []) comma (comma_is false) refl ∙ ap (λ x. comma ∷ x) (first_is false (codes "0") [] (number 0) (zero_is false) refl))
+last_tokens b Behind = first_is b (codes ",") (codes "0" ∷ []) comma (spelled b).comma_is refl ∙ ap (λ x. comma ∷ x) (first_is false (codes "0") [] (number 0) (spelled false).zero_is refl)
+last_tokens b (Code n) = first_is b (codes "data") (codes "," ∷ codes "0" ∷ []) data_part (spelled b).data_is refl ∙ ap (λ x. data_part ∷ x) (first_is false (codes ",") (codes "0" ∷ []) comma (spelled false).comma_is refl ∙ ap (λ x. comma ∷ x) (first_is false (codes "0") [] (number 0) (spelled false).zero_is refl))
 
 last_right : (part : Part) (b : Before) → b.part ≡ part → Items b (last_items part)
 unfolding Items is_item part_after last_items
@@ -90,23 +79,23 @@ item_alive c at i q a b e rest =
     (r.0, l.1, λ x. (i, meanings false l.0, r.1 x, (q, a, b, e, l.2 false)))
 
 zero_close : (b : Bool) (ys : List (List ℕ)) → meanings b (codes "0" ∷ codes "]" ∷ ys) ≡ number 0 ∷ close_mark ∷ meanings false ys
-zero_close b ys = first_is b (codes "0") (codes "]" ∷ ys) (number 0) (zero_is b) refl ∙ ap (λ x. number 0 ∷ x) (first_is false (codes "]") ys close_mark (close_is false) refl)
+zero_close b ys = first_is b (codes "0") (codes "]" ∷ ys) (number 0) (spelled b).zero_is refl ∙ ap (λ x. number 0 ∷ x) (first_is false (codes "]") ys close_mark (spelled false).close_is refl)
 
 bound_above : (n : ℕ) → is_below (dest_bound n) (Number 0) ≡ true
 bound_above n = on_test (n == 0) (λ b. nat_lt 0 (if b then 2 ^ 10 else if n == 1 then 2 ^ 8 else 2 ^ 3) ≡ true) (λ e. refl) (λ e. on_test (n == 1) (λ b. nat_lt 0 (if b then 2 ^ 8 else 2 ^ 3) ≡ true) (λ e. refl) (λ e. refl))
 
 alive_op : (c : Inside) (o : Op) → Good (inside c (behind_op o)) → Alive (inside c (behind_op o))
 unfolding is_item part_after
-alive_op c o g = item_alive c (behind_op o) (Transfer o (Number 0)) (Code 0) (and_from (takes_dest o) true g.0 refl) refl (ap (λ x. part_after x (Transfer o (Number 0))) g.1) (λ ys. (codes "0" ∷ ys, λ b. (Number 0, first_is b (codes "0") ys (number 0) (zero_is b) refl, refl)))
+alive_op c o g = item_alive c (behind_op o) (Transfer o (Number 0)) (Code 0) (and_from (takes_dest o) true g.0 refl) refl (ap (λ x. part_after x (Transfer o (Number 0))) g.1) (λ ys. (codes "0" ∷ ys, λ b. (Number 0, first_is b (codes "0") ys (number 0) (spelled b).zero_is refl, refl)))
 
 alive_comma : (c : Inside) → Good (inside c behind_comma) → Alive (inside c behind_comma)
 unfolding is_item
-alive_comma c g = item_alive c behind_comma (Plain (Number 0)) g.0 refl refl (g.1 (Number 0)) (λ ys. (codes "0" ∷ ys, λ b. (Number 0, first_is b (codes "0") ys (number 0) (zero_is b) refl, refl)))
+alive_comma c g = item_alive c behind_comma (Plain (Number 0)) g.0 refl refl (g.1 (Number 0)) (λ ys. (codes "0" ∷ ys, λ b. (Number 0, first_is b (codes "0") ys (number 0) (spelled b).zero_is refl, refl)))
 
 alive_word : (c : Inside) (ops : List Op) → Good (inside c (in_word ops)) → Alive (inside c (in_word ops))
 unfolding is_item part_after
-alive_word c [] g = item_alive c (in_word []) (Word (Nop ∷ [])) (Code 0) refl refl (ap (λ x. part_after x (Word (Nop ∷ []))) g.1) (λ ys. (codes "." ∷ codes "]" ∷ ys, λ b. inl (Nop ∷ [], first_is b (codes ".") (codes "]" ∷ ys) (op Nop) (nop_is b) refl ∙ ap (λ x. op Nop ∷ x) (first_is false (codes "]") ys close_mark (close_is false) refl), refl)))
-alive_word c (o ∷ ops) g = item_alive c (in_word (o ∷ ops)) (Word (o ∷ ops)) (Code (followers (o ∷ ops))) (is_word (o ∷ ops) (lt-ltb 0 (length (o ∷ ops)) (omega arith)) g.0) refl (ap (λ x. part_after x (Word (o ∷ ops))) g.1) (λ ys. (codes "]" ∷ ys, λ b. inl ([], first_is b (codes "]") ys close_mark (close_is b) refl, ap Word (sym (nothing_more (o ∷ ops))))))
+alive_word c [] g = item_alive c (in_word []) (Word (Nop ∷ [])) (Code 0) refl refl (ap (λ x. part_after x (Word (Nop ∷ []))) g.1) (λ ys. (codes "." ∷ codes "]" ∷ ys, λ b. inl (Nop ∷ [], first_is b (codes ".") (codes "]" ∷ ys) (op Nop) (spelled b).nop_is refl ∙ ap (λ x. op Nop ∷ x) (first_is false (codes "]") ys close_mark (spelled false).close_is refl), refl)))
+alive_word c (o ∷ ops) g = item_alive c (in_word (o ∷ ops)) (Word (o ∷ ops)) (Code (followers (o ∷ ops))) (is_word (o ∷ ops) (lt-ltb 0 (length (o ∷ ops)) (omega arith)) g.0) refl (ap (λ x. part_after x (Word (o ∷ ops))) g.1) (λ ys. (codes "]" ∷ ys, λ b. inl ([], first_is b (codes "]") ys close_mark (spelled b).close_is refl, ap Word (sym (nothing_more (o ∷ ops))))))
 
 word_to_alive : (c : Inside) (at : At) (ops : List Op) (o : Op) (v : Value) (k : Option ℕ) → stand_from 0 ops ≡ true → nat_lt (length ops) 3 ≡ true → takes_dest o ≡ true → is_below (dest_bound (length ops)) v ≡ true → is_spare (length ops) k ≡ true → c.before.part ≡ Code 0
     → ((ys : List (List ℕ)) → (ts : List (List ℕ)) × ((b : Bool) → Rest at (meanings b ts) (meanings false ys) (WordTo ops o v k))) → (ts : List (List ℕ)) × (p : List Section) × ((b : Bool) → (j : Item) × (more : List Token) × Rest at (meanings b ts) more j × Adds c j more p)
@@ -122,11 +111,6 @@ name_is : meaning_at true (codes "000") ≡ node_name 0
 unfolding meaning_at meaning_of
 name_is = refl
 
-node_is : (b : Bool) → meaning_at b (codes "node") ≡ node
-unfolding meaning_at meaning_of
-node_is true = refl
-node_is false = refl
-
 first_texts : List (List ℕ)
 first_texts = codes "000" ∷ last_texts (Code 0)
 
@@ -136,7 +120,7 @@ first_tokens = first_is true (codes "000") (last_texts (Code 0)) (node_name 0) n
 
 nothing_tokens : (b : Bool) → meanings b (codes "node" ∷ first_texts) ≡ node ∷ node_name 0 ∷ items_tokens (last_items (Code 0)) (end ∷ [])
 unfolding meanings
-nothing_tokens b = ap (λ x. x ∷ meanings (is_node x) first_texts) (node_is b) ∙ ap (λ x. node ∷ x) first_tokens
+nothing_tokens b = ap (λ x. x ∷ meanings (is_node x) first_texts) (spelled b).node_is ∙ ap (λ x. node ∷ x) first_tokens
 
 alive : (s : State) → Good s → Goes s
 unfolding Sections Source
@@ -147,9 +131,9 @@ alive (inside c (behind_op o)) g = inr (inl (alive_op c o g))
 alive (inside c behind_comma) g = inr (inl (alive_comma c g))
 alive (inside c (in_word ops)) g = inr (inl (alive_word c ops g))
 alive (inside c (behind_dest_op ops o)) g = inr (inl (word_to_alive c (behind_dest_op ops o) ops o (Number 0) None g.0 g.1 g.2 (bound_above (length ops)) refl g.3 (λ ys. (codes "0" ∷ codes "]" ∷ ys, λ b. (Number 0, None, zero_close b ys, refl)))))
-alive (inside c (behind_dest ops o v)) g = inr (inl (word_to_alive c (behind_dest ops o v) ops o v None g.0 g.1 g.2 g.3 refl g.4 (λ ys. (codes "]" ∷ ys, λ b. (None, first_is b (codes "]") ys close_mark (close_is b) refl, refl)))))
+alive (inside c (behind_dest ops o v)) g = inr (inl (word_to_alive c (behind_dest ops o v) ops o v None g.0 g.1 g.2 g.3 refl g.4 (λ ys. (codes "]" ∷ ys, λ b. (None, first_is b (codes "]") ys close_mark (spelled b).close_is refl, refl)))))
 alive (inside c (behind_slash ops o v)) g = inr (inl (word_to_alive c (behind_slash ops o v) ops o v (Some 0) g.0 g.1 g.2 g.3 (and_from (length ops == 0) true g.4 refl) g.5 (λ ys. (codes "0" ∷ codes "]" ∷ ys, λ b. (0, zero_close b ys, refl)))))
-alive (inside c (behind_spare ops o v k)) g = inr (inl (word_to_alive c (behind_spare ops o v k) ops o v (Some k) g.0 g.1 g.2 g.3 (and_from (length ops == 0) (nat_lt k 8) g.4 g.5) g.6 (λ ys. (codes "]" ∷ ys, λ b. (first_is b (codes "]") ys close_mark (close_is b) refl, refl)))))
+alive (inside c (behind_spare ops o v k)) g = inr (inl (word_to_alive c (behind_spare ops o v k) ops o v (Some k) g.0 g.1 g.2 g.3 (and_from (length ops == 0) (nat_lt k 8) g.4 g.5) g.6 (λ ys. (codes "]" ∷ ys, λ b. (first_is b (codes "]") ys close_mark (spelled b).close_is refl, refl)))))
 alive (finished q) g = inl (q, refl)
 
 -- ---- where `node` is refused the end is refused
@@ -157,32 +141,16 @@ alive (finished q) g = inl (q, refl)
 -- what stands in front of the name of a section: nothing, or a whole text
 node_led : (s s' : State) → Good s → take s node ≡ Ok s' → ((s ≡ nothing) × (s' ≡ naming [] [])) ⊎ ((p : List Section) × Completes s (end ∷ []) p)
 node_led nothing s' g e = inl (refl, (cc))
-node_led (naming done seen) s' g e = absurd (cc)
 node_led (inside c between) s' g e = inr (on_test c.before.has_word (λ b. (if b then Ok (naming (sections_closed c) (c.seen ++ c.name ∷ [])) else Err SourceKind.Empty) ≡ Ok s' → (p : List Section) × Follows c (end ∷ []) p)
     (λ some h. (sections_closed c, led_back c (end ∷ []) (sections_closed c) (some, refl, refl))) (λ none h. absurd (cc)) e)
-node_led (inside c (behind_op o)) s' g e = absurd (cc)
-node_led (inside c behind_comma) s' g e = absurd (cc)
-node_led (inside c (in_word ops)) s' g e = absurd (cc)
-node_led (inside c (behind_dest_op ops o)) s' g e = absurd (cc)
-node_led (inside c (behind_dest ops o v)) s' g e = absurd (cc)
-node_led (inside c (behind_slash ops o v)) s' g e = absurd (cc)
-node_led (inside c (behind_spare ops o v k)) s' g e = absurd (cc)
-node_led (finished q) s' g e = absurd (cc)
+node_led _ s' g e = absurd (cc)
 
 -- where `node` is refused no text ends
 node_refused : (s : State) (k : SourceKind) → Good s → take s node ≡ Err k → (p : List Section) → Completes s (end ∷ []) p → ⊥
 node_refused nothing k g e p h = absurd (cc)
-node_refused (naming done seen) k g e p h = take_right (naming done seen) end g [] p h
 node_refused (inside c between) k g e p h = on_test c.before.has_word (λ b. (if b then Ok (naming (sections_closed c) (c.seen ++ c.name ∷ [])) else Err SourceKind.Empty) ≡ Err k → ⊥)
     (λ some f. absurd (cc)) (λ none f. both_ways c.before.has_word none (led c (end ∷ []) p h).0) e
-node_refused (inside c (behind_op o)) k g e p h = take_right (inside c (behind_op o)) end g [] p h
-node_refused (inside c behind_comma) k g e p h = take_right (inside c behind_comma) end g [] p h
-node_refused (inside c (in_word ops)) k g e p h = take_right (inside c (in_word ops)) end g [] p h
-node_refused (inside c (behind_dest_op ops o)) k g e p h = take_right (inside c (behind_dest_op ops o)) end g [] p h
-node_refused (inside c (behind_dest ops o v)) k g e p h = take_right (inside c (behind_dest ops o v)) end g [] p h
-node_refused (inside c (behind_slash ops o v)) k g e p h = take_right (inside c (behind_slash ops o v)) end g [] p h
-node_refused (inside c (behind_spare ops o v n)) k g e p h = take_right (inside c (behind_spare ops o v n)) end g [] p h
-node_refused (finished q) k g e p h = take_right (finished q) end g [] p h
+node_refused s k g e p h = take_right s end g [] p h
 
 -- ---- the parser behind the front of a text
 

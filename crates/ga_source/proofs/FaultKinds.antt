@@ -200,13 +200,11 @@ between_shaped c u t r rd = first_shaped c c.before.part u t r refl tt rd
 
 nothing_shaped : (t : Token) → Shaped nothing [] t (take nothing t)
 unfolding kind_at
-nothing_shaped (bad k) = λ f. refl
 nothing_shaped node = ([], refl, refl)
 nothing_shaped t = λ f. refl
 
 naming_shaped : (done : List Section) (seen : List ℕ) (t : Token) (r : List Token) → in_brackets r ≡ false → Shaped (naming done seen) (node ∷ r) t (take (naming done seen) t)
 unfolding kind_at
-naming_shaped done seen (bad k) r b = λ f. refl
 naming_shaped done seen (node_name n) r b = on_test (is_named n seen) (λ b. Shaped (naming done seen) (node ∷ r) (node_name n) (if b then Err SourceKind.DuplicateNode else Ok (inside (record { done = done; seen = seen; name = n; items = []; before = start }) between)))
     (λ e f. refl) (λ e. (node_name n, node ∷ r, refl, record { no_node = refl; brackets = b; part = refl; last = refl }))
 naming_shaped done seen t r b = λ f. refl

@@ -4,7 +4,7 @@ use Rattle.std.proofs.lemmas.List.{drop_all, drop-drop, drop-map, drop_more, map
 use Rattle.ga_word.specs.declared.op.Op.{Op}
 use Rattle.ga_pack.specs.Model.Text.{Lexeme, Place, end_of, lexemes, places_of}
 use Rattle.ga_pack.specs.Model.Token.{Token, op, close_mark}
-use Rattle.ga_pack.specs.Model.Source.{Value, Item, Instruction, Transfer, Literal, Here, Align, Word, WordTo, Plain, Data, Section, item_tokens, items_tokens, op_tokens, spare_tokens, value_token}
+use Rattle.ga_pack.specs.Model.Source.{Value, Item, Word, WordTo, Section, item_tokens, items_tokens, op_tokens, spare_tokens, value_token}
 use Rattle.ga_pack.specs.Model.Program.{PlacedItem, placed, placed_items, placed_sections}
 use Rattle.ga_source.specs.Item.{item_of}
 use Rattle.ga_source.specs.Program.{item_place, item_place_of, items_at, sections_in}
@@ -34,19 +34,13 @@ pub word_spare_count : (ops : List Op) (o : Op) (v : Value) (k : ℕ) → length
 word_spare_count ops o v k = let e = ops_length ops (op o ∷ value_token v ∷ spare_tokens (Some k) []) in omega arith
 
 item_length : (i : Item) (rest : List Token) → length (item_tokens i rest) ≡ length (item_tokens i []) + length rest
-item_length (Instruction o) rest = omega arith
-item_length (Transfer o v) rest = omega arith
-item_length (Literal n) rest = omega arith
-item_length (Here s) rest = omega arith
-item_length Align rest = omega arith
 item_length (Word ops) rest = let e = ops_length ops (close_mark ∷ rest) in let f = ops_length ops (close_mark ∷ []) in omega arith
 item_length (WordTo ops o v spare) rest =
     let e = ops_length ops (op o ∷ value_token v ∷ spare_tokens spare rest) in
     let f = ops_length ops (op o ∷ value_token v ∷ spare_tokens spare []) in
     let g = spare_length spare rest in
     omega arith
-item_length (Plain v) rest = omega arith
-item_length Data rest = omega arith
+item_length _ rest = omega arith
 
 -- behind an item and others
 pub behind_item : {X : Type 0} (i : Item) (is : List Item) (xs : List X) → drop (length (items_tokens (i ∷ is) [])) xs ≡ drop (length (items_tokens is [])) (drop (length (item_tokens i [])) xs)

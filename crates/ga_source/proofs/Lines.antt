@@ -1,15 +1,13 @@
 -- A text is cut into lines and a line into runs: the tokens are those from the first place on.
-use Rattle.std.proofs.Common.{rules, ◌≡◌, ◌∙◌, ◌++◌, ◌+◌, ◌-◌, ◌<◌, ◌≤◌, ◌⊎◌, ℕ, Bool, true, false, not, Some, None, List, [], ◌∷◌, inl, inr, map, length, take, drop, get_or, take_all, take-append-drop, length-drop, refl, sym, ap, ap₂, subst, append_assoc, arith, length-append}
+use Rattle.std.proofs.Common.{rules, ◌≡◌, ◌∙◌, ◌++◌, ◌+◌, ◌<◌, ◌≤◌, ◌⊎◌, ℕ, Bool, true, false, not, None, List, [], ◌∷◌, inl, inr, map, length, take, get_or, refl, sym, ap, ap₂, subst, append_assoc, arith, length-append}
 use Rattle.std.specs.Prelude.{◌==◌, count_by, filter, if◌then◌else◌}
 use Rattle.std.specs.List.{slice_split, onto_first}
 use Rattle.std.proofs.Math.Seq.{take-append_seam}
-use Rattle.std.proofs.lemmas.List.{drop_more, get_or-take, get_or_default, length-take}
+use Rattle.std.proofs.lemmas.List.{get_or_default}
 use Rattle.std.proofs.lemmas.List.Splits.{slice_split-cons_no, slice_split-cons_yes}
 use Rattle.std.proofs.lemmas.List.Sums.{count_by-le-length, sum_by-append}
 use Rattle.std.proofs.lemmas.Bool.{false_from_ne_true}
-use Rattle.memchr.specs.Find.{NoneBefore, Nowhere, Passes, is_byte}
-use Rattle.std.specs.Borrow.{Bor}
-use Rattle.std.proofs.lemmas.Bool.{eqb-true}
+use Rattle.memchr.specs.Find.{Nowhere, Passes, is_byte}
 use Rattle.ga_word.specs.Text.{is_blank, is_empty}
 use Rattle.ga_source.specs.inner.Walk.{FirstLine, columns_on, is_mark, left_lexemes, lexemes_at, run_lexemes}
 use Rattle.ga_pack.specs.Model.Text.{Lexeme, Run, before_comment, begins_character, lexemes, lexemes_from, line_lexemes, lines_of, place_behind, runs_from}
@@ -77,10 +75,6 @@ of_mark : (line offset : ℕ) (bytes : List ℕ) (at : ℕ) (run : List ℕ) (pa
 of_mark line offset bytes at [] parts e = absurd (cc)
 of_mark line offset bytes at (x ∷ xs) parts e = rw e refl
 
-of_empty : (line offset : ℕ) (bytes : List ℕ) (at : ℕ) (run : List ℕ) (parts : List (List ℕ)) → length run ≡ 0 → of_parts line offset bytes at (run ∷ parts) ≡ of_parts line offset bytes (at + length run + 1) parts
-of_empty line offset bytes at [] parts e = refl
-of_empty line offset bytes at (x ∷ xs) parts e = absurd (omega (arith, e))
-
 of_run : (line offset : ℕ) (bytes : List ℕ) (at : ℕ) (run : List ℕ) (parts : List (List ℕ)) → is_mark run ≡ false → 0 < length run
     → of_parts line offset bytes at (run ∷ parts) ≡ placed_run line offset bytes (record { offset = at; text = run }) ∷ of_parts line offset bytes (at + length run + 1) parts
 of_run line offset bytes at [] parts e some = absurd (omega (arith, some))
@@ -105,7 +99,7 @@ pub record Next (bytes : List ℕ) (at column : ℕ) (run : List ℕ) (others : 
 pub count_append : (xs ys : List ℕ) → count_by begins_character (xs ++ ys) ≡ count_by begins_character xs + count_by begins_character ys
 count_append xs ys = sum_by-append _ xs ys
 
-blank_begins : (y : ℕ) → is_blank y ≡ true → begins_character y ≡ true
+pub blank_begins : (y : ℕ) → is_blank y ≡ true → begins_character y ≡ true
 blank_begins y e = search rules
 
 next_stands : (bytes : List ℕ) (at column : ℕ) (run : List ℕ) (others : List (List ℕ)) (s : Stands bytes at column (run ∷ others)) → Cut is_blank s.rest run others
@@ -175,16 +169,6 @@ unfolding lexemes
 lexemes_are text = lines_are 1 0 (lines_of text)
 
 -- ---- the first line of a text
-
-pub lines_at_end : (text : List ℕ) (end : ℕ) (rest : Bor (List ℕ)) → NoneBefore (Passes (is_byte 10) text) 0 (length text) end × Passes (is_byte 10) text end → rest.now ≡ take (length text - (end + 1)) (drop (end + 1) text)
-    → FirstLine text (take end text) (Some rest)
-lines_at_end text end rest first e =
-    let inside = first.0.high in
-    let is : get_or text end 0 ≡ 10 = eqb-true (get_or text end 0) 10 first.1 in
-    let behind : rest.now ≡ drop (end + 1) text = e ∙ take_all _ (drop (end + 1) text) (omega (arith, length-drop (end + 1) text)) in (
-      sym (take-append-drop end text) ∙ ap (λ (l : List ℕ). take end text ++ l) (drop_more text end 0 inside) ∙ ap₂ (λ (c : ℕ) (l : List ℕ). take end text ++ c ∷ l) is (sym behind),
-      λ k d m. ap (λ byte. byte == 10) (get_or-take end text k d (omega (arith, m, length-take end text)) ∙ get_or_default text k d 0 (omega (arith, m, length-take end text))) ∙ false_from_ne_true (get_or text k 0 == 10) (first.0.before k (omega arith) (omega (arith, m, length-take end text))),
-    )
 
 pub lines_without_end : (text : List ℕ) → Nowhere (Passes (is_byte 10) text) 0 (length text) → FirstLine text text None
 lines_without_end text nowhere = (refl, λ k d m. ap (λ byte. byte == 10) (get_or_default text k d 0 m) ∙ false_from_ne_true (get_or text k 0 == 10) (nowhere k (omega arith) m))

@@ -134,15 +134,7 @@ left_behind (y ∷ xs) (suc i) x left e = left_behind xs i x left e
 -- the parser's state is never behind the text's end
 is_open : (at : Position) (p : the.Parser) → is_finished (at_position at p) ≡ false
 is_open position.Nothing p = refl
-is_open position.Naming p = refl
-is_open position.Between p = refl
-is_open (position.BehindOp o) p = refl
-is_open position.BehindComma p = refl
-is_open position.InWord p = refl
-is_open (position.BehindDestOp o) p = refl
-is_open (position.BehindDest o v) p = refl
-is_open (position.BehindSlash o v) p = refl
-is_open (position.BehindSpare o v k) p = refl
+is_open _ p = refl
 
 module _ (text : List ℕ) (i : ℕ) (behind : Bool) (p : the.Parser) (left : List (List ℕ)) (t : Taking text i behind p left) where
   pub good : Good (state_of p)

@@ -40,11 +40,8 @@ is_label s (Number m) rest more e = absurd (cc)
 is_label s (Label t) rest more e = ((cc), (cc))
 
 -- an item is whole
-same_part : (p q r : Part) (o : Option Part) → o ≡ Some p → o ≡ Some q → p ≡ q
-same_part p q r o e f = cc
-
 fixed : (c : Inside) (i : Item) (q : Part) (ts : List Token) (p : List Section) → part_after c.before.part i ≡ Some q → Adds c i ts p → Follows (with_item c i q) ts p
-fixed c i q ts p e a = subst (λ x. Follows (with_item c i x) ts p) (same_part a.0 q q (part_after c.before.part i) a.3 e) a.4
+fixed c i q ts p e a = let same : a.0 ≡ q = cc in subst (λ x. Follows (with_item c i x) ts p) same a.4
 
 whole : (c : Inside) (s : State) (t : Token) (i : Item) (q : Part) → part_after c.before.part i ≡ Some q → is_item i ≡ true → is_new i c.before.labels ≡ true
     → ((rest : List Token) (p : List Section) → Completes s (t ∷ rest) p → Adds c i rest p)
@@ -286,32 +283,18 @@ spare_number c ops o v n rest p (i, more, (k, e, f), a) = let h : n ≡ k = cc i
 spare_below : (c : Inside) (ops : List Op) (o : Op) (v : Value) (k : ℕ) (rest : List Token) (p : List Section) → Completes (inside c (behind_spare ops o v k)) rest p → nat_lt k 8 ≡ true
 spare_below c ops o v k rest p (i, more, (e, f), a) = (and_parts (length ops == 0) (nat_lt k 8) (word_to_parts ops o v (Some k) (is_right c i (WordTo ops o v (Some k)) more p f a)).spare).1
 
-abbrev is_numeral : Token → Bool
-is_numeral (number n) = true
-is_numeral _ = false
-
-no_spare : (t : Token) (rest more : List Token) (k : ℕ) → is_numeral t ≡ false → t ∷ rest ≡ number k ∷ more → ⊥
-no_spare t rest more k n e = let h : t ≡ number k = cc in absurd (cc (ap is_numeral h))
-
 behind_slash_right : (c : Inside) (ops : List Op) (o : Op) (v : Value) (t : Token) → Good (inside c (behind_slash ops o v)) → Right (inside c (behind_slash ops o v)) t (take (inside c (behind_slash ops o v)) t)
 behind_slash_right c ops o v (number n) g = on_test (nat_lt n 8) (λ b. Right (inside c (behind_slash ops o v)) (number n) (if b then Ok (inside c (behind_spare ops o v n)) else Err SourceKind.BadWord))
     (λ below. ((g.0, g.1, g.2, g.3, g.4, below, g.5), spare_number c ops o v n, λ rest p (i, more, (e, f), a). (i, more, (n, ap (λ x. number n ∷ x) e, f), a)))
     (λ above rest p h. both_ways (nat_lt n 8) above (spare_below c ops o v n rest p (spare_number c ops o v n rest p h)))
-behind_slash_right c ops o v t g = λ rest p (i, more, (k, e, f), a). no_spare t rest (close_mark ∷ more) k refl e
-
-abbrev is_close : Token → Bool
-is_close close_mark = true
-is_close _ = false
-
-no_close : (t : Token) (rest more : List Token) → is_close t ≡ false → t ∷ rest ≡ close_mark ∷ more → ⊥
-no_close t rest more n e = let h : t ≡ close_mark = cc in absurd (cc (ap is_close h))
+behind_slash_right c ops o v t g = λ rest p (i, more, (k, e, f), a). cc
 
 behind_spare_right : (c : Inside) (ops : List Op) (o : Op) (v : Value) (k : ℕ) (t : Token) → Good (inside c (behind_spare ops o v k)) → Right (inside c (behind_spare ops o v k)) t (take (inside c (behind_spare ops o v k)) t)
 unfolding part_after
 behind_spare_right c ops o v k close_mark g = whole_part c (inside c (behind_spare ops o v k)) close_mark (WordTo ops o v (Some k)) (Code (followers ops)) (ap (λ x. part_after x (WordTo ops o v (Some k))) g.6)
     (is_word_to ops o v (Some k) (record { stands = g.0; short = g.1; dest = g.2; below = g.3; spare = and_from (length ops == 0) (nat_lt k 8) g.4 g.5 })) refl
     (λ rest p (i, more, (e, f), a). carry c i (WordTo ops o v (Some k)) more rest p f (cc) a) (λ rest p a. (WordTo ops o v (Some k), rest, (refl, refl), a))
-behind_spare_right c ops o v k t g = λ rest p (i, more, (e, f), a). no_close t rest more refl e
+behind_spare_right c ops o v k t g = λ rest p (i, more, (e, f), a). cc
 
 -- ---- between items
 
@@ -399,28 +382,14 @@ first_open c (Code (suc m)) e = λ rest p h. open_barred c (Code (suc m)) rest p
 first_open c (Code zero) e = ((refl, e), λ rest p h. led c (open_mark ∷ rest) p h, λ rest p h. led_back c (open_mark ∷ rest) p h)
 
 -- tokens that begin no item
-first_no : (c : Inside) (t : Token) (r : Result State SourceKind) (k : SourceKind) → r ≡ Err k → ((rest : List Token) (p : List Section) → Led c p (t ∷ rest) → ⊥) → Right (inside c between) t r
-first_no c t r k e never = subst (λ x. Right (inside c between) t x) (sym e) (λ rest p h. never rest p (led c (t ∷ rest) p h))
-
-no_name : (part : Part) (c : Inside) (s : List ℕ) → take_first part c (name s) ≡ Err SourceKind.BadToken
-no_name Behind c s = refl
-no_name (Code (suc n)) c s = refl
-no_name (Code zero) c s = refl
-
-no_close_mark : (part : Part) (c : Inside) → take_first part c close_mark ≡ Err SourceKind.BadToken
-no_close_mark Behind c = refl
-no_close_mark (Code (suc n)) c = refl
-no_close_mark (Code zero) c = refl
-
-no_slash : (part : Part) (c : Inside) → take_first part c slash ≡ Err SourceKind.BadToken
-no_slash Behind c = refl
-no_slash (Code (suc n)) c = refl
-no_slash (Code zero) c = refl
-
-no_node_name : (part : Part) (c : Inside) (n : ℕ) → take_first part c (node_name n) ≡ Err SourceKind.BadToken
-no_node_name Behind c n = refl
-no_node_name (Code (suc m)) c n = refl
-no_node_name (Code zero) c n = refl
+first_no : (c : Inside) (t : Token) → take_first Behind c t ≡ Err SourceKind.BadToken → ((n : ℕ) → take_first (Code (suc n)) c t ≡ Err SourceKind.BadToken) → take_first (Code 0) c t ≡ Err SourceKind.BadToken
+    → ((rest : List Token) (p : List Section) → Led c p (t ∷ rest) → ⊥) → Right (inside c between) t (take_first c.before.part c t)
+first_no c t behind owed free never = subst (Right (inside c between) t) (sym (is_bad c.before.part)) (λ rest p h. never rest p (led c (t ∷ rest) p h))
+  where
+    is_bad : (part : Part) → take_first part c t ≡ Err SourceKind.BadToken
+    is_bad Behind = behind
+    is_bad (Code (suc n)) = owed n
+    is_bad (Code zero) = free
 
 label_right : (c : Inside) (s : List ℕ) → Right (inside c between) (label s) (take_label c s)
 unfolding part_after is_item
@@ -445,10 +414,7 @@ between_right c align = first_align c c.before.part refl
 between_right c data_part = first_data c c.before.part refl
 between_right c comma = first_comma c c.before.part refl
 between_right c open_mark = first_open c c.before.part refl
-between_right c (name s) = first_no c (name s) (take_first c.before.part c (name s)) SourceKind.BadToken (no_name c.before.part c s) (λ rest p h. h)
-between_right c close_mark = first_no c close_mark (take_first c.before.part c close_mark) SourceKind.BadToken (no_close_mark c.before.part c) (λ rest p h. h)
-between_right c slash = first_no c slash (take_first c.before.part c slash) SourceKind.BadToken (no_slash c.before.part c) (λ rest p h. h)
-between_right c (node_name n) = first_no c (node_name n) (take_first c.before.part c (node_name n)) SourceKind.BadToken (no_node_name c.before.part c n) (λ rest p h. h)
+between_right c t = first_no c t refl (λ n. refl) refl (λ rest p h. h)
 
 -- ---- around sections
 
@@ -465,15 +431,11 @@ naming_back : (done : List Section) (seen : List ℕ) (n : ℕ) (rest : List Tok
 unfolding Sections
 naming_back done seen n rest p free (is, ss, e, ok, more, f) = (record { name = n; items = is }, ss, ap (λ x. node_name n ∷ x) e, (free, ok, more), f)
 
-naming_no : (done : List Section) (seen : List ℕ) (t : Token) (rest : List Token) (p : List Section) → ((n : ℕ) → t ≡ node_name n → ⊥) → Completes (naming done seen) (t ∷ rest) p → ⊥
-naming_no done seen t rest p never (s, ss, e, ok, f) = let h : t ≡ node_name s.name = cc in never s.name h
-
 naming_right : (done : List Section) (seen : List ℕ) (t : Token) → Right (naming done seen) t (take (naming done seen) t)
-naming_right done seen (bad k) = λ rest p h. naming_no done seen (bad k) rest p (λ n e. cc) h
 naming_right done seen (node_name n) = on_test (is_named n seen) (λ b. Right (naming done seen) (node_name n) (if b then Err SourceKind.DuplicateNode else Ok (inside (record { done = done; seen = seen; name = n; items = []; before = start }) between)))
     (λ twice rest p h. both_ways (is_named n seen) (naming_led done seen n rest p h).0 twice)
     (λ free. (tt, λ rest p h. (naming_led done seen n rest p h).1, λ rest p h. naming_back done seen n rest p free h))
-naming_right done seen t = λ rest p h. naming_no done seen t rest p (λ n e. cc) h
+naming_right done seen t = λ rest p (s, ss, e, ok, f). cc
 
 source_led : (t : Token) (rest : List Token) (p : List Section) → Source (t ∷ rest) p → (t ≡ node) × Completes (naming [] []) rest p
 unfolding Source Sections
@@ -485,7 +447,6 @@ unfolding Source Sections
 source_back rest p (s, ss, e, ok, f) = subst (λ x. Source (node ∷ rest) x) (sym f) (ap (λ x. node ∷ x) e, ok)
 
 nothing_right : (t : Token) → Right nothing t (take nothing t)
-nothing_right (bad k) = λ rest p h. let e = (source_led (bad k) rest p h).0 in cc
 nothing_right node = (tt, λ rest p h. (source_led node rest p h).1, source_back)
 nothing_right t = λ rest p h. let e = (source_led t rest p h).0 in cc
 

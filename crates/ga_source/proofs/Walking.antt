@@ -15,7 +15,7 @@ use Rattle.ga_pack.specs.Model.Text.{Lexeme, Place, begins_character, end_from, 
 use Rattle.ga_source.specs.Token.{token_of}
 use Rattle.ga_source.specs.declared.token.Token.{Token}
 use Rattle.ga_source.specs.inner.Walk.{BehindRun, Begins, FirstLine, Found, columns_on, is_mark, left_lexemes, lexemes_at, next_line, run_lexemes, step, walk}
-use Rattle.ga_source.proofs.Lines.{First, count_append, first_of, lexemes_are, span, span_split}
+use Rattle.ga_source.proofs.Lines.{First, blank_begins, count_append, first_of, lexemes_are, span, span_split}
 
 abbrev NoBlank : List ℕ → Type 0
 NoBlank run = All (λ c. is_blank c ≡ false) run
@@ -73,10 +73,7 @@ walk_low p (c ∷ cs) =
 -- ---- blanks in front
 
 blank_columns : (p : Place) (c : ℕ) → is_blank c ≡ true → (c == 10) ≡ false → columns_on p 1 ≡ step p c
-blank_columns p c blank e = ap (λ (b : Bool). columns_on p (if b then 1 else 0)) (sym (begins c blank)) ∙ sym (in_line p c e)
-  where
-    begins : (y : ℕ) → is_blank y ≡ true → begins_character y ≡ true
-    begins y e = search rules
+blank_columns p c blank e = ap (λ (b : Bool). columns_on p (if b then 1 else 0)) (sym (blank_begins c blank)) ∙ sym (in_line p c e)
 
 skip_blank : (p : Place) (start c : ℕ) (text : List ℕ) → is_blank c ≡ true → lexemes_at p start (c ∷ text) ≡ lexemes_at (step p c) (start + 1) text
 skip_blank p start c text blank = by (c == 10) refl (first_of (λ byte. byte == 10) text)
@@ -161,9 +158,6 @@ token_first p start run behind some none ends e =
     ∙ ap (λ (ls : List Lexeme). lexeme ∷ (ls ++ left_lexemes (next_line p) (start + length run + length f.first + 1) f.others)) (sym (c.rest q (start + length run)))
     ∙ ap (λ (lines : List (List ℕ)). lexeme ∷ left_lexemes q (start + length run) lines) (sym f.parts)
     ∙ ap (λ (x : Place). lexeme ∷ lexemes_at x (start + length run) behind) (sym (walk_line p run (no_end run none)))
-
-no_lexeme : (p : Place) (start : ℕ) → lexemes_at p start [] ≡ []
-no_lexeme p start = refl
 
 -- what is left behind the first line
 abbrev pub IsLeft : Option (Bor (List ℕ)) → List ℕ → Type 0
