@@ -1,8 +1,8 @@
 -- Each cell has one writer and one reader.
-use Rattle.std.proofs.Common.{◌≡◌, ℕ, ◌<◌, List, length, true, false, get_or, Option, Some, None, refl, sym, ap, ◌∙◌, subst, arith, Bool, is_some, ap₂}
+use Rattle.std.proofs.Common.{◌≡◌, ℕ, ◌<◌, List, length, true, get_or, Option, Some, None, refl, sym, ap, ◌∙◌, subst, arith, Bool, is_some, ap₂}
 use Rattle.std.specs.Prelude.{if◌then◌else◌, ◌==◌}
 use Rattle.std.specs.List.{list_all}
-use Rattle.std.proofs.lemmas.List.Folds.{list_all_at}
+use Rattle.std.proofs.lemmas.List.Sums.{AllPass-from_list_all}
 use Rattle.std.proofs.lemmas.Grind.{common_steps}
 use Rattle.std.proofs.lemmas.List.Quantifiers.{position-Some}
 use Rattle.std.proofs.lemmas.Bool.{and_parts, eqb-true, false≢true}
@@ -16,11 +16,7 @@ use Rattle.ga_place.specs.Cell.{all_cells, cell_of, index_of, is_cell, name_at, 
 
 -- an item of a list whose items all pass a test passes it
 pub passes : {X : Type 0} (p : X → Bool) (xs : List X) (index : ℕ) (default : X) → index < length xs → list_all p xs ≡ true → p (get_or xs index default) ≡ true
-passes p xs index default below all = by (p (get_or xs index default)) refl
-  where
-    by : (b : Bool) → p (get_or xs index default) ≡ b → p (get_or xs index default) ≡ true
-    by true e = e
-    by false e = absurd (false≢true (sym (list_all_at p xs index default below e) ∙ all))
+passes p xs index default below all = AllPass-from_list_all p xs all index default below
 
 how_many : length all_cells ≡ 524
 unfolding all_cells
@@ -31,9 +27,7 @@ side_from bit = if bit == 0x80 then Right else if bit == 0x40 then Down else if 
 
 from_bit : (side : Side) → side_from (side_bit side) ≡ side
 from_bit Right = refl
-from_bit Down = refl
-from_bit Left = refl
-from_bit Up = refl
+from_bit _ = refl
 
 pub same_bit : (s t : Side) → side_bit s ≡ side_bit t → s ≡ t
 same_bit s t e = sym (from_bit s) ∙ ap side_from e ∙ from_bit t

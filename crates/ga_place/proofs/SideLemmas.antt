@@ -5,18 +5,14 @@ use Rattle.std.specs.Prelude.{Some}
 use Rattle.ga_place.specs.Node.{IsNodeName}
 use Rattle.ga_place.specs.Side.{neighbour_of}
 use Rattle.ga_place.specs.declared.side.Side.{Side}
-use Rattle.ga_place.specs.declared.side.Side.TheVariants.{Right, Down, Left, Up}
+use Rattle.ga_place.specs.declared.side.Side.TheVariants.{Right}
 
 -- a neighbour is a node
 pub neighbour_of-IsNodeName : (name other : ℕ) (side : Side) → IsNodeName name → neighbour_of name side ≡ Some other → IsNodeName other
 neighbour_of-IsNodeName name other Right named e = grind (arith, common_steps)
-neighbour_of-IsNodeName name other Down named e = grind (arith, common_steps)
-neighbour_of-IsNodeName name other Left named e = grind (arith, common_steps)
-neighbour_of-IsNodeName name other Up named e = grind (arith, common_steps)
+neighbour_of-IsNodeName name other _ named e = grind (arith, common_steps)
 
 -- both neighbours give a port that they share one name
 pub shared_port : (name other : ℕ) (side : Side) → IsNodeName name → neighbour_of name side ≡ Some other → neighbour_of other side ≡ Some name
 shared_port name other Right named e = grind (arith, common_steps)
-shared_port name other Down named e = grind (arith, common_steps)
-shared_port name other Left named e = grind (arith, common_steps)
-shared_port name other Up named e = grind (arith, common_steps)
+shared_port name other _ named e = grind (arith, common_steps)
