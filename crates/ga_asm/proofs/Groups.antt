@@ -4,14 +4,13 @@ use Rattle.std.proofs.Math.Seq.{drop-append_seam, drop-cons, take-append_seam}
 use Rattle.std.proofs.Math.ListN.{drop_of_length-le}
 use Rattle.std.proofs.lemmas.Bool.{and_from, and_parts, both_ways}
 use Rattle.std.proofs.lemmas.List.{drop-map, take-map}
-use Rattle.std.proofs.lemmas.List.Folds.{list_all-append}
 use Rattle.std.specs.Prelude.{if◌then◌else◌}
 use Rattle.std.specs.List.{list_all}
 use Rattle.std.specs.Option.{unwrap_or}
 use Rattle.ga_word.specs.declared.op.Op.{Op}
 use Rattle.ga_pack.specs.Model.Layout.{Labels, Group, Shared, Alone, Arranged, GroupWords, StandIn, Words, address_after, all_in_reach, code_end, group_in_reach, is_in_reach, is_loose, items_of, joins, labels_after, labels_behind, last_dest, names_in, op_of, ops_of, size, stand}
 use Rattle.ga_pack.specs.Model.LayoutFault.{OutOfReach, Passed, SecondPassFault}
-use Rattle.ga_pack.specs.Model.Source.{Item, Instruction, Transfer, Literal, Here, Align, Word, WordTo, Plain, Data, is_item}
+use Rattle.ga_pack.specs.Model.Source.{Item, Instruction, Here, Align, Word, WordTo, Plain, Data, is_item}
 use Rattle.ga_pack.proofs.Encoded.{shapeless_many}
 use Rattle.ga_pack.proofs.OneLayout.{joins_loose}
 use Rattle.ga_pack.proofs.Packable.{packable}
@@ -22,8 +21,9 @@ use Rattle.ga_asm.specs.inner.Layout.{Placing, count_of, data_at, plain}
 use Rattle.ga_asm.specs.inner.Making.{IsGroup, IsGroupBy, IsMade, IsPackable, Making, MoreWords}
 use Rattle.ga_asm.specs.declared.layout.Layout as the
 use Rattle.ga_asm.proofs.MakingSteps.{plain_length}
-use Rattle.ga_asm.proofs.Summary.{code_is, code_within, ops_length}
+use Rattle.ga_asm.proofs.Summary.{address_grows, code_is, code_within, ops_length}
 use Rattle.ga_pack.proofs.Laying.{all_defined}
+use Rattle.ga_pack.proofs.ItemParts.{all_parts}
 
 -- ---- the items of a group
 
@@ -60,17 +60,10 @@ arranged_at labels address (Shared i is ∷ front) g back arranged = arranged_at
 arranged_at labels address (Alone i ∷ front) g back arranged =
     arranged_at (labels_behind labels address (Alone i)) (address + size (Alone i)) front g back arranged.1
 
-all_right : (front back : List Item) → list_all is_item (front ++ back) ≡ true → (list_all is_item front ≡ true) × (list_all is_item back ≡ true)
-all_right front back h = and_parts (list_all is_item front) (list_all is_item back) (sym (list_all-append is_item front back) ∙ h)
-
 packable_few : (ops : List Op) (dest : Option ℕ) → IsPackable ops dest 0 → length ops ≤ 4
-packable_few [] dest h = omega arith
-packable_few (a ∷ []) dest h = omega arith
-packable_few (a ∷ b ∷ []) dest h = omega arith
-packable_few (a ∷ b ∷ c ∷ []) dest h = omega arith
-packable_few (a ∷ b ∷ c ∷ d ∷ []) dest h = omega arith
 packable_few (a ∷ b ∷ c ∷ d ∷ e ∷ ops) (Some dest) h = absurd (let none = shapeless_many (a ∷ b ∷ c ∷ d ∷ e ∷ ops) (Some dest) 0 (omega arith) in cc)
 packable_few (a ∷ b ∷ c ∷ d ∷ e ∷ ops) None h = absurd (let none = shapeless_many (a ∷ b ∷ c ∷ d ∷ e ∷ ops) None 0 (omega arith) in cc)
+packable_few _ dest h = omega arith
 
 shared_loose : (labels : Labels) (address : ℕ) (i : Item) (is : List Item) → stand labels address [] (i ∷ is) ≡ true → is_loose i ≡ true
 shared_loose labels address i is h = joins_loose labels address [] i (and_parts (joins labels address [] i) (stand labels address (op_of i ∷ []) is) h).0
@@ -126,19 +119,13 @@ reach_snoc labels address (f ∷ front) g near here =
     let parts = and_parts (group_in_reach labels address f) (all_in_reach labels (address + size f) front) near in
     and_from (group_in_reach labels address f) (all_in_reach labels (address + size f) (front ++ g ∷ [])) parts.0 (reach_snoc labels (address + size f) front g parts.1 here)
 
-grows : (address : ℕ) (groups : List Group) → address ≤ address_after address groups
-grows address [] = omega arith
-grows address (g ∷ groups) = let h = grows (address + size g) groups in omega arith
-
 front_within : (address : ℕ) (front back : List Group) → address_after address front ≤ address_after address (front ++ back)
-front_within address [] back = grows address back
+front_within address [] back = address_grows address back
 front_within address (g ∷ front) back = front_within (address + size g) front back
 
 loose_near : (labels : Labels) (address : ℕ) (i : Item) → is_loose i ≡ true → is_in_reach labels address i ≡ true
-loose_near labels address (Instruction o) h = refl
-loose_near labels address (Transfer o v) h = refl
-loose_near labels address (Literal n) h = refl
-loose_near labels address i h = absurd (cc)
+loose_near labels address (Instruction o) h = cc
+loose_near labels address _ h = cc
 
 -- ---- the next group
 
@@ -250,8 +237,8 @@ module _ (items rest : List an.Item) (l : the.Layout) (counts : List ℕ) (done 
   next_is_group right group e =
       let all = sym n.stand_in.in_order ∙ items_append n.front (n.group ∷ n.back) in
       let right' = subst (λ t. list_all is_item t ≡ true) all right in
-      let behind = subst (λ t. list_all is_item t ≡ true) (items_cons n.group n.back) (all_right (items_of n.front) (items_of (n.group ∷ n.back)) right').1 in
-      let here = (all_right (members n.group) (items_of n.back) behind).0 in
+      let behind = subst (λ t. list_all is_item t ≡ true) (items_cons n.group n.back) (all_parts (items_of n.front) (items_of (n.group ∷ n.back)) right').1 in
+      let here = (all_parts (members n.group) (items_of n.back) behind).0 in
       subst (IsGroup (labels_of l.labels.entries)) (sym (next_group group e))
       (group_right (labels_after [] 0 n.front) (labels_of l.labels.entries) (address_after 0 n.front) n.group n.back arranged here)
 

@@ -21,9 +21,8 @@ more_by : {A : Type 0} (name : List ℕ) (key : String A) (address : ℕ) (entry
     → (b || is_among name (names_of (labels_of entries))) ≡ false
     → (is_among name (names_of (labels_of entries)) ≡ false → labels_of (insert_entry string_eq entries key address) ≡ labels_of entries ++ (name, address) ∷ [])
     → labels_of (if c then (entry.0, address) ∷ entries else entry ∷ insert_entry string_eq entries key address) ≡ labels_of (entry ∷ entries) ++ (name, address) ∷ []
-more_by name key address entry entries true c same g rest = absurd (cc)
-more_by name key address entry entries false true same g rest = absurd (cc)
 more_by name key address entry entries false false same g rest = ap (λ r. (string_bytes entry.0, entry.1) ∷ r) (rest g)
+more_by name key address entry entries _ _ same g rest = absurd (cc)
 
 pub labels_more : {A : Type 0} (name : List ℕ) (key : String A) (address : ℕ) (entries : List (String A × ℕ)) → string_bytes key ≡ name → is_among name (names_of (labels_of entries)) ≡ false
     → labels_of (insert_entry string_eq entries key address) ≡ labels_of entries ++ (name, address) ∷ []

@@ -1,16 +1,17 @@
 -- The first pass over the items of a node, an item at a time.
-use Rattle.std.proofs.Common.{◌≡◌, ◌∙◌, ◌<◌, ◌≤◌, ℕ, zero, suc, ◌+◌, Bool, true, false, List, [], ◌∷◌, ◌++◌, length, drop, get_or, Option, Some, None, refl, sym, ap, subst, append_assoc, append-nil, arith}
+use Rattle.std.proofs.Common.{◌≡◌, ◌∙◌, ◌<◌, ◌≤◌, ℕ, suc, ◌+◌, Bool, true, List, [], ◌∷◌, ◌++◌, length, drop, drop-cons, get_or, take-append-drop, Option, Some, None, refl, sym, ap, subst, append-nil, arith}
 use Rattle.std.proofs.Common.{take as first}
-use Rattle.std.proofs.lemmas.Bool.{and_from, le-leb}
+use Rattle.std.proofs.lemmas.Bool.{and_from, le-leb, or_left}
+use Rattle.std.proofs.lemmas.List.{length-map, length-take-le, map-append, take_more}
 use Rattle.std.proofs.lemmas.Grind.{common_steps}
 use Rattle.std.proofs.lemmas.List.Folds.{list_all-append, list_any-append}
-use Rattle.std.specs.Prelude.{◌&&◌, ◌||◌, nat_le}
+use Rattle.std.specs.Prelude.{◌&&◌, nat_le}
 use Rattle.std.specs.Option.{option_map}
 use Rattle.std.specs.Str.{bytes_eq}
 use Rattle.ga_pack.specs.Model.Layout.{Labels, Arranged, address_after, labels_after, names_in}
-use Rattle.ga_pack.specs.Model.LayoutFault.{AsmKind, Judged, Passed, fault_at, fault_behind, joins_last, words_added}
+use Rattle.ga_pack.specs.Model.LayoutFault.{AsmKind, Passed, fault_at, fault_behind, joins_last, words_added}
 use Rattle.ga_pack.specs.Model.Source.{Item, Here, Items, is_among, is_new, start}
-use Rattle.ga_pack.proofs.Placed.{add, add_stands}
+use Rattle.ga_pack.proofs.Placed.{add, add_stands, passed_more}
 use Rattle.ga_source.specs.declared.item.Item as an
 use Rattle.ga_source.specs.Item.{item_of}
 use Rattle.ga_source.specs.Name.{NameText}
@@ -22,23 +23,13 @@ use Rattle.ga_asm.proofs.Summary.{address_add, counts_add, counts_closed, data_a
 
 -- ---- one item more
 
-passed_more : (names : List (List ℕ)) (front items : List Item) (x : Item) → Passed names front items → Judged names (front ++ items) x None → Passed names front (items ++ x ∷ [])
-unfolding Passed
-passed_more names front [] x passed judged = (rw append-nil at judged, tt)
-passed_more names front (i ∷ items) x passed judged =
-    (passed.0, passed_more names (front ++ i ∷ []) items x passed.1 (subst (λ t. Judged names t x None) (sym (append_assoc front (i ∷ []) items)) judged))
-
 names_more : (front more : List Item) → names_in (front ++ more) ≡ names_in front ++ names_in more
 names_more [] more = refl
 names_more (Here s ∷ front) more = ap (λ r. s ∷ r) (names_more front more)
 names_more (i ∷ front) more = names_more front more
 
-names_append : (labels more : Labels) → names_of (labels ++ more) ≡ names_of labels ++ names_of more
-names_append [] more = refl
-names_append (label ∷ labels) more = ap (λ r. label.0 ∷ r) (names_append labels more)
-
 names_with : (labels : Labels) (address : ℕ) (x : Item) → names_of (labels_with labels address x) ≡ names_of labels ++ names_in (x ∷ [])
-names_with labels address (Here s) = names_append labels ((s, address) ∷ [])
+names_with labels address (Here s) = map-append (λ label. label.0) labels ((s, address) ∷ [])
 names_with labels address x = sym (append-nil (names_of labels))
 
 near_with : (labels : Labels) (address : ℕ) (x : Item) → address ≤ 64 → all_near labels ≡ true → all_near (labels_with labels address x) ≡ true
@@ -114,38 +105,17 @@ laying_next names before l m x laying none step =
 
 -- ---- the items as they stand in the text
 
-cut : (items : List an.Item) (at : ℕ) (d : an.Item) → at < length items → plain items ≡ plain (first at items) ++ (item_of (get_or items at d) ∷ plain (drop (suc at) items))
-cut [] at d h = absurd (omega arith)
-cut (i ∷ items) zero d h = refl
-cut (i ∷ items) (suc at) d h = ap (λ t. item_of i ∷ t) (cut items at d (omega arith))
-
 cut_is : (items : List an.Item) (at : ℕ) (d : an.Item) → at < length items → d ≡ get_or items at d → plain items ≡ plain (first at items) ++ (item_of d ∷ plain (drop (suc at) items))
-cut_is items at d h is = cut items at d h ∙ ap (λ t. plain (first at items) ++ (item_of t ∷ plain (drop (suc at) items))) (sym is)
+cut_is items at d h is =
+    ap plain (sym (take-append-drop at items) ∙ ap (λ t. first at items ++ t) (drop-cons items at d h ∙ ap (λ t. t ∷ drop (suc at) items) (sym is)))
+    ∙ map-append (λ (i : an.Item). item_of i) (first at items) (d ∷ drop (suc at) items)
 
 front_length : (items : List an.Item) (at : ℕ) → at ≤ length items → length (plain (first at items)) ≡ at
-front_length items zero h = refl
-front_length [] (suc at) h = absurd (omega arith)
-front_length (i ∷ items) (suc at) h = let e = front_length items at (omega arith) in omega arith
-
-front_more : (items : List an.Item) (at : ℕ) (d : an.Item) → at < length items → plain (first (at + 1) items) ≡ plain (first at items) ++ item_of (get_or items at d) ∷ []
-front_more [] at d h = absurd (omega arith)
-front_more (i ∷ items) zero d h = refl
-front_more (i ∷ items) (suc at) d h =
-    let e : suc at + 1 ≡ suc (at + 1) = omega arith in
-    ap (λ k. plain (first k (i ∷ items))) e ∙ ap (λ t. item_of i ∷ t) (front_more items at d (omega arith))
+front_length items at h = length-map (first at items) (λ (i : an.Item). item_of i) ∙ length-take-le at items h
 
 pub front_next : (items : List an.Item) (at : ℕ) (d : an.Item) → at < length items → d ≡ get_or items at d → plain (first (at + 1) items) ≡ plain (first at items) ++ item_of d ∷ []
-front_next items at d h is = front_more items at d h ∙ ap (λ t. plain (first at items) ++ item_of t ∷ []) (sym is)
-
-pub front_all : {A : Type 0} (items : List A) (at : ℕ) → length items ≤ at → first at items ≡ items
-front_all [] zero h = refl
-front_all [] (suc at) h = refl
-front_all (i ∷ items) zero h = absurd (omega arith)
-front_all (i ∷ items) (suc at) h = ap (λ t. i ∷ t) (front_all items at (omega arith))
-
-or_left : (a b : Bool) → a ≡ true → (a || b) ≡ true
-or_left true b h = refl
-or_left false b h = absurd (cc)
+front_next items at d h is =
+    ap plain (take_more items at d h ∙ ap (λ t. first at items ++ t ∷ []) (sym is)) ∙ map-append (λ (i : an.Item). item_of i) (first at items) (d ∷ [])
 
 -- a label that is laid is new
 pub next_new : (names : List (List ℕ)) (items : List an.Item) (at : ℕ) (d : an.Item) (l : the.Layout) → at < length items → d ≡ get_or items at d

@@ -1,4 +1,3 @@
-mod ByCases
 mod LabelLists
 mod Loose
 mod Names

@@ -1,15 +1,12 @@
 -- The words of the groups, one group at a time.
-use Rattle.std.proofs.Common.{◌≡◌, ◌∙◌, ◌<◌, ◌≤◌, ℕ, suc, ◌+◌, true, false, List, [], ◌∷◌, ◌++◌, length, get_or, Option, Result, Ok, Err, OnOk, refl, sym, ap, subst, append_assoc, append-nil, arith}
+use Rattle.std.proofs.Common.{◌≡◌, ◌∙◌, ◌<◌, ◌≤◌, ℕ, suc, ◌+◌, true, false, List, [], ◌∷◌, ◌++◌, length, get_or, Result, Ok, Err, OnOk, refl, sym, ap, subst, append_assoc, append-nil, arith}
 use Rattle.ga_word.specs.declared.op.Op.{Op}
 use Rattle.ga_word.specs.declared.op.Op.TheVariants.{Nop}
 use Rattle.ga_pack.specs.Model.Layout.{Labels, Shared, Alone, GroupWords, IsWord, filled, is_loose, last_dest, literals, ops_of}
 use Rattle.std.specs.List.{slice_get}
 use Rattle.std.specs.Option.{unwrap_or}
-use Rattle.std.specs.Prelude.{◌&&◌, nat_lt, if◌then◌else◌}
-use Rattle.ga_pack.specs.Model.Source.{Item, Literal, Transfer, Value, WordTo, is_below, is_item, is_spare, stand_from}
-use Rattle.ga_pack.specs.Slots.{dest_bound}
-use Rattle.ga_word.specs.Op.{takes_dest}
-use Rattle.std.proofs.lemmas.Bool.{and_parts, ltb-true}
+use Rattle.std.specs.Prelude.{if◌then◌else◌}
+use Rattle.ga_pack.specs.Model.Source.{Item, Literal, Transfer, is_item}
 use Rattle.ga_source.specs.declared.item.Item as an
 use Rattle.ga_source.specs.Item.{item_of}
 use Rattle.ga_asm.specs.inner.Layout.{plain}
@@ -18,12 +15,8 @@ use Rattle.ga_asm.specs.inner.Making.{IsGroup, IsGroupBy, IsPackable, MoreWords,
 -- ---- a word
 
 pub filled_four : (ops : List Op) → length ops ≤ 4 → unwrap_or (slice_get ops 0) Nop ∷ unwrap_or (slice_get ops 1) Nop ∷ unwrap_or (slice_get ops 2) Nop ∷ unwrap_or (slice_get ops 3) Nop ∷ [] ≡ filled 4 ops
-filled_four [] h = refl
-filled_four (a ∷ []) h = refl
-filled_four (a ∷ b ∷ []) h = refl
-filled_four (a ∷ b ∷ c ∷ []) h = refl
-filled_four (a ∷ b ∷ c ∷ d ∷ []) h = refl
 filled_four (a ∷ b ∷ c ∷ d ∷ e ∷ ops) h = absurd (omega arith)
+filled_four _ h = refl
 
 one_dest : (labels : Labels) (slot n : ℕ) (x : Item) → n ≡ slot → last_dest labels slot (x ∷ []) ≡ item_dest labels n x
 one_dest labels slot n x e = rw e (by x)
@@ -106,12 +99,3 @@ alone_more labels (i ∷ items) d words more some alone made =
 pub on_ok : {A E P Q : Type 0} (r : Result A E) → (P → Q) → OnOk r P → OnOk r Q
 on_ok (Ok a) f p = f p
 on_ok (Err e) f p = p
-
--- a bracketed word with a destination has three opcodes at most
-pub few_ops : (ops : List Op) (o : Op) (v : Value) (spare : Option ℕ) → is_item (WordTo ops o v spare) ≡ true → length ops < 3
-unfolding is_item
-few_ops ops o v spare h =
-    let four = and_parts (stand_from 0 ops && nat_lt (length ops) 3 && takes_dest o && is_below (dest_bound (length ops)) v) (is_spare (length ops) spare) h in
-    let three = and_parts (stand_from 0 ops && nat_lt (length ops) 3 && takes_dest o) (is_below (dest_bound (length ops)) v) four.0 in
-    let two = and_parts (stand_from 0 ops && nat_lt (length ops) 3) (takes_dest o) three.0 in
-    ltb-true (length ops) 3 (and_parts (stand_from 0 ops) (nat_lt (length ops) 3) two.0).1

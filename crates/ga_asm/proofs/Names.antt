@@ -1,6 +1,7 @@
 -- A set of names, and whether a name is among them.
 use Rattle.std.proofs.Common.{◌≡◌, ◌∙◌, ℕ, ◌+◌, ◌<◌, Bool, true, false, List, [], ◌∷◌, ◌++◌, get_or, length, map, refl, sym, ap}
 use Rattle.std.proofs.Common.{take as first}
+use Rattle.std.proofs.Math.Bool.{or-false, or-true}
 use Rattle.std.proofs.lemmas.List.{map-append, take_more}
 use Rattle.std.proofs.lemmas.List.Folds.{list_any-append}
 use Rattle.std.proofs.lemmas.Slice.Eq.{bytes_eq-Decides}
@@ -8,38 +9,20 @@ use Rattle.std.specs.Prelude.{◌||◌, if◌then◌else◌}
 use Rattle.std.specs.List.{list_any}
 use Rattle.std.specs.Str.{bytes_eq}
 use Rattle.ga_pack.specs.Model.Source.{is_among}
+use Rattle.ga_source.proofs.ParserSteps.{same_any}
 use Rattle.ga_asm.specs.inner.Layout.{AreSameNames}
-
--- a test of mapped elements
-pub list_any_map : {X Y : Type 0} (p : Y → Bool) (f : X → Y) (xs : List X) → list_any p (map f xs) ≡ list_any (λ x. p (f x)) xs
-list_any_map p f [] = refl
-list_any_map p f (x ∷ xs) = ap (λ r. p (f x) || r) (list_any_map p f xs)
-
--- ---- a name more
-
-or_false : (b : Bool) → (b || false) ≡ b
-or_false true = refl
-or_false false = refl
-
-or_true : (b : Bool) → (b || true) ≡ true
-or_true true = refl
-or_true false = refl
 
 -- a name that is among names adds none
 known_more : (name key : List ℕ) (keys : List (List ℕ)) (b : Bool) → bytes_eq name key ≡ b → is_among key keys ≡ true
     → is_among name keys ≡ (is_among name keys || (b || false))
-known_more name key keys false e known = sym (or_false (is_among name keys))
+known_more name key keys false e known = sym (or-false (is_among name keys))
 known_more name key keys true e known =
-    ap (λ t. is_among t keys) ((bytes_eq-Decides name key).0 e) ∙ known ∙ sym (or_true (is_among name keys))
+    ap (λ t. is_among t keys) ((bytes_eq-Decides name key).0 e) ∙ known ∙ sym (or-true (is_among name keys))
 
 module _ {N : Type 0} (bytes : N → List ℕ) (same : N → N → Bool) (is_same : (x y : N) → same x y ≡ bytes_eq (bytes x) (bytes y)) where
-  same_any : (key : N) (keys : List N) → list_any (same key) keys ≡ is_among (bytes key) (map bytes keys)
-  same_any key [] = refl
-  same_any key (x ∷ xs) = ap (λ b. b || list_any (same key) xs) (is_same key x) ∙ ap (λ r. bytes_eq (bytes key) (bytes x) || r) (same_any key xs)
-
   inserted_by : (name : List ℕ) (keys : List N) (key : N) (b : Bool) → list_any (same key) keys ≡ b
       → is_among name (map bytes (if b then keys else keys ++ key ∷ [])) ≡ (is_among name (map bytes keys) || (bytes_eq name (bytes key) || false))
-  inserted_by name keys key true known = known_more name (bytes key) (map bytes keys) (bytes_eq name (bytes key)) refl (sym (same_any key keys) ∙ known)
+  inserted_by name keys key true known = known_more name (bytes key) (map bytes keys) (bytes_eq name (bytes key)) refl (sym (same_any bytes same is_same key keys) ∙ known)
   inserted_by name keys key false known =
       ap (is_among name) (map-append bytes keys (key ∷ [])) ∙ list_any-append (bytes_eq name) (map bytes keys) (bytes key ∷ [])
 

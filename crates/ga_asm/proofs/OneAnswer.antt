@@ -45,17 +45,8 @@ source_told (Some told) kind = source_kind_by told ≡ kind
 
 source_back : (kind : SourceErrorKind) → source_told (source.kind_of kind) kind
 unfolding source_kind_by
-source_back source_kind.BadToken = refl
-source_back source_kind.NumberRange = refl
-source_back source_kind.BadNode = refl
-source_back source_kind.DuplicateNode = refl
-source_back source_kind.DuplicateLabel = refl
-source_back source_kind.ReservedLabel = refl
-source_back source_kind.OpenBracket = refl
-source_back source_kind.BadWord = refl
-source_back source_kind.NoNode = refl
-source_back source_kind.Empty = refl
 source_back source_kind.Memory = tt
+source_back _ = refl
 
 asm_kind_by : AsmKind → AsmErrorKind
 asm_kind_by program.UndefinedLabel = asm_kind.UndefinedLabel
@@ -69,11 +60,8 @@ asm_told (Some told) kind = asm_kind_by told ≡ kind
 
 asm_back : (kind : AsmErrorKind) → asm_told (assembly.kind_of kind) kind
 unfolding asm_kind_by
-asm_back asm_kind.UndefinedLabel = refl
-asm_back asm_kind.OutOfReach = refl
-asm_back asm_kind.UnextAlone = refl
-asm_back asm_kind.TooLong = refl
 asm_back asm_kind.Memory = tt
+asm_back _ = refl
 
 same_source : (one other : SourceError) → one.kind ≡ other.kind → source.error_place one ≡ source.error_place other → one ≡ other
 same_source one other kind place =

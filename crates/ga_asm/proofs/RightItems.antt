@@ -1,13 +1,14 @@
 -- What right items of a section are.
-use Rattle.std.proofs.Common.{◌≡◌, ◌<◌, ◌≤◌, ℕ, ◌+◌, Bool, true, false, List, [], ◌∷◌, ◌++◌, length, refl, sym, ap, subst, append_assoc, append-nil, arith}
+use Rattle.std.proofs.Common.{◌≡◌, ◌<◌, ℕ, ◌+◌, Bool, true, false, List, [], ◌∷◌, ◌++◌, length, refl, sym, ap, subst, append_assoc, append-nil, arith}
 use Rattle.std.proofs.lemmas.Bool.{and_from}
 use Rattle.std.specs.Prelude.{◌||◌, if◌then◌else◌}
 use Rattle.std.specs.List.{list_all, list_any}
 use Rattle.ga_pack.specs.Model.Layout.{Group, Shared, Alone, address_after, items_of, names_in, size}
-use Rattle.ga_pack.specs.Model.Source.{Before, Item, Instruction, Transfer, Literal, Here, Align, Word, WordTo, Plain, Data, Items, after, is_item, is_new, labels_with, makes_word, start}
+use Rattle.ga_pack.specs.Model.Source.{Before, Item, Here, Items, after, is_item, is_new, labels_with, makes_word, start}
 use Rattle.ga_source.specs.declared.item.Item as an
 use Rattle.ga_asm.specs.inner.Layout.{plain}
-use Rattle.ga_asm.proofs.ByCases.{on_test}
+use Rattle.ga_pack.proofs.ByCases.{on_test}
+use Rattle.ga_asm.proofs.Summary.{address_grows}
 
 -- each is right by itself
 pub items_right : (b : Before) (items : List Item) → Items b items → list_all is_item items ≡ true
@@ -18,14 +19,7 @@ items_right b (i ∷ items) right = and_from (is_item i) (list_all is_item items
 -- each label is new
 names_more : (i : Item) (labels : List (List ℕ)) (front : List Item) → labels_with i labels ++ names_in front ≡ labels ++ names_in (i ∷ front)
 names_more (Here s) labels front = append_assoc labels (s ∷ []) (names_in front)
-names_more (Instruction o) labels front = refl
-names_more (Transfer o v) labels front = refl
-names_more (Literal n) labels front = refl
-names_more Align labels front = refl
-names_more (Word ops) labels front = refl
-names_more (WordTo ops o v spare) labels front = refl
-names_more (Plain v) labels front = refl
-names_more Data labels front = refl
+names_more _ labels front = refl
 
 pub items_new : (b : Before) (front : List Item) (x : Item) (back : List Item) → Items b (front ++ x ∷ back) → is_new x (b.labels ++ names_in front) ≡ true
 unfolding Items
@@ -36,10 +30,7 @@ items_new b (i ∷ front) x back right =
 -- one of them makes a word
 pub items_word : (b : Before) (items : List Item) → Items b items → (b.has_word || list_any makes_word items) ≡ true
 unfolding Items
-items_word b [] right = by b.has_word right
-  where
-    by : (h : Bool) → h ≡ true → (h || false) ≡ true
-    by h e = ap (λ t. t || false) e
+items_word b [] right = ap (λ t. t || false) right
 items_word b (i ∷ items) right = by b.has_word (makes_word i) (list_any makes_word items) (items_word (after b i right.0) items right.4)
   where
     by : (h m r : Bool) → ((h || m) || r) ≡ true → (h || (m || r)) ≡ true
@@ -47,16 +38,12 @@ items_word b (i ∷ items) right = by b.has_word (makes_word i) (list_any makes_
     by false m r e = e
 
 -- so it has an address behind the first one
-grows : (a : ℕ) (groups : List Group) → a ≤ address_after a groups
-grows a [] = omega arith
-grows a (g ∷ groups) = let h = grows (a + size g) groups in omega arith
-
 pub words_some : (a : ℕ) (groups : List Group) → list_any makes_word (items_of groups) ≡ true → a < address_after a groups
 words_some a [] h = absurd (cc)
-words_some a (Shared i is ∷ groups) h = let more = grows (a + size (Shared i is)) groups in omega arith
+words_some a (Shared i is ∷ groups) h = let more = address_grows (a + size (Shared i is)) groups in omega arith
 words_some a (Alone i ∷ groups) h =
     on_test (makes_word i) (λ b. (b || list_any makes_word (items_of groups)) ≡ true → a < address_after (a + (if b then 1 else 0)) groups)
-    (λ e g. let more = grows (a + 1) groups in omega arith)
+    (λ e g. let more = address_grows (a + 1) groups in omega arith)
     (λ e g. let more = words_some (a + 0) groups g in omega arith)
     h
 

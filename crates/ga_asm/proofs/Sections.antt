@@ -1,10 +1,8 @@
 -- The sections of a program.
-use Rattle.std.proofs.Common.{◌≡◌, ◌∙◌, ◌<◌, ℕ, zero, suc, Bool, true, false, List, [], ◌∷◌, ◌++◌, length, map, get_or, Option, Some, None, refl, sym, ap, subst, append_assoc, append-nil, arith}
-use Rattle.std.specs.Prelude.{nat_eq, ◌||◌, if◌then◌else◌}
-use Rattle.std.proofs.lemmas.List.{length-map}
+use Rattle.std.proofs.Common.{◌≡◌, ◌∙◌, ◌<◌, ℕ, zero, suc, true, false, List, [], ◌∷◌, ◌++◌, length, map, get_or, Option, Some, None, refl, sym, ap, subst, append_assoc, append-nil, arith}
+use Rattle.std.proofs.lemmas.List.{length-map, map-append}
 use Rattle.std.specs.List.{list_any}
 use Rattle.std.specs.Option.{option_map, unwrap_or}
-use Rattle.indexmap.specs.IndexMap.{insert_entry}
 use Rattle.ga_pack.specs.Model.LayoutFault.{AllRight, AsmFault, AsmKind, IsRight, plain_items}
 use Rattle.ga_pack.specs.Model.Program.{PlacedItem, PlacedSection}
 use Rattle.ga_pack.specs.Model.Source.{Item, Items, Sections, is_named, makes_word, start}
@@ -118,29 +116,13 @@ assembled_snoc : (sections : List PlacedSection) (images : List (ℕ × ImageVie
     → IsAssembled sections images → image.0 ≡ section.name → IsImage (plain_items section) image.1 → IsAssembled (sections ++ section ∷ []) (images ++ image ∷ [])
 unfolding IsAssembled
 assembled_snoc [] [] section image all name is = (name, is, tt)
-assembled_snoc [] (i ∷ images) section image all name is = absurd all
-assembled_snoc (s ∷ sections) [] section image all name is = absurd all
 assembled_snoc (s ∷ sections) (i ∷ images) section image all name is = (all.0, all.1, assembled_snoc sections images section image all.2 name is)
+assembled_snoc _ _ section image all name is = absurd all
 
 right_snoc : (sections : List PlacedSection) (section : PlacedSection) → AllRight sections → IsRight (plain_items section) → AllRight (sections ++ section ∷ [])
 unfolding AllRight
 right_snoc [] section all right = (right, tt)
 right_snoc (s ∷ sections) section all right = (all.0, right_snoc sections section all.1 right)
-
-map_snoc : {X Y : Type 0} (f : X → Y) (xs : List X) (x : X) → map f (xs ++ x ∷ []) ≡ map f xs ++ f x ∷ []
-map_snoc f [] x = refl
-map_snoc f (y ∷ xs) x = ap (λ t. f y ∷ t) (map_snoc f xs x)
-
--- an image of a node that is new goes last
-last_by : {V : Type 0} (same : ℕ → ℕ → Bool) (e : ℕ × V) (entries : List (ℕ × V)) (n : ℕ) (v : V) (b : Bool) → same n e.0 ≡ b → (b || list_any (nat_eq n) (map (λ i. i.0) entries)) ≡ false
-    → (list_any (nat_eq n) (map (λ i. i.0) entries) ≡ false → insert_entry same entries n v ≡ entries ++ (n, v) ∷ []) → insert_entry same (e ∷ entries) n v ≡ e ∷ (entries ++ (n, v) ∷ [])
-last_by same e entries n v true is h rest = absurd (cc)
-last_by same e entries n v false is h rest = ap (λ b. if b then (e.0, v) ∷ entries else e ∷ insert_entry same entries n v) is ∙ ap (λ t. e ∷ t) (rest h)
-
-pub image_last : {V : Type 0} (same : ℕ → ℕ → Bool) → ((x y : ℕ) → same x y ≡ nat_eq x y) → (entries : List (ℕ × V)) (n : ℕ) (v : V) → is_named n (map (λ i. i.0) entries) ≡ false
-    → insert_entry same entries n v ≡ entries ++ (n, v) ∷ []
-image_last same is_same [] n v h = refl
-image_last same is_same (e ∷ entries) n v h = last_by same e entries n v (nat_eq n e.0) (is_same n e.0) h (image_last same is_same entries n v)
 
 assembling_next : (front : List PlacedSection) (section : PlacedSection) (images more : List (ℕ × ImageView)) (image : ImageView)
     → Assembling front images → IsFaultless (plain_items section) image → more ≡ images ++ (section.name, image) ∷ [] → Assembling (front ++ section ∷ []) more
@@ -152,8 +134,8 @@ assembling_next front section images more image a f e =
       assembled = subst (IsAssembled (front ++ section ∷ [])) (sym e) (assembled_snoc front images section (section.name, image) a.assembled refl f.image_is);
       all_right = right_snoc front section a.all_right right;
       names_are =
-          ap (map (λ (i : ℕ × ImageView). i.0)) e ∙ map_snoc (λ (i : ℕ × ImageView). i.0) images (section.name, image) ∙ ap (λ t. t ++ section.name ∷ []) a.names_are
-          ∙ sym (map_snoc (λ (s : PlacedSection). s.name) front section);
+          ap (map (λ (i : ℕ × ImageView). i.0)) e ∙ map-append (λ (i : ℕ × ImageView). i.0) images ((section.name, image) ∷ []) ∙ ap (λ t. t ++ section.name ∷ []) a.names_are
+          ∙ sym (map-append (λ (s : PlacedSection). s.name) front (section ∷ []));
     }
 
 pub assembling_none : Assembling [] []

@@ -5,11 +5,12 @@ use Rattle.std.specs.Prelude.{if◌then◌else◌}
 use Rattle.std.specs.Option.{unwrap_or}
 use Rattle.ga_pack.specs.Model.Layout.{Labels, Group, Shared, Alone, address_after, code_end, is_loose, joins, labels_after, labels_behind, literals, op_of, ops_of, size}
 use Rattle.ga_pack.specs.Model.LayoutFault.{joins_last, words_added}
-use Rattle.ga_pack.specs.Model.Source.{Item, Instruction, Transfer, Literal, Here, Align, Word, WordTo, Plain, Data}
+use Rattle.ga_pack.specs.Model.Source.{Item, Instruction, Literal, Data}
 use Rattle.ga_pack.proofs.OneLayout.{joins_loose}
 use Rattle.ga_pack.proofs.Placed.{add, fresh}
+use Rattle.ga_asm.proofs.Loose.{loose_data, loose_labels}
 use Rattle.ga_asm.specs.inner.Layout.{Open, closed_counts, count_of, counts_after, data_after, data_at, is_data, joins_open, labels_with, open_after, open_at, open_count}
-use Rattle.ga_asm.proofs.ByCases.{on_test}
+use Rattle.ga_pack.proofs.ByCases.{on_test}
 
 -- ---- what joins
 
@@ -17,8 +18,7 @@ pub joins_is : (l : Labels) (a : ℕ) (gs : List Group) (x : Item) → joins_las
 joins_is l a [] x = refl
 joins_is l a (Shared i is ∷ []) x = refl
 joins_is l a (Alone i ∷ []) x = refl
-joins_is l a (Shared i is ∷ h ∷ gs) x = joins_is l (a + size (Shared i is)) (h ∷ gs) x
-joins_is l a (Alone i ∷ h ∷ gs) x = joins_is (labels_behind l a (Alone i)) (a + size (Alone i)) (h ∷ gs) x
+joins_is l a (g ∷ h ∷ gs) x = joins_is (labels_behind l a g) (a + size g) (h ∷ gs) x
 
 literals_snoc : (is : List Item) (x : Item) → length (literals (is ++ x ∷ [])) ≡ length (literals is) + length (literals (x ∷ []))
 literals_snoc [] x = omega arith
@@ -37,14 +37,7 @@ ops_length (i ∷ is) = let e = ops_length is in omega arith
 
 fresh_size : (x : Item) → size (fresh x) ≡ words_added false x
 fresh_size (Instruction o) = refl
-fresh_size (Transfer o v) = refl
-fresh_size (Literal n) = refl
-fresh_size (Here s) = refl
-fresh_size Align = refl
-fresh_size (Word ops) = refl
-fresh_size (WordTo ops o v spare) = refl
-fresh_size (Plain v) = refl
-fresh_size Data = refl
+fresh_size _ = refl
 
 pub address_add : (l : Labels) (a : ℕ) (gs : List Group) (x : Item) → address_after a (add l a gs x) ≡ address_after a gs + words_added (joins_last l a gs x) x
 address_add l a [] x = ap (λ n. a + n) (fresh_size x)
@@ -54,8 +47,7 @@ address_add l a (Shared i is ∷ []) x =
     (λ e. let f : length (literals ((i ∷ is) ++ x ∷ [])) ≡ length (literals (i ∷ is)) + length (literals (x ∷ [])) = literals_snoc (i ∷ is) x in omega arith)
     (λ e. ap (λ n. a + size (Shared i is) + n) (fresh_size x))
 address_add l a (Alone i ∷ []) x = ap (λ n. a + size (Alone i) + n) (fresh_size x)
-address_add l a (Shared i is ∷ h ∷ gs) x = address_add l (a + size (Shared i is)) (h ∷ gs) x
-address_add l a (Alone i ∷ h ∷ gs) x = address_add (labels_behind l a (Alone i)) (a + size (Alone i)) (h ∷ gs) x
+address_add l a (g ∷ h ∷ gs) x = address_add (labels_behind l a g) (a + size g) (h ∷ gs) x
 
 -- ---- the open word
 
@@ -70,8 +62,7 @@ module _ {R : Type 0} (P : ℕ → List Group → R) (Q : Group → R → R) (sk
       (λ t. P a (g ∷ (if t then Shared i (is ++ x ∷ []) ∷ [] else Shared i is ∷ fresh x ∷ [])) ≡ Q g (P (a + size g) (if t then Shared i (is ++ x ∷ []) ∷ [] else Shared i is ∷ fresh x ∷ [])))
       (λ e. skips a g (Shared i (is ++ x ∷ [])) []) (λ e. skips a g (Shared i is) (fresh x ∷ []))
   add_skip l a b g (Alone i) [] x = skips a g (Alone i) (fresh x ∷ [])
-  add_skip l a b g (Shared i is) (h ∷ gs) x = skips a g (Shared i is) (add l (b + size (Shared i is)) (h ∷ gs) x)
-  add_skip l a b g (Alone i) (h ∷ gs) x = skips a g (Alone i) (add (labels_behind l b (Alone i)) (b + size (Alone i)) (h ∷ gs) x)
+  add_skip l a b g next (h ∷ gs) x = skips a g next (add (labels_behind l b next) (b + size next) (h ∷ gs) x)
 
 open_skips : (a : ℕ) (g h : Group) (gs : List Group) → open_at a (g ∷ h ∷ gs) ≡ open_at (a + size g) (h ∷ gs)
 open_skips a (Shared i is) h gs = refl
@@ -84,40 +75,23 @@ open_add l a (Shared i is ∷ []) x =
     (λ b. open_at a (if b then Shared i (is ++ x ∷ []) ∷ [] else Shared i is ∷ fresh x ∷ []) ≡ open_after b (Some (a, ops_of (i ∷ is))) (a + size (Shared i is)) x)
     (λ e. ap (λ r. Some (a, op_of i ∷ r)) (ops_snoc is x)) (λ e. fresh_open (a + size (Shared i is)) x)
 open_add l a (Alone i ∷ []) x = fresh_open (a + size (Alone i)) x
-open_add l a (Shared i is ∷ h ∷ gs) x =
-    add_skip open_at (λ g r. r) open_skips l a (a + size (Shared i is)) (Shared i is) h gs x ∙ open_add l (a + size (Shared i is)) (h ∷ gs) x
-open_add l a (Alone i ∷ h ∷ gs) x =
-    add_skip open_at (λ g r. r) open_skips (labels_behind l a (Alone i)) a (a + size (Alone i)) (Alone i) h gs x
-    ∙ open_add (labels_behind l a (Alone i)) (a + size (Alone i)) (h ∷ gs) x
+open_add l a (g ∷ h ∷ gs) x =
+    add_skip open_at (λ g r. r) open_skips (labels_behind l a g) a (a + size g) g h gs x ∙ open_add (labels_behind l a g) (a + size g) (h ∷ gs) x
 
 -- ---- the labels
 
 fresh_labels : (l : Labels) (a : ℕ) (x : Item) → labels_behind l a (fresh x) ≡ labels_with l a x
 fresh_labels l a (Instruction o) = refl
-fresh_labels l a (Transfer o v) = refl
-fresh_labels l a (Literal n) = refl
-fresh_labels l a (Here s) = refl
-fresh_labels l a Align = refl
-fresh_labels l a (Word ops) = refl
-fresh_labels l a (WordTo ops o v spare) = refl
-fresh_labels l a (Plain v) = refl
-fresh_labels l a Data = refl
-
-loose_labels : (l : Labels) (a : ℕ) (x : Item) → is_loose x ≡ true → l ≡ labels_with l a x
-loose_labels l a (Instruction o) h = refl
-loose_labels l a (Transfer o v) h = refl
-loose_labels l a (Literal n) h = refl
-loose_labels l a x h = absurd (cc)
+fresh_labels l a _ = refl
 
 pub labels_add : (l : Labels) (a : ℕ) (gs : List Group) (x : Item) → labels_after l a (add l a gs x) ≡ labels_with (labels_after l a gs) (address_after a gs) x
 labels_add l a [] x = fresh_labels l a x
 labels_add l a (Shared i is ∷ []) x =
     on_test (joins l a (ops_of (i ∷ is)) x)
     (λ b. joins l a (ops_of (i ∷ is)) x ≡ b → labels_after l a (if b then Shared i (is ++ x ∷ []) ∷ [] else Shared i is ∷ fresh x ∷ []) ≡ labels_with l (a + size (Shared i is)) x)
-    (λ e f. loose_labels l (a + size (Shared i is)) x (joins_loose l a (ops_of (i ∷ is)) x f)) (λ e f. fresh_labels l (a + size (Shared i is)) x) refl
+    (λ e f. sym (loose_labels l (a + size (Shared i is)) x (joins_loose l a (ops_of (i ∷ is)) x f))) (λ e f. fresh_labels l (a + size (Shared i is)) x) refl
 labels_add l a (Alone i ∷ []) x = fresh_labels (labels_behind l a (Alone i)) (a + size (Alone i)) x
-labels_add l a (Shared i is ∷ h ∷ gs) x = labels_add l (a + size (Shared i is)) (h ∷ gs) x
-labels_add l a (Alone i ∷ h ∷ gs) x = labels_add (labels_behind l a (Alone i)) (a + size (Alone i)) (h ∷ gs) x
+labels_add l a (g ∷ h ∷ gs) x = labels_add (labels_behind l a g) (a + size g) (h ∷ gs) x
 
 -- ---- how many items each group has
 
@@ -140,48 +114,30 @@ counts_add l a (Shared i is ∷ []) x =
     (λ e. refl)
     (λ e. counts_skips a (Shared i is) (fresh x) [] ∙ ap (λ n. n ∷ closed_counts (fresh x ∷ [])) (sym (ops_length (i ∷ is))) ∙ ap (λ r. length (ops_of (i ∷ is)) ∷ r) (fresh_counts x))
 counts_add l a (Alone i ∷ []) x = ap (λ r. 1 ∷ r) (fresh_counts x)
-counts_add l a (Shared i is ∷ h ∷ gs) x =
-    add_skip (λ n. closed_counts) (λ g r. count_of g ∷ r) counts_skips l a (a + size (Shared i is)) (Shared i is) h gs x
-    ∙ ap (λ r. count_of (Shared i is) ∷ r) (counts_add l (a + size (Shared i is)) (h ∷ gs) x)
-    ∙ counts_cons (joins_last l (a + size (Shared i is)) (h ∷ gs) x) (open_at (a + size (Shared i is)) (h ∷ gs)) (count_of (Shared i is)) (closed_counts (h ∷ gs)) x
-counts_add l a (Alone i ∷ h ∷ gs) x =
-    add_skip (λ n. closed_counts) (λ g r. count_of g ∷ r) counts_skips (labels_behind l a (Alone i)) a (a + size (Alone i)) (Alone i) h gs x
-    ∙ ap (λ r. 1 ∷ r) (counts_add (labels_behind l a (Alone i)) (a + size (Alone i)) (h ∷ gs) x)
-    ∙ counts_cons (joins_last (labels_behind l a (Alone i)) (a + size (Alone i)) (h ∷ gs) x) (open_at (a + size (Alone i)) (h ∷ gs)) 1 (closed_counts (h ∷ gs)) x
+counts_add l a (g ∷ h ∷ gs) x =
+    add_skip (λ n. closed_counts) (λ g r. count_of g ∷ r) counts_skips (labels_behind l a g) a (a + size g) g h gs x
+    ∙ ap (λ r. count_of g ∷ r) (counts_add (labels_behind l a g) (a + size g) (h ∷ gs) x)
+    ∙ counts_cons (joins_last (labels_behind l a g) (a + size g) (h ∷ gs) x) (open_at (a + size g) (h ∷ gs)) (count_of g) (closed_counts (h ∷ gs)) x
 
 -- where the open word is closed, each group is counted
 pub counts_closed : (a : ℕ) (gs : List Group) → closed_counts gs ++ open_count (open_at a gs) ≡ map count_of gs
 counts_closed a [] = refl
 counts_closed a (Shared i is ∷ []) = ap (λ n. n ∷ []) (ops_length (i ∷ is))
 counts_closed a (Alone i ∷ []) = refl
-counts_closed a (Shared i is ∷ h ∷ gs) = ap (λ r. count_of (Shared i is) ∷ r) (counts_closed (a + size (Shared i is)) (h ∷ gs))
-counts_closed a (Alone i ∷ h ∷ gs) = ap (λ r. 1 ∷ r) (counts_closed (a + size (Alone i)) (h ∷ gs))
+counts_closed a (g ∷ h ∷ gs) = ap (λ r. count_of g ∷ r) (counts_closed (a + size g) (h ∷ gs))
 
 -- ---- where the data begins
 
 fresh_data : (a : ℕ) (x : Item) → data_at a (fresh x ∷ []) ≡ (if is_data x then Some a else None)
 fresh_data a (Instruction o) = refl
-fresh_data a (Transfer o v) = refl
-fresh_data a (Literal n) = refl
-fresh_data a (Here s) = refl
-fresh_data a Align = refl
-fresh_data a (Word ops) = refl
-fresh_data a (WordTo ops o v spare) = refl
-fresh_data a (Plain v) = refl
-fresh_data a Data = refl
-
-loose_data : (a : ℕ) (x : Item) → is_loose x ≡ true → None ≡ (if is_data x then Some a else None)
-loose_data a (Instruction o) h = refl
-loose_data a (Transfer o v) h = refl
-loose_data a (Literal n) h = refl
-loose_data a x h = absurd (cc)
+fresh_data a _ = refl
 
 pub data_add : (l : Labels) (a : ℕ) (gs : List Group) (x : Item) → data_at a (add l a gs x) ≡ data_after (data_at a gs) (address_after a gs) x
 data_add l a [] x = fresh_data a x
 data_add l a (Shared i is ∷ []) x =
     on_test (joins l a (ops_of (i ∷ is)) x)
     (λ b. joins l a (ops_of (i ∷ is)) x ≡ b → data_at a (if b then Shared i (is ++ x ∷ []) ∷ [] else Shared i is ∷ fresh x ∷ []) ≡ data_after None (a + size (Shared i is)) x)
-    (λ e f. loose_data (a + size (Shared i is)) x (joins_loose l a (ops_of (i ∷ is)) x f)) (λ e f. fresh_data (a + size (Shared i is)) x) refl
+    (λ e f. sym (loose_data None (a + size (Shared i is)) x (joins_loose l a (ops_of (i ∷ is)) x f))) (λ e f. fresh_data (a + size (Shared i is)) x) refl
 data_add l a (Alone i ∷ []) x =
     on_test (is_data i)
     (λ b. (if b then Some a else data_at (a + size (Alone i)) (fresh x ∷ [])) ≡ data_after (if b then Some a else None) (a + size (Alone i)) x)
@@ -200,7 +156,7 @@ code_is a (Shared i is ∷ gs) = code_is (a + size (Shared i is)) gs
 code_is a (Alone Data ∷ gs) = refl
 code_is a (Alone i ∷ gs) = code_is (a + size (Alone i)) gs
 
-address_grows : (a : ℕ) (gs : List Group) → a ≤ address_after a gs
+pub address_grows : (a : ℕ) (gs : List Group) → a ≤ address_after a gs
 address_grows a [] = omega arith
 address_grows a (g ∷ gs) = let h = address_grows (a + size g) gs in omega arith
 

@@ -6,8 +6,6 @@ use Rattle.std.proofs.lemmas.List.Elements.{All-head, All-tail}
 use Rattle.std.specs.Prelude.{◌||◌, All}
 use Rattle.std.specs.Option.{unwrap_or}
 use Rattle.ga_word.specs.declared.op.Op.{Op}
-use Rattle.ga_word.specs.declared.op.Op.TheVariants.{Return, Execute}
-use Rattle.ga_word.specs.Op.{ends_word, takes_dest}
 use Rattle.ga_word.specs.Word.{bits}
 use Rattle.ga_pack.specs.Decoded.{reading_of}
 use Rattle.ga_pack.specs.Followers.{followers}
@@ -16,15 +14,11 @@ use Rattle.ga_pack.specs.Model.Layout.{Labels, Alone, GroupWords, dest_in, fille
 use Rattle.ga_pack.specs.Model.Source as grammar
 use Rattle.ga_pack.specs.Model.Source.{Item, Number, Word, WordTo, Plain, Before, Items, is_item, is_new, part_after}
 use Rattle.ga_pack.proofs.Encoded.{reading_of-reads, takes_none}
+use Rattle.ga_pack.proofs.Packable.{takes_ends}
 use Rattle.ga_disasm.specs.Disassembling.{items_from}
 use Rattle.ga_disasm.proofs.SourceItems.{IsBelow, bracketed, source_items}
 
 -- ---- a word in brackets
-
-pub takes_ends : (o : Op) → takes_dest o ≡ true → ends_word o ≡ true
-takes_ends Return h = refl
-takes_ends Execute h = refl
-takes_ends o h = h
 
 -- the source item of a reading is right, and is owed the word's followers
 record Bracket (ops : List Op) (dest : Option ℕ) (spare : ℕ) : Type 0 where

@@ -1,12 +1,12 @@
 -- What the parts of a line mean as tokens.
-use Rattle.std.proofs.Common.{◌≡◌, ◌∙◌, ◌+◌, ◌*◌, ◌/◌, ◌%◌, ◌^◌, ◌<◌, ℕ, zero, suc, Bool, true, false, List, [], ◌∷◌, length, refl, ap, arith, Some, None, eqb-true}
+use Rattle.std.proofs.Common.{◌≡◌, ◌∙◌, ◌+◌, ◌*◌, ◌/◌, ◌%◌, ◌^◌, ◌<◌, ℕ, zero, suc, true, List, [], ◌∷◌, length, refl, ap, arith, Some, eqb-true}
 use Rattle.std.proofs.Math.Nat.{pow-suc}
 use Rattle.std.proofs.lemmas.Bool.{and_from, and_parts}
 use Rattle.std.proofs.lemmas.Bool.Decides.{nat_tests}
 use Rattle.std.proofs.lemmas.Fmt.{decimal_digit}
 use Rattle.std.proofs.lemmas.Int.Digits.{digits_value_push}
 use Rattle.std.proofs.lemmas.List.Folds.{list_all-append}
-use Rattle.std.specs.Prelude.{◌==◌, ◌&&◌, nat_lt, not, if◌then◌else◌}
+use Rattle.std.specs.Prelude.{◌==◌, ◌&&◌, nat_lt, not}
 use Rattle.std.specs.Char.{is_digit}
 use Rattle.std.specs.Fmt.{decimal, digit_glyph}
 use Rattle.std.specs.List.{list_all}
@@ -61,11 +61,7 @@ word_text_by text word h =
     (eqb-true (length text) 5 parts.0, parts.1)
 
 is_written : (text : List ℕ) (word : ℕ) → word_of text ≡ Some word → is_word_text text ≡ true
-is_written text word h = go (is_word_text text) h
-  where
-    go : (b : Bool) → (if b then Some (hex_number text) else None) ≡ Some word → b ≡ true
-    go true e = refl
-    go false e = absurd (cc)
+is_written text word h = grind (arith, nat_tests)
 
 number_means_by : (digits : List ℕ) (n : ℕ) → length digits ≡ 5 → list_all (λ c. is_digit c 16) digits ≡ true → digits_value 16 digits ≡ n → nat_lt n (2 ^ 18) ≡ true → meaning_of (36 ∷ digits) ≡ number n
 unfolding meaning_of
@@ -84,15 +80,8 @@ spare_plain n small = rw (decimal_digit n (omega arith)) (grind (arith, nat_test
 
 digit_means : (n : ℕ) → n < 8 → meaning_of ((48 + n) ∷ []) ≡ number n
 unfolding meaning_of
-digit_means zero h = refl
-digit_means (suc zero) h = refl
-digit_means (suc (suc zero)) h = refl
-digit_means (suc (suc (suc zero))) h = refl
-digit_means (suc (suc (suc (suc zero)))) h = refl
-digit_means (suc (suc (suc (suc (suc zero))))) h = refl
-digit_means (suc (suc (suc (suc (suc (suc zero)))))) h = refl
-digit_means (suc (suc (suc (suc (suc (suc (suc zero))))))) h = refl
 digit_means (suc (suc (suc (suc (suc (suc (suc (suc n)))))))) h = absurd (omega arith)
+digit_means _ h = refl
 
 pub meaning_of-spare : (n : ℕ) → n < 8 → meaning_of (decimal n) ≡ number n
 meaning_of-spare n small = ap meaning_of (decimal_digit n (omega arith)) ∙ digit_means n small

@@ -1,25 +1,25 @@
 -- The items of the words that source items are laid as are those that the layout names.
-use Rattle.std.proofs.Common.{◌≡◌, ◌∙◌, ◌⊎◌, inl, inr, ◌≤◌, ◌+◌, ◌-◌, ◌^◌, ℕ, zero, suc, Bool, true, false, List, [], ◌∷◌, ◌++◌, length, map, Option, Some, None, refl, sym, ap, subst, arith}
+use Rattle.std.proofs.Common.{◌≡◌, ◌∙◌, ◌≤◌, ◌+◌, ◌-◌, ℕ, zero, suc, Bool, true, false, List, [], ◌∷◌, ◌++◌, length, map, Option, Some, None, refl, sym, ap, subst, arith}
 use Rattle.std.proofs.Math.Bool.{or-true}
 use Rattle.std.proofs.lemmas.Bool.{and_from, and_parts, not-true}
-use Rattle.std.specs.Prelude.{◌&&◌, ◌||◌, nat_lt, not, if◌then◌else◌}
+use Rattle.std.specs.Prelude.{◌||◌, not, if◌then◌else◌}
 use Rattle.std.specs.List.{list_all, list_any}
 use Rattle.std.specs.Option.{unwrap_or}
 use Rattle.ga_word.specs.declared.op.Op.{Op}
 use Rattle.ga_word.specs.declared.op.Op.TheVariants.{FetchP, StoreP}
-use Rattle.ga_word.specs.Op.{ends_word, takes_dest}
+use Rattle.ga_word.specs.Op.{ends_word}
 use Rattle.ga_pack.specs.Followers.{followers, is_followed}
 use Rattle.ga_pack.specs.Model.Layout.{Labels, Group, Alone, Shared, Arranged, GroupWords, IsWord, Laid, Words, code_end, dest_in, filled, fits, is_loose, items_of, joins, labels_behind, last_dest, literals, value_number, op_of, ops_of, size, stand, with_fillers}
 use Rattle.ga_pack.specs.Model.Source as source
 use Rattle.ga_pack.specs.Model.Source.{Item, Value, Instruction, Transfer, Literal, Here, Align, Word, WordTo, Plain, Before, Items, Part, is_below, is_item, is_new, is_spare, part_after, stand_from, start}
-use Rattle.ga_pack.specs.Slots.{dest_bound}
 use Rattle.ga_pack.proofs.Encoded.{reading_is}
 use Rattle.ga_pack.proofs.OneLayout.{joins_loose}
-use Rattle.ga_pack.proofs.Placed.{on_test}
+use Rattle.ga_pack.proofs.ByCases.{on_test}
+use Rattle.ga_pack.proofs.ItemParts.{instruction_parts, transfer_parts, word_to_parts}
 use Rattle.ga_disasm.specs.Disassembling.{ItemView, Follower, Data, items_from}
 use Rattle.ga_disasm.specs.Instructions as named
 use Rattle.ga_disasm.specs.Instructions.{group_items, named_items}
-use Rattle.ga_disasm.proofs.Laying.{takes_ends}
+use Rattle.ga_pack.proofs.Packable.{takes_ends}
 use Rattle.ga_disasm.proofs.Stepping.{code_next, data_next, follower_next}
 
 -- ---- the followers of a word
@@ -42,28 +42,23 @@ followers-last (p ∷ ops) o ends = ap (λ (n : ℕ). if ends_word p then 0 else
 abbrev follows : Item → ℕ
 follows i = if is_followed (op_of i) then 1 else 0
 
-dest_not_followed : (o : Op) → takes_dest o ≡ true → is_followed o ≡ false
-dest_not_followed FetchP h = absurd (cc)
-dest_not_followed StoreP h = absurd (cc)
-dest_not_followed o h = refl
+-- an opcode that is followed doesn't end the word
+ends_not_followed : (o : Op) → ends_word o ≡ true → is_followed o ≡ false
+ends_not_followed FetchP h = absurd (cc)
+ends_not_followed StoreP h = absurd (cc)
+ends_not_followed o h = refl
 
 one_literal : (i : Item) → is_item i ≡ true → is_loose i ≡ true → length (literals (i ∷ [])) ≡ follows i
 unfolding is_item
 one_literal (Instruction o) right loose =
-    let none = not-true (is_followed o) (and_parts (not (takes_dest o)) (not (is_followed o)) right).1 in rw none refl
-one_literal (Transfer o v) right loose = rw (dest_not_followed o (and_parts (takes_dest o) (is_below (2 ^ 10) v) right).0) refl
+    let none = (instruction_parts o right).1 in rw none refl
+one_literal (Transfer o v) right loose = rw (ends_not_followed o (takes_ends o (transfer_parts o v right).0)) refl
 one_literal (Literal n) right loose = refl
 one_literal i right loose = absurd (cc)
 
 literals_cons : (i : Item) (is : List Item) → length (literals (i ∷ is)) ≡ length (literals (i ∷ [])) + length (literals is)
 literals_cons (Literal n) is = omega arith
 literals_cons i is = omega arith
-
--- an opcode that is followed doesn't end the word
-ends_not_followed : (o : Op) → ends_word o ≡ true → is_followed o ≡ false
-ends_not_followed FetchP h = absurd (cc)
-ends_not_followed StoreP h = absurd (cc)
-ends_not_followed o h = refl
 
 ends_snoc : (ops : List Op) (o : Op) → ends_word o ≡ true → list_any ends_word (ops ++ o ∷ []) ≡ true
 ends_snoc [] o h = rw h refl
@@ -102,15 +97,11 @@ loose_part zero (Instruction o) p loose e = (refl, (cc))
 loose_part zero (Transfer o v) p loose e = (refl, (cc))
 loose_part zero (Literal n) p loose e = (refl, (cc))
 loose_part (suc owed) (Instruction o) p loose e = absurd (cc)
-loose_part (suc owed) (Transfer o v) p loose e = absurd (cc)
-loose_part (suc owed) (Literal n) p loose e = absurd (cc)
-loose_part owed i p loose e = absurd (cc)
+loose_part _ _ p loose e = absurd (cc)
 
 loose_behind : (i : Item) (p : Part) → is_loose i ≡ true → part_after source.Behind i ≡ Some p → ⊥
 unfolding part_after
 loose_behind (Instruction o) p loose e = cc
-loose_behind (Transfer o v) p loose e = cc
-loose_behind (Literal n) p loose e = cc
 loose_behind i p loose e = cc
 
 word_part : (owed : ℕ) (ops : List Op) (p : Part) → part_after (source.Code owed) (Word ops) ≡ Some p → (owed ≡ 0) × (p ≡ source.Code (followers ops))
@@ -145,19 +136,6 @@ data_part (suc owed) p e = cc
 plain_behind : (v : Value) (p : Part) → part_after source.Behind (Plain v) ≡ Some p → p ≡ source.Behind
 unfolding part_after
 plain_behind v p e = cc
-
-not_behind : (i : Item) (p : Part) → part_after source.Behind i ≡ Some p → (i ≡ Align) ⊎ (i ≡ source.Data) → ⊥
-unfolding part_after
-not_behind i p e (inl same) = let h = subst (λ (t : Item). part_after source.Behind t ≡ Some p) same e in cc
-not_behind i p e (inr same) = let h = subst (λ (t : Item). part_after source.Behind t ≡ Some p) same e in cc
-
-word_behind : (ops : List Op) (p : Part) → part_after source.Behind (Word ops) ≡ Some p → ⊥
-unfolding part_after
-word_behind ops p e = cc
-
-word_to_behind : (ops : List Op) (o : Op) (v : Value) (spare : Option ℕ) (p : Part) → part_after source.Behind (WordTo ops o v spare) ≡ Some p → ⊥
-unfolding part_after
-word_to_behind ops o v spare p e = cc
 
 -- items outside brackets, one behind another
 record Loose (is rest : List Item) : Type 0 where
@@ -201,19 +179,11 @@ end_behind address (Shared i is ∷ groups) = let h = end_behind (address + size
 end_behind address (Alone source.Data ∷ groups) = omega arith
 end_behind address (Alone i ∷ groups) = let h = end_behind (address + size (Alone i)) groups in omega arith
 
--- the opcode of a bracketed word that takes its destination ends it
-dest_ends : (ops : List Op) (o : Op) (v : Value) (spare : Option ℕ) → is_item (WordTo ops o v spare) ≡ true → ends_word o ≡ true
-unfolding is_item
-dest_ends ops o v spare right =
-    let three = (and_parts (stand_from 0 ops && nat_lt (length ops) 3 && takes_dest o && is_below (dest_bound (length ops)) v) (is_spare (length ops) spare) right).0 in
-    let two = (and_parts (stand_from 0 ops && nat_lt (length ops) 3 && takes_dest o) (is_below (dest_bound (length ops)) v) three).0 in
-    takes_ends o (and_parts (stand_from 0 ops && nat_lt (length ops) 3) (takes_dest o) two).1
-
 -- ---- behind the code part
 
 data_named : (labels before : Labels) (address owed : ℕ) (b : Before) (groups : List Group) (words : List ℕ) → b.part ≡ source.Behind → Items b (items_of groups) → Arranged before address groups
     → Words labels groups words → items_from owed 0 words ≡ named.items_in labels true groups
-unfolding Items Arranged Words GroupWords items_from
+unfolding Items Arranged Words GroupWords items_from part_after
 data_named labels before address owed b [] words part items arranged none = ap (items_from owed 0) none
 data_named labels before address owed b (Shared i is ∷ groups) words part (p, right, new, next, items) arranged made =
     let loose = (and_parts (is_loose i) (list_all is_loose is) (all_loose before address [] (i ∷ is) arranged.0)).0 in
@@ -227,14 +197,7 @@ data_named labels before address owed b (Alone (Here s) ∷ groups) words part (
     let behind = here_part b.part s p next ∙ part in
     let all : words ≡ others = e ∙ ap (λ (t : List ℕ). t ++ others) is in
     ap (items_from owed 0) all ∙ data_named labels (labels_behind before address (Alone (Here s))) (address + 0) owed (source.after b (Here s) p) groups others behind items arranged.1 more
-data_named labels before address owed b (Alone Align ∷ groups) words part (p, right, new, next, items) arranged made =
-    absurd (not_behind Align p (subst (λ (t : Part). part_after t Align ≡ Some p) part next) (inl refl))
-data_named labels before address owed b (Alone source.Data ∷ groups) words part (p, right, new, next, items) arranged made =
-    absurd (not_behind source.Data p (subst (λ (t : Part). part_after t source.Data ≡ Some p) part next) (inr refl))
-data_named labels before address owed b (Alone (Word ops) ∷ groups) words part (p, right, new, next, items) arranged made = absurd (word_behind ops p (subst (λ (t : Part). part_after t (Word ops) ≡ Some p) part next))
-data_named labels before address owed b (Alone (WordTo ops o v spare) ∷ groups) words part (p, right, new, next, items) arranged made =
-    absurd (word_to_behind ops o v spare p (subst (λ (t : Part). part_after t (WordTo ops o v spare) ≡ Some p) part next))
-data_named labels before address owed b (Alone i ∷ groups) words part items arranged made = absurd (let alone = arranged.0 in cc)
+data_named labels before address owed b (Alone i ∷ groups) words part items arranged made = absurd (let alone = arranged.0 in let next = items.3 in cc)
 
 -- ---- in the code part
 
@@ -271,7 +234,7 @@ code_named labels before address owed left b (Alone (WordTo ops o v spare) ∷ g
     let rest : ℕ = left - 1 in
     let dest = dest_in labels (length ops) v in
     ap (items_from owed left) (e ∙ ap (λ (t : List ℕ). t ++ others) cut) ∙ ap (λ (n : ℕ). items_from n left (word ∷ others)) here.0
-    ∙ word_first word left rest (ops ++ o ∷ []) (Some dest) (unwrap_or spare 0) (followers ops) others is_word (omega arith) (sym (followers-last ops o (dest_ends ops o v spare right)))
+    ∙ word_first word left rest (ops ++ o ∷ []) (Some dest) (unwrap_or spare 0) (followers ops) others is_word (omega arith) (sym (followers-last ops o (takes_ends o (word_to_parts ops o v spare right).dest)))
     ∙ ap (λ (t : List ItemView). named.code (ops ++ o ∷ []) (Some dest) (unwrap_or spare 0) ∷ t)
     (code_named labels before (address + 1) (followers ops) rest (source.after b (WordTo ops o v spare) p) groups others here.1 behind arranged.1 more (omega arith))
 code_named labels before address owed left b (Alone (Plain v) ∷ groups) words part (p, right, new, next, behind) arranged (first, others, cut, more, e) end =

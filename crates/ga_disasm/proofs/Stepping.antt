@@ -1,6 +1,5 @@
 -- One word more is taken apart.
-use Rattle.std.proofs.Common.{◌≡◌, ◌∙◌, ◌+◌, ◌<◌, ℕ, suc, List, [], ◌∷◌, ◌++◌, Option, length, map, drop, get_or, refl, sym, ap, append_assoc, append-nil, add-one}
-use Rattle.ga_word.specs.declared.op.Op.{Op}
+use Rattle.std.proofs.Common.{◌≡◌, ◌∙◌, ◌+◌, ◌<◌, ℕ, suc, List, [], ◌∷◌, ◌++◌, length, map, drop, get_or, refl, sym, ap, append_assoc, append-nil, add-one}
 use Rattle.std.proofs.Math.Seq.{drop-cons}
 use Rattle.std.proofs.lemmas.List.{map-append}
 use Rattle.ga_pack.specs.Decoded.{Reading, reading_of}

@@ -1,11 +1,11 @@
 -- The tokens of a text that is written line by line, with one space between the tokens of a line.
-use Rattle.std.proofs.Common.{◌≡◌, ◌∙◌, ◌+◌, ℕ, Bool, true, false, not, List, [], ◌∷◌, ◌++◌, filter, length, map, refl, sym, ap, append_assoc, append-nil, take, arith}
+use Rattle.std.proofs.Common.{◌≡◌, ◌∙◌, ◌+◌, ℕ, Bool, true, false, not, List, [], ◌∷◌, ◌++◌, filter, get_or, length, map, refl, sym, ap, append_assoc, append-nil, take, arith}
 use Rattle.std.specs.Prelude.{◌==◌, ◌&&◌, All, codes}
 use Rattle.std.specs.List.{list_all, slice_split}
 use Rattle.std.specs.Str.{bytes_eq}
 use Rattle.std.proofs.lemmas.Bool.{and_from, and_parts, not-true}
 use Rattle.std.proofs.lemmas.List.{map-append}
-use Rattle.std.proofs.lemmas.List.Elements.{All-cons, All-nil}
+use Rattle.std.proofs.lemmas.List.Sums.{AllPass-from_list_all}
 use Rattle.std.proofs.lemmas.Grind.{common_steps}
 use Rattle.std.proofs.lemmas.List.Folds.{list_all-append}
 use Rattle.std.proofs.lemmas.List.Splits.{slice_split_at, slice_split_none}
@@ -26,10 +26,7 @@ record Plain (text : List ℕ) : Type 0 where
   unbroken : All (λ c. is_blank c ≡ false) text
 
 all_unbroken : (text : List ℕ) → list_all (λ c. not (is_blank c)) text ≡ true → All (λ c. is_blank c ≡ false) text
-all_unbroken [] h = All-nil (λ c. is_blank c ≡ false)
-all_unbroken (c ∷ cs) h =
-    let parts = and_parts (not (is_blank c)) (list_all (λ c. not (is_blank c)) cs) h in
-    All-cons (λ c. is_blank c ≡ false) c cs (not-true (is_blank c) parts.0) (all_unbroken cs parts.1)
+all_unbroken text h = λ k d m. not-true (is_blank (get_or text k d)) (AllPass-from_list_all (λ c. not (is_blank c)) text h k d m)
 
 plain_of : (text : List ℕ) → is_plain text ≡ true → Plain text
 plain_of text h =
@@ -116,10 +113,7 @@ spaces_inside (text ∷ texts) h =
     list_all-append is_inside text (behind_spaces texts) ∙ and_from (list_all is_inside text) (list_all is_inside (behind_spaces texts)) (plain_inside text parts.0) (spaces_inside texts parts.1)
 
 unfed : (bytes : List ℕ) → list_all is_inside bytes ≡ true → All (λ c. (c == 10) ≡ false) bytes
-unfed [] h = All-nil (λ c. (c == 10) ≡ false)
-unfed (c ∷ cs) h =
-    let parts = and_parts (is_inside c) (list_all is_inside cs) h in
-    All-cons (λ c. (c == 10) ≡ false) c cs (not-true (c == 10) parts.0) (unfed cs parts.1)
+unfed bytes h = λ k d m. not-true (get_or bytes k d == 10) (AllPass-from_list_all is_inside bytes h k d m)
 
 one_line : (bytes rest : List ℕ) → list_all is_inside bytes ≡ true → lines_of (bytes ++ 10 ∷ rest) ≡ bytes ∷ lines_of rest
 one_line bytes rest h = slice_split_at (λ byte. byte == 10) bytes 10 rest (unfed bytes h) refl

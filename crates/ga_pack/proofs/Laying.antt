@@ -1,9 +1,8 @@
 -- Right items are laid as words, or have a fault.
-use Rattle.std.proofs.Common.{◌≡◌, ◌⊎◌, inl, inr, ℕ, suc, ◌+◌, ◌%◌, ◌^◌, ◌<◌, true, false, List, [], ◌∷◌, ◌++◌, length, Option, Some, None, refl, sym, ◌∙◌, subst, arith, lit<}
-use Rattle.std.proofs.lemmas.Bool.{and_from, and_parts, ltb-true, not-true}
+use Rattle.std.proofs.Common.{◌≡◌, ◌⊎◌, inl, inr, ℕ, ◌+◌, ◌^◌, ◌<◌, true, List, [], ◌∷◌, ◌++◌, length, Option, Some, None, refl, sym, subst, arith, lit<}
+use Rattle.std.proofs.Math.Nat.{mod-lt}
+use Rattle.std.proofs.lemmas.Bool.{and_from, and_parts, ltb-true}
 use Rattle.std.proofs.lemmas.Grind.{common_steps}
-use Rattle.std.proofs.lemmas.List.Folds.{list_all-append}
-use Rattle.std.specs.Prelude.{◌&&◌, not, nat_lt}
 use Rattle.std.specs.List.{list_all}
 use Rattle.std.specs.Option.{unwrap_or}
 use Rattle.ga_word.specs.declared.op.Op.{Op}
@@ -12,21 +11,15 @@ use Rattle.ga_word.specs.Op.{takes_dest}
 use Rattle.ga_pack.specs.Encoding.{pack_fault}
 use Rattle.ga_pack.specs.Model.Layout.{Labels, Group, Shared, Alone, Arranged, GroupWords, IsWord, Words, dest_in, filled, is_defined, items_of, labels_after, labels_behind, last_dest, code_end, literals, names_in, value_number, ops_of, size, with_fillers}
 use Rattle.ga_pack.specs.Model.LayoutFault.{IsRight, Passed, fault_behind}
-use Rattle.ga_pack.specs.Model.Source.{Item, Value, Word, WordTo, Plain, is_below, is_item, is_spare, stand_from}
-use Rattle.ga_pack.specs.Slots.{dest_bound, op_fits}
+use Rattle.ga_pack.specs.Model.Source.{Item, Value, Word, WordTo, Plain, is_item, is_spare, stand_from}
 use Rattle.ga_pack.specs.Reading.{dest_after_slot0, dest_after_slot1, dest_after_slot2, no_dest}
 use Rattle.ga_pack.proofs.Encodable.{encodable}
+use Rattle.ga_pack.proofs.ItemParts.{all_parts, stand_parts, word_parts, word_to_parts}
 use Rattle.ga_pack.proofs.Encoded.{readable}
 use Rattle.ga_pack.proofs.Packable.{packable}
 use Rattle.ga_pack.proofs.Placed.{SomeFault, Standing, standing_or_fault}
 
 -- ---- bracketed words
-
-stand_parts : (slot : ℕ) (o : Op) (ops : List Op) → stand_from slot (o ∷ ops) ≡ true → (takes_dest o ≡ false) × (op_fits slot o ≡ true) × (stand_from (suc slot) ops ≡ true)
-stand_parts slot o ops h =
-    let parts = and_parts (not (takes_dest o) && op_fits slot o) (stand_from (suc slot) ops) h in
-    let here = and_parts (not (takes_dest o)) (op_fits slot o) parts.0 in
-    (not-true (takes_dest o) here.0, here.1, parts.1)
 
 packable_from0 : (ops : List Op) → 0 < length ops → stand_from 0 ops ≡ true → pack_fault (filled 4 ops) None 0 ≡ None
 packable_from0 [] some h = absurd (omega arith)
@@ -55,13 +48,7 @@ packable_from0 (a ∷ b ∷ c ∷ d ∷ e ∷ ops) some h =
     absurd (cc)
 
 pub packable_word : (ops : List Op) → is_item (Word ops) ≡ true → pack_fault (filled 4 ops) None 0 ≡ None
-unfolding is_item
-packable_word ops h =
-    let parts = and_parts (nat_lt 0 (length ops)) (stand_from 0 ops) h in
-    packable_from0 ops (ltb-true 0 (length ops) parts.0) parts.1
-
-low : (n k : ℕ) → 0 < k → n % k < k
-low n k some = omega arith
+packable_word ops h = let parts = word_parts ops h in packable_from0 ops (ltb-true 0 (length ops) parts.0) parts.1
 
 spare_below : (spare : Option ℕ) → is_spare 0 spare ≡ true → unwrap_or spare 0 < 2 ^ 3
 spare_below None h = lit< tt
@@ -70,25 +57,20 @@ spare_below (Some spare) h = ltb-true spare 8 h
 packable_to : (labels : Labels) (ops : List Op) (o : Op) (v : Value) (spare : Option ℕ) → stand_from 0 ops ≡ true → length ops < 3 → takes_dest o ≡ true → is_spare (length ops) spare ≡ true
     → pack_fault (ops ++ o ∷ []) (Some (dest_in labels (length ops) v)) (unwrap_or spare 0) ≡ None
 packable_to labels [] o v spare stands few takes fits =
-    readable (dest_after_slot0 o (unwrap_or spare 0) (dest_in labels 0 v) takes (spare_below spare fits) (low (value_number labels v) (2 ^ 10) (lit< tt)))
+    readable (dest_after_slot0 o (unwrap_or spare 0) (dest_in labels 0 v) takes (spare_below spare fits) (mod-lt (value_number labels v) (lit< tt)))
 packable_to labels (a ∷ []) o v None stands few takes fits =
-    readable (dest_after_slot1 a o (dest_in labels 1 v) (stand_parts 0 a [] stands).0 takes (low (value_number labels v) (2 ^ 8) (lit< tt)))
+    readable (dest_after_slot1 a o (dest_in labels 1 v) (stand_parts 0 a [] stands).0 takes (mod-lt (value_number labels v) (lit< tt)))
 packable_to labels (a ∷ []) o v (Some spare) stands few takes fits = absurd (cc)
 packable_to labels (a ∷ b ∷ []) o v None stands few takes fits =
     let p = stand_parts 0 a (b ∷ []) stands in
-    readable (dest_after_slot2 a b o (dest_in labels 2 v) p.0 (stand_parts 1 b [] p.2).0 takes (low (value_number labels v) (2 ^ 3) (lit< tt)))
+    readable (dest_after_slot2 a b o (dest_in labels 2 v) p.0 (stand_parts 1 b [] p.2).0 takes (mod-lt (value_number labels v) (lit< tt)))
 packable_to labels (a ∷ b ∷ []) o v (Some spare) stands few takes fits = absurd (cc)
 packable_to labels (a ∷ b ∷ c ∷ ops) o v spare stands few takes fits = absurd (omega arith)
 
 pub packable_word_to : (labels : Labels) (ops : List Op) (o : Op) (v : Value) (spare : Option ℕ) → is_item (WordTo ops o v spare) ≡ true
     → pack_fault (ops ++ o ∷ []) (Some (dest_in labels (length ops) v)) (unwrap_or spare 0) ≡ None
-unfolding is_item
 packable_word_to labels ops o v spare h =
-    let four = and_parts (stand_from 0 ops && nat_lt (length ops) 3 && takes_dest o && is_below (dest_bound (length ops)) v) (is_spare (length ops) spare) h in
-    let three = and_parts (stand_from 0 ops && nat_lt (length ops) 3 && takes_dest o) (is_below (dest_bound (length ops)) v) four.0 in
-    let two = and_parts (stand_from 0 ops && nat_lt (length ops) 3) (takes_dest o) three.0 in
-    let one = and_parts (stand_from 0 ops) (nat_lt (length ops) 3) two.0 in
-    packable_to labels ops o v spare one.0 (ltb-true (length ops) 3 one.1) two.1 four.1
+    let is = word_to_parts ops o v spare h in packable_to labels ops o v spare is.stands (ltb-true (length ops) 3 is.short) is.dest is.spare
 
 -- ---- the words of groups
 
@@ -103,9 +85,6 @@ alone_words labels (WordTo ops o v spare) right =
     (found.0 ∷ [], (found.0, found.1, refl))
 alone_words labels (Plain v) right = (value_number labels v ∷ [], refl)
 alone_words labels i right = ([], refl)
-
-all_parts : (front back : List Item) → list_all is_item (front ++ back) ≡ true → (list_all is_item front ≡ true) × (list_all is_item back ≡ true)
-all_parts front back h = and_parts (list_all is_item front) (list_all is_item back) (sym (list_all-append is_item front back) ∙ h)
 
 some_words : (before labels : Labels) (address : ℕ) (groups : List Group) → Arranged before address groups → list_all is_item (items_of groups) ≡ true
     → (words : List ℕ) × Words labels groups words

@@ -1,7 +1,9 @@
 pub mod BitLists
+pub mod ByCases
 pub mod Encodable
 pub mod Encoded
 mod Fillers
+pub mod ItemParts
 pub mod Laying
 mod MadeWords
 pub mod Meanings

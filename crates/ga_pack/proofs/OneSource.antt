@@ -1,15 +1,12 @@
 -- A list of tokens is spelled by one program at most.
-use Rattle.std.proofs.Common.{◌≡◌, ◌∙◌, ℕ, suc, true, false, List, [], ◌∷◌, ◌++◌, length, Option, Some, None, refl, sym, ap}
-use Rattle.std.specs.Prelude.{◌&&◌, ◌^◌, nat_lt, not}
-use Rattle.std.proofs.lemmas.Bool.{and_parts, not-true}
+use Rattle.std.proofs.Common.{◌≡◌, ◌∙◌, ℕ, suc, true, List, [], ◌∷◌, ◌++◌, Option, Some, None, refl, sym, ap}
 use Rattle.ga_word.specs.declared.op.Op.{Op}
 use Rattle.ga_word.specs.Op.{takes_dest}
-use Rattle.ga_pack.specs.Followers.{is_followed}
 use Rattle.ga_pack.specs.Model.Token.{Token, op, close_mark}
 use Rattle.ga_pack.specs.Model.Program.{IsProgram, PlacedSection, placed_sections, tokens_of}
 use Rattle.ga_pack.specs.Model.Text.{places_of}
-use Rattle.ga_pack.specs.Model.Source.{Value, Number, Label, Item, Instruction, Transfer, Literal, Here, Align, Word, WordTo, Plain, Data, Section, Before, Items, Sections, Source, after, is_below, is_item, is_spare, item_tokens, items_tokens, op_tokens, spare_tokens, stand_from, start, text_tokens, value_token}
-use Rattle.ga_pack.specs.Slots.{dest_bound, op_fits}
+use Rattle.ga_pack.specs.Model.Source.{Value, Number, Label, Item, Instruction, Transfer, Literal, Here, Align, Word, WordTo, Plain, Data, Section, Before, Items, Sections, Source, after, is_item, item_tokens, items_tokens, op_tokens, spare_tokens, stand_from, start, text_tokens, value_token}
+use Rattle.ga_pack.proofs.ItemParts.{instruction_parts, stand_parts, transfer_parts, word_parts, word_to_parts}
 
 -- the tokens behind an item, and the item, are those of another
 abbrev Same : Item → List Token → Item → List Token → Type 0
@@ -29,28 +26,23 @@ one_word (o ∷ ops) (p ∷ ops') rest rest' e =
     let more = one_word ops ops' rest rest' (cc) in
     (ap (λ (t : List Op). o ∷ t) more.0 ∙ ap (λ (t : Op). t ∷ ops') same, more.1)
 
-none_takes : (slot : ℕ) (o : Op) (ops : List Op) → stand_from slot (o ∷ ops) ≡ true → (takes_dest o ≡ false) × (stand_from (suc slot) ops ≡ true)
-none_takes slot o ops h =
-    let parts = and_parts (not (takes_dest o) && op_fits slot o) (stand_from (suc slot) ops) h in
-    (not-true (takes_dest o) (and_parts (not (takes_dest o)) (op_fits slot o) parts.0).0, parts.1)
-
 -- opcodes in front of one that takes a destination
 one_front : (slot : ℕ) (ops ops' : List Op) (o o' : Op) (rest rest' : List Token) → stand_from slot ops ≡ true → stand_from slot ops' ≡ true → takes_dest o ≡ true → takes_dest o' ≡ true
     → op_tokens ops (op o ∷ rest) ≡ op_tokens ops' (op o' ∷ rest') → (ops ≡ ops') × (o ≡ o') × (rest ≡ rest')
 one_front slot [] [] o o' rest rest' h h' t t' e = (refl, (cc), (cc))
-one_front slot [] (p ∷ ops') o o' rest rest' h h' t t' e = absurd (let none = (none_takes slot p ops' h').0 in let same : o ≡ p = cc in cc)
-one_front slot (p ∷ ops) [] o o' rest rest' h h' t t' e = absurd (let none = (none_takes slot p ops h).0 in let same : p ≡ o' = cc in cc)
+one_front slot [] (p ∷ ops') o o' rest rest' h h' t t' e = absurd (let none = (stand_parts slot p ops' h').0 in let same : o ≡ p = cc in cc)
+one_front slot (p ∷ ops) [] o o' rest rest' h h' t t' e = absurd (let none = (stand_parts slot p ops h).0 in let same : p ≡ o' = cc in cc)
 one_front slot (p ∷ ops) (q ∷ ops') o o' rest rest' h h' t t' e =
     let same : p ≡ q = cc in
-    let more = one_front (suc slot) ops ops' o o' rest rest' (none_takes slot p ops h).1 (none_takes slot q ops' h').1 t t' (cc) in
+    let more = one_front (suc slot) ops ops' o o' rest rest' (stand_parts slot p ops h).2 (stand_parts slot q ops' h').2 t t' (cc) in
     (ap (λ (x : List Op). p ∷ x) more.0 ∙ ap (λ (x : Op). x ∷ ops') same, more.1, more.2)
 
 -- a word without destination is none with one
 no_front : (slot : ℕ) (ops ops' : List Op) (o : Op) (rest rest' : List Token) → stand_from slot ops ≡ true → takes_dest o ≡ true → op_tokens ops (close_mark ∷ rest) ≡ op_tokens ops' (op o ∷ rest') → ⊥
 no_front slot [] [] o rest rest' h t e = cc
 no_front slot [] (q ∷ ops') o rest rest' h t e = cc
-no_front slot (p ∷ ops) [] o rest rest' h t e = let none = (none_takes slot p ops h).0 in let same : p ≡ o = cc in cc
-no_front slot (p ∷ ops) (q ∷ ops') o rest rest' h t e = no_front (suc slot) ops ops' o rest rest' (none_takes slot p ops h).1 t (cc)
+no_front slot (p ∷ ops) [] o rest rest' h t e = let none = (stand_parts slot p ops h).0 in let same : p ≡ o = cc in cc
+no_front slot (p ∷ ops) (q ∷ ops') o rest rest' h t e = no_front (suc slot) ops ops' o rest rest' (stand_parts slot p ops h).2 t (cc)
 
 one_spare : (spare spare' : Option ℕ) (rest rest' : List Token) → spare_tokens spare rest ≡ spare_tokens spare' rest' → (spare ≡ spare') × (rest ≡ rest')
 one_spare None None rest rest' e = (refl, (cc))
@@ -58,44 +50,23 @@ one_spare (Some n) (Some m) rest rest' e = ((cc), (cc))
 one_spare None (Some m) rest rest' e = absurd (cc)
 one_spare (Some n) None rest rest' e = absurd (cc)
 
--- what is right of the parts of an item
-word_to_parts : (ops : List Op) (o : Op) (v : Value) (spare : Option ℕ) → is_item (WordTo ops o v spare) ≡ true → (stand_from 0 ops ≡ true) × (takes_dest o ≡ true)
-unfolding is_item
-word_to_parts ops o v spare right =
-    let four = and_parts (stand_from 0 ops && nat_lt (length ops) 3 && takes_dest o && is_below (dest_bound (length ops)) v) (is_spare (length ops) spare) right in
-    let three = and_parts (stand_from 0 ops && nat_lt (length ops) 3 && takes_dest o) (is_below (dest_bound (length ops)) v) four.0 in
-    let two = and_parts (stand_from 0 ops && nat_lt (length ops) 3) (takes_dest o) three.0 in
-    ((and_parts (stand_from 0 ops) (nat_lt (length ops) 3) two.0).0, two.1)
-
-word_parts : (ops : List Op) → is_item (Word ops) ≡ true → stand_from 0 ops ≡ true
-unfolding is_item
-word_parts ops right = (and_parts (nat_lt 0 (length ops)) (stand_from 0 ops) right).1
-
-no_dest : (o : Op) → is_item (Instruction o) ≡ true → takes_dest o ≡ false
-unfolding is_item
-no_dest o right = not-true (takes_dest o) (and_parts (not (takes_dest o)) (not (is_followed o)) right).0
-
-some_dest : (o : Op) (v : Value) → is_item (Transfer o v) ≡ true → takes_dest o ≡ true
-unfolding is_item
-some_dest o v right = (and_parts (takes_dest o) (is_below (2 ^ 10) v) right).0
-
 one_item : (i j : Item) (rest rest' : List Token) → is_item i ≡ true → is_item j ≡ true → item_tokens i rest ≡ item_tokens j rest' → Same i rest j rest'
 one_item (Instruction o) (Instruction p) rest rest' h h' e = ((cc), (cc))
-one_item (Instruction o) (Transfer p w) rest rest' h h' e = absurd (let none = no_dest o h in let some = some_dest p w h' in let same : o ≡ p = cc in cc)
-one_item (Transfer o v) (Instruction p) rest rest' h h' e = absurd (let none = no_dest p h' in let some = some_dest o v h in let same : o ≡ p = cc in cc)
+one_item (Instruction o) (Transfer p w) rest rest' h h' e = absurd (let none = (instruction_parts o h).0 in let some = (transfer_parts p w h').0 in let same : o ≡ p = cc in cc)
+one_item (Transfer o v) (Instruction p) rest rest' h h' e = absurd (let none = (instruction_parts p h').0 in let some = (transfer_parts o v h).0 in let same : o ≡ p = cc in cc)
 one_item (Transfer o v) (Transfer p w) rest rest' h h' e =
     let same : o ≡ p = cc in let value = one_value v w rest rest' (cc) in (ap (Transfer o) value.0 ∙ ap (λ (x : Op). Transfer x w) same, value.1)
 one_item (Literal n) (Literal m) rest rest' h h' e = ((cc), (cc))
 one_item (Here s) (Here t) rest rest' h h' e = ((cc), (cc))
 one_item Align Align rest rest' h h' e = (refl, (cc))
 one_item (Word ops) (Word ops') rest rest' h h' e = let same = one_word ops ops' rest rest' (cc) in (ap Word same.0, same.1)
-one_item (Word ops) (WordTo ops' o w spare) rest rest' h h' e = absurd (no_front 0 ops ops' o rest (value_token w ∷ spare_tokens spare rest') (word_parts ops h) (word_to_parts ops' o w spare h').1 (cc))
+one_item (Word ops) (WordTo ops' o w spare) rest rest' h h' e = absurd (no_front 0 ops ops' o rest (value_token w ∷ spare_tokens spare rest') (word_parts ops h).1 (word_to_parts ops' o w spare h').dest (cc))
 one_item (WordTo ops o v spare) (Word ops') rest rest' h h' e =
-    absurd (no_front 0 ops' ops o rest' (value_token v ∷ spare_tokens spare rest) (word_parts ops' h') (word_to_parts ops o v spare h).1 (cc))
+    absurd (no_front 0 ops' ops o rest' (value_token v ∷ spare_tokens spare rest) (word_parts ops' h').1 (word_to_parts ops o v spare h).dest (cc))
 one_item (WordTo ops o v spare) (WordTo ops' o' w spare') rest rest' h h' e =
     let parts = word_to_parts ops o v spare h in
     let parts' = word_to_parts ops' o' w spare' h' in
-    let same = one_front 0 ops ops' o o' (value_token v ∷ spare_tokens spare rest) (value_token w ∷ spare_tokens spare' rest') parts.0 parts'.0 parts.1 parts'.1 (cc) in
+    let same = one_front 0 ops ops' o o' (value_token v ∷ spare_tokens spare rest) (value_token w ∷ spare_tokens spare' rest') parts.stands parts'.stands parts.dest parts'.dest (cc) in
     let value = one_value v w (spare_tokens spare rest) (spare_tokens spare' rest') same.2 in
     let bits = one_spare spare spare' rest rest' value.1 in
     let a = same.0 in

@@ -1,5 +1,6 @@
 -- What stands in the slots of a word is a word: it has no fault for packing.
 use Rattle.std.proofs.Common.{◌≡◌, ◌||◌, inl, inr, ℕ, suc, ◌%◌, ◌^◌, ◌<◌, true, false, List, [], ◌∷◌, ◌++◌, length, Option, Some, None, refl, sym, ◌∙◌, subst, append_assoc, append-nil, arith, lit<}
+use Rattle.std.proofs.Math.Nat.{mod-lt}
 use Rattle.std.proofs.lemmas.Bool.{and_parts, both_ways, cases_Bool, not-true}
 use Rattle.std.proofs.lemmas.Grind.{common_steps}
 use Rattle.std.specs.Prelude.{not, nat_lt}
@@ -8,14 +9,15 @@ use Rattle.ga_word.specs.declared.op.Op.{Op}
 use Rattle.ga_word.specs.declared.op.Op.TheVariants.{Return, Execute, Nop}
 use Rattle.ga_word.specs.Op.{ends_word, takes_dest}
 use Rattle.ga_pack.specs.Encoding.{pack_fault}
-use Rattle.ga_pack.specs.Followers.{is_followed}
 use Rattle.ga_pack.specs.Model.Layout.{Labels, fits, is_unext, joins, last_dest, may_reach, value_number, op_of, ops_of, p_behind, stand, value_of, with_fillers}
-use Rattle.ga_pack.specs.Model.Source.{Item, Instruction, Transfer, Literal, is_below, is_item}
+use Rattle.ga_pack.specs.Model.Source.{Item, Instruction, Transfer, Literal, is_item}
 use Rattle.ga_pack.specs.Slots.{dest_bound, op_fits}
 use Rattle.ga_pack.specs.Reading.{dest_after_slot0, dest_after_slot1, dest_after_slot2, no_dest}
+use Rattle.ga_pack.proofs.ItemParts.{instruction_parts, transfer_parts}
 use Rattle.ga_pack.proofs.Encoded.{readable}
 
-takes_ends : (o : Op) → takes_dest o ≡ true → ends_word o ≡ true
+-- an opcode that takes a destination ends its word
+pub takes_ends : (o : Op) → takes_dest o ≡ true → ends_word o ≡ true
 takes_ends Return h = refl
 takes_ends Execute h = refl
 takes_ends o h = h
@@ -35,10 +37,10 @@ reach_slot slot p (Some dest) h = grind (arith, common_steps)
 last_is : (before labels : Labels) (address : ℕ) (ops : List Op) (x : Item) → is_item x ≡ true → fits before address ops x ≡ true → Last labels (length ops) x
 unfolding is_item fits
 last_is before labels address ops (Instruction o) right h =
-    without (not-true (takes_dest o) (and_parts (not (takes_dest o)) (not (is_followed o)) right).0)
+    without (instruction_parts o right).0
     (and_parts (op_fits (length ops) o) (not (is_unext o) || nat_lt 0 (length ops)) h).0 refl
 last_is before labels address ops (Transfer o v) right h =
-    with_dest (and_parts (takes_dest o) (is_below (2 ^ 10) v) right).0 (reach_slot (length ops) (p_behind address ops) (value_of before v) h) (value_number labels v) refl
+    with_dest (transfer_parts o v right).0 (reach_slot (length ops) (p_behind address ops) (value_of before v) h) (value_number labels v) refl
 last_is before labels address ops (Literal n) right h = without refl h refl
 last_is before labels address ops i right h = absurd (cc)
 
@@ -76,25 +78,22 @@ IsPackable labels is = pack_fault (with_fillers (ops_of is) (last_dest labels 0 
 packable_by : (labels : Labels) (is : List Item) (dest : Option ℕ) → last_dest labels 0 is ≡ dest → pack_fault (with_fillers (ops_of is) dest) dest 0 ≡ None → IsPackable labels is
 packable_by labels is dest e none = subst (λ t. pack_fault (with_fillers (ops_of is) t) t 0 ≡ None) (sym e) none
 
-low : (n k : ℕ) → 0 < k → n % k < k
-low n k some = omega arith
-
 packable1 : (labels : Labels) (i : Item) → Last labels 0 i → IsPackable labels (i ∷ [])
 packable1 labels i (with_dest takes slot n e) =
-    packable_by labels (i ∷ []) (Some (n % 2 ^ 10)) e (readable (dest_after_slot0 (op_of i) 0 (n % 2 ^ 10) takes (lit< tt) (low n (2 ^ 10) (lit< tt))))
+    packable_by labels (i ∷ []) (Some (n % 2 ^ 10)) e (readable (dest_after_slot0 (op_of i) 0 (n % 2 ^ 10) takes (lit< tt) (mod-lt n (lit< tt))))
 packable1 labels i (without none room e) = packable_by labels (i ∷ []) None e (readable (no_dest (op_of i) Nop Nop Nop none refl refl refl))
 
 packable2 : (labels : Labels) (i j : Item) → takes_dest (op_of i) ≡ false → Last labels 1 j → IsPackable labels (i ∷ j ∷ [])
 packable2 labels i j none (with_dest takes slot n e) =
     packable_by labels (i ∷ j ∷ []) (Some (n % 2 ^ 8)) (last_dest-more labels 0 i j [] ∙ e)
-    (readable (dest_after_slot1 (op_of i) (op_of j) (n % 2 ^ 8) none takes (low n (2 ^ 8) (lit< tt))))
+    (readable (dest_after_slot1 (op_of i) (op_of j) (n % 2 ^ 8) none takes (mod-lt n (lit< tt))))
 packable2 labels i j none (without none_j room e) =
     packable_by labels (i ∷ j ∷ []) None (last_dest-more labels 0 i j [] ∙ e) (readable (no_dest (op_of i) (op_of j) Nop Nop none none_j refl refl))
 
 packable3 : (labels : Labels) (i j k : Item) → (takes_dest (op_of i) ≡ false) × (takes_dest (op_of j) ≡ false) → Last labels 2 k → IsPackable labels (i ∷ j ∷ k ∷ [])
 packable3 labels i j k none (with_dest takes slot n e) =
     packable_by labels (i ∷ j ∷ k ∷ []) (Some (n % 2 ^ 3)) (last_dest-more labels 0 i j (k ∷ []) ∙ last_dest-more labels 1 j k [] ∙ e)
-    (readable (dest_after_slot2 (op_of i) (op_of j) (op_of k) (n % 2 ^ 3) none.0 none.1 takes (low n (2 ^ 3) (lit< tt))))
+    (readable (dest_after_slot2 (op_of i) (op_of j) (op_of k) (n % 2 ^ 3) none.0 none.1 takes (mod-lt n (lit< tt))))
 packable3 labels i j k none (without none_k room e) =
     packable_by labels (i ∷ j ∷ k ∷ []) None (last_dest-more labels 0 i j (k ∷ []) ∙ last_dest-more labels 1 j k [] ∙ e)
     (readable (no_dest (op_of i) (op_of j) (op_of k) Nop none.0 none.1 none_k refl))

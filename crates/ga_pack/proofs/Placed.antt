@@ -8,11 +8,7 @@ use Rattle.ga_word.specs.declared.op.Op.{Op}
 use Rattle.ga_pack.specs.Model.Layout.{Labels, Group, Shared, Alone, Arranged, StandIn, address_after, all_in_reach, fits, group_in_reach, is_in_reach, labels_after, names_in, is_loose, items_of, joins, labels_behind, may_reach, more_join, op_of, ops_of, p_behind, size, stand, value_of}
 use Rattle.ga_pack.specs.Model.LayoutFault.{AsmFault, AsmKind, Judged, OutOfReach, Passed, fault_behind, is_lone_unext, joins_last}
 use Rattle.ga_pack.specs.Model.Source.{Item, Number, Label, Instruction, Transfer, Literal}
-
--- by cases of a test
-pub on_test : (b : Bool) (P : Bool → Type 0) → (b ≡ true → P true) → (b ≡ false → P false) → P b
-on_test true P if_true if_false = if_true refl
-on_test false P if_true if_false = if_false refl
+use Rattle.ga_pack.proofs.ByCases.{on_test}
 
 -- a group of one item
 abbrev pub fresh : Item → Group
@@ -129,7 +125,8 @@ add_stands names {groups = groups} x stands none = record {
 
 -- ---- each list of items stands in words, or has a fault
 
-passed_more : (names : List (List ℕ)) (front items : List Item) (x : Item) → Passed names front items → Judged names (front ++ items) x None → Passed names front (items ++ x ∷ [])
+-- an item more passes
+pub passed_more : (names : List (List ℕ)) (front items : List Item) (x : Item) → Passed names front items → Judged names (front ++ items) x None → Passed names front (items ++ x ∷ [])
 unfolding Passed
 passed_more names front [] x passed judged = (rw append-nil at judged, tt)
 passed_more names front (i ∷ items) x passed judged =

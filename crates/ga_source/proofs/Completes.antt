@@ -1,5 +1,5 @@
 -- What tokens lead from a state of the parser to a program.
-use Rattle.std.proofs.Common.{◌≡◌, ◌⊎◌, inl, inr, ℕ, true, List, [], ◌∷◌, ◌++◌, Option, Some, refl, sym, ap, ◌∙◌, subst, append_assoc}
+use Rattle.std.proofs.Common.{◌≡◌, ◌⊎◌, inl, inr, ℕ, true, List, [], ◌∷◌, ◌++◌, Option, Some, refl, sym, ap, ◌∙◌, subst, append_assoc, append-nil}
 use Rattle.ga_word.specs.declared.op.Op.{Op}
 use Rattle.ga_pack.specs.Model.Token.{Token, op, number, label, node, node_name, align, data_part, open_mark, close_mark, comma, end}
 use Rattle.ga_pack.specs.Model.Source.{Value, Item, Instruction, Transfer, Literal, Here, Align, Word, WordTo, Plain, Data, Section, Part, after, part_after, is_item, is_new, Items, Sections, Source, text_tokens, items_tokens, item_tokens, op_tokens, value_token, spare_tokens}
@@ -50,10 +50,6 @@ Led c p (end ∷ rest) = (c.before.has_word ≡ true) × (rest ≡ []) × (p ≡
 Led c p (node ∷ rest) = (c.before.has_word ≡ true) × Completes (naming (sections_closed c) (c.seen ++ c.name ∷ [])) rest p
 Led c p (_ ∷ rest) = ⊥
 
-pub nothing_more : {A : Type 0} (xs : List A) → xs ++ [] ≡ xs
-nothing_more [] = refl
-nothing_more (x ∷ xs) = ap (λ ys. x ∷ ys) (nothing_more xs)
-
 -- one item more
 grown : (c : Inside) (i : Item) (is : List Item) (ss : List Section) (p : List Section)
     → p ≡ c.done ++ record { name = c.name; items = c.items ++ i ∷ is } ∷ ss
@@ -77,8 +73,8 @@ adds_follows c i ts p (q, a, b, d, (is, ss, e, ok, more, pe)) = (i ∷ is, ss, a
 led_items : (c : Inside) (is : List Item) (ss : List Section) (p : List Section) → Items c.before is → Sections (c.seen ++ c.name ∷ []) ss
     → p ≡ c.done ++ record { name = c.name; items = c.items ++ is } ∷ ss → Led c p (items_tokens is (text_tokens ss))
 unfolding Items Sections
-led_items c [] [] p ok more e = (ok, refl, simp (nothing_more {A = Item}) at e)
-led_items c [] (s ∷ ss) p ok more e = (ok, (s, ss, refl, more, simp append_assoc (simp (nothing_more {A = Item}) at e)))
+led_items c [] [] p ok more e = (ok, refl, simp (append-nil {A = Item}) at e)
+led_items c [] (s ∷ ss) p ok more e = (ok, (s, ss, refl, more, simp append_assoc (simp (append-nil {A = Item}) at e)))
 led_items c (Instruction o ∷ is) ss p ok more e = inl (adds c (Instruction o) is ss p ok more e)
 led_items c (Transfer o v ∷ is) ss p ok more e = inr (Transfer o v, items_tokens is (text_tokens ss), (v, refl, refl), adds c (Transfer o v) is ss p ok more e)
 led_items c (Literal n ∷ is) ss p ok more e = adds c (Literal n) is ss p ok more e
@@ -109,6 +105,6 @@ led_back c (data_part ∷ rest) p a = adds_follows c Data rest p a
 led_back c (comma ∷ rest) p (i, more, (v, e, f), a) = rest_follows c behind_comma rest more i p comma (λ more i (v, e, f). cc) (v, e, f) a
 led_back c (open_mark ∷ rest) p (i, more, inl (later, e, f), a) = subst (λ x. Follows c x p) (ap (λ j. item_tokens j more) f ∙ ap (λ x. open_mark ∷ x) (sym e)) (adds_follows c i more p a)
 led_back c (open_mark ∷ rest) p (i, more, inr (later, o, v, k, e, f), a) = subst (λ x. Follows c x p) (ap (λ j. item_tokens j more) f ∙ ap (λ x. open_mark ∷ x) (sym e)) (adds_follows c i more p a)
-led_back c (end ∷ rest) p (w, e, pe) = ([], [], ap (λ x. end ∷ x) e, w, tt, simp (nothing_more {A = Item}) pe)
-led_back c (node ∷ rest) p (w, (s, ss, e, more, pe)) = ([], s ∷ ss, ap (λ x. node ∷ x) e, w, more, simp (nothing_more {A = Item}) (simp append_assoc at pe))
+led_back c (end ∷ rest) p (w, e, pe) = ([], [], ap (λ x. end ∷ x) e, w, tt, simp (append-nil {A = Item}) pe)
+led_back c (node ∷ rest) p (w, (s, ss, e, more, pe)) = ([], s ∷ ss, ap (λ x. node ∷ x) e, w, more, simp (append-nil {A = Item}) (simp append_assoc at pe))
 led_back c _ p h = absurd h

@@ -10,7 +10,7 @@ use Rattle.ga_pack.specs.Model.Meaning.{is_reserved}
 use Rattle.ga_pack.specs.Model.Source.{Number, Label, Item, Instruction, Transfer, Literal, Here, Align, Word, WordTo, Plain, Data, Section, Part, Code, Behind, start, part_after, is_among, is_named, labels_with}
 use Rattle.ga_pack.specs.Slots.{dest_bound, op_fits}
 use Rattle.ga_source.specs.inner.Machine.{State, Inside, IsConsistent, between, behind_op, behind_comma, in_word, behind_dest_op, behind_dest, behind_slash, behind_spare, nothing, naming, inside, take, take_first, take_between, item_added}
-use Rattle.ga_source.proofs.Steps.{on_test}
+use Rattle.ga_pack.proofs.ByCases.{on_test}
 
 -- the answer to a token keeps it
 abbrev pub ConsistentBy : Result State SourceKind → Type 0

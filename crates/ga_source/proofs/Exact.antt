@@ -1,5 +1,5 @@
 -- The parser accepts exactly the texts, and refuses at the first token that no text goes on with.
-use Rattle.std.proofs.Common.{◌≡◌, ◌⊎◌, inl, inr, ⊎_elim, ℕ, zero, suc, Bool, true, false, List, [], ◌∷◌, ◌++◌, length, Option, Some, None, Ok, Err, refl, sym, ap, ◌∙◌, subst, append_assoc, arith}
+use Rattle.std.proofs.Common.{◌≡◌, ◌⊎◌, inl, inr, ⊎_elim, ℕ, zero, suc, Bool, true, false, List, [], ◌∷◌, ◌++◌, length, Option, Some, None, Ok, Err, refl, sym, ap, ◌∙◌, subst, append_assoc, append-nil, arith}
 use Rattle.std.proofs.lemmas.Bool.{and_from, both_ways, lt-ltb}
 use Rattle.std.proofs.Math.Bool.{or-true}
 use Rattle.ga_pack.specs.Model.Meaning.{meanings, meaning_at, meaning_of}
@@ -13,9 +13,10 @@ use Rattle.ga_pack.specs.Model.Source.{Value, Number, Item, Transfer, Word, Word
 use Rattle.ga_pack.specs.Model.SourceFault.{Begins, GoesOn, ends_in_node}
 use Rattle.ga_pack.specs.Slots.{dest_bound}
 use Rattle.ga_source.specs.inner.Machine.{At, between, behind_op, behind_comma, in_word, behind_dest_op, behind_dest, behind_slash, behind_spare, Inside, State, nothing, naming, inside, finished, sections_closed, take, Good}
-use Rattle.ga_source.proofs.Completes.{Follows, Adds, Rest, Completes, with_item, nothing_more, led, led_back}
+use Rattle.ga_source.proofs.Completes.{Follows, Adds, Rest, Completes, with_item, led, led_back}
 use Rattle.ga_source.proofs.FaultKinds.{Shape}
-use Rattle.ga_source.proofs.Steps.{Right, take_right, on_test, is_word, is_word_to}
+use Rattle.ga_source.proofs.Steps.{Right, take_right, is_word, is_word_to}
+use Rattle.ga_pack.proofs.ByCases.{on_test}
 
 -- ---- each state but `naming` has a completion
 
@@ -95,7 +96,7 @@ alive_comma c g = item_alive c behind_comma (Plain (Number 0)) g.0 refl refl (g.
 alive_word : (c : Inside) (ops : List Op) → Good (inside c (in_word ops)) → Alive (inside c (in_word ops))
 unfolding is_item part_after
 alive_word c [] g = item_alive c (in_word []) (Word (Nop ∷ [])) (Code 0) refl refl (ap (λ x. part_after x (Word (Nop ∷ []))) g.1) (λ ys. (codes "." ∷ codes "]" ∷ ys, λ b. inl (Nop ∷ [], first_is b (codes ".") (codes "]" ∷ ys) (op Nop) (spelled b).nop_is refl ∙ ap (λ x. op Nop ∷ x) (first_is false (codes "]") ys close_mark (spelled false).close_is refl), refl)))
-alive_word c (o ∷ ops) g = item_alive c (in_word (o ∷ ops)) (Word (o ∷ ops)) (Code (followers (o ∷ ops))) (is_word (o ∷ ops) (lt-ltb 0 (length (o ∷ ops)) (omega arith)) g.0) refl (ap (λ x. part_after x (Word (o ∷ ops))) g.1) (λ ys. (codes "]" ∷ ys, λ b. inl ([], first_is b (codes "]") ys close_mark (spelled b).close_is refl, ap Word (sym (nothing_more (o ∷ ops))))))
+alive_word c (o ∷ ops) g = item_alive c (in_word (o ∷ ops)) (Word (o ∷ ops)) (Code (followers (o ∷ ops))) (is_word (o ∷ ops) (lt-ltb 0 (length (o ∷ ops)) (omega arith)) g.0) refl (ap (λ x. part_after x (Word (o ∷ ops))) g.1) (λ ys. (codes "]" ∷ ys, λ b. inl ([], first_is b (codes "]") ys close_mark (spelled b).close_is refl, ap Word (sym (append-nil (o ∷ ops))))))
 
 word_to_alive : (c : Inside) (at : At) (ops : List Op) (o : Op) (v : Value) (k : Option ℕ) → stand_from 0 ops ≡ true → nat_lt (length ops) 3 ≡ true → takes_dest o ≡ true → is_below (dest_bound (length ops)) v ≡ true → is_spare (length ops) k ≡ true → c.before.part ≡ Code 0
     → ((ys : List (List ℕ)) → (ts : List (List ℕ)) × ((b : Bool) → Rest at (meanings b ts) (meanings false ys) (WordTo ops o v k))) → (ts : List (List ℕ)) × (p : List Section) × ((b : Bool) → (j : Item) × (more : List Token) × Rest at (meanings b ts) more j × Adds c j more p)
@@ -203,7 +204,7 @@ module _ (front back : List Token) (s s' : State) (t : Token) (st : Stands front
   from rest p h = subst (λ x. Source x p) (sym (regroup front t rest)) (st.from (t ∷ rest) p (right.2 rest p h))
 
   goes : Goes s' → GoesOn (front ++ t ∷ [])
-  goes (inl (p, f)) = whole_goes (front ++ t ∷ []) p (subst (λ x. Source x p) (nothing_more (front ++ t ∷ [])) (from [] p (subst (λ x. Completes x [] p) (sym f) (refl, refl))))
+  goes (inl (p, f)) = whole_goes (front ++ t ∷ []) p (subst (λ x. Source x p) (append-nil (front ++ t ∷ [])) (from [] p (subst (λ x. Completes x [] p) (sym f) (refl, refl))))
   goes (inr (inl a)) = begins (front ++ t ∷ []) s' from a
   goes (inr (inr (done, seen, f))) =
       let (r, same, b) = subst (λ x. Shape x (t ∷ back)) f shape in
@@ -238,10 +239,6 @@ refused front s t k st e (inr (text, p, h, src)) =
     let l = last_same front text t node h in
     node_refused s k st.good (ap (λ x. take s x) (sym l.1) ∙ e) p (st.to (end ∷ []) p (subst (λ x. Source (x ++ end ∷ []) p) (sym l.0) src))
 
-pub length_snoc : (xs : List Token) (t : Token) → length (xs ++ t ∷ []) ≡ suc (length xs)
-length_snoc [] t = refl
-length_snoc (x ∷ xs) t = ap suc (length_snoc xs t)
-
 -- accepted: the program is the text's, and its only one
 pub accepted : (ts : List Token) (p : List Section) → Stands ts (finished p) → Source ts p × ((q : List Section) → Source ts q → q ≡ p)
-accepted ts p st = (subst (λ x. Source x p) (nothing_more ts) (st.from [] p (refl, refl)), λ q h. (st.to [] q (subst (λ x. Source x q) (sym (nothing_more ts)) h)).1)
+accepted ts p st = (subst (λ x. Source x p) (append-nil ts) (st.from [] p (refl, refl)), λ q h. (st.to [] q (subst (λ x. Source x q) (sym (append-nil ts)) h)).1)

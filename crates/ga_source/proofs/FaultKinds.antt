@@ -10,7 +10,7 @@ use Rattle.ga_pack.specs.Model.Source.{Value, Number, Label, Item, Instruction, 
 use Rattle.ga_pack.specs.Model.SourceFault.{in_brackets, in_data, wants_value, kind_at, bracket_fault, value_fault, item_fault}
 use Rattle.ga_pack.specs.Slots.{dest_bound, op_fits}
 use Rattle.ga_source.specs.inner.Machine.{At, between, behind_op, behind_comma, in_word, behind_dest_op, behind_dest, behind_slash, behind_spare, Inside, State, nothing, naming, inside, finished, sections_closed, item_added, take, take_between, take_first, take_label, with_part, owed_fault, Good}
-use Rattle.ga_source.proofs.Steps.{on_test}
+use Rattle.ga_pack.proofs.ByCases.{on_test}
 
 abbrev is_behind : Part → Bool
 is_behind Behind = true

@@ -5,10 +5,10 @@ mod FaultKinds
 mod Hex
 mod Whole
 mod Consistent
-mod ParserSteps
+pub mod ParserSteps
 mod ItemPlaces
 mod Reading
-mod Lines
+pub mod Lines
 mod Slices
 mod Walking
 mod Numerals

@@ -1,12 +1,13 @@
 -- Names, names in front of `:`, and names of nodes.
-use Rattle.std.proofs.Common.{◌≡◌, ◌∙◌, ◌++◌, ◌<◌, ◌≤◌, ℕ, zero, suc, Bool, true, false, List, [], ◌∷◌, Option, Some, None, length, refl, sym, ap, arith, append_assoc, inl, inr, lit<, eq-eqb}
+use Rattle.std.proofs.Common.{◌≡◌, ◌∙◌, ◌++◌, ◌<◌, ◌≤◌, ℕ, zero, suc, Bool, true, false, List, [], ◌∷◌, Option, Some, None, length, refl, sym, ap, arith, append_assoc, lit<, eq-eqb}
 use Rattle.std.specs.Char.{is_digit}
 use Rattle.std.specs.Option.{option_map, unwrap_or}
-use Rattle.std.specs.Prelude.{◌==◌, ◌&&◌, nat_le, nat_lt, if◌then◌else◌}
+use Rattle.std.specs.Prelude.{◌==◌, ◌&&◌, nat_lt, if◌then◌else◌}
 use Rattle.std.specs.List.{list_all}
 use Rattle.std.specs.Str.{IsAscii, IsUtf8}
 use Rattle.std.specs.Str.Parse.{digits_value}
-use Rattle.std.proofs.lemmas.Bool.{and_parts, cases_lt, false≢true, le-leb, le-ltb, lt-leb, ltb-true, ne_eqb}
+use Rattle.std.proofs.lemmas.Bool.{and_parts, false≢true, ltb-true, ne_eqb}
+use Rattle.std.proofs.lemmas.Bool.Decides.{nat_tests}
 use Rattle.std.proofs.lemmas.List.{append-nil}
 use Rattle.std.proofs.lemmas.Str.{IsUtf8-from_ascii}
 use Rattle.ga_place.specs.Node.{is_node_name, node_named}
@@ -22,23 +23,8 @@ label_from-last front (c ∷ d ∷ cs) last = label_from-last (front ++ c ∷ []
 
 -- ---- a name is text
 
-no_letter : (c : ℕ) → 128 ≤ c → is_letter_or_digit c ≡ false
-no_letter c large =
-    let a : nat_le c 90 ≡ false = lt-leb c 90 (omega arith) in
-    let b : nat_le c 122 ≡ false = lt-leb c 122 (omega arith) in
-    let d : (c == 95) ≡ false = ne_eqb c 95 (λ h. omega (arith, h)) in
-    let f : nat_lt c 48 ≡ false = le-ltb c 48 (omega arith) in
-    let g : nat_lt c 58 ≡ false = le-ltb c 58 (omega arith) in
-    let h : nat_lt c 65 ≡ false = le-ltb c 65 (omega arith) in
-    let i : nat_lt c 91 ≡ false = le-ltb c 91 (omega arith) in
-    let j : nat_lt c 97 ≡ false = le-ltb c 97 (omega arith) in
-    let k : nat_lt c 123 ≡ false = le-ltb c 123 (omega arith) in
-    let m : nat_le 65 c ≡ true = le-leb 65 c (omega arith) in
-    let n : nat_le 97 c ≡ true = le-leb 97 c (omega arith) in
-    rw (m, n, a, b, d, f, g, h, i, j, k) refl
-
 letter_below : (c : ℕ) → is_letter_or_digit c ≡ true → c < 128
-letter_below c e = elim (cases_lt c 128) [ inl small ↦ small | inr large ↦ absurd (false≢true (sym (no_letter c large) ∙ e)) ]
+letter_below c e = grind (arith, nat_tests)
 
 letters_below : (text : List ℕ) → list_all is_letter_or_digit text ≡ true → IsAscii text
 letters_below [] e i = lit< tt

@@ -62,7 +62,7 @@ list_any_map p f [] = refl
 list_any_map p f (x ∷ xs) = ap (λ r. p (f x) || r) (list_any_map p f xs)
 
 module _ {S : Type 0} (bytes : S → List ℕ) (same : S → S → Bool) (is_same : (x y : S) → same x y ≡ bytes_eq (bytes x) (bytes y)) where
-  same_any : (s : S) (keys : List S) → list_any (same s) keys ≡ list_any (bytes_eq (bytes s)) (map bytes keys)
+  pub same_any : (s : S) (keys : List S) → list_any (same s) keys ≡ list_any (bytes_eq (bytes s)) (map bytes keys)
   same_any s [] = refl
   same_any s (x ∷ xs) = ap (λ b. b || list_any (same s) xs) (is_same s x) ∙ ap (λ r. bytes_eq (bytes s) (bytes x) || r) (same_any s xs)
 

@@ -1,5 +1,5 @@
 -- The loop over the tokens of a text.
-use Rattle.std.proofs.Common.{◌≡◌, ℕ, zero, suc, ◌+◌, ◌≤◌, Bool, false, List, [], ◌∷◌, ◌++◌, inl, inr, length, length-drop, reverse, drop, Option, Some, None, Ok, Err, refl, sym, ap, ◌∙◌, subst, arith}
+use Rattle.std.proofs.Common.{◌≡◌, ℕ, zero, suc, ◌+◌, ◌≤◌, Bool, false, List, [], ◌∷◌, ◌++◌, inl, inr, length, length-append, length-drop, reverse, drop, Option, Some, None, Ok, Err, refl, sym, ap, ◌∙◌, subst, arith}
 use Rattle.std.proofs.lemmas.List.{length-reverse}
 use Rattle.ga_pack.specs.Model.Text.{Place, places_of, texts_of}
 use Rattle.ga_pack.specs.Model.Token.{SourceKind, Token, end, is_node}
@@ -17,7 +17,7 @@ use Rattle.ga_source.specs.inner.Program.{IsTold}
 use Rattle.ga_source.specs.Error.{error_place, kind_of}
 use Rattle.ga_source.specs.declared.error.SourceError.{SourceError}
 use Rattle.ga_source.specs.declared.error.SourceErrorKind.{SourceErrorKind}
-use Rattle.ga_source.proofs.Exact.{length_snoc, regroup}
+use Rattle.ga_source.proofs.Exact.{regroup}
 use Rattle.ga_source.proofs.Consistent.{ConsistentBy, take_consistent}
 use Rattle.ga_source.proofs.Steps.{Right, take_right}
 use Rattle.ga_source.proofs.Walking.{few_texts}
@@ -46,7 +46,7 @@ pub reading_next : (text : List ℕ) (i : ℕ) (behind : Bool) (s s' : State) (t
     → take s (meaning_at behind t) ≡ Ok s' → Reading text (suc i) (is_node (meaning_at behind t)) s'
 reading_next text i behind s s' t r f e =
     let m = meaning_at behind t in
-    let count : length (r.front ++ m ∷ []) ≡ suc i = length_snoc r.front m ∙ ap suc r.count in
+    let count : length (r.front ++ m ∷ []) ≡ suc i = omega (arith, length-append r.front (m ∷ []), r.count) in
     record {
       front = r.front ++ m ∷ [];
       cut = cut_more text i behind r.front t (drop (suc i) (texts_of text)) r.cut f ∙ sym (regroup r.front m (meanings (is_node m) (drop (suc i) (texts_of text))));

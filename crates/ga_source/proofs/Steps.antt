@@ -1,5 +1,5 @@
 -- Each token that the parser takes keeps what completes its state, and each that it refuses completes nothing.
-use Rattle.std.proofs.Common.{◌≡◌, ◌⊎◌, inl, inr, ⊎_elim, ℕ, zero, suc, ◌+◌, Bool, true, false, List, [], ◌∷◌, ◌++◌, length, Option, Some, None, Result, Ok, Err, refl, sym, ap, ◌∙◌, subst, append_assoc, arith}
+use Rattle.std.proofs.Common.{◌≡◌, ◌⊎◌, inl, inr, ⊎_elim, ℕ, zero, suc, ◌+◌, Bool, true, false, List, [], ◌∷◌, ◌++◌, length, Option, Some, None, Result, Ok, Err, refl, sym, ap, ◌∙◌, subst, append_assoc, append-nil, arith}
 use Rattle.std.proofs.lemmas.Bool.{and_parts, and_from, both_ways, not-true, not_from_false}
 use Rattle.std.specs.Prelude.{◌==◌, ◌&&◌, ◌^◌, not, nat_lt, if◌then◌else◌}
 use Rattle.ga_word.specs.declared.op.Op.{Op}
@@ -9,18 +9,15 @@ use Rattle.ga_pack.specs.Model.Token.{SourceKind, Token, op, number, name, label
 use Rattle.ga_pack.specs.Model.Meaning.{is_reserved}
 use Rattle.ga_pack.specs.Model.Source.{Value, Number, Label, Item, Instruction, Transfer, Literal, Here, Align, Word, WordTo, Plain, Data, Section, Part, Code, Behind, start, part_after, is_item, is_new, Sections, Source, text_tokens, items_tokens, op_tokens, value_token, spare_tokens, stand_from, is_below, is_spare, is_among, is_named}
 use Rattle.ga_pack.specs.Slots.{dest_bound, op_fits}
+use Rattle.ga_pack.proofs.ByCases.{on_test}
+use Rattle.ga_pack.proofs.ItemParts.{IsWordTo, instruction_parts, stand_parts, transfer_parts, word_parts, word_to_parts}
 use Rattle.ga_source.specs.inner.Machine.{between, behind_op, behind_comma, in_word, behind_dest_op, behind_dest, behind_slash, behind_spare, Inside, State, nothing, naming, inside, finished, sections_closed, item_added, take, take_between, take_first, take_op, take_label, take_slot, with_part, Good}
-use Rattle.ga_source.proofs.Completes.{Follows, Adds, Completes, Led, led, led_back, with_item, nothing_more}
+use Rattle.ga_source.proofs.Completes.{Follows, Adds, Completes, Led, led, led_back, with_item}
 
 -- the answer to a token is right
 abbrev pub Right : State → Token → Result State SourceKind → Type 0
 Right s t (Ok s') = Good s' × ((rest : List Token) (p : List Section) → Completes s (t ∷ rest) p → Completes s' rest p) × ((rest : List Token) (p : List Section) → Completes s' rest p → Completes s (t ∷ rest) p)
 Right s t (Err k) = (rest : List Token) (p : List Section) → Completes s (t ∷ rest) p → ⊥
-
--- a test, by its two answers
-pub on_test : (b : Bool) (P : Bool → Type 0) → (b ≡ true → P true) → (b ≡ false → P false) → P b
-on_test true P t f = t refl
-on_test false P t f = f refl
 
 abbrev is_value : Token → Bool
 is_value (number n) = true
@@ -90,12 +87,6 @@ behind_comma_right c t g = λ rest p (i, more, (v, e, f), a). no_value t v rest 
 
 -- ---- in brackets
 
-stand_parts : (slot : ℕ) (o : Op) (ops : List Op) → stand_from slot (o ∷ ops) ≡ true → (takes_dest o ≡ false) × (op_fits slot o ≡ true) × (stand_from (suc slot) ops ≡ true)
-stand_parts slot o ops h =
-    let a = and_parts (not (takes_dest o) && op_fits slot o) (stand_from (suc slot) ops) h in
-    let b = and_parts (not (takes_dest o)) (op_fits slot o) a.0 in
-    (not-true (takes_dest o) b.0, b.1, a.1)
-
 stand_made : (slot : ℕ) (o : Op) (ops : List Op) → takes_dest o ≡ false → op_fits slot o ≡ true → stand_from (suc slot) ops ≡ true → stand_from slot (o ∷ ops) ≡ true
 stand_made slot o ops n r h = and_from (not (takes_dest o) && op_fits slot o) (stand_from (suc slot) ops) (and_from (not (takes_dest o)) (op_fits slot o) (not_from_false (takes_dest o) n) r) h
 
@@ -125,30 +116,10 @@ next_op ops o later h = let e : length ops + 0 ≡ length ops = omega arith in l
 pub one_more : (ops : List Op) (o : Op) → stand_from 0 ops ≡ true → takes_dest o ≡ false → op_fits (length ops) o ≡ true → stand_from 0 (ops ++ o ∷ []) ≡ true
 one_more ops o h n r = let e : length ops ≡ length ops + 0 = omega arith in stand_end 0 ops o h n (subst (λ n. op_fits n o ≡ true) e r)
 
--- what a right item says of its parts
-word_stands : (ops : List Op) → is_item (Word ops) ≡ true → (nat_lt 0 (length ops) ≡ true) × (stand_from 0 ops ≡ true)
-unfolding is_item
-word_stands ops h = and_parts (nat_lt 0 (length ops)) (stand_from 0 ops) h
-
+-- a right item, by what is right of its parts
 pub is_word : (ops : List Op) → nat_lt 0 (length ops) ≡ true → stand_from 0 ops ≡ true → is_item (Word ops) ≡ true
 unfolding is_item
 is_word ops some h = and_from (nat_lt 0 (length ops)) (stand_from 0 ops) some h
-
-pub record IsWordTo (ops : List Op) (o : Op) (v : Value) (k : Option ℕ) : Type 0 where
-  pub stands : stand_from 0 ops ≡ true
-  pub short : nat_lt (length ops) 3 ≡ true
-  pub dest : takes_dest o ≡ true
-  pub below : is_below (dest_bound (length ops)) v ≡ true
-  pub spare : is_spare (length ops) k ≡ true
-
-word_to_parts : (ops : List Op) (o : Op) (v : Value) (k : Option ℕ) → is_item (WordTo ops o v k) ≡ true → IsWordTo ops o v k
-unfolding is_item
-word_to_parts ops o v k h =
-    let a = and_parts (stand_from 0 ops && nat_lt (length ops) 3 && takes_dest o && is_below (dest_bound (length ops)) v) (is_spare (length ops) k) h in
-    let b = and_parts (stand_from 0 ops && nat_lt (length ops) 3 && takes_dest o) (is_below (dest_bound (length ops)) v) a.0 in
-    let d = and_parts (stand_from 0 ops && nat_lt (length ops) 3) (takes_dest o) b.0 in
-    let f = and_parts (stand_from 0 ops) (nat_lt (length ops) 3) d.0 in
-    record { stands = f.0; short = f.1; dest = d.1; below = b.1; spare = a.1 }
 
 pub is_word_to : (ops : List Op) (o : Op) (v : Value) (k : Option ℕ) → IsWordTo ops o v k → is_item (WordTo ops o v k) ≡ true
 unfolding is_item
@@ -169,7 +140,7 @@ no_slot c ops t rest p n (i, more, inr ([], o, v, k, e, f), a) = let h : t ≡ o
 no_slot c ops t rest p n (i, more, inr (x ∷ later, o, v, k, e, f), a) = let h : t ≡ op x = cc in absurd (cc (ap is_slot h))
 
 word_closed : (c : Inside) (ops : List Op) (rest : List Token) (p : List Section) → Completes (inside c (in_word ops)) (close_mark ∷ rest) p → Adds c (Word ops) rest p
-word_closed c ops rest p (i, more, inl ([], e, f), a) = carry c i (Word ops) more rest p (f ∙ ap Word (nothing_more ops)) (cc) a
+word_closed c ops rest p (i, more, inl ([], e, f), a) = carry c i (Word ops) more rest p (f ∙ ap Word (append-nil ops)) (cc) a
 word_closed c ops rest p (i, more, inl (x ∷ later, e, f), a) = absurd (cc)
 word_closed c ops rest p (i, more, inr ([], o, v, k, e, f), a) = absurd (cc)
 word_closed c ops rest p (i, more, inr (x ∷ later, o, v, k, e, f), a) = absurd (cc)
@@ -189,12 +160,12 @@ slot_led c ops o rest p (i, more, inl (x ∷ later, e, f), a) =
     let h : o ≡ x = cc in
     let r : rest ≡ op_tokens later (close_mark ∷ more) = cc in
     let f' : i ≡ Word ((ops ++ o ∷ []) ++ later) = f ∙ ap Word (joined ops o x later h) in
-    let s = next_op ops x later (word_stands (ops ++ x ∷ later) (is_right c i (Word (ops ++ x ∷ later)) more p f a)).1 in
+    let s = next_op ops x later (word_parts (ops ++ x ∷ later) (is_right c i (Word (ops ++ x ∷ later)) more p f a)).1 in
     inl (subst (λ y. takes_dest y ≡ false) (sym h) s.0, subst (λ y. op_fits (length ops) y ≡ true) (sym h) s.1, (i, more, inl (later, r, f'), a))
 slot_led c ops o rest p (i, more, inr ([], x, v, k, e, f), a) =
     let h : o ≡ x = cc in
     let r : rest ≡ value_token v ∷ spare_tokens k more = cc in
-    let f' : i ≡ WordTo ops o v k = f ∙ ap (λ y. WordTo y x v k) (nothing_more ops) ∙ ap (λ y. WordTo ops y v k) (sym h) in
+    let f' : i ≡ WordTo ops o v k = f ∙ ap (λ y. WordTo y x v k) (append-nil ops) ∙ ap (λ y. WordTo ops y v k) (sym h) in
     let s = word_to_parts ops o v k (is_right c i (WordTo ops o v k) more p f' a) in
     inr (s.dest, s.short, (i, more, (v, k, r, f'), a))
 slot_led c ops o rest p (i, more, inr (x ∷ later, y, v, k, e, f), a) =
@@ -209,7 +180,7 @@ slot_back c ops o rest p (i, more, inl (later, e, f), a) = (i, more, inl (o ∷ 
 slot_back c ops o rest p (i, more, inr (later, x, v, k, e, f), a) = (i, more, inr (o ∷ later, x, v, k, ap (λ x. op o ∷ x) e, f ∙ ap (λ z. WordTo z x v k) (sym (joined ops o o later refl))), a)
 
 dest_back : (c : Inside) (ops : List Op) (o : Op) (rest : List Token) (p : List Section) → Completes (inside c (behind_dest_op ops o)) rest p → Completes (inside c (in_word ops)) (op o ∷ rest) p
-dest_back c ops o rest p (i, more, (v, k, e, f), a) = (i, more, inr ([], o, v, k, ap (λ x. op o ∷ x) e, f ∙ ap (λ z. WordTo z o v k) (sym (nothing_more ops))), a)
+dest_back c ops o rest p (i, more, (v, k, e, f), a) = (i, more, inr ([], o, v, k, ap (λ x. op o ∷ x) e, f ∙ ap (λ z. WordTo z o v k) (sym (append-nil ops))), a)
 
 slot_right : (c : Inside) (ops : List Op) (o : Op) → Good (inside c (in_word ops)) → Right (inside c (in_word ops)) (op o) (take_slot c ops o)
 slot_right c ops o g = on_test (takes_dest o) (λ b. Right (inside c (in_word ops)) (op o) (if b then (if nat_lt (length ops) 3 then Ok (inside c (behind_dest_op ops o)) else Err SourceKind.BadWord) else if op_fits (length ops) o then Ok (inside c (in_word (ops ++ o ∷ []))) else Err SourceKind.BadWord))
@@ -224,8 +195,8 @@ in_word_right : (c : Inside) (ops : List Op) (t : Token) → Good (inside c (in_
 unfolding part_after
 in_word_right c ops (op o) g = slot_right c ops o g
 in_word_right c ops close_mark g = on_test (nat_lt 0 (length ops)) (λ b. Right (inside c (in_word ops)) close_mark (if b then with_part c (Word ops) else Err SourceKind.BadWord))
-    (λ some. whole_part c (inside c (in_word ops)) close_mark (Word ops) (Code (followers ops)) (ap (λ x. part_after x (Word ops)) g.1) (is_word ops some g.0) refl (word_closed c ops) (λ rest p a. (Word ops, rest, inl ([], refl, ap Word (sym (nothing_more ops))), a)))
-    (λ none rest p h. both_ways (nat_lt 0 (length ops)) none (word_stands ops (word_closed c ops rest p h).1).0)
+    (λ some. whole_part c (inside c (in_word ops)) close_mark (Word ops) (Code (followers ops)) (ap (λ x. part_after x (Word ops)) g.1) (is_word ops some g.0) refl (word_closed c ops) (λ rest p a. (Word ops, rest, inl ([], refl, ap Word (sym (append-nil ops))), a)))
+    (λ none rest p h. both_ways (nat_lt 0 (length ops)) none (word_parts ops (word_closed c ops rest p h).1).0)
 in_word_right c ops t g = λ rest p h. no_slot c ops t rest p refl h
 
 -- ---- a destination in brackets
@@ -315,23 +286,15 @@ op_barred : (c : Inside) (part : Part) (o : Op) (rest : List Token) (p : List Se
 op_barred c part o rest p e n m (inl a) = barred c part (Instruction o) rest p e m a
 op_barred c part o rest p e n m (inr (i, more, (v, g, f), a)) = barred_as c part i (Transfer o v) more p f e (n v) a
 
-is_instruction : (o : Op) → is_item (Instruction o) ≡ true → (takes_dest o ≡ false) × (is_followed o ≡ false)
-unfolding is_item
-is_instruction o h = let a = and_parts (not (takes_dest o)) (not (is_followed o)) h in (not-true (takes_dest o) a.0, not-true (is_followed o) a.1)
-
 instruction_is : (o : Op) → takes_dest o ≡ false → is_followed o ≡ false → is_item (Instruction o) ≡ true
 unfolding is_item
 instruction_is o a b = and_from (not (takes_dest o)) (not (is_followed o)) (not_from_false (takes_dest o) a) (not_from_false (is_followed o) b)
 
-is_transfer : (o : Op) (v : Value) → is_item (Transfer o v) ≡ true → takes_dest o ≡ true
-unfolding is_item
-is_transfer o v h = (and_parts (takes_dest o) (is_below (2 ^ 10) v) h).0
-
 -- what an opcode leads to in the code part
 op_led : (c : Inside) (o : Op) (rest : List Token) (p : List Section) → Led c p (op o ∷ rest)
     → ((takes_dest o ≡ false) × (is_followed o ≡ false) × Adds c (Instruction o) rest p) ⊎ ((takes_dest o ≡ true) × Completes (inside c (behind_op o)) rest p)
-op_led c o rest p (inl a) = let h = is_instruction o a.1 in inl (h.0, h.1, a)
-op_led c o rest p (inr (i, more, (v, g, f), a)) = inr (is_transfer o v (is_right c i (Transfer o v) more p f a), (i, more, (v, g, f), a))
+op_led c o rest p (inl a) = let h = instruction_parts o a.1 in inl (h.0, h.1, a)
+op_led c o rest p (inr (i, more, (v, g, f), a)) = inr ((transfer_parts o v (is_right c i (Transfer o v) more p f a)).0, (i, more, (v, g, f), a))
 
 op_right : (c : Inside) (o : Op) → c.before.part ≡ Code 0 → Right (inside c between) (op o) (take_op c o)
 unfolding part_after

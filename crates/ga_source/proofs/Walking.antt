@@ -4,6 +4,7 @@ use Rattle.std.specs.Prelude.{◌==◌, All, count_by, if◌then◌else◌}
 use Rattle.std.specs.List.{position, position_or_len, slice_split, onto_first}
 use Rattle.std.specs.Borrow.{Bor}
 use Rattle.std.proofs.Math.Seq.{take-append_seam}
+use Rattle.std.proofs.lemmas.Bool.{not-false, not-true}
 use Rattle.std.proofs.lemmas.Grind.{common_steps}
 use Rattle.std.proofs.lemmas.List.{drop_all, drop_more, get_or-drop, get_or-take, get_or_default, length-map, length-take, map-append, take_more}
 use Rattle.std.proofs.lemmas.List.Elements.{All-append, All-tail}
@@ -258,19 +259,11 @@ found_behind text rest run behind a f = record {
 
 -- ---- a run is found
 
-not_false : (b : Bool) → not b ≡ false → b ≡ true
-not_false true e = refl
-not_false false e = absurd (cc)
-
-not_true : (b : Bool) → not b ≡ true → b ≡ false
-not_true false e = refl
-not_true true e = absurd (cc)
-
 -- a text of blanks alone has no token
 pub no_token : (text : List ℕ) → position (λ c. not (is_blank c)) text ≡ None → (p : Place) (start : ℕ) → lexemes_at p start text ≡ []
 no_token text e p start =
     let all : length text ≤ position_or_len (λ c. not (is_blank c)) text = grind (arith, common_steps) in
-    let blanks : All (λ c. is_blank c ≡ true) text = λ k d m. not_false (is_blank (get_or text k d)) (fails_before_first (λ c. not (is_blank c)) text k d (omega (arith, m, all))) in
+    let blanks : All (λ c. is_blank c ≡ true) text = λ k d m. not-false (is_blank (get_or text k d)) (fails_before_first (λ c. not (is_blank c)) text k d (omega (arith, m, all))) in
     ap (lexemes_at p start) (sym (append-nil text)) ∙ skip_blanks p start text [] blanks
 
 module _ (text rest : List ℕ) (start : ℕ) (found : position (λ c. not (is_blank c)) text ≡ Some start) (is : rest ≡ drop start text) where
@@ -280,12 +273,12 @@ module _ (text rest : List ℕ) (start : ℕ) (found : position (λ c. not (is_b
   before : All (λ c. is_blank c ≡ true) (take start text)
   before = λ k d m.
       ap is_blank (get_or-take start text k d (omega (arith, m, length-take start text)) ∙ get_or_default text k d 0 (omega (arith, m, length-take start text, at.0)))
-      ∙ not_false (is_blank (get_or text k 0)) (at.2 k (omega (arith, m, length-take start text)))
+      ∙ not-false (is_blank (get_or text k 0)) (at.2 k (omega (arith, m, length-take start text)))
 
   begun : (0 < length rest) × (is_blank (get_or rest 0 0) ≡ false)
   begun = (
     omega (arith, ap length is, length-drop start text, at.0),
-    ap is_blank (ap (λ l. get_or l 0 0) is ∙ get_or-drop start text 0 0 ∙ ap (λ i. get_or text i 0) (add-zero start)) ∙ not_true (is_blank (get_or text start 0)) at.1,
+    ap is_blank (ap (λ l. get_or l 0 0) is ∙ get_or-drop start text 0 0 ∙ ap (λ i. get_or text i 0) (add-zero start)) ∙ not-true (is_blank (get_or text start 0)) at.1,
   )
 
   whole : text ≡ take start text ++ rest

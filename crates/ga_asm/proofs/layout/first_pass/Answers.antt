@@ -1,11 +1,11 @@
-use Rattle.std.proofs.Common.{◌∙◌, List, ℕ, ap, sym, subst, take}
+use Rattle.std.proofs.Common.{◌∙◌, List, ℕ, ap, sym, subst, take, take_all}
 use Rattle.ga_pack.specs.Model.Layout.{names_in}
 use Rattle.ga_pack.specs.Model.LayoutFault.{fault_at}
 use Rattle.ga_source.specs.Item.{item_of}
 use Rattle.ga_asm.specs.Error.{kind_of}
 use Rattle.ga_asm.specs.Image.{labels_of}
 use Rattle.ga_asm.specs.inner.Layout.{IsRefusal, Laying, joins_open, open_of, plain, plain_names}
-use Rattle.ga_asm.proofs.LayingSteps.{front_all, front_next, laid_among, laying_all, laying_fault, laying_next, laying_none, next_new}
+use Rattle.ga_asm.proofs.LayingSteps.{front_next, laid_among, laying_all, laying_fault, laying_next, laying_none, next_new}
 use Rattle.ga_asm.proofs.RightItems.{items_some}
 use Rattle.ga_asm.proofs.layout.first_pass.Goals as goal
 
@@ -48,7 +48,7 @@ loop-at-preserved c =
 pub returns-in-Ok-close-clause-ok : goal.returns-in-Ok-close-clause-ok
 returns-in-Ok-close-clause-ok c =
     let items = c.args.items.now in
-    let laying = subst (λ t. Laying (names_in (plain items)) (plain t) c.loop-at.layout) (front_all items c.loop-at.at c.loop-at-test.false) c.loop-at.invariant.0 in
+    let laying = subst (λ t. Laying (names_in (plain items)) (plain t) c.loop-at.layout) (take_all c.loop-at.at items c.loop-at-test.false) c.loop-at.invariant.0 in
     laying_all (plain items) c.loop-at.layout c.close.new.self laying c.in-Ok-close.ensures.ok c.in-Ok-close.ensures.counts
 
 pub returns-in-Err-close-clause-at : goal.returns-in-Err-close-clause-at

@@ -1,7 +1,7 @@
 use Rattle.std.proofs.Common.{refl, subst}
 use Rattle.std.specs.Str.{bytes_eq}
 use Rattle.ga_asm.specs.inner.Layout.{AreSameNames, plain_names}
-use Rattle.ga_asm.proofs.LayingSteps.{front_all}
+use Rattle.std.proofs.lemmas.List.{take_all}
 use Rattle.ga_asm.proofs.Names.{names_next}
 use Rattle.ga_asm.proofs.layout.set_of.Goals as goal
 
@@ -12,4 +12,4 @@ loop-label-preserved c =
 
 pub returns-clause-ok : goal.returns-clause-ok
 returns-clause-ok c =
-    subst (λ t. AreSameNames (plain_names c.loop-label.set.keys) (plain_names t)) (front_all c.args.labels.now c.loop-label.label-index c.loop-label-test.false) c.loop-label.invariant
+    subst (λ t. AreSameNames (plain_names c.loop-label.set.keys) (plain_names t)) (take_all c.loop-label.label-index c.args.labels.now c.loop-label-test.false) c.loop-label.invariant

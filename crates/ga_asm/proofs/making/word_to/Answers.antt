@@ -1,16 +1,17 @@
 use Rattle.std.proofs.Common.{◌≡◌, ◌∙◌, ◌++◌, ◌∷◌, [], ◌<◌, Some, length, ap, arith, lit<}
 use Rattle.ga_pack.specs.Encoding.{pack_fault}
 use Rattle.ga_pack.specs.Model.Layout.{dest_in}
+use Rattle.std.proofs.lemmas.Bool.{ltb-true}
+use Rattle.ga_pack.proofs.ItemParts.{word_to_parts}
 use Rattle.ga_pack.proofs.Laying.{packable_word_to}
 use Rattle.ga_source.specs.Item.{value_of}
 use Rattle.ga_asm.specs.Image.{labels_of}
-use Rattle.ga_asm.proofs.MakingSteps.{few_ops}
 use Rattle.ga_asm.proofs.making.word_to.Goals as goal
 
 pub push-requires : goal.push-requires
 push-requires c =
     let w = c.args.bracketed.now in
-    let short = few_ops w.ops.items w.op (value_of w.dest) w.spare c.requires in
+    let short = ltb-true (length w.ops.items) 3 (word_to_parts w.ops.items w.op (value_of w.dest) w.spare c.requires).short in
     let same : c.slots_of-slots.result.items ≡ w.ops.items = c.slots_of-slots.ensures ∙ c.as_slice.ensures.value in
     let room : length c.slots_of-slots.result.items < 4 = omega (arith, ap length same) in
     (lit< tt, room)

@@ -2,7 +2,7 @@ use Rattle.std.proofs.Common.{◌∙◌, sym, ap}
 use Rattle.std.specs.Str.{bytes_eq}
 use Rattle.ga_pack.specs.Model.Source.{is_among}
 use Rattle.ga_asm.specs.inner.Layout.{plain_names}
-use Rattle.ga_asm.proofs.Names.{list_any_map}
+use Rattle.ga_source.proofs.ParserSteps.{list_any_map}
 use Rattle.ga_asm.proofs.layout.Names.contains.Goals as goal
 
 pub returns-clause-ok : goal.returns-clause-ok
