@@ -1,9 +1,10 @@
 -- What nodes without a fault are: each is a neighbour of the one before it, and they are 144 at most.
-use Rattle.std.proofs.Common.{◌≡◌, ◌∙◌, ℕ, ◌==◌, ◌+◌, ◌≤◌, Bool, true, false, List, [], ◌∷◌, length, Option, Some, None, is_none, IsSome, get_or, refl, sym, ap, subst, arith}
-use Rattle.std.specs.Prelude.{if◌then◌else◌}
+use Rattle.std.proofs.Common.{◌≡◌, ℕ, ◌==◌, ◌+◌, ◌≤◌, Bool, true, false, List, [], ◌∷◌, length, Option, Some, None, is_none, IsSome, get_or, refl, sym, ap, subst, arith}
+use Rattle.std.specs.Prelude.{IfSome, if◌then◌else◌}
 use Rattle.std.specs.List.{AllByRecursion, IsDistinct, find}
 use Rattle.std.specs.Option.{option_or}
 use Rattle.std.proofs.lemmas.Bool.{true≢false, eqb-true}
+use Rattle.ga_word.proofs.Find.{find_passes}
 use Rattle.ga_place.specs.Node.{IsNodeName, is_among, is_edge}
 use Rattle.ga_place.specs.Side.{SIDES, is_the_node, neighbour_of, side_to}
 use Rattle.ga_place.specs.declared.side.Side.{Side}
@@ -52,12 +53,7 @@ route_hops first names e = by (is_edge first) e
 -- ---- a route has 144 nodes at most
 
 found : {X : Type 0} (p : X → Bool) (xs : List X) (x : X) → find p xs ≡ Some x → p x ≡ true
-found p [] x e = absurd cc
-found p (y ∷ ys) x e = by (p y) refl (found p ys x) e
-  where
-    by : (b : Bool) → p y ≡ b → (find p ys ≡ Some x → p x ≡ true) → (if b then Some y else find p ys) ≡ Some x → p x ≡ true
-    by true t behind e = let same : y ≡ x = (cc) in ap p (sym same) ∙ t
-    by false t behind e = behind e
+found p xs x e = subst (λ o. IfSome o (λ y. p y ≡ true)) e (find_passes p xs)
 
 leads : (there : Option ℕ) (other : ℕ) → is_the_node other there ≡ true → there ≡ Some other
 leads None other e = absurd cc

@@ -1,40 +1,24 @@
 -- A step of the walk along nodes that looks for a fault, by the index of a node.
-use Rattle.std.proofs.Common.{◌≡◌, ◌∙◌, ℕ, ◌==◌, ◌+◌, ◌-◌, ◌<◌, suc, Bool, true, false, ◌||◌, List, [], ◌∷◌, ◌++◌, length, reverse, take, drop, Some, None, is_none, get_or, refl, sym, ap, arith}
+use Rattle.std.proofs.Common.{◌≡◌, ◌∙◌, ℕ, ◌==◌, ◌+◌, ◌-◌, ◌<◌, suc, Bool, true, false, ◌||◌, List, [], ◌∷◌, length, reverse, take, drop, Some, None, is_none, get_or, refl, sym, ap, arith}
 use Rattle.std.specs.Prelude.{if◌then◌else◌}
 use Rattle.std.specs.List.{list_any}
 use Rattle.std.specs.Option.{option_or}
 use Rattle.std.proofs.lemmas.List.{length-reverse, length-take-le, reverse-append, take_more}
+use Rattle.std.proofs.lemmas.List.Folds.{list_any-append}
+use Rattle.std.proofs.Math.Bool.{or-false, or_comm}
 use Rattle.std.proofs.Math.Seq.{drop-cons}
 use Rattle.ga_place.specs.Side.{side_to}
 use Rattle.ga_place.specs.Node.{is_among}
 use Rattle.ga_path.specs.Route.{hop_fault, hops_fault}
 use Rattle.ga_path.specs.declared.error.RouteError.TheVariants.{Repeated}
 
-or_join : (a b c : Bool) → (a || (b || c)) ≡ ((a || b) || c)
-or_join true b c = refl
-or_join false b c = refl
-
-any_append : (p : ℕ → Bool) (xs ys : List ℕ) → list_any p (xs ++ ys) ≡ (list_any p xs || list_any p ys)
-any_append p [] ys = refl
-any_append p (x ∷ xs) ys = ap (λ b. p x || b) (any_append p xs ys) ∙ or_join (p x) (list_any p xs) (list_any p ys)
-
-or_false : (b : Bool) → (b || false) ≡ b
-or_false true = refl
-or_false false = refl
-
-or_swap : (a b : Bool) → (a || b) ≡ (b || a)
-or_swap true true = refl
-or_swap true false = refl
-or_swap false true = refl
-or_swap false false = refl
-
 any_reverse : (p : ℕ → Bool) (xs : List ℕ) → list_any p (reverse xs) ≡ list_any p xs
 any_reverse p [] = refl
 any_reverse p (x ∷ xs) =
     ap (list_any p) (reverse-append (x ∷ []) xs)
-    ∙ any_append p (reverse xs) (x ∷ [])
-    ∙ or_swap (list_any p (reverse xs)) (p x || false)
-    ∙ ap (λ b. b || list_any p (reverse xs)) (or_false (p x))
+    ∙ list_any-append p (reverse xs) (x ∷ [])
+    ∙ or_comm (list_any p (reverse xs)) (p x || false)
+    ∙ ap (λ b. b || list_any p (reverse xs)) (or-false (p x))
     ∙ ap (λ b. p x || b) (any_reverse p xs)
 
 -- the nodes up to one behind an index, turned round
