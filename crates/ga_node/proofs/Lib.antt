@@ -1,3 +1,4 @@
+mod Needs
 pub mod Rows
 pub mod Loading
 mod Works
