@@ -9,8 +9,7 @@ use Rattle.ga_place.specs.declared.address.Where.TheVariants as at
 use Rattle.ga_frame.specs.Frame.{takes_words}
 use Rattle.ga_frame.specs.Frame as frame
 use Rattle.ga_node.specs.Loader as loader
-use Rattle.ga_node.specs.Need.{body_need, held_need, input_need, post_need, stop_of, write_need}
-use Rattle.ga_node.specs.declared.need.Need.{Need}
+use Rattle.ga_node.specs.Need.{held_need, input_need, post_need, stop_of, write_need}
 
 -- another frame follows behind the same completion
 pub same_completion : frame.MORE ≡ loader.MORE

@@ -1,5 +1,5 @@
 -- The head of a text, line by line.
-use Rattle.std.proofs.Common.{◌≡◌, ℕ, Bool, true, false, not, List, ◌∷◌, Option, Some, None, Result, Ok, Err, refl, subst, sym}
+use Rattle.std.proofs.Common.{◌≡◌, ℕ, true, List, ◌∷◌, Option, Some, None, Result, Ok, Err, refl, subst, sym}
 use Rattle.std.specs.Prelude.{codes, ok_or}
 use Rattle.std.specs.Result.{IsErrAnd}
 use Rattle.std.specs.Str.{bytes_eq}
@@ -32,8 +32,3 @@ good_loading (Some found) loading h = cc
 pub hands_on : {A B : Type 0} (view : A → B) (result : Result A ReplayError) (expected : Result B ReplayError) (fault : ReplayError) → IsErrAnd result (λ error. error ≡ fault) → FailsRightly (λ right. expected ≡ right) fault → Gives view result expected
 hands_on view (Ok value) expected fault h g = absurd h
 hands_on view (Err error) expected fault h g = subst (λ e. FailsRightly (λ right. expected ≡ right) e) (sym h) g
-
--- a test that isn't refused
-pub not_other : (same other : Bool) → other ≡ not same → other ≡ false → same ≡ true
-not_other true other e h = refl
-not_other false other e h = cc

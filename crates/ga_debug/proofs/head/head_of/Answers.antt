@@ -1,4 +1,5 @@
 use Rattle.std.proofs.Common.{◌≡◌, ◌∙◌, ◌∷◌, Some, ap, arith, rules, length, option_map, sym}
+use Rattle.std.proofs.lemmas.Bool.{not-false}
 use Rattle.std.specs.Prelude.{codes, ok_or}
 use Rattle.std.specs.Str.{bytes_eq}
 use Rattle.ga_debug.specs.Head.{Loading, head_in, loaded_by, loading_in, up_to_go}
@@ -6,7 +7,7 @@ use Rattle.ga_debug.specs.inner.HeadView.{head_view}
 use Rattle.ga_debug.specs.Pieces.{pieces}
 use Rattle.ga_debug.specs.inner.Pieces.{pieces_left}
 use Rattle.ga_debug.specs.declared.replay_error.ReplayError.TheVariants.{BadRoute}
-use Rattle.ga_debug.proofs.Heads.{bad_loading, behind_two_lines, fails_as, good_loading, hands_on, not_other}
+use Rattle.ga_debug.proofs.Heads.{bad_loading, behind_two_lines, fails_as, good_loading, hands_on}
 use Rattle.ga_debug.proofs.Room.{lines_left}
 use Rattle.ga_debug.proofs.head.head_of.Goals as goal
 
@@ -28,7 +29,7 @@ returns-in_err-nodes-clause-head c =
     let line = c.in-Some-next.line.now in
     let rest = pieces_left c.next-2.new.self in
     let cut : pieces 10 text ≡ first ∷ line ∷ rest = sym c.new-lines.ensures ∙ c.in-Some.ensures.steps ∙ ap (λ lines. first ∷ lines) c.in-Some-next.ensures.steps in
-    let profile = not_other (bytes_eq first (codes "profile 1")) c.ne.result c.ne.ensures c.if-ne.false in
+    let profile = not-false (bytes_eq first (codes "profile 1")) (sym c.ne.ensures ∙ c.if-ne.false) in
     let head = behind_two_lines text first line rest cut profile in
     hands_on head_view c.from_residual.result (head_in text) c.in_err-nodes.field-0.0 c.from_residual.ensures.1
     (fails_as (ok_or (loading_in line) BadRoute) (head_in text) c.in_err-nodes.field-0.0 (λ e h. head ∙ bad_loading (loading_in line) rest e h) c.in_err-nodes.ensures)
@@ -40,7 +41,7 @@ returns-in_err-source-clause-head c =
     let line = c.in-Some-next.line.now in
     let rest = pieces_left c.next-2.new.self in
     let cut : pieces 10 text ≡ first ∷ line ∷ rest = sym c.new-lines.ensures ∙ c.in-Some.ensures.steps ∙ ap (λ lines. first ∷ lines) c.in-Some-next.ensures.steps in
-    let profile = not_other (bytes_eq first (codes "profile 1")) c.ne.result c.ne.ensures c.if-ne.false in
+    let profile = not-false (bytes_eq first (codes "profile 1")) (sym c.ne.ensures ∙ c.if-ne.false) in
     let loading : Loading = option_map (λ list. list.items) c.in_ok-nodes.nodes in
     let found : loading_in line ≡ Some loading = good_loading (loading_in line) loading c.in_ok-nodes.ensures in
     let head : head_in text ≡ up_to_go loading 3 rest = behind_two_lines text first line rest cut profile ∙ ap (λ o. loaded_by o rest) found in
@@ -54,7 +55,7 @@ returns-clause-head c =
     let line = c.in-Some-next.line.now in
     let rest = pieces_left c.next-2.new.self in
     let cut : pieces 10 text ≡ first ∷ line ∷ rest = sym c.new-lines.ensures ∙ c.in-Some.ensures.steps ∙ ap (λ lines. first ∷ lines) c.in-Some-next.ensures.steps in
-    let profile = not_other (bytes_eq first (codes "profile 1")) c.ne.result c.ne.ensures c.if-ne.false in
+    let profile = not-false (bytes_eq first (codes "profile 1")) (sym c.ne.ensures ∙ c.if-ne.false) in
     let loading : Loading = option_map (λ list. list.items) c.in_ok-nodes.nodes in
     let found : loading_in line ≡ Some loading = good_loading (loading_in line) loading c.in_ok-nodes.ensures in
     let head : head_in text ≡ up_to_go loading 3 rest = behind_two_lines text first line rest cut profile ∙ ap (λ o. loaded_by o rest) found in
