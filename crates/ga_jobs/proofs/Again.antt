@@ -1,13 +1,12 @@
 -- What `dis` writes for words is assembled to these words.
-use Rattle.std.proofs.Common.{◌≡◌, ◌∙◌, ◌<◌, ◌≤◌, ◌+◌, ◌^◌, inl, inr, ℕ, Bool, true, false, List, [], ◌∷◌, length, Option, Some, None, Result, Ok, Err, unwrap_or, refl, sym, ap, subst, arith}
-use Rattle.std.specs.Prelude.{◌==◌, ◌&&◌, All, nat_lt, if◌then◌else◌}
-use Rattle.std.specs.Char.{is_digit}
-use Rattle.std.specs.List.{list_all}
+use Rattle.std.proofs.Common.{◌≡◌, ◌<◌, ◌≤◌, ◌+◌, ◌^◌, ℕ, Bool, true, false, List, [], ◌∷◌, length, Option, Some, Result, Ok, Err, unwrap_or, refl, sym, ap, subst, arith}
+use Rattle.std.specs.Prelude.{All, nat_lt, if◌then◌else◌}
 use Rattle.std.specs.Str.{IsUtf8}
-use Rattle.std.proofs.lemmas.Bool.{and_parts, ltb-false, ltb-true}
+use Rattle.std.proofs.lemmas.Bool.Decides.{nat_tests}
+use Rattle.std.proofs.lemmas.Bool.{ltb-false}
 use Rattle.std.proofs.lemmas.List.Elements.{All-cons, All-nil}
 use Rattle.std.proofs.lemmas.Str.{is_utf8-from_IsUtf8}
-use Rattle.ga_word.specs.Hex.{hex_number, is_word_text, word_of}
+use Rattle.ga_word.specs.Hex.{is_word_text, word_of}
 use Rattle.ga_word.specs.Text.{word_onto, words_from, words_of_text}
 use Rattle.ga_asm.specs.Assembling.{IsAssembled}
 use Rattle.ga_asm.specs.Image.{ImageView}
@@ -24,16 +23,9 @@ use Rattle.ga_jobs.specs.declared.fault.WordsFault.TheVariants as fault
 
 -- ---- the words of an input fit a node
 
-is_below : (text : List ℕ) → is_word_text text ≡ true → hex_number text < 2 ^ 18
-unfolding is_word_text
-is_below text h = ltb-true (hex_number text) (2 ^ 18) (and_parts ((length text == 5) && list_all (λ c. is_digit c 16) text) (nat_lt (hex_number text) (2 ^ 18)) h).1
-
 word_below : (text : List ℕ) (word : ℕ) → word_of text ≡ Some word → word < 2 ^ 18
-word_below text word e = go (is_word_text text) refl e
-  where
-    go : (b : Bool) → is_word_text text ≡ b → (if b then Some (hex_number text) else None) ≡ Some word → word < 2 ^ 18
-    go true is f = let same : hex_number text ≡ word = cc in subst (λ (n : ℕ). n < 2 ^ 18) same (is_below text is)
-    go false is f = absurd (cc)
+unfolding is_word_text
+word_below text word e = grind (arith, nat_tests)
 
 abbrev IsBelow : ℕ → Type 0
 IsBelow word = word < 2 ^ 18
@@ -43,10 +35,9 @@ words_below place [] words e = let none : words ≡ [] = cc in subst (All IsBelo
 words_below place (token ∷ tokens) words e = go (word_of token) refl (words_from (place + 1) tokens) (words_below (place + 1) tokens) e
   where
     go : (found : Option ℕ) → word_of token ≡ found → (rest : Result (List ℕ) ℕ) → ((others : List ℕ) → rest ≡ Ok others → All IsBelow others) → word_onto place found rest ≡ Ok words → All IsBelow words
-    go None is rest below f = absurd (cc)
-    go (Some word) is (Err bad) below f = absurd (cc)
     go (Some word) is (Ok others) below f =
         let all : word ∷ others ≡ words = cc in subst (All IsBelow) all (All-cons IsBelow word others (word_below token word is) (below others refl))
+    go _ is _ below f = absurd (cc)
 
 record Counted (found words : List ℕ) : Type 0 where
   is : found ≡ words

@@ -1,9 +1,8 @@
 -- The nodes of a worker, by an index in the nodes of a route.
-use Rattle.std.proofs.Common.{◌≡◌, ◌∙◌, ℕ, ◌==◌, ◌+◌, ◌%◌, ◌<◌, suc, Bool, true, false, List, [], ◌∷◌, ◌++◌, length, map, drop, slice_index_or, Vec, Option, Some, None, Err, append-nil, append_assoc, refl, sym, ap, ap₂, arith, ◌≤◌}
+use Rattle.std.proofs.Common.{◌≡◌, ◌∙◌, ℕ, ◌==◌, ◌+◌, ◌%◌, ◌<◌, suc, Bool, true, false, List, [], ◌∷◌, ◌++◌, length, map, drop, slice_index_or, Vec, Option, Some, None, Err, append-nil, append_assoc, sym, ap, ap₂, arith, ◌≤◌}
 use Rattle.std.specs.Prelude.{if◌then◌else◌}
 use Rattle.std.proofs.Math.Seq.{drop-cons}
-use Rattle.std.proofs.lemmas.Bool.{eqb-true}
-use Rattle.std.proofs.lemmas.Cmp.{nat_eq_equiv}
+use Rattle.std.proofs.lemmas.Bool.{eq-eqb, ne_eqb}
 use Rattle.std.specs.List.{range_with_len}
 use Rattle.std.proofs.lemmas.List.{drop_all, map-append}
 use Rattle.ga_chip.proofs.Turns.{places_next}
@@ -11,16 +10,6 @@ use Rattle.ga_group.specs.Plan.{Groups, groups_of, plan_fault, planned}
 use Rattle.ga_group.specs.declared.error.PlanError.{PlanError}
 use Rattle.ga_jobs.specs.declared.fault.ServeError.TheVariants.{Plan}
 use Rattle.ga_jobs.specs.Run.{nodes_for, plan_by, plan_if}
-
-same : (n m : ℕ) → n ≡ m → (n == m) ≡ true
-same n m e = ap (λ k. k == m) e ∙ nat_eq_equiv.refl m
-
-other : (n m : ℕ) → (n ≡ m → ⊥) → (n == m) ≡ false
-other n m apart = by (n == m) refl
-  where
-    by : (b : Bool) → (n == m) ≡ b → (n == m) ≡ false
-    by true e = absurd (apart (eqb-true n m e))
-    by false e = e
 
 -- the nodes of a worker among those that are left, by the next
 next_node : (workers worker at node : ℕ) (nodes : List ℕ) (b : Bool) → at < length nodes → node ≡ slice_index_or nodes at node → (at % workers == worker) ≡ b
@@ -35,11 +24,11 @@ pub taken : (workers worker at node : ℕ) (nodes group more all : List ℕ) →
     → group ++ nodes_for workers worker at (drop at nodes) ≡ all → more ++ nodes_for workers worker (at + 1) (drop (at + 1) nodes) ≡ all
 taken workers worker at node nodes group more all below is test pushed so_far =
     let rest = nodes_for workers worker (at + 1) (drop (at + 1) nodes) in
-    ap (λ l. l ++ rest) pushed ∙ append_assoc group (node ∷ []) rest ∙ ap (λ l. group ++ l) (sym (next_node workers worker at node nodes true below is (same (at % workers) worker test))) ∙ so_far
+    ap (λ l. l ++ rest) pushed ∙ append_assoc group (node ∷ []) rest ∙ ap (λ l. group ++ l) (sym (next_node workers worker at node nodes true below is (eq-eqb (at % workers) worker test))) ∙ so_far
 
 pub left_out : (workers worker at node : ℕ) (nodes group all : List ℕ) → at < length nodes → node ≡ slice_index_or nodes at node → (at % workers ≡ worker → ⊥)
     → group ++ nodes_for workers worker at (drop at nodes) ≡ all → group ++ nodes_for workers worker (at + 1) (drop (at + 1) nodes) ≡ all
-left_out workers worker at node nodes group all below is test so_far = ap (λ l. group ++ l) (sym (next_node workers worker at node nodes false below is (other (at % workers) worker test))) ∙ so_far
+left_out workers worker at node nodes group all below is test so_far = ap (λ l. group ++ l) (sym (next_node workers worker at node nodes false below is (ne_eqb (at % workers) worker test))) ∙ so_far
 
 -- all nodes were looked at
 pub dealt_all : (workers worker at : ℕ) (nodes group all : List ℕ) → length nodes ≤ at → group ++ nodes_for workers worker at (drop at nodes) ≡ all → group ≡ all

@@ -1,7 +1,7 @@
 -- What is right of an answer may be said in other words.
 use Rattle.std.proofs.Common.{◌≡◌, ℕ, List, Result, Ok, Err, inr}
 use Rattle.ga_jobs.specs.declared.fault.ServeError.{ServeError}
-use Rattle.ga_jobs.specs.declared.fault.ServeError.TheVariants.{Input, Words, Source, Asm, Route, Boot, Plan, Replay, Read, Write, Memory}
+use Rattle.ga_jobs.specs.declared.fault.ServeError.TheVariants.{Read, Write, Memory}
 use Rattle.ga_path.specs.Stream.{Images}
 use Rattle.ga_jobs.specs.Boot.{IsBootOutput, text_by}
 use Rattle.ga_jobs.specs.Fault.{Answers, FailsRightly}
@@ -10,17 +10,10 @@ use Rattle.ga_jobs.specs.Run.{IsRunOf, IsRunOutput}
 use Rattle.ga_jobs.specs.Source.{IsImagesIn}
 
 fails : {A B : Type 0} (IsRight : Result A ServeError → Type 0) (IsAlso : Result B ServeError → Type 0) (fault : ServeError) → ((error : ServeError) → IsRight (Err error) → IsAlso (Err error)) → FailsRightly IsRight fault → FailsRightly IsAlso fault
-fails IsRight IsAlso (Input fault) also is = also (Input fault) is
-fails IsRight IsAlso (Words fault) also is = also (Words fault) is
-fails IsRight IsAlso (Source fault) also is = also (Source fault) is
-fails IsRight IsAlso (Asm fault) also is = also (Asm fault) is
-fails IsRight IsAlso (Route fault) also is = also (Route fault) is
-fails IsRight IsAlso (Boot fault) also is = also (Boot fault) is
-fails IsRight IsAlso (Plan fault) also is = also (Plan fault) is
-fails IsRight IsAlso (Replay fault) also is = also (Replay fault) is
 fails IsRight IsAlso Read also is = absurd is
 fails IsRight IsAlso Write also is = absurd is
 fails IsRight IsAlso Memory also is = tt
+fails IsRight IsAlso fault also is = also fault is
 
 pub answers : {A B : Type 0} (view : A → B) (IsRight : Result B ServeError → Type 0) (IsAlso : Result B ServeError → Type 0) (result : Result A ServeError) → ((answer : Result B ServeError) → IsRight answer → IsAlso answer) → Answers view IsRight result → Answers view IsAlso result
 answers view IsRight IsAlso (Ok value) also is = also (Ok (view value)) is
