@@ -22,13 +22,13 @@ abbrev pub is_full : List (Option ℕ) → Option ℕ → Bool
 is_full cells (Some cell) = is_some (pending_in cells cell)
 is_full cells None = false
 
--- A side at which a node waits is shut: the node has no neighbour there, or the neighbour is in the set and the cell
--- between them is as the node finds it while it waits.
+-- A side at which a node waits is shut: the node has no neighbour there; or the cell between them is as the node finds
+-- it while it waits, and the neighbour is in the set.
 abbrev pub is_shut : (ℕ → Bool) → Bool → Option ℕ → Bool
 is_shut inside waits None = true
 is_shut inside waits (Some neighbour) = waits && inside neighbour
 
--- no word can come to a node at a side: none is pending there, and its neighbour is in the set
+-- no word can come to a node at a side: none is pending there, and its neighbour, if it has one, is in the set
 abbrev pub is_dry : (ℕ → Bool) → List (Option ℕ) → ℕ → Side → Bool
 is_dry inside cells name side = is_shut inside (not (is_full cells (read_cell name side))) (neighbour_of name side)
 
@@ -36,7 +36,7 @@ is_dry inside cells name side = is_shut inside (not (is_full cells (read_cell na
 abbrev pub is_dry_at : (ℕ → Bool) → List (Option ℕ) → ℕ → Sides → Bool
 is_dry_at inside cells name sides = list_all (λ side. not (is_among side sides) || is_dry inside cells name side) SIDES
 
--- the word that a node posted at a side can't be read: it is pending, and its reader is in the set
+-- the word that a node posted at a side can't be read: it is pending, and its reader, if there is one, is in the set
 abbrev pub is_unread : (ℕ → Bool) → List (Option ℕ) → ℕ → Side → Bool
 is_unread inside cells name side = is_shut inside (is_full cells (cell_of name side)) (neighbour_of name side)
 
@@ -63,7 +63,7 @@ IsClosed chip inside = (name : ℕ) → inside name ≡ true → option_map_or (
 abbrev pub HoldsEachClosed : Chip → (ℕ → Bool) → Type 0
 HoldsEachClosed chip inside = (other : ℕ → Bool) (name : ℕ) → IsClosed chip other → other name ≡ true → inside name ≡ true
 
--- A set of nodes as a call answers it: for each node, in order of name, whether it is in the set. Its test of names.
+-- A call answers a set as a list: for each node, in order of name, whether it is in the set. This is its test of names.
 abbrev pub has_node : List Bool → ℕ → Bool
 has_node nodes name = get_or nodes (index_of name) false
 
@@ -74,6 +74,7 @@ IsUnfed chip events inside = (name : ℕ) → inside name ≡ true → words_fed
 -- a node is as it was, but for its breakpoints and its pass
 pub record StandsStill (part now : Part) : Type 0 where
   pub state : now.state ≡ part.state
+  -- the same words are left of its stream
   pub stream : words_left now.stream ≡ words_left part.stream
   pub opened : now.opened ≡ part.opened
   pub written : now.written ≡ part.written
