@@ -1,16 +1,12 @@
 -- What the calls that open and feed a stream make of the chip.
-use Rattle.std.proofs.Common.{◌≡◌, ◌<◌, ◌∙◌, ◌++◌, ℕ, Bool, true, false, List, Some, None, ap, get_or, length, refl, set, subst, sym}
-use Rattle.std.specs.Prelude.{◌==◌, if◌then◌else◌}
+use Rattle.std.proofs.Common.{◌≡◌, ◌<◌, ◌∙◌, ℕ, List, Some, None, ap, get_or, length, refl, set, subst, sym}
 use Rattle.std.specs.Option.{option_and_then}
-use Rattle.std.proofs.lemmas.Bool.{eqb-true}
-use Rattle.std.proofs.lemmas.List.{nil_from_length}
 use Rattle.ga_place.specs.Cell.{index_of}
 use Rattle.ga_chip.specs.declared.error.ChipError.{ChipError}
-use Rattle.ga_chip.specs.declared.error.ChipError.TheVariants.{NotOpen, NotTaken}
 use Rattle.ga_chip.specs.Part.{Part}
 use Rattle.ga_chip.specs.Chip.{Chip, opening, part_of, stream_opened, unless_refused, with_changed}
 use Rattle.ga_chip.specs.Legal.{IsLegal}
-use Rattle.ga_chip.specs.Run.{Piece, happened, piece_come, stream_with, words_left}
+use Rattle.ga_chip.specs.Run.{Piece, happened, piece_come}
 use Rattle.ga_chip.specs.Stream.{feed_refusal, part_feed_refusal}
 use Rattle.ga_chip.proofs.Kept.{legal_kept}
 use Rattle.ga_chip.proofs.Lists.{set-get}
@@ -21,14 +17,11 @@ pub opened_is : (chip : Chip) (name : ℕ) → stream_opened chip name ≡ with_
 unfolding stream_opened
 opened_is chip name = refl
 
--- a piece that isn't refused takes the place of the empty rest
-pub piece_alone : (words : List ℕ) (part : Part) → part_feed_refusal part ≡ None → piece_come words part ≡ record part { stream = Some words }
-piece_alone words part free = ap (λ stream. record part { stream = stream }) (by part.opened (length (words_left part.stream) == 0) refl free)
-  where
-    by : (opened taken : Bool) → (length (words_left part.stream) == 0) ≡ taken → (if opened then (if taken then None else Some NotTaken) else Some NotOpen) ≡ None → stream_with opened words part.stream ≡ Some words
-    by true true e free = ap (λ left. Some (left ++ words)) (nil_from_length (words_left part.stream) (eqb-true _ _ e))
-    by true false e free = absurd cc
-    by false taken e free = absurd cc
+-- a part that is put back as it was
+pub same_part : (chip : Chip) (name index : ℕ) (part next : Part) → IsLegal chip → index ≡ index_of name → index < 144 → part ≡ get_or chip.parts index part → next ≡ part → record chip { parts = set chip.parts index next } ≡ chip
+same_part chip name index part next legal is below read same =
+    ap (λ p. record chip { parts = set chip.parts index p }) same
+    ∙ ap (λ ps. record chip { parts = ps }) (ap (λ i. set chip.parts i part) is ∙ set-get chip.parts (index_of name) part (part_at chip name index part legal.parts is below read))
 
 -- what the code leaves where it refuses a piece
 pub feed_refused_at : (chip changed : Chip) (name index : ℕ) (part : Part) (fault : ChipError) → IsLegal chip → index ≡ index_of name → index < 144 → part ≡ get_or chip.parts index part → part_feed_refusal part ≡ Some fault
@@ -36,7 +29,7 @@ pub feed_refused_at : (chip changed : Chip) (name index : ℕ) (part : Part) (fa
 feed_refused_at chip changed name index part fault legal is below read refused =
     let there = part_at chip name index part legal.parts is below read in
     let yes : feed_refusal chip name ≡ Some fault = ap (option_and_then part_feed_refusal) there ∙ refused in
-    (yes, ap (λ ps. record chip { parts = ps }) (ap (λ i. set chip.parts i part) is ∙ set-get chip.parts (index_of name) part there) ∙ sym (ap (λ r. unless_refused r changed chip) yes))
+    (yes, same_part chip name index part part legal is below read refl ∙ sym (ap (λ r. unless_refused r changed chip) yes))
 
 piece_at : (chip : Chip) (name index : ℕ) (part next : Part) (words : List ℕ) → length chip.parts ≡ 144 → index ≡ index_of name → index < 144 → part ≡ get_or chip.parts index part → next ≡ piece_come words part → record chip { parts = set chip.parts index next } ≡ happened chip (Piece name words)
 unfolding happened

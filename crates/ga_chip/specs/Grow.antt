@@ -4,9 +4,14 @@ use Rattle.ga_place.specs.Cell.{cell_of}
 use Rattle.ga_place.specs.declared.side.Side.{Side}
 use Rattle.ga_chip.specs.Chip.{Chip}
 use Rattle.ga_chip.specs.Ledger.{ledger_of}
-use Rattle.ga_chip.specs.Run.{Event, written_words, taken_words}
+use Rattle.ga_chip.specs.Legal.{IsLegal}
+use Rattle.ga_chip.specs.Run.{Event, ran, written_words, taken_words}
 
 -- Each ledger has grown over a run of a chip, which led to another, by the words written and those taken.
 pub record LedgersGrow (chip next : Chip) (events : List Event) : Type 0 where
   pub written : (name cell : ℕ) (side : Side) → cell_of name side ≡ Some cell → (ledger_of next name side).written ≡ (ledger_of chip name side).written + length (written_words chip events cell)
   pub read : (name cell : ℕ) (side : Side) → cell_of name side ≡ Some cell → (ledger_of next name side).read ≡ (ledger_of chip name side).read + length (taken_words chip events cell)
+
+-- So they grow over every run of a legal chip, with tries, breakpoints and pieces of streams in any order.
+abbrev pub Growing : Type 0
+Growing = (chip : Chip) (events : List Event) → IsLegal chip → LedgersGrow chip (ran chip events) events

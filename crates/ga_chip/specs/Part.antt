@@ -36,7 +36,7 @@ pub record Part : Type 0 where
   pub breaks : List Bool
   -- whether the next fetch passes a breakpoint
   pub pass : Bool
-  -- the words left of the node's stream, where one was given
+  -- the words left of the node's stream, where one was given or opened
   pub stream : Option (List ℕ)
   -- whether the stream was opened, so that it goes on in pieces
   pub opened : Bool

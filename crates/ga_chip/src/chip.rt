@@ -1,4 +1,4 @@
-ghost use Rattle.std.specs.Prelude.{◌≡◌, ◌≢◌, ◌↔◌, ℕ, ◌+◌, ◌<◌, ◌≤◌, ◌^◌, Err, IfOk, false, if◌then◌else◌, length, true};
+ghost use Rattle.std.specs.Prelude.{[], ◌≡◌, ◌≢◌, ◌↔◌, ℕ, ◌+◌, ◌<◌, ◌≤◌, ◌^◌, Err, IfOk, false, if◌then◌else◌, length, true};
 ghost use Rattle.ga_place.specs.Cell.{name_at};
 ghost use Rattle.ga_chip.specs.Chip.{IsHeld, answer_of, placed, refusal, reset_chip, state_of, stream_opened, stream_refusal, streamed, tried, unless_held, unless_refused, with_words};
 ghost use Rattle.ga_place.specs.declared.side.Side.{Side};
@@ -150,6 +150,7 @@ impl Chip {
         ensures refused { result ≡ with_words words (feed_refusal self.old node) }
         ensures chip { self.new ≡ unless_refused (feed_refusal self.old node)
             (happened self.old (Piece node words.items)) self.old }
+        ensures empty { words.items ≡ [] → self.new ≡ self.old }
     {
         let index = index_of(node);
         let part = &mut self.parts[index];

@@ -6,7 +6,7 @@ pub enum ChipError {
     /// The node stands at no edge of the chip, so it can't be given a stream.
     #[error("NotEdge")]
     NotEdge,
-    /// The node was given a stream before.
+    /// The node was given a stream before, or one was opened for it.
     #[error("AlreadyGiven")]
     AlreadyGiven,
     /// The node has made a step.

@@ -1,8 +1,9 @@
 //! Laws of the definitions. They do nothing when run.
+ghost use Rattle.ga_chip.specs.Grow.{Growing};
 ghost use Rattle.ga_chip.specs.Laws.{Commuting, Confluence};
 ghost use Rattle.ga_chip.specs.Stuck.{Stuck};
 
-/// Where the takes of several sides name the same sides and the streams get the same words, as far as both runs go, two
+/// Where the takes of several sides name the same sides and the streams are fed the same words, as far as both runs go, two
 /// runs of legal chips go alike as far as both go, whatever the order of their tries. The chips may differ in
 /// breakpoints. And tries of two nodes that would each be `Moved` commute.
 pub fn confluence()
@@ -17,4 +18,10 @@ pub fn confluence()
 /// nothing to the streams of the set's nodes: other nodes are tried in any order, and breakpoints are used anywhere.
 pub fn stuck()
     ensures stuck { Stuck }
+{}
+
+/// Ledgers are exact over every run of a legal chip, whatever happens to it, pieces of streams among that: each cell's
+/// numbers of words written and read grow by those of the words that its two nodes write and take.
+pub fn ledgers()
+    ensures grow { Growing }
 {}

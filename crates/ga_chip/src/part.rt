@@ -1,4 +1,4 @@
-ghost use Rattle.std.specs.Prelude.{◌≡◌, ◌≢◌, ℕ, ◌≤◌, ◌<◌, ◌^◌, false, true, if◌then◌else◌, length, IfSome, None, Some, Option, option_map};
+ghost use Rattle.std.specs.Prelude.{◌≡◌, ◌≢◌, ℕ, ◌≤◌, ◌<◌, ◌^◌, [], false, true, if◌then◌else◌, length, IfSome, None, Some, Option, option_map};
 ghost use Rattle.ga_place.specs.Cell.{cell_of, index_of, name_at, read_cell};
 ghost use Rattle.ga_place.specs.Side.{is_among, neighbour_of, one_side};
 ghost use Rattle.ga_place.specs.declared.side.Side.{Side};
@@ -59,6 +59,7 @@ pub(crate) struct Far {
 }
 
 impl Model for NodePart {
+    ghost use Rattle.std.specs.Prelude.{◌≡◌, is_some, true};
     ghost use Rattle.ga_chip.specs.Part.{Part};
     ghost use Rattle.ga_chip.specs.inner.Port.{FitsPorts};
     ghost use Rattle.ga_chip.specs.inner.Within.{StepsBound};
@@ -76,7 +77,8 @@ impl Model for NodePart {
     } };
 
     ghost invariant = { λ part. StepsBound part.state.steps part.written part.read
-        × FitsPorts part.state.node part.ports };
+        × FitsPorts part.state.node part.ports
+        × (part.opened ≡ true → is_some part.stream ≡ true) };
 }
 
 impl NodePart {
@@ -613,7 +615,8 @@ impl NodePart {
     /// Feeds a piece to the node's stream, of which no word is left.
     pub(crate) fn feed(&mut self, words: Vec<Word18>)
         requires taken { part_feed_refusal self.old ≡ None }
-        ensures { self.new ≡ piece_come words.items self.old }
+        ensures part { self.new ≡ piece_come words.items self.old }
+        ensures empty { words.items ≡ [] → self.new ≡ self.old }
     {
         self.stream = Some(Stream::new(words));
     }

@@ -7,7 +7,7 @@ use Rattle.std.proofs.lemmas.Bool.Decides.{nat_tests}
 use Rattle.std.specs.List.{flat_map}
 use Rattle.std.proofs.Math.Seq.{drop-append_seam}
 use Rattle.std.proofs.lemmas.List.Concat.{flat_map-append}
-use Rattle.std.proofs.lemmas.List.Elements.{All-append, All-nil, All-push}
+use Rattle.std.proofs.lemmas.List.Elements.{All-append, All-push}
 use Rattle.ga_frame.specs.Frame.{AreFrames, FrameView, GoesOn, IsAfterEnd, IsFirstFault, IsFrameFault, MORE, WellFormed, fault_at, has_addresses, words_of}
 use Rattle.ga_frame.specs.Feed.{FeedView, HasRead, cut_at, is_cut}
 use Rattle.ga_frame.specs.inner.Taking.{BeginsWith, HasFaultBehind}
@@ -19,9 +19,6 @@ use Rattle.ga_frame.proofs.OneReading.{are_behind, ends_of, frame_fault_none}
 pub record ReadSoFar (words rest : List ℕ) (frames : List FrameView) : Type 0 where
   pub whole : words ≡ flat_map words_of frames ++ rest
   pub go_on : All GoesOn frames
-
-pub nothing_read : (words : List ℕ) → ReadSoFar words words []
-nothing_read words = record { whole = refl; go_on = All-nil GoesOn }
 
 whole_more : (words rest behind : List ℕ) (frames : List FrameView) (frame : FrameView) → words ≡ flat_map words_of frames ++ rest → rest ≡ words_of frame ++ behind → words ≡ flat_map words_of (frames ++ frame ∷ []) ++ behind
 whole_more words rest behind frames frame e f =

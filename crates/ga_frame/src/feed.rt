@@ -54,11 +54,12 @@ impl FrameFeed {
         }
     }
 
-    /// The frames that are whole with this piece and weren't before. A frame with a bad address is refused as soon as
-    /// its three first words are there, and a word behind the last frame at once. A piece that would bring the number
-    /// of words over 2^64 - 1 is refused as [`FrameError::Counted`] before all else, and one for which memory is
-    /// refused as [`FrameError::Memory`]. After a refusal the reader is as before the call. (Frames are this project's
-    /// own: profile.)
+    /// The frames that are whole with this piece and weren't before. A frame is refused as
+    /// [`FrameError::BadAddress`] as soon as its three first words are there, with the number of the first of them,
+    /// and a word behind the last frame at once as [`FrameError::AfterEnd`], with its own number; words count from 0
+    /// over all pieces. A piece that would bring the number of words over 2^64 - 1 is refused as
+    /// [`FrameError::Counted`] before all else, and one for which memory is refused as [`FrameError::Memory`]. After
+    /// a refusal the reader is as before the call. (Frames are this project's own: profile.)
     pub fn feed(&mut self, piece: &[Word18]) -> Result<Vec<Frame>, FrameError>
         // with the frames handed out before they are the frames of all words up to here
         ensures frames { IfOk result (λ more. (words : List ℕ) (frames : List FrameView)
@@ -100,8 +101,9 @@ impl FrameFeed {
         }
     }
 
-    /// Ends the stream. Where its last frame wasn't handed out, a frame is cut that begins behind those that were. It
-    /// takes no memory. (Frames are this project's own: profile.)
+    /// Ends the stream. Where its last frame wasn't handed out, a frame is cut that begins behind those that were:
+    /// [`FrameError::CutHeader`] where fewer than three words of it came, else [`FrameError::CutBody`], with the
+    /// number of the word at which it begins. It takes no memory. (Frames are this project's own: profile.)
     pub fn finish(self) -> Result<(), FrameError>
         ensures exact { result ≡ option_map_or Err (cut_of self) (Ok tt) }
         // the frames that were handed out are those of the words

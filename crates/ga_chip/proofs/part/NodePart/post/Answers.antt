@@ -13,4 +13,5 @@ invariant_of-self c = (
   subst (λ written. StepsBound c.step_post.new.self.steps written c.self.inside.read) (sym c.count.ensures)
       (post_bound c.args.to c.self.inside.state c.step_post.new.self.steps c.self.inside.written c.self.inside.read (post_runs _ (ap (λ p. is_post (need_of p.state)) c.self.view_is ∙ ap is_post c.requires)) c.step_post.ensures.counted c.self.invariant.0),
   ports_stay c.self.inside.state c.step_post.new.self _ c.self.inside.ports c.step_post.ensures.row c.self.invariant.1,
+  c.self.invariant.2,
 )

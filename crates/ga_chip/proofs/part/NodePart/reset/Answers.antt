@@ -1,4 +1,5 @@
 use Rattle.std.proofs.Common.{◌<◌, ap, rules, subst, sym}
+use Rattle.std.proofs.lemmas.Bool.{false≢true}
 use Rattle.ga_place.proofs.Cells.{is_node}
 use Rattle.ga_place.specs.Node.{IsNodeName}
 use Rattle.ga_place.specs.inner.Index.{index_back}
@@ -11,4 +12,4 @@ pub invariant_of-result : goal.invariant_of-result
 invariant_of-result c =
     let named : IsNodeName c.node_at-node.result = subst IsNodeName (sym c.node_at-node.ensures) (is_node _ (subst (λ i. i < 144) (sym (index_back c.args.index c.requires)) c.requires)) in
     let bound : StepsBound c.reset.result.steps c.new-2.result c.new-3.result = search rules in
-    (bound, subst (λ name. FitsPorts name c.new-4.result) (sym (ap (λ s. s.node) c.reset.ensures)) (subst (FitsPorts c.node_at-node.result) (sym c.new-4.ensures) (fits_ports c.node_at-node.result named)))
+    (bound, subst (λ name. FitsPorts name c.new-4.result) (sym (ap (λ s. s.node) c.reset.ensures)) (subst (FitsPorts c.node_at-node.result) (sym c.new-4.ensures) (fits_ports c.node_at-node.result named)), λ opened. absurd (false≢true opened))

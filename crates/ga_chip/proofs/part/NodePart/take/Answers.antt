@@ -13,4 +13,5 @@ invariant_of-self c = (
   subst (λ read. StepsBound c.step_took.new.self.steps c.self.inside.written read) (sym c.count.ensures)
       (take_bound c.args.from c.self.inside.state c.step_took.new.self.steps c.self.inside.written c.self.inside.read (take_runs c.args.from _ (ap (λ p. takes_at c.args.from (need_of p.state)) c.self.view_is ∙ c.requires)) c.step_took.ensures.counted c.self.invariant.0),
   ports_stay c.self.inside.state c.step_took.new.self _ c.self.inside.ports c.step_took.ensures.row c.self.invariant.1,
+  c.self.invariant.2,
 )

@@ -12,6 +12,7 @@ pub invariant_of-self : goal.invariant_of-self
 invariant_of-self c = (
   quick_bound c.self.inside.state c.try_step.new.self (not (is_fetch c.self.inside.state.place) || not c.is_on.result) c.self.inside.written c.self.inside.read c.try_step.ensures.step c.self.invariant.0,
   quick_ports c.self.inside.state c.try_step.new.self (not (is_fetch c.self.inside.state.place) || not c.is_on.result) c.self.inside.ports c.try_step.ensures.step c.self.invariant.1,
+  c.self.invariant.2,
 )
 
 pub returns-clause-asks : goal.returns-clause-asks
