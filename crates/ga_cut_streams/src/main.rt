@@ -1,9 +1,9 @@
 //! Cuts a boot stream into pieces, so that a test sees that nothing comes of the cuts: neither to its frames nor to a
 //! chip.
 //!
-//! The arguments are the name of the route's first node, and the words of the stream, of five digits each. It writes one
-//! line, `alike` with the number of ways in which the stream was cut, or what differs first. Where the stream could not
-//! be cut the line tells why, and the status is 1.
+//! The arguments are the name of the route's first node, and the words of the stream, of five digits each. It writes
+//! one line: in how many ways the stream was cut and left its frames and the chip alike, or what differs first. Where the
+//! stream could not be cut the line tells why, and the status is 1.
 #![tactic(auto)]
 
 mod cut;
@@ -25,10 +25,6 @@ use std::rt::Env;
 /// How many times chance cuts a stream.
 const CHANCES: u64 = 8;
 
-/// A chip runs with each cut in two of a stream of up to so many words. With a longer one a cut behind each word at once
-/// stands for them, since each run of it takes long.
-const SHORT: usize = 512;
-
 fn main(rt: HostRuntime) -> ExitCode {
     match tell_cuts(&rt) {
         Ok(()) => ExitCode::from(0),
@@ -41,22 +37,27 @@ fn main(rt: HostRuntime) -> ExitCode {
 
 /// Cuts the stream that the arguments name, and writes what came of it.
 fn tell_cuts<R: Env + AllocGlobal + Print>(rt: &R) -> Result<(), Fault> {
+    let alloc = rt.alloc();
     let (node, words) = stream(rt)?;
-    let whole = WholeRun::new(rt.alloc(), node, &words)?;
-    let cuts = cuts(rt.alloc(), words.len())?;
+    let whole = WholeRun::new(alloc, node, &words)?;
+    let cuts = cuts(alloc, words.len())?;
     for cut in &cuts {
-        if frames_differ(rt.alloc(), &words, *cut)? {
+        if frames_differ(alloc, &words, *cut)? {
             let _ = println!(rt; "other frames");
             return Ok(());
         }
-        let is_run = words.len() <= SHORT || !matches!(cut, Cut::Behind(_));
-        if is_run && whole.differs(rt.alloc(), node, &words, *cut)? {
+        if whole.differs(alloc, node, &words, *cut)? {
             let _ = println!(rt; "another chip");
             return Ok(());
         }
     }
+    let late = match whole.differs_late(alloc, node, &words, Cut::Everywhere)? {
+        Some(true) => "another chip at rest",
+        Some(false) => "at rest",
+        None => "without rest",
+    };
     let count = cuts.len();
-    let _ = println!(rt; "alike {count}");
+    let _ = println!(rt; "alike {count}, {late}");
     Ok(())
 }
 
@@ -64,7 +65,7 @@ fn tell_cuts<R: Env + AllocGlobal + Print>(rt: &R) -> Result<(), Fault> {
 fn cuts(alloc: Global, count: usize) -> Result<Vec<Cut>, Fault> {
     let mut cuts = Vec::new(alloc);
     cuts.push(Cut::Everywhere)?;
-    for place in 1..=count {
+    for place in 1..count {
         cuts.push(Cut::Behind(place))?;
     }
     for seed in 0..CHANCES {

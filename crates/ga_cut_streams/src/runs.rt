@@ -11,15 +11,23 @@ const MOST: u64 = 1_000_000;
 
 const BEHIND: u64 = 64;
 
+/// How many turns a piece comes late.
+const IDLE: u32 = 7;
+
+/// How many times four turns may bring a chip to rest.
+const TO_REST: u32 = 10_000;
+
 /// A run of a chip to which a boot stream was given as a whole.
 #[derive(Drop)]
 pub struct WholeRun {
     turns: u64,
     dump: String,
+    // Where the chip comes to rest.
+    rest: Option<String>,
 }
 
 impl WholeRun {
-    /// The run from a reset chip until the stream is taken, and some turns more.
+    /// The run from a reset chip until the stream is taken, some turns more, and as many as bring it to rest.
     pub fn new(alloc: Global, node: Node, words: &[Word18]) -> Result<Self, Fault> {
         let mut chip = Chip::reset(alloc)?;
         let stream = Vec::from_slice(alloc, words)?;
@@ -34,11 +42,12 @@ impl WholeRun {
         Ok(WholeRun {
             turns,
             dump: dump(alloc, &chip)?,
+            rest: dump_at_rest(alloc, &mut chip)?,
         })
     }
 
-    /// Whether a run ends otherwise in which the stream is cut so, and each piece is fed as soon as the one before it is
-    /// taken.
+    /// Whether a run ends otherwise in which the stream is cut so, and each piece is fed as soon as the one before it
+    /// is taken.
     pub fn differs(
         &self,
         alloc: Global,
@@ -46,34 +55,56 @@ impl WholeRun {
         words: &[Word18],
         cut: Cut,
     ) -> Result<bool, Fault> {
-        let mut chip = Chip::reset(alloc)?;
-        if chip.open_stream(node).is_err() {
-            return Err(Fault::Refused);
-        }
+        let mut chip = opened(alloc, node)?;
         let pieces = cut.pieces(alloc, words)?;
         let mut next = pieces.iter();
         for turn in 0..self.turns {
             if chip.stream_left(node) == 0 {
-                feed_next(alloc, &mut chip, node, next.next())?;
+                if let Some(piece) = next.next() {
+                    feed(alloc, &mut chip, node, piece)?;
+                }
             }
             chip.turn(side_of_turn(turn));
         }
         Ok(dump(alloc, &chip)? != self.dump)
     }
+
+    /// Whether the chip comes to rest otherwise where the stream is cut so, and each piece comes late, so that the node
+    /// waits for it. `None` where it comes to no rest.
+    pub fn differs_late(
+        &self,
+        alloc: Global,
+        node: Node,
+        words: &[Word18],
+        cut: Cut,
+    ) -> Result<Option<bool>, Fault> {
+        let Some(rest) = &self.rest else {
+            return Ok(None);
+        };
+        let mut chip = opened(alloc, node)?;
+        for piece in cut.pieces(alloc, words)? {
+            let _moved = chip.turns(IDLE);
+            feed(alloc, &mut chip, node, piece)?;
+            let _taken = take_stream(&mut chip, node)?;
+        }
+        Ok(dump_at_rest(alloc, &mut chip)?.map(|other| other != *rest))
+    }
 }
 
-/// Feeds the next piece to a node, if there is one.
-fn feed_next(
-    alloc: Global,
-    chip: &mut Chip,
-    node: Node,
-    piece: Option<&&[Word18]>,
-) -> Result<(), Fault> {
-    if let Some(piece) = piece {
-        let words = Vec::from_slice(alloc, piece)?;
-        if chip.feed(node, words).is_err() {
-            return Err(Fault::Refused);
-        }
+/// A chip after reset on which the stream of a node is open.
+fn opened(alloc: Global, node: Node) -> Result<Chip, Fault> {
+    let mut chip = Chip::reset(alloc)?;
+    if chip.open_stream(node).is_err() {
+        return Err(Fault::Refused);
+    }
+    Ok(chip)
+}
+
+/// Feeds a piece to a node.
+fn feed(alloc: Global, chip: &mut Chip, node: Node, piece: &[Word18]) -> Result<(), Fault> {
+    let words = Vec::from_slice(alloc, piece)?;
+    if chip.feed(node, words).is_err() {
+        return Err(Fault::Refused);
     }
     Ok(())
 }
@@ -87,6 +118,16 @@ fn take_stream(chip: &mut Chip, node: Node) -> Result<u64, Fault> {
         chip.turn(side_of_turn(turn));
     }
     Err(Fault::NotTaken)
+}
+
+/// Runs a chip until no node moves. Answers its dump then, or `None` where it comes to no rest.
+fn dump_at_rest(alloc: Global, chip: &mut Chip) -> Result<Option<String>, AllocError> {
+    for _ in 0..TO_REST {
+        if chip.turns(4) == 0 {
+            return Ok(Some(dump(alloc, chip)?));
+        }
+    }
+    Ok(None)
 }
 
 /// The registers, stacks and memory of each node, and the numbers of its cells.
