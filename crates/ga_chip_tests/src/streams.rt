@@ -1,6 +1,6 @@
 //! Tests of streams that come in pieces.
 
-use crate::chips::{give, moves, outcome};
+use crate::chips::{give, moves, outcome, place};
 use ga_chip::{Chip, ChipError, Outcome};
 use ga_node::{Need, Stop};
 use ga_place::{Node, Side};
@@ -18,16 +18,18 @@ const START: [u32; 7] = [
     0x000AE, 0x001D5, 0x00001, 0x10000, 0x001B5, 0x00000, 0x00000,
 ];
 
-/// Feeds a piece to a node's stream. Answers the fault with the number of words that came back, where it is refused.
+/// Feeds a piece to a node's stream. Answers the fault where it is refused, and then the piece has come back.
 fn feed(
     alloc: Global,
     chip: &mut Chip,
     node: Node,
     numbers: &[u32],
-) -> Result<Option<(ChipError, usize)>, Fail> {
+) -> Result<Option<ChipError>, Fail> {
+    let piece = words(alloc, numbers)?;
     match chip.feed(node, words(alloc, numbers)?) {
         Ok(()) => Ok(None),
-        Err((fault, back)) => Ok(Some((fault, back.len()))),
+        Err((fault, back)) if back == piece => Ok(Some(fault)),
+        Err(_) => Err("another piece came back")?,
     }
 }
 
@@ -46,7 +48,7 @@ fn boot_one_neighbour_in_pieces(rt: HostRuntime) -> Result<(), Fail> {
     assert!(rt; loaded.p() == 0x1D5 && matches!(loaded.need(), Need::Take(_)));
     assert!(rt; loaded.ram() == memory.as_slice());
     assert!(rt; feed(alloc, &mut chip, node_708, &START)?.is_none());
-    assert!(rt; feed(alloc, &mut chip, node_708, &START)? == Some((ChipError::NotTaken, 7)));
+    assert!(rt; feed(alloc, &mut chip, node_708, &START)? == Some(ChipError::NotTaken));
     assert!(rt; chip.stream_left(node_708) == 7);
     let _moved = chip.turns(4000);
     let started = chip.state(node_709);
@@ -56,15 +58,16 @@ fn boot_one_neighbour_in_pieces(rt: HostRuntime) -> Result<(), Fail> {
 
 #[test]
 fn pieces_refused_by_name(rt: HostRuntime) -> Result<(), Fail> {
-    let [node_001, node_101, node_708, node_709] = nodes(&[1, 101, 708, 709])?;
+    let [node_001, node_101, node_700, node_708, node_709] = nodes(&[1, 101, 700, 708, 709])?;
     let alloc = rt.alloc();
     let mut chip = Chip::reset(alloc)?;
     assert!(rt; chip.open_stream(node_101) == Err(ChipError::NotEdge));
     assert!(rt; moves(&mut chip, node_709, Side::Right, 1) == 0);
-    assert!(rt; feed(alloc, &mut chip, node_709, &LOAD)? == Some((ChipError::NotOpen, 14)));
+    assert!(rt; chip.stream_left(node_709) == 0);
+    assert!(rt; feed(alloc, &mut chip, node_709, &LOAD)? == Some(ChipError::NotOpen));
     // a stream that was given is whole, and isn't fed
     give(alloc, &mut chip, node_001, &[0x000AE])?;
-    assert!(rt; feed(alloc, &mut chip, node_001, &LOAD)? == Some((ChipError::NotOpen, 14)));
+    assert!(rt; feed(alloc, &mut chip, node_001, &LOAD)? == Some(ChipError::NotOpen));
     assert!(rt; chip.stream_left(node_001) == 1);
     assert!(rt; chip.open_stream(node_001) == Err(ChipError::AlreadyGiven));
     // one that was opened isn't given
@@ -81,5 +84,9 @@ fn pieces_refused_by_name(rt: HostRuntime) -> Result<(), Fail> {
     assert!(rt; chip.turn(Side::Right) == 1 && chip.turn(Side::Right) == 0);
     assert!(rt; feed(alloc, &mut chip, node_708, &[0x000AE])?.is_none());
     assert!(rt; chip.turn(Side::Right) == 1 && chip.stream_left(node_708) == 0);
+    // nor is one opened for a node that has made a step
+    place(&mut chip, node_700, &[0x2C9B2])?;
+    assert!(rt; moves(&mut chip, node_700, Side::Right, 1) == 1);
+    assert!(rt; chip.open_stream(node_700) == Err(ChipError::Begun));
     Ok(())
 }
