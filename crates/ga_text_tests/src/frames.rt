@@ -123,7 +123,8 @@ fn frame_in_pieces(rt: HostRuntime) -> Result<(), Fail> {
 fn refused_pieces(rt: HostRuntime) -> Result<(), Fail> {
     let alloc = rt.alloc();
     let mut reader = FrameFeed::new(alloc);
-    assert!(rt; feed(alloc, &mut reader, &[0x000AE, 0x00000, 0x00001, 0x2C9B2, 0x001B5])? == Ok(1));
+    let begun = [0x000AE, 0x00000, 0x00001, 0x2C9B2, 0x001B5];
+    assert!(rt; feed(alloc, &mut reader, &begun)? == Ok(1));
     // a bad address of the second frame, as soon as its three first words are there
     assert!(rt; feed(alloc, &mut reader, &[0x00141])? == Ok(0));
     assert!(rt; feed(alloc, &mut reader, &[0x00000])? == Err(FrameError::BadAddress(4)));
