@@ -8,8 +8,8 @@ use Rattle.std.specs.Prelude.{if◌then◌else◌}
 use Rattle.std.specs.List.{list_all}
 use Rattle.std.specs.Option.{unwrap_or}
 use Rattle.ga_word.specs.declared.op.Op.{Op}
-use Rattle.ga_pack.specs.Model.Layout.{Labels, Group, Shared, Alone, Arranged, GroupWords, StandIn, Words, address_after, all_in_reach, code_end, group_in_reach, is_in_reach, is_loose, items_of, joins, labels_after, labels_behind, last_dest, names_in, op_of, ops_of, size, stand}
-use Rattle.ga_pack.specs.Model.LayoutFault.{OutOfReach, Passed, SecondPassFault}
+use Rattle.ga_pack.specs.Model.Layout.{Labels, Group, Shared, Alone, Arrangement, GroupWords, StandIn, Words, address_after, all_in_reach, code_end, group_in_reach, is_in_reach, is_loose, items_of, joins, labels_after, labels_behind, last_dest, names_in, op_of, ops_of, size, stand}
+use Rattle.ga_pack.specs.Model.LayoutFault.{OutOfReach, AllPass, SecondPassFault}
 use Rattle.ga_pack.specs.Model.Source.{Item, Instruction, Here, Align, Word, WordTo, Plain, Data, is_item}
 use Rattle.ga_pack.proofs.Encoded.{shapeless_many}
 use Rattle.ga_pack.proofs.OneLayout.{joins_loose}
@@ -52,9 +52,9 @@ items_append [] gs = refl
 items_append (Shared i is ∷ fs) gs = ap (λ t. i ∷ t) (ap (λ t. is ++ t) (items_append fs gs) ∙ sym (append_assoc is (items_of fs) (items_of gs)))
 items_append (Alone i ∷ fs) gs = ap (λ t. i ∷ t) (items_append fs gs)
 
-arranged_at : (labels : Labels) (address : ℕ) (front : List Group) (g : Group) (back : List Group) → Arranged labels address (front ++ g ∷ back)
-    → Arranged (labels_after labels address front) (address_after address front) (g ∷ back)
-unfolding Arranged
+arranged_at : (labels : Labels) (address : ℕ) (front : List Group) (g : Group) (back : List Group) → Arrangement labels address (front ++ g ∷ back)
+    → Arrangement (labels_after labels address front) (address_after address front) (g ∷ back)
+unfolding Arrangement
 arranged_at labels address [] g back arranged = arranged
 arranged_at labels address (Shared i is ∷ front) g back arranged = arranged_at labels (address + size (Shared i is)) front g back arranged.2
 arranged_at labels address (Alone i ∷ front) g back arranged =
@@ -68,8 +68,8 @@ packable_few _ dest h = omega arith
 shared_loose : (labels : Labels) (address : ℕ) (i : Item) (is : List Item) → stand labels address [] (i ∷ is) ≡ true → is_loose i ≡ true
 shared_loose labels address i is h = joins_loose labels address [] i (and_parts (joins labels address [] i) (stand labels address (op_of i ∷ []) is) h).0
 
-group_right : (before labels : Labels) (address : ℕ) (g : Group) (back : List Group) → Arranged before address (g ∷ back) → list_all is_item (members g) ≡ true → IsGroup labels (members g)
-unfolding Arranged IsGroup
+group_right : (before labels : Labels) (address : ℕ) (g : Group) (back : List Group) → Arrangement before address (g ∷ back) → list_all is_item (members g) ≡ true → IsGroup labels (members g)
+unfolding Arrangement IsGroup
 group_right before labels address (Shared i is) back arranged right =
     let pack = packable before labels address (i ∷ is) right (omega arith) arranged.0 in
     let few = packable_few (ops_of (i ∷ is)) (last_dest labels 0 (i ∷ is)) pack in
@@ -84,8 +84,8 @@ group_right before labels address (Alone i) back arranged right =
 abbrev Made : Labels → Group → List ℕ → List ℕ → Type 0
 Made labels g words more = (new : List ℕ) × GroupWords labels g new × (more ≡ words ++ new)
 
-group_made : (before labels : Labels) (address : ℕ) (g : Group) (back : List Group) (words more : List ℕ) → Arranged before address (g ∷ back) → MoreWords labels (members g) words more → Made labels g words more
-unfolding Arranged MoreWords
+group_made : (before labels : Labels) (address : ℕ) (g : Group) (back : List Group) (words more : List ℕ) → Arrangement before address (g ∷ back) → MoreWords labels (members g) words more → Made labels g words more
+unfolding Arrangement MoreWords
 group_made before labels address (Shared i is) back words more arranged made =
     subst (λ b. Made labels (if b then Shared i is else Alone i) words more) (shared_loose before address i is arranged.0) made
 group_made before labels address (Alone i) back words more arranged made =
@@ -97,8 +97,8 @@ words_snoc labels [] g words new none here = (new, [], here, refl, ap (λ t. t +
 words_snoc labels (f ∷ front) g words new (first, others, made, more, e) here =
     (first, others ++ new, made, words_snoc labels front g others new more here, ap (λ t. t ++ new) e ∙ append_assoc first others new)
 
-group_length : (before labels : Labels) (address : ℕ) (g : Group) (back : List Group) (words : List ℕ) → Arranged before address (g ∷ back) → GroupWords labels g words → length words ≡ size g
-unfolding Arranged GroupWords
+group_length : (before labels : Labels) (address : ℕ) (g : Group) (back : List Group) (words : List ℕ) → Arrangement before address (g ∷ back) → GroupWords labels g words → length words ≡ size g
+unfolding Arrangement GroupWords
 group_length before labels address (Shared i is) back words arranged (word, is_word, e) = let count = ap length e in omega arith
 group_length before labels address (Alone (Word ops)) back words arranged (word, is_word, e) = ap length e
 group_length before labels address (Alone (WordTo ops o v spare)) back words arranged (word, is_word, e) = ap length e
@@ -134,7 +134,7 @@ pub record Next (items : List Item) (l : the.Layout) (counts : List ℕ) (done :
   pub group : Group
   pub back : List Group
   pub stand_in : StandIn items (front ++ group ∷ back)
-  pub passed : Passed (names_in items) [] items
+  pub passed : AllPass (names_in items) [] items
   pub labels_are : labels_of l.labels.entries ≡ labels_after [] 0 (front ++ group ∷ back)
   pub address_is : l.address ≡ address_after 0 (front ++ group ∷ back)
   pub data_is : l.data_start ≡ data_at 0 (front ++ group ∷ back)
@@ -230,7 +230,7 @@ module _ (items rest : List an.Item) (l : the.Layout) (counts : List ℕ) (done 
       let few = n.few in
       omega arith
 
-  arranged : Arranged (labels_after [] 0 n.front) (address_after 0 n.front) (n.group ∷ n.back)
+  arranged : Arrangement (labels_after [] 0 n.front) (address_after 0 n.front) (n.group ∷ n.back)
   arranged = arranged_at [] 0 n.front n.group n.back n.stand_in.arranged
 
   pub next_is_group : list_all is_item (plain items) ≡ true → (group : List an.Item) → group ≡ take (get_or counts done 0) rest → IsGroup (labels_of l.labels.entries) (plain group)
@@ -252,9 +252,9 @@ module _ (items rest : List an.Item) (l : the.Layout) (counts : List ℕ) (done 
 
   -- a name in it that is out of reach
   far_by : (g : Group) → n.group ≡ g → is_in_reach (labels_of l.labels.entries) (length words) (head_of g) ≡ false → SecondPassFault (plain items) (length items - length rest) OutOfReach
-  unfolding Arranged
+  unfolding Arrangement
   far_by (Shared i is) e far =
-      let stands = subst (λ t. Arranged (labels_after [] 0 n.front) (address_after 0 n.front) (t ∷ n.back)) e arranged in
+      let stands = subst (λ t. Arrangement (labels_after [] 0 n.front) (address_after 0 n.front) (t ∷ n.back)) e arranged in
       let loose = shared_loose (labels_after [] 0 n.front) (address_after 0 n.front) i is stands.0 in
       absurd (both_ways (is_in_reach (labels_of l.labels.entries) (length words) i) far (loose_near (labels_of l.labels.entries) (length words) i loose))
   far_by (Alone i) e far = record {

@@ -8,8 +8,8 @@ use Rattle.std.proofs.lemmas.List.Folds.{list_all-append, list_any-append}
 use Rattle.std.specs.Prelude.{◌&&◌, nat_le}
 use Rattle.std.specs.Option.{option_map}
 use Rattle.std.specs.Str.{bytes_eq}
-use Rattle.ga_pack.specs.Model.Layout.{Labels, Arranged, address_after, labels_after, names_in}
-use Rattle.ga_pack.specs.Model.LayoutFault.{AsmKind, Passed, fault_at, fault_behind, joins_last, words_added}
+use Rattle.ga_pack.specs.Model.Layout.{Labels, Arrangement, address_after, labels_after, names_in}
+use Rattle.ga_pack.specs.Model.LayoutFault.{AsmKind, AllPass, fault_at, fault_behind, joins_last, words_added}
 use Rattle.ga_pack.specs.Model.Source.{Item, Here, Items, is_among, is_new, start}
 use Rattle.ga_pack.proofs.Placed.{add, add_stands, passed_more}
 use Rattle.ga_source.specs.declared.item.Item as an
@@ -152,7 +152,7 @@ laying_fault items at d l (Some kind) h is laying e = record {
 -- ---- the beginning and the end
 
 pub laying_none : (names : List (List ℕ)) (l : the.Layout) → IsBlank l → Laying names [] l
-unfolding Arranged Passed
+unfolding Arrangement AllPass
 laying_none names l blank =
     let address = blank.address in
     record {

@@ -71,7 +71,7 @@ image_fits items l words code_len entry right p m code_is entry_is =
 -- ---- the sections of a program
 
 -- the first of the sections that are left, as the program has it
-pub record Left (back : List PlacedSection) (section : ℕ × written.Section) (rest : List (ℕ × written.Section)) : Type 0 where
+pub record NextSection (back : List PlacedSection) (section : ℕ × written.Section) (rest : List (ℕ × written.Section)) : Type 0 where
   pub placed : PlacedSection
   pub others : List PlacedSection
   pub split : back ≡ placed ∷ others
@@ -79,7 +79,7 @@ pub record Left (back : List PlacedSection) (section : ℕ × written.Section) (
   pub items : plain_items placed ≡ plain section.1.items.items
   pub rest_is : sections_in others ≡ map section_of rest
 
-left_of : (back : List PlacedSection) (section : ℕ × written.Section) (rest : List (ℕ × written.Section)) → sections_in back ≡ map section_of (section ∷ rest) → Left back section rest
+left_of : (back : List PlacedSection) (section : ℕ × written.Section) (rest : List (ℕ × written.Section)) → sections_in back ≡ map section_of (section ∷ rest) → NextSection back section rest
 left_of [] section rest e = absurd (cc)
 left_of (placed ∷ others) section rest e =
     let one : section_in placed ≡ section_of section = cc in
@@ -190,7 +190,7 @@ unfolding IsRightProgram
 ongoing_none program images all e right none = record { front = []; back = program; program_is = refl; rest_is = sym e; right = right; so_far = subst (Assembling []) (sym none) assembling_none }
 
 module _ (program : List PlacedSection) (images : List (ℕ × ImageView)) (section : ℕ × written.Section) (rest : List (ℕ × written.Section)) (o : Ongoing program images (section ∷ rest)) where
-  left : Left o.back section rest
+  left : NextSection o.back section rest
   left = left_of o.back section rest o.rest_is
 
   whole : program ≡ o.front ++ left.placed ∷ left.others

@@ -5,7 +5,7 @@ use Rattle.std.specs.Fmt.{digits}
 use Rattle.ga_word.specs.Word.{bits}
 use Rattle.ga_word.specs.declared.op.Op.TheVariants.{Nop, Dup, Drop}
 use Rattle.ga_pack.specs.Reading.{no_dest, slot_key, stored, stored_upper, xor_bits}
-use Rattle.ga_pack.specs.Model.Layout.{Shared, Alone, Arranged, GroupWords, Words, fits}
+use Rattle.ga_pack.specs.Model.Layout.{Shared, Alone, Arrangement, GroupWords, Words, fits}
 use Rattle.ga_pack.specs.Model.Program.{PlacedSection}
 use Rattle.ga_pack.specs.Model.Source.{Here, Instruction}
 use Rattle.ga_asm.specs.Assembling.{IsAssembled}
@@ -22,7 +22,7 @@ abbrev dots_image : ImageView
 dots_image = record { words = 0x2_C9B2 ∷ []; code_len = 1; entry = 0; labels = [] }
 
 pub one_nop : IsAssembled (dots ∷ []) ((709, dots_image) ∷ [])
-unfolding IsAssembled Words GroupWords Arranged fits bits stored stored_upper slot_key xor_bits
+unfolding IsAssembled Words GroupWords Arrangement fits bits stored stored_upper slot_key xor_bits
 one_nop = (
   refl,
   record {
@@ -54,7 +54,7 @@ one_nop-entry other =
 
 -- `dup main: drop`: the label begins a word, and is the entry
 pub main_second : IsImage (Instruction Dup ∷ Here (codes "main") ∷ Instruction Drop ∷ []) (record { words = 0x2_49B2 ∷ 0x3_A9B2 ∷ []; code_len = 2; entry = 1; labels = (codes "main", 1) ∷ [] })
-unfolding Words GroupWords Arranged fits bits stored stored_upper slot_key xor_bits
+unfolding Words GroupWords Arrangement fits bits stored stored_upper slot_key xor_bits
 main_second = record {
   laid = record {
     groups = Shared (Instruction Dup) [] ∷ Alone (Here (codes "main")) ∷ Shared (Instruction Drop) [] ∷ [];

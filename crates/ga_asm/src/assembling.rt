@@ -87,7 +87,8 @@ fn fault_place(
     item: usize,
 ) -> Result<Place, AllocError>
     requires { item < length (items_at program.now section) }
-    ensures { IfOk result (λ place. IsPlaceOf (items_at program.now section) item (place_of place)) }
+    ensures { IfOk result (λ place. IsPlaceOf (items_at program.now section) item
+        (place_of place)) }
 {
     let places = program.places(alloc, section)?;
     let found = places[item];

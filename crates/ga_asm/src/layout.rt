@@ -53,7 +53,8 @@ pub(crate) struct Names<'a> {
     alloc: Global,
     labels: &'a [Name],
     set: Option<IndexSet<Name>>,
-    ghost same: { IfSome set (λ set. AreSameNames (plain_names set.keys) (plain_names labels.now)) } by { Prim.hlevel props },
+    ghost same: { IfSome set (λ set. AreSameNames (plain_names set.keys)
+        (plain_names labels.now)) } by { Prim.hlevel props },
 }
 
 impl<'a> Names<'a> {

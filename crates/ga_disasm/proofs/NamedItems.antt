@@ -9,7 +9,7 @@ use Rattle.ga_word.specs.declared.op.Op.{Op}
 use Rattle.ga_word.specs.declared.op.Op.TheVariants.{FetchP, StoreP}
 use Rattle.ga_word.specs.Op.{ends_word}
 use Rattle.ga_pack.specs.Followers.{followers, is_followed}
-use Rattle.ga_pack.specs.Model.Layout.{Labels, Group, Alone, Shared, Arranged, GroupWords, IsWord, Laid, Words, code_end, dest_in, filled, fits, is_loose, items_of, joins, labels_behind, last_dest, literals, value_number, op_of, ops_of, size, stand, with_fillers}
+use Rattle.ga_pack.specs.Model.Layout.{Labels, Group, Alone, Shared, Arrangement, GroupWords, IsWord, Laid, Words, code_end, dest_in, filled, fits, is_loose, items_of, joins, labels_behind, last_dest, literals, value_number, op_of, ops_of, size, stand, with_fillers}
 use Rattle.ga_pack.specs.Model.Source as source
 use Rattle.ga_pack.specs.Model.Source.{Item, Value, Instruction, Transfer, Literal, Here, Align, Word, WordTo, Plain, Before, Items, Part, is_below, is_item, is_new, is_spare, part_after, stand_from, start}
 use Rattle.ga_pack.proofs.Encoded.{reading_is}
@@ -181,9 +181,9 @@ end_behind address (Alone i ∷ groups) = let h = end_behind (address + size (Al
 
 -- ---- behind the code part
 
-data_named : (labels before : Labels) (address owed : ℕ) (b : Before) (groups : List Group) (words : List ℕ) → b.part ≡ source.Behind → Items b (items_of groups) → Arranged before address groups
+data_named : (labels before : Labels) (address owed : ℕ) (b : Before) (groups : List Group) (words : List ℕ) → b.part ≡ source.Behind → Items b (items_of groups) → Arrangement before address groups
     → Words labels groups words → items_from owed 0 words ≡ named.items_in labels true groups
-unfolding Items Arranged Words GroupWords items_from part_after
+unfolding Items Arrangement Words GroupWords items_from part_after
 data_named labels before address owed b [] words part items arranged none = ap (items_from owed 0) none
 data_named labels before address owed b (Shared i is ∷ groups) words part (p, right, new, next, items) arranged made =
     let loose = (and_parts (is_loose i) (list_all is_loose is) (all_loose before address [] (i ∷ is) arranged.0)).0 in
@@ -201,9 +201,9 @@ data_named labels before address owed b (Alone i ∷ groups) words part items ar
 
 -- ---- in the code part
 
-code_named : (labels before : Labels) (address owed left : ℕ) (b : Before) (groups : List Group) (words : List ℕ) → b.part ≡ source.Code owed → Items b (items_of groups) → Arranged before address groups
+code_named : (labels before : Labels) (address owed left : ℕ) (b : Before) (groups : List Group) (words : List ℕ) → b.part ≡ source.Code owed → Items b (items_of groups) → Arrangement before address groups
     → Words labels groups words → code_end address groups ≡ address + left → items_from owed left words ≡ named.items_in labels false groups
-unfolding Items Arranged Words GroupWords items_from
+unfolding Items Arrangement Words GroupWords items_from
 code_named labels before address owed left b [] words part items arranged none end = ap (items_from owed left) none
 code_named labels before address owed left b (Shared i is ∷ groups) words part items arranged (first, others, (word, is_word, cut), more, e) end =
     let (p, right, new, next, behind) = items in

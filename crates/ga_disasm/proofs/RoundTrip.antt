@@ -7,8 +7,8 @@ use Rattle.std.specs.List.{list_all}
 use Rattle.ga_word.specs.declared.op.Op.{Op}
 use Rattle.ga_pack.specs.Decoded.{reading_of}
 use Rattle.ga_pack.specs.Followers.{followers}
-use Rattle.ga_pack.specs.Model.Layout.{Labels, Group, Alone, Arranged, GroupWords, Laid, Words, StandIn, all_in_reach, address_after, code_end, is_defined, is_in_reach, is_loose, items_of, labels_after, labels_behind, names_in, size}
-use Rattle.ga_pack.specs.Model.LayoutFault.{AllRight, IsRight, Passed, fault_behind, is_lone_unext, joins_last, plain_items, words_added}
+use Rattle.ga_pack.specs.Model.Layout.{Labels, Group, Alone, Arrangement, GroupWords, Laid, Words, StandIn, all_in_reach, address_after, code_end, is_defined, is_in_reach, is_loose, items_of, labels_after, labels_behind, names_in, size}
+use Rattle.ga_pack.specs.Model.LayoutFault.{AllRight, IsRight, AllPass, fault_behind, is_lone_unext, joins_last, plain_items, words_added}
 use Rattle.ga_pack.specs.Model.Program.{IsProgram, PlacedItem, PlacedSection, placed_items, placed_sections, tokens_of}
 use Rattle.ga_pack.specs.Model.Source as grammar
 use Rattle.ga_pack.specs.Model.Source.{Item, Number, Plain, Section, Sections, Source, item_tokens}
@@ -51,11 +51,11 @@ abbrev count : List Item → ℕ
 count [] = 0
 count (i ∷ is) = size (Alone i) + count is
 
-arranged : (labels : Labels) (address : ℕ) (is : List Item) → AreTame is → Arranged labels address (alone is)
-unfolding Arranged
+arranged : (labels : Labels) (address : ℕ) (is : List Item) → AreTame is → Arrangement labels address (alone is)
+unfolding Arrangement
 arranged labels address [] tame = tt
 arranged labels address (i ∷ is) tame =
-    (tame.0.alone, subst (λ (l : Labels). Arranged l (address + size (Alone i)) (alone is)) (sym (tame.0.keeps labels address)) (arranged labels (address + size (Alone i)) is tame.1))
+    (tame.0.alone, subst (λ (l : Labels). Arrangement l (address + size (Alone i)) (alone is)) (sym (tame.0.keeps labels address)) (arranged labels (address + size (Alone i)) is tame.1))
 
 stands : (is : List Item) → AreTame is → StandIn is (alone is)
 stands is tame = record { in_order = alone_items is; arranged = arranged [] 0 is tame }
@@ -98,8 +98,8 @@ count_snoc : (before : List Item) (i : Item) → count (before ++ i ∷ []) ≡ 
 count_snoc [] i = omega arith
 count_snoc (j ∷ before) i = let e = count_snoc before i in omega arith
 
-passed : (names : List (List ℕ)) (before is : List Item) → AreTame before → AreTame is → count before + count is ≤ 64 → Passed names before is
-unfolding Passed
+passed : (names : List (List ℕ)) (before is : List Item) → AreTame before → AreTame is → count before + count is ≤ 64 → AllPass names before is
+unfolding AllPass
 passed names before [] tame more room = tt
 passed names before (i ∷ is) tame more room =
     let e = count_snoc before i in (

@@ -16,27 +16,18 @@ use Rattle.ga_disasm.specs.Printing.{text_of}
 abbrev fill : ItemView
 fill = Code (record { ops = FetchP ∷ StorePlus ∷ Micronext ∷ Nop ∷ []; dest = None; spare = 0 })
 
-two_and_one : items_of 2 (0x05872 ∷ 0x2C9B2 ∷ 0x00001 ∷ []) ≡ fill ∷ Follower 0x2C9B2 ∷ Data 1 ∷ []
+code_and_data : (items_of 2 (0x05872 ∷ 0x2C9B2 ∷ 0x00001 ∷ []) ≡ fill ∷ Follower 0x2C9B2 ∷ Data 1 ∷ [])
+    -- the code part ends before the follower
+    × (items_of 1 (0x05872 ∷ 0x2C9B2 ∷ 0x00001 ∷ []) ≡ fill ∷ Data 0x2C9B2 ∷ Data 1 ∷ [])
+    -- no word is code
+    × (items_of 0 (0x05872 ∷ []) ≡ Data 0x05872 ∷ [])
 unfolding items_from reading_of op_with
-two_and_one = refl
+code_and_data = (refl, refl, refl)
 
-two_and_one-text : text_of (fill ∷ Follower 0x2C9B2 ∷ Data 1 ∷ []) ≡ codes "[ @p !+ unext . ]\n, $2C9B2\ndata\n, $00001\n"
+code_and_data-text : (text_of (fill ∷ Follower 0x2C9B2 ∷ Data 1 ∷ []) ≡ codes "[ @p !+ unext . ]\n, $2C9B2\ndata\n, $00001\n")
+    × (text_of (fill ∷ Data 0x2C9B2 ∷ Data 1 ∷ []) ≡ codes "[ @p !+ unext . ]\ndata\n, $2C9B2\n, $00001\n")
 unfolding text_of hex_digits
-two_and_one-text = refl
-
--- the code part ends before the follower
-one_and_two : items_of 1 (0x05872 ∷ 0x2C9B2 ∷ 0x00001 ∷ []) ≡ fill ∷ Data 0x2C9B2 ∷ Data 1 ∷ []
-unfolding items_from reading_of op_with
-one_and_two = refl
-
-one_and_two-text : text_of (fill ∷ Data 0x2C9B2 ∷ Data 1 ∷ []) ≡ codes "[ @p !+ unext . ]\ndata\n, $2C9B2\n, $00001\n"
-unfolding text_of hex_digits
-one_and_two-text = refl
-
--- no word is code
-all_data : items_of 0 (0x05872 ∷ []) ≡ Data 0x05872 ∷ []
-unfolding items_from
-all_data = refl
+code_and_data-text = (refl, refl)
 
 -- the spare bits of a jump
 spare_bits : items_of 1 (0x10BD5 ∷ []) ≡ Code (record { ops = Jump ∷ []; dest = Some 0x3D5; spare = 2 }) ∷ []

@@ -19,39 +19,20 @@ two_frames : AreFrames (0x000AE ∷ 0x00000 ∷ 0x00001 ∷ 0x2C9B2 ∷ 0x001B5 
 unfolding AreFrames one_word last
 two_frames = (0x001B5 ∷ 0x00000 ∷ 0x00000 ∷ [], refl, refl, refl, (refl, refl, refl))
 
--- RAM's mirror, io and one port; not ROM, several ports, an address that is none, or ten bits
-to_mirror : has_addresses 0x3FF 0x07F ≡ true
-to_mirror = refl
+-- RAM's mirror, io and one port; not ROM, several ports, an address that is none, or ten bits; nor a completion of eleven
+addresses : (has_addresses 0x3FF 0x07F ≡ true)
+    × (has_addresses 0x0AE 0x15D ≡ true)
+    × (has_addresses 0x0AE 0x1D5 ≡ true)
+    × (has_addresses 0x0AE 0x0A9 ≡ false)
+    × (has_addresses 0x0AE 0x1A5 ≡ false)
+    × (has_addresses 0x0AE 0x141 ≡ false)
+    × (has_addresses 0x0AE 0x200 ≡ false)
+    × (has_addresses 0x400 0x000 ≡ false)
+addresses = (refl, refl, refl, refl, refl, refl, refl, refl)
 
-to_io : has_addresses 0x0AE 0x15D ≡ true
-to_io = refl
-
-to_right : has_addresses 0x0AE 0x1D5 ≡ true
-to_right = refl
-
-to_rom : has_addresses 0x0AE 0x0A9 ≡ false
-to_rom = refl
-
-to_all_ports : has_addresses 0x0AE 0x1A5 ≡ false
-to_all_ports = refl
-
-to_nothing : has_addresses 0x0AE 0x141 ≡ false
-to_nothing = refl
-
-to_ten_bits : has_addresses 0x0AE 0x200 ≡ false
-to_ten_bits = refl
-
-from_eleven_bits : has_addresses 0x400 0x000 ≡ false
-from_eleven_bits = refl
-
-two_words_are_cut : fault_at 3 (0x000AE ∷ 0x00000 ∷ []) ≡ Some (CutHeader 3)
-two_words_are_cut = refl
-
-address_before_body : fault_at 0 (0x001B5 ∷ 0x00141 ∷ 0x00009 ∷ []) ≡ Some (BadAddress 0)
-address_before_body = refl
-
-one_word_short : fault_at 0 (0x001B5 ∷ 0x00000 ∷ 0x00002 ∷ 0x2C9B2 ∷ []) ≡ Some (CutBody 0)
-one_word_short = refl
-
-right_frame : fault_at 0 (0x001B5 ∷ 0x00000 ∷ 0x00000 ∷ 0x2C9B2 ∷ []) ≡ None
-right_frame = refl
+-- two words are cut; a bad address comes before a body that is cut; a word is short; and a right frame
+faults : (fault_at 3 (0x000AE ∷ 0x00000 ∷ []) ≡ Some (CutHeader 3))
+    × (fault_at 0 (0x001B5 ∷ 0x00141 ∷ 0x00009 ∷ []) ≡ Some (BadAddress 0))
+    × (fault_at 0 (0x001B5 ∷ 0x00000 ∷ 0x00002 ∷ 0x2C9B2 ∷ []) ≡ Some (CutBody 0))
+    × (fault_at 0 (0x001B5 ∷ 0x00000 ∷ 0x00000 ∷ 0x2C9B2 ∷ []) ≡ None)
+faults = (refl, refl, refl, refl)

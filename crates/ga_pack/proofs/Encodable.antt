@@ -1,9 +1,8 @@
 -- Opcodes, a destination and spare bits without a fault for packing are what a word reads as.
-use Rattle.std.proofs.Common.{◌≡◌, ℕ, ◌+◌, ◌*◌, ◌/◌, ◌^◌, ◌==◌, ◌<◌, Bool, true, false, List, [], ◌∷◌, length, Option, Some, None, refl, arith, lit<}
+use Rattle.std.proofs.Common.{◌≡◌, ℕ, ◌+◌, ◌*◌, ◌/◌, ◌^◌, ◌<◌, Bool, true, false, List, [], ◌∷◌, Option, Some, None, refl, arith, lit<}
 use Rattle.std.specs.Prelude.{bit_xor, not, if◌then◌else◌}
 use Rattle.std.specs.List.{list_all}
 use Rattle.std.proofs.lemmas.Bool.{and_parts, ltb-true, not-true}
-use Rattle.std.proofs.lemmas.Grind.{common_steps}
 use Rattle.std.proofs.lemmas.Nat.{xor_lt}
 use Rattle.ga_word.specs.Op.{code_of, fits_slot3, takes_dest}
 use Rattle.ga_word.specs.Word.{bits}
@@ -81,23 +80,20 @@ no_fault_parts : (ops : List Op) (dest : Option ℕ) (spare : ℕ) → pack_faul
 unfolding pack_fault
 no_fault_parts ops dest spare h = parts_of (has_shape ops dest) (slot3_fits ops) (dest_fits ops dest) (spare_fits ops spare) h
 
-zero_spare : (ops : List Op) (spare : ℕ) → (length ops == 1) ≡ false → spare_fits ops spare ≡ true → spare ≡ 0
-zero_spare ops spare more h = grind (arith, common_steps)
-
 pub encodable : (ops : List Op) (dest : Option ℕ) (spare : ℕ) → pack_fault ops dest spare ≡ None → SomeWord ops dest spare
 unfolding pack_fault
 encodable [] (Some dest) spare h = absurd (cc)
 encodable (a ∷ []) (Some dest) spare h =
-    let parts = no_fault_parts (a ∷ []) (Some dest) spare h in some0 a dest spare parts.0 (ltb-true dest 1024 parts.2) (ltb-true spare 8 (and_parts _ _ parts.3).0)
+    let parts = no_fault_parts (a ∷ []) (Some dest) spare h in some0 a dest spare parts.0 (ltb-true dest 1024 parts.2) (ltb-true spare 8 parts.3)
 encodable (a ∷ b ∷ []) (Some dest) spare h =
     let parts = no_fault_parts (a ∷ b ∷ []) (Some dest) spare h in
-    let none : spare ≡ 0 = zero_spare (a ∷ b ∷ []) spare refl parts.3 in
+    let none : spare ≡ 0 = omega (arith, ltb-true spare 1 parts.3) in
     let shape = and_parts (not (takes_dest a)) (takes_dest b) parts.0 in
     rw none (some1 a b dest (not-true (takes_dest a) shape.0) shape.1 (ltb-true dest 256 parts.2))
 encodable (a ∷ b ∷ c ∷ []) (Some dest) spare h =
     let parts = no_fault_parts (a ∷ b ∷ c ∷ []) (Some dest) spare h in
     let shape : ends_at_dest (a ∷ b ∷ c ∷ []) ≡ true = parts.0 in
-    let none : spare ≡ 0 = zero_spare (a ∷ b ∷ c ∷ []) spare refl parts.3 in
+    let none : spare ≡ 0 = omega (arith, ltb-true spare 1 parts.3) in
     let first = and_parts (not (takes_dest a)) (ends_at_dest (b ∷ c ∷ [])) shape in
     let second = and_parts (not (takes_dest b)) (takes_dest c) first.1 in
     rw none (some2 a b c dest (not-true (takes_dest a) first.0) (not-true (takes_dest b) second.0) second.1 (ltb-true dest 8 parts.2))
@@ -105,7 +101,7 @@ encodable (a ∷ b ∷ c ∷ d ∷ []) None spare h =
     let parts = no_fault_parts (a ∷ b ∷ c ∷ d ∷ []) None spare h in
     let is_none : Op → Bool = λ op. not (takes_dest op) in
     let shape : list_all is_none (a ∷ b ∷ c ∷ d ∷ []) ≡ true = parts.0 in
-    let none : spare ≡ 0 = zero_spare (a ∷ b ∷ c ∷ d ∷ []) spare refl parts.3 in
+    let none : spare ≡ 0 = omega (arith, ltb-true spare 1 parts.3) in
     let first = and_parts (is_none a) (list_all is_none (b ∷ c ∷ d ∷ [])) shape in
     let second = and_parts (is_none b) (list_all is_none (c ∷ d ∷ [])) first.1 in
     let third = and_parts (is_none c) (list_all is_none (d ∷ [])) second.1 in

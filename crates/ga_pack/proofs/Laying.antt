@@ -9,8 +9,8 @@ use Rattle.ga_word.specs.declared.op.Op.{Op}
 use Rattle.ga_word.specs.declared.op.Op.TheVariants.{Nop}
 use Rattle.ga_word.specs.Op.{takes_dest}
 use Rattle.ga_pack.specs.Encoding.{pack_fault}
-use Rattle.ga_pack.specs.Model.Layout.{Labels, Group, Shared, Alone, Arranged, GroupWords, IsWord, Words, dest_in, filled, is_defined, items_of, labels_after, labels_behind, last_dest, code_end, literals, names_in, value_number, ops_of, size, with_fillers}
-use Rattle.ga_pack.specs.Model.LayoutFault.{IsRight, Passed, fault_behind}
+use Rattle.ga_pack.specs.Model.Layout.{Labels, Group, Shared, Alone, Arrangement, GroupWords, IsWord, Words, dest_in, filled, is_defined, items_of, labels_after, labels_behind, last_dest, code_end, literals, names_in, value_number, ops_of, size, with_fillers}
+use Rattle.ga_pack.specs.Model.LayoutFault.{IsRight, AllPass, fault_behind}
 use Rattle.ga_pack.specs.Model.Source.{Item, Value, Word, WordTo, Plain, is_item, is_spare, stand_from}
 use Rattle.ga_pack.specs.Reading.{dest_after_slot0, dest_after_slot1, dest_after_slot2, no_dest}
 use Rattle.ga_pack.proofs.Encodable.{encodable}
@@ -86,9 +86,9 @@ alone_words labels (WordTo ops o v spare) right =
 alone_words labels (Plain v) right = (value_number labels v ∷ [], refl)
 alone_words labels i right = ([], refl)
 
-some_words : (before labels : Labels) (address : ℕ) (groups : List Group) → Arranged before address groups → list_all is_item (items_of groups) ≡ true
+some_words : (before labels : Labels) (address : ℕ) (groups : List Group) → Arrangement before address groups → list_all is_item (items_of groups) ≡ true
     → (words : List ℕ) × Words labels groups words
-unfolding Arranged Words GroupWords
+unfolding Arrangement Words GroupWords
 some_words before labels address [] arranged right = ([], refl)
 some_words before labels address (Shared i is ∷ groups) arranged right =
     let parts = all_parts (i ∷ is) (items_of groups) right in
@@ -107,8 +107,8 @@ no_fault_defined : (names : List (List ℕ)) (groups : List Group) (i : Item) �
 unfolding fault_behind
 no_fault_defined names groups i h = grind (arith, common_steps)
 
-pub all_defined : (names : List (List ℕ)) (before items : List Item) → Passed names before items → list_all (is_defined names) items ≡ true
-unfolding Passed
+pub all_defined : (names : List (List ℕ)) (before items : List Item) → AllPass names before items → list_all (is_defined names) items ≡ true
+unfolding AllPass
 all_defined names before [] passed = refl
 all_defined names before (i ∷ items) passed =
     and_from (is_defined names i) (list_all (is_defined names) items)

@@ -2,7 +2,7 @@
 use Rattle.std.proofs.Common.{◌≡◌, inl, inr, ℕ, ◌+◌, true, false, List, [], ◌∷◌, ◌++◌, length, Option, Some, None, refl, sym, ap, ◌∙◌, subst, append_assoc, append-nil, length-append, arith}
 use Rattle.std.proofs.lemmas.Bool.{and_parts, both_ways}
 use Rattle.ga_pack.specs.Model.Layout.{Labels, Group, Alone, Laid, address_after, all_in_reach, group_in_reach, is_in_reach, items_of, labels_after, names_in, size}
-use Rattle.ga_pack.specs.Model.LayoutFault.{AllRight, AsmFault, AsmKind, FirstPassFault, IsRight, Judged, Passed, ProgramFault, SecondPassFault, fault_behind, fault_place, plain_items}
+use Rattle.ga_pack.specs.Model.LayoutFault.{AllRight, AsmFault, AsmKind, FirstPassFault, IsRight, Judgement, AllPass, ProgramFault, SecondPassFault, fault_behind, fault_place, plain_items}
 use Rattle.ga_pack.specs.Model.Program.{PlacedItem, PlacedSection}
 use Rattle.ga_pack.specs.Model.Source.{Item}
 use Rattle.ga_pack.specs.Model.Text.{Place}
@@ -28,33 +28,33 @@ cuts (y ∷ front) x back (z ∷ front') x' back' e =
     let rest : front ++ x ∷ back ≡ front' ++ x' ∷ back' = cc in
     subst (λ t. Cuts (y ∷ front) x (t ∷ front') x') same (more_cuts y (cuts front x back front' x' back' rest))
 
-one_judgement : {names : List (List ℕ)} {before : List Item} {item : Item} {f g : Option AsmKind} → Judged names before item f → Judged names before item g → f ≡ g
+one_judgement : {names : List (List ℕ)} {before : List Item} {item : Item} {f g : Option AsmKind} → Judgement names before item f → Judgement names before item g → f ≡ g
 one_judgement {names = names} {item = item} p q = sym p.fault_is ∙ ap (λ groups. fault_behind names groups item) (one_standing p.stand_in q.stand_in) ∙ q.fault_is
 
 -- where items have passed, each of them has no fault
-passed_at : (names : List (List ℕ)) (behind mid : List Item) (item : Item) (rest : List Item) → Passed names behind (mid ++ item ∷ rest) → Judged names (behind ++ mid) item None
-unfolding Passed
+passed_at : (names : List (List ℕ)) (behind mid : List Item) (item : Item) (rest : List Item) → AllPass names behind (mid ++ item ∷ rest) → Judgement names (behind ++ mid) item None
+unfolding AllPass
 passed_at names behind [] item rest p = rw append-nil p.0
 passed_at names behind (i ∷ mid) item rest p = rw (← append_assoc behind (i ∷ []) mid) (passed_at names (behind ++ i ∷ []) mid item rest p.1)
 
-passed_none : {names : List (List ℕ)} {front : List Item} {item : Item} {kind : AsmKind} (rest : List Item) → Passed names [] (front ++ item ∷ rest) → Judged names front item (Some kind) → ⊥
+passed_none : {names : List (List ℕ)} {front : List Item} {item : Item} {kind : AsmKind} (rest : List Item) → AllPass names [] (front ++ item ∷ rest) → Judgement names front item (Some kind) → ⊥
 passed_none {names = names} {front = front} {item = item} rest p q = let e = one_judgement (passed_at names [] front item rest p) q in cc
 
 one_first_by : {items : List Item} {at at' : ℕ} {kind kind' : AsmKind} (p : FirstPassFault items at kind) (q : FirstPassFault items at' kind')
     → Cuts p.before p.item q.before q.item → (at ≡ at') × (kind ≡ kind')
 one_first_by {items = items} {kind = kind} p q (here e same) =
-    let judged = subst (λ t. Judged (names_in items) t p.item (Some kind)) e p.judged in
-    let judged' = subst (λ t. Judged (names_in items) q.before t (Some kind)) same judged in
+    let judged = subst (λ t. Judgement (names_in items) t p.item (Some kind)) e p.judged in
+    let judged' = subst (λ t. Judgement (names_in items) q.before t (Some kind)) same judged in
     let one = one_judgement judged' q.judged in
     (p.at_is ∙ ap length e ∙ sym q.at_is, (cc))
-one_first_by {items = items} p q (nearer mid e) = absurd (passed_none mid (subst (λ t. Passed (names_in items) [] t) e q.passed) p.judged)
-one_first_by {items = items} p q (farther mid e) = absurd (passed_none mid (subst (λ t. Passed (names_in items) [] t) e p.passed) q.judged)
+one_first_by {items = items} p q (nearer mid e) = absurd (passed_none mid (subst (λ t. AllPass (names_in items) [] t) e q.passed) p.judged)
+one_first_by {items = items} p q (farther mid e) = absurd (passed_none mid (subst (λ t. AllPass (names_in items) [] t) e p.passed) q.judged)
 
 one_first : {items : List Item} {at at' : ℕ} {kind kind' : AsmKind} → FirstPassFault items at kind → FirstPassFault items at' kind' → (at ≡ at') × (kind ≡ kind')
 one_first p q = one_first_by p q (cuts p.before p.item p.rest q.before q.item q.rest (sym p.split ∙ q.split))
 
-no_second : {items : List Item} {at : ℕ} {kind : AsmKind} → Passed (names_in items) [] items → FirstPassFault items at kind → ⊥
-no_second {items = items} passed p = passed_none p.rest (subst (λ t. Passed (names_in items) [] t) p.split passed) p.judged
+no_second : {items : List Item} {at : ℕ} {kind : AsmKind} → AllPass (names_in items) [] items → FirstPassFault items at kind → ⊥
+no_second {items = items} passed p = passed_none p.rest (subst (λ t. AllPass (names_in items) [] t) p.split passed) p.judged
 
 -- where all names of groups are in reach, each of them is
 near_at : (labels : Labels) (address : ℕ) (front : List Group) (item : Item) (back : List Group)
@@ -92,7 +92,7 @@ one_fault (inr p) (inr q) = one_second p q
 
 -- items that are laid and have passed have none
 pub laid_right : {items : List Item} {words : List ℕ} {labels : Labels} {code_len at : ℕ} {kind : AsmKind}
-    → Laid items words labels code_len → Passed (names_in items) [] items → AsmFault items at kind → ⊥
+    → Laid items words labels code_len → AllPass (names_in items) [] items → AsmFault items at kind → ⊥
 laid_right laid passed (inl p) = no_second passed p
 laid_right laid passed (inr p) =
     let near = subst (λ t. all_in_reach t 0 laid.groups ≡ true) laid.labels_are laid.in_reach in

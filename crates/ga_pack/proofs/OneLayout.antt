@@ -5,7 +5,7 @@ use Rattle.std.specs.Prelude.{not}
 use Rattle.std.specs.List.{list_any}
 use Rattle.ga_word.specs.declared.op.Op.{Op}
 use Rattle.ga_word.specs.Op.{ends_word}
-use Rattle.ga_pack.specs.Model.Layout.{Labels, Group, Shared, Alone, Arranged, GroupWords, IsWord, Laid, StandIn, Words, code_end, fits, is_loose, items_of, joins, labels_after, labels_behind, literals, more_join, op_of, ops_of, size, stand}
+use Rattle.ga_pack.specs.Model.Layout.{Labels, Group, Shared, Alone, Arrangement, GroupWords, IsWord, Laid, StandIn, Words, code_end, fits, is_loose, items_of, joins, labels_after, labels_behind, literals, more_join, op_of, ops_of, size, stand}
 use Rattle.ga_pack.specs.Model.Source.{Item, Instruction, Word, WordTo}
 use Rattle.ga_pack.proofs.OneReading.{one_number}
 
@@ -49,8 +49,8 @@ same_word labels address ops (i ∷ is) (j ∷ js) r s stand_is stand_js no_r no
     ((cc), rest.1)
 
 -- items have one arrangement at most
-pub one_arrangement : (labels : Labels) (address : ℕ) (gs hs : List Group) → Arranged labels address gs → Arranged labels address hs → items_of gs ≡ items_of hs → gs ≡ hs
-unfolding Arranged
+pub one_arrangement : (labels : Labels) (address : ℕ) (gs hs : List Group) → Arrangement labels address gs → Arrangement labels address hs → items_of gs ≡ items_of hs → gs ≡ hs
+unfolding Arrangement
 one_arrangement labels address [] [] p q e = refl
 one_arrangement labels address [] (Shared i is ∷ hs) p q e = absurd (cc)
 one_arrangement labels address (Shared i is ∷ gs) (Alone j ∷ hs) (stands, full, more) (alone, more') e =
@@ -64,13 +64,13 @@ one_arrangement labels address (Alone j ∷ gs) (Shared i is ∷ hs) (alone, mor
 one_arrangement labels address (Alone i ∷ gs) (Alone j ∷ hs) (alone, more) (alone', more') e =
     let same : i ≡ j = cc in
     let behind : items_of gs ≡ items_of hs = cc in
-    let more'' = subst (λ t. Arranged (labels_behind labels address (Alone t)) (address + size (Alone t)) hs) (sym same) more' in
+    let more'' = subst (λ t. Arrangement (labels_behind labels address (Alone t)) (address + size (Alone t)) hs) (sym same) more' in
     let rest = one_arrangement (labels_behind labels address (Alone i)) (address + size (Alone i)) gs hs more more'' behind in
     cc
 one_arrangement labels address (Shared i is ∷ gs) (Shared j js ∷ hs) (stands, full, more) (stands', full', more') e =
     let word = same_word labels address [] (i ∷ is) (j ∷ js) (items_of gs) (items_of hs) stands stands' full full' e in
     let same = word.0 in
-    let more'' = subst (λ t. Arranged labels (address + (1 + length (literals t))) hs) (sym same) more' in
+    let more'' = subst (λ t. Arrangement labels (address + (1 + length (literals t))) hs) (sym same) more' in
     let rest = one_arrangement labels (address + size (Shared i is)) gs hs more more'' word.1 in
     cc
 one_arrangement labels address _ _ p q e = absurd (cc)

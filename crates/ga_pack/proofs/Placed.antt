@@ -5,8 +5,8 @@ use Rattle.std.proofs.lemmas.Bool.{and_parts, and_from}
 use Rattle.std.proofs.lemmas.Grind.{common_steps}
 use Rattle.std.specs.Prelude.{if◌then◌else◌}
 use Rattle.ga_word.specs.declared.op.Op.{Op}
-use Rattle.ga_pack.specs.Model.Layout.{Labels, Group, Shared, Alone, Arranged, StandIn, address_after, all_in_reach, fits, group_in_reach, is_in_reach, labels_after, names_in, is_loose, items_of, joins, labels_behind, may_reach, more_join, op_of, ops_of, p_behind, size, stand, value_of}
-use Rattle.ga_pack.specs.Model.LayoutFault.{AsmFault, AsmKind, Judged, OutOfReach, Passed, fault_behind, is_lone_unext, joins_last}
+use Rattle.ga_pack.specs.Model.Layout.{Labels, Group, Shared, Alone, Arrangement, StandIn, address_after, all_in_reach, fits, group_in_reach, is_in_reach, labels_after, names_in, is_loose, items_of, joins, labels_behind, may_reach, more_join, op_of, ops_of, p_behind, size, stand, value_of}
+use Rattle.ga_pack.specs.Model.LayoutFault.{AsmFault, AsmKind, Judgement, OutOfReach, AllPass, fault_behind, is_lone_unext, joins_last}
 use Rattle.ga_pack.specs.Model.Source.{Item, Number, Label, Instruction, Transfer, Literal}
 use Rattle.ga_pack.proofs.ByCases.{on_test}
 
@@ -49,10 +49,10 @@ stand_more labels address ops (i ∷ is) x stands h =
     and_from (joins labels address ops i) (stand labels address (ops ++ op_of i ∷ []) (is ++ x ∷ [])) parts.0
     (stand_more labels address (ops ++ op_of i ∷ []) is x parts.1 h')
 
-fresh_arranged : (labels : Labels) (address : ℕ) (x : Item) → is_lone_unext false x ≡ false → Arranged labels address (fresh x ∷ [])
-unfolding Arranged
+fresh_arranged : (labels : Labels) (address : ℕ) (x : Item) → is_lone_unext false x ≡ false → Arrangement labels address (fresh x ∷ [])
+unfolding Arrangement
 fresh_arranged labels address x h =
-    on_test (is_loose x) (λ b. Arranged labels address ((if b then Shared x [] else Alone x) ∷ []))
+    on_test (is_loose x) (λ b. Arrangement labels address ((if b then Shared x [] else Alone x) ∷ []))
     (λ loose. (and_from (joins labels address [] x) true (begins labels address x loose h) refl, refl, tt)) (λ alone. (alone, tt))
 
 -- whether a word takes more depends on the next item alone
@@ -72,13 +72,13 @@ more_join-add labels behind address next ops (Alone i) (group ∷ groups) x = re
 not_joined : (joined : Bool) (x : Item) → joined ≡ false → is_lone_unext joined x ≡ false → is_lone_unext false x ≡ false
 not_joined joined x e h = subst (λ b. is_lone_unext b x ≡ false) e h
 
-add_arranged : (labels : Labels) (address : ℕ) (groups : List Group) (x : Item) → Arranged labels address groups
-    → is_lone_unext (joins_last labels address groups x) x ≡ false → Arranged labels address (add labels address groups x)
-unfolding Arranged
+add_arranged : (labels : Labels) (address : ℕ) (groups : List Group) (x : Item) → Arrangement labels address groups
+    → is_lone_unext (joins_last labels address groups x) x ≡ false → Arrangement labels address (add labels address groups x)
+unfolding Arrangement
 add_arranged labels address [] x arranged h = fresh_arranged labels address x h
 add_arranged labels address (Shared i is ∷ []) x (stands, full, more) h =
     on_test (joins labels address (ops_of (i ∷ is)) x)
-    (λ b. joins labels address (ops_of (i ∷ is)) x ≡ b → Arranged labels address (if b then Shared i (is ++ x ∷ []) ∷ [] else Shared i is ∷ fresh x ∷ []))
+    (λ b. joins labels address (ops_of (i ∷ is)) x ≡ b → Arrangement labels address (if b then Shared i (is ++ x ∷ []) ∷ [] else Shared i is ∷ fresh x ∷ []))
     (λ e joined. (stand_more labels address [] (i ∷ is) x stands joined, refl, tt))
     (λ e apart. (
       stands,
@@ -126,17 +126,17 @@ add_stands names {groups = groups} x stands none = record {
 -- ---- each list of items stands in words, or has a fault
 
 -- an item more passes
-pub passed_more : (names : List (List ℕ)) (front items : List Item) (x : Item) → Passed names front items → Judged names (front ++ items) x None → Passed names front (items ++ x ∷ [])
-unfolding Passed
+pub passed_more : (names : List (List ℕ)) (front items : List Item) (x : Item) → AllPass names front items → Judgement names (front ++ items) x None → AllPass names front (items ++ x ∷ [])
+unfolding AllPass
 passed_more names front [] x passed judged = (rw append-nil at judged, tt)
 passed_more names front (i ∷ items) x passed judged =
-    (passed.0, passed_more names (front ++ i ∷ []) items x passed.1 (subst (λ t. Judged names t x None) (sym (append_assoc front (i ∷ []) items)) judged))
+    (passed.0, passed_more names (front ++ i ∷ []) items x passed.1 (subst (λ t. Judgement names t x None) (sym (append_assoc front (i ∷ []) items)) judged))
 
 -- items that stand in words and have passed, with each name in brackets in reach
 pub record Standing (items : List Item) : Type 0 where
   pub groups : List Group
   pub stand_in : StandIn items groups
-  pub passed : Passed (names_in items) [] items
+  pub passed : AllPass (names_in items) [] items
   pub in_reach : all_in_reach (labels_after [] 0 groups) 0 groups ≡ true
 
 abbrev pub SomeFault : List Item → Type 0
@@ -165,7 +165,7 @@ farthest labels address (Alone i ∷ groups) =
     (λ e is_far. far [] i groups refl refl is_far)
     refl
 
-second_pass : (items : List Item) (groups : List Group) → StandIn items groups → Passed (names_in items) [] items
+second_pass : (items : List Item) (groups : List Group) → StandIn items groups → AllPass (names_in items) [] items
     → Farthest (labels_after [] 0 groups) 0 groups → Standing items ⊎ SomeFault items
 second_pass items groups stands passed (none_far all) = inl (record { groups = groups; stand_in = stands; passed = passed; in_reach = all })
 second_pass items groups stands passed (far front item back e all is_far) =
@@ -190,10 +190,10 @@ on_fault None P none some = none refl
 on_fault (Some kind) P none some = some kind refl
 
 first_pass : (items before : List Item) (groups : List Group) (rest : List Item) → items ≡ before ++ rest → StandIn before groups
-    → Passed (names_in items) [] before → Standing items ⊎ SomeFault items
+    → AllPass (names_in items) [] before → Standing items ⊎ SomeFault items
 first_pass items before groups [] e stands passed =
     let same : before ≡ items = sym (e ∙ append-nil before) in
-    second_pass items groups (subst (λ t. StandIn t groups) same stands) (subst (λ t. Passed (names_in items) [] t) same passed)
+    second_pass items groups (subst (λ t. StandIn t groups) same stands) (subst (λ t. AllPass (names_in items) [] t) same passed)
     (farthest (labels_after [] 0 groups) 0 groups)
 first_pass items before groups (x ∷ rest) e stands passed =
     on_fault (fault_behind (names_in items) groups x) (Standing items ⊎ SomeFault items)
@@ -218,5 +218,5 @@ first_pass items before groups (x ∷ rest) e stands passed =
 
 -- each list of items stands in words, or has a first fault
 pub standing_or_fault : (items : List Item) → Standing items ⊎ SomeFault items
-unfolding Arranged Passed
+unfolding Arrangement AllPass
 standing_or_fault items = first_pass items [] [] items refl (record { in_order = refl; arranged = tt }) tt

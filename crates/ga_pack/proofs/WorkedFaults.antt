@@ -5,53 +5,35 @@ use Rattle.std.specs.List.{list_all}
 use Rattle.std.specs.Option.{is_none}
 use Rattle.std.proofs.lemmas.Bool.{and_parts, not-true}
 use Rattle.ga_word.specs.declared.op.Op.TheVariants.{Jump, Micronext, Drop, Dup, Nop}
-use Rattle.ga_pack.specs.Model.Layout.{Labels, Alone, Arranged, is_loose, items_of, labels_behind, size}
-use Rattle.ga_pack.specs.Model.LayoutFault.{AsmFault, AsmKind, Judged, OutOfReach, Passed, TooLong, UndefinedLabel, UnextAlone, fault_at, fault_behind}
+use Rattle.ga_pack.specs.Model.Layout.{Labels, Alone, Arrangement, is_loose, items_of, labels_behind, size}
+use Rattle.ga_pack.specs.Model.LayoutFault.{AsmFault, AsmKind, Judgement, OutOfReach, AllPass, TooLong, UndefinedLabel, UnextAlone, fault_at, fault_behind}
 use Rattle.ga_pack.specs.Model.Source.{Item, Label, Instruction, Transfer, Literal, Here, Word, WordTo, Plain}
 
 -- ---- an item at an address
 
 -- the 64th word, and the 65th
-pub too_long-64th : fault_at [] [] 63 false (Word (Nop ∷ [])) ≡ None
-too_long-64th = refl
-
-pub too_long-65th : fault_at [] [] 64 false (Word (Nop ∷ [])) ≡ Some TooLong
-too_long-65th = refl
-
--- a number's follower is the 64th word, and the 65th, of a word of its own and of a shared word
-pub too_long-follower_64th : fault_at [] [] 62 false (Literal 5) ≡ None
-too_long-follower_64th = refl
-
-pub too_long-follower_65th : fault_at [] [] 63 false (Literal 5) ≡ Some TooLong
-too_long-follower_65th = refl
-
-pub too_long-shared_follower : fault_at [] [] 64 true (Literal 5) ≡ Some TooLong
-too_long-shared_follower = refl
-
--- an item that joins the 64th word, and a label behind it
-pub too_long-joins : fault_at [] [] 64 true (Instruction Dup) ≡ None
-too_long-joins = refl
-
-pub too_long-label : fault_at (codes "x" ∷ []) [] 64 false (Here (codes "x")) ≡ None
-too_long-label = refl
-
--- the other faults come before it
-pub undefined-first : fault_at [] [] 64 false (Plain (Label (codes "x"))) ≡ Some UndefinedLabel
-undefined-first = refl
-
-pub unext-first : fault_at [] [] 64 false (Instruction Micronext) ≡ Some UnextAlone
-unext-first = refl
-
-pub unext-joins : fault_at [] [] 8 true (Instruction Micronext) ≡ None
-unext-joins = refl
+at_address : (fault_at [] [] 63 false (Word (Nop ∷ [])) ≡ None)
+    × (fault_at [] [] 64 false (Word (Nop ∷ [])) ≡ Some TooLong)
+    -- a number's follower is the 64th word, and the 65th, of a word of its own and of a shared word
+    × (fault_at [] [] 62 false (Literal 5) ≡ None)
+    × (fault_at [] [] 63 false (Literal 5) ≡ Some TooLong)
+    × (fault_at [] [] 64 true (Literal 5) ≡ Some TooLong)
+    -- an item that joins the 64th word, and a label behind it
+    × (fault_at [] [] 64 true (Instruction Dup) ≡ None)
+    × (fault_at (codes "x" ∷ []) [] 64 false (Here (codes "x")) ≡ None)
+    -- the other faults come before it
+    × (fault_at [] [] 64 false (Plain (Label (codes "x"))) ≡ Some UndefinedLabel)
+    × (fault_at [] [] 64 false (Instruction Micronext) ≡ Some UnextAlone)
+    × (fault_at [] [] 8 true (Instruction Micronext) ≡ None)
+at_address = (refl, refl, refl, refl, refl, refl, refl, refl, refl, refl)
 
 -- ---- items that share no word
 
 abbrev is_alone : Item → Bool
 is_alone i = not (is_loose i)
 
-arranged_alone : (labels : Labels) (address : ℕ) (items : List Item) → list_all is_alone items ≡ true → Arranged labels address (map Alone items)
-unfolding Arranged
+arranged_alone : (labels : Labels) (address : ℕ) (items : List Item) → list_all is_alone items ≡ true → Arrangement labels address (map Alone items)
+unfolding Arrangement
 arranged_alone labels address [] h = tt
 arranged_alone labels address (i ∷ is) h =
     let parts = and_parts (is_alone i) (list_all is_alone is) h in
@@ -62,7 +44,7 @@ items_alone [] = refl
 items_alone (i ∷ is) = ap (λ t. i ∷ t) (items_alone is)
 
 judged_alone : (names : List (List ℕ)) (before : List Item) (item : Item) (fault : Option AsmKind)
-    → list_all is_alone before ≡ true → fault_behind names (map Alone before) item ≡ fault → Judged names before item fault
+    → list_all is_alone before ≡ true → fault_behind names (map Alone before) item ≡ fault → Judgement names before item fault
 judged_alone names before item fault alone is = record {
   groups = map Alone before;
   stand_in = record { in_order = items_alone before; arranged = arranged_alone [] 0 before alone };
@@ -78,8 +60,8 @@ none-is : (fault : Option AsmKind) → is_none fault ≡ true → fault ≡ None
 none-is None h = refl
 none-is (Some kind) h = cc
 
-passed_alone : (names : List (List ℕ)) (before items : List Item) → all_pass names before items ≡ true → Passed names before items
-unfolding Passed
+passed_alone : (names : List (List ℕ)) (before items : List Item) → all_pass names before items ≡ true → AllPass names before items
+unfolding AllPass
 passed_alone names before [] h = tt
 passed_alone names before (i ∷ is) h =
     let fault = fault_behind names (map Alone before) i in
@@ -94,7 +76,7 @@ dots zero = []
 dots (suc n) = Word (Nop ∷ []) ∷ dots n
 
 -- 64 times `[ . ]` pass, and a 65th is too long
-pub full : Passed [] [] (dots 64)
+pub full : AllPass [] [] (dots 64)
 unfolding fault_behind
 full = passed_alone [] [] (dots 64) refl
 
@@ -112,7 +94,7 @@ overfull = inl (record {
 
 -- `jump x`
 pub undefined : AsmFault (Transfer Jump (Label (codes "x")) ∷ []) 0 UndefinedLabel
-unfolding fault_behind Passed
+unfolding fault_behind AllPass
 undefined = inl (record {
   before = [];
   item = Transfer Jump (Label (codes "x"));
@@ -125,7 +107,7 @@ undefined = inl (record {
 
 -- `unext`
 pub unext_alone : AsmFault (Instruction Micronext ∷ []) 0 UnextAlone
-unfolding fault_behind Passed
+unfolding fault_behind AllPass
 unext_alone = inl (record {
   before = [];
   item = Instruction Micronext;

@@ -44,62 +44,31 @@ empty-tokens = refl
 
 -- ---- meanings
 
-upper_case : meaning_of (codes "DUP") ≡ name (codes "DUP")
+-- names differ by case, and `dup` is reserved
+lower_and_upper_case : (meaning_of (codes "DUP") ≡ name (codes "DUP"))
+    × (meaning_of (codes "DUP:") ≡ label (codes "DUP"))
+    × (meaning_of (codes "dup:") ≡ label (codes "dup"))
+    × (is_reserved (codes "dup") ≡ true)
+    × (is_reserved (codes "DUP") ≡ false)
+unfolding meaning_of is_reserved
+lower_and_upper_case = (refl, refl, refl, refl, refl)
+
+-- sixteen letters are a name, seventeen none; a number has eight digits at most, and fits a word; hex digits are of either case
+names_and_numbers : (meaning_of (codes "abcdefghijklmnop") ≡ name (codes "abcdefghijklmnop"))
+    × (meaning_of (codes "abcdefghijklmnopq") ≡ bad BadToken)
+    × (meaning_of (codes "000000001") ≡ bad BadToken)
+    × (meaning_of (codes "00262143") ≡ number 0x3_FFFF)
+    × (meaning_of (codes "262144") ≡ bad NumberRange)
+    × (meaning_of (codes "$3fFfF") ≡ number 0x3_FFFF)
+    × (meaning_of (codes "$") ≡ bad BadToken)
 unfolding meaning_of
-upper_case = refl
-
-upper_case_label : meaning_of (codes "DUP:") ≡ label (codes "DUP")
-unfolding meaning_of
-upper_case_label = refl
-
-reserved_label : meaning_of (codes "dup:") ≡ label (codes "dup")
-unfolding meaning_of
-reserved_label = refl
-
-dup-is_reserved : is_reserved (codes "dup") ≡ true
-unfolding is_reserved
-dup-is_reserved = refl
-
-upper_case-is_reserved : is_reserved (codes "DUP") ≡ false
-unfolding is_reserved
-upper_case-is_reserved = refl
-
-sixteen_letters : meaning_of (codes "abcdefghijklmnop") ≡ name (codes "abcdefghijklmnop")
-unfolding meaning_of
-sixteen_letters = refl
-
-seventeen_letters : meaning_of (codes "abcdefghijklmnopq") ≡ bad BadToken
-unfolding meaning_of
-seventeen_letters = refl
-
-nine_digits : meaning_of (codes "000000001") ≡ bad BadToken
-unfolding meaning_of
-nine_digits = refl
-
-eight_digits : meaning_of (codes "00262143") ≡ number 0x3_FFFF
-unfolding meaning_of
-eight_digits = refl
-
-over_a_word : meaning_of (codes "262144") ≡ bad NumberRange
-unfolding meaning_of
-over_a_word = refl
-
-hex_of_either_case : meaning_of (codes "$3fFfF") ≡ number 0x3_FFFF
-unfolding meaning_of
-hex_of_either_case = refl
-
-dollar_alone : meaning_of (codes "$") ≡ bad BadToken
-unfolding meaning_of
-dollar_alone = refl
+names_and_numbers = (refl, refl, refl, refl, refl, refl, refl)
 
 -- 17 is a column, 18 is none
-last_node : meaning_at true (codes "717") ≡ node_name 717
-unfolding meaning_at
-last_node = refl
-
-no_node : meaning_at true (codes "018") ≡ number 18
+nodes : (meaning_at true (codes "717") ≡ node_name 717)
+    × (meaning_at true (codes "018") ≡ number 18)
 unfolding meaning_at meaning_of
-no_node = refl
+nodes = (refl, refl)
 
 -- ---- programs
 

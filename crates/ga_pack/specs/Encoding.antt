@@ -1,8 +1,9 @@
 -- Which opcodes, destination and spare bits make no word, and why.
-use Rattle.std.specs.Prelude.{◌==◌, ◌&&◌, ◌||◌, ℕ, ◌^◌, Bool, true, false, not, List, [], ◌∷◌, length, nat_lt, nat_le, Option, Some, None, if◌then◌else◌}
+use Rattle.std.specs.Prelude.{◌==◌, ◌&&◌, ℕ, Bool, true, false, not, List, [], ◌∷◌, length, nat_lt, nat_le, Option, Some, None, if◌then◌else◌}
 use Rattle.std.specs.List.{list_all}
 use Rattle.ga_word.specs.declared.op.Op.{Op}
 use Rattle.ga_word.specs.Op.{fits_slot3, takes_dest}
+use Rattle.ga_pack.specs.Slots.{dest_bound, spare_bound}
 use Rattle.ga_pack.specs.declared.encoding.PackError.{PackError}
 use Rattle.ga_pack.specs.declared.encoding.PackError.TheVariants.{Shape, Slot3, Dest, Spare}
 
@@ -23,17 +24,15 @@ abbrev pub slot3_fits : List Op → Bool
 slot3_fits (a ∷ b ∷ c ∷ op ∷ ops) = fits_slot3 op
 slot3_fits _ = true
 
--- how many bits the destination behind the last of so many opcodes has
-abbrev pub dest_bits : ℕ → ℕ
-dest_bits count = if count == 1 then 10 else if count == 2 then 8 else 3
-
+-- the destination has room behind the slot of its opcode, which is the last one
 abbrev pub dest_fits : List Op → Option ℕ → Bool
-dest_fits ops (Some dest) = nat_lt dest (2 ^ dest_bits (length ops))
-dest_fits ops None = true
+dest_fits (op ∷ ops) (Some dest) = nat_lt dest (dest_bound (length ops))
+dest_fits _ _ = true
 
--- three bits are spare where slot 0 takes the destination, and else none
+-- so have the spare bits
 abbrev pub spare_fits : List Op → ℕ → Bool
-spare_fits ops spare = nat_lt spare (2 ^ 3) && ((length ops == 1) || (spare == 0))
+spare_fits [] spare = true
+spare_fits (op ∷ ops) spare = nat_lt spare (spare_bound (length ops))
 
 -- Why opcodes, a destination and spare bits make no word: the first of these that applies. `None`: they make one.
 unfoldable pub pack_fault : List Op → Option ℕ → ℕ → Option PackError

@@ -10,3 +10,7 @@ op_fits slot o = nat_lt slot 3 || ((slot == 3) && fits_slot3 o)
 -- a destination has ten bits behind slot 0, eight behind slot 1, and three behind slot 2
 abbrev pub dest_bound : ℕ → ℕ
 dest_bound slot = if slot == 0 then 2 ^ 10 else if slot == 1 then 2 ^ 8 else 2 ^ 3
+
+-- three bits are spare where slot 0 takes the destination, and else none
+abbrev pub spare_bound : ℕ → ℕ
+spare_bound slot = if slot == 0 then 2 ^ 3 else 1

@@ -6,6 +6,7 @@ ghost use Rattle.ga_pack.specs.Reading.{Reads, stored, stored_upper};
 
 use crate::keys::{SLOT0_KEY, SLOT1_KEY, SLOT2_KEY, SLOT3_KEY};
 use crate::packed::Packed;
+use crate::slots::{dest_bound, spare_bound};
 use ga_word::{Op, Word18};
 use thiserror::Error;
 
@@ -66,10 +67,10 @@ fn with_dest_behind_slot0(op: Op, dest: Option<u16>, spare: u8) -> Result<Word18
     if !op.takes_dest() {
         return Err(PackError::Shape);
     }
-    if dest > 0x3FF {
+    if dest >= dest_bound(0) {
         return Err(PackError::Dest);
     }
-    if spare > 7 {
+    if spare >= spare_bound(0) {
         return Err(PackError::Spare);
     }
     let front = slot0_bits(op) << 3 | u32::from(spare);
@@ -88,7 +89,7 @@ fn with_dest_behind_slot1(a: Op, op: Op, dest: Option<u16>, spare: u8) -> Result
     if a.takes_dest() || !op.takes_dest() {
         return Err(PackError::Shape);
     }
-    if dest > 0xFF {
+    if dest >= dest_bound(1) {
         return Err(PackError::Dest);
     }
     if spare > 0 {
@@ -116,7 +117,7 @@ fn with_dest_behind_slot2(
     if a.takes_dest() || b.takes_dest() || !op.takes_dest() {
         return Err(PackError::Shape);
     }
-    if dest > 7 {
+    if dest >= dest_bound(2) {
         return Err(PackError::Dest);
     }
     if spare > 0 {

@@ -12,4 +12,4 @@ pub use decoding::{decode, op_in_slot0, op_in_slot1, op_in_slot2, op_in_slot3};
 pub use encoding::{PackError, encode};
 pub use following::{followers, followers_of, is_followed};
 pub use packed::Packed;
-pub use slots::{dest_bound, op_fits};
+pub use slots::{dest_bound, op_fits, spare_bound};

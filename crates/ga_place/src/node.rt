@@ -85,6 +85,15 @@ impl Node {
         usize::from(self.index)
     }
 
+    /// The node at an index in order of name.
+    #[inline(always)]
+    pub fn at(index: usize) -> Self
+        requires { index < 144 }
+        ensures { result ≡ name_at index }
+    {
+        Node { index: index as u8 }
+    }
+
     /// The row of the node, from 0 in the south to 7.
     #[inline(always)]
     pub fn row(self) -> u8

@@ -37,18 +37,18 @@ Completes (finished q) ts p = (ts ≡ []) × (p ≡ q)
 
 -- ---- the first token of what follows tells what it is
 
-abbrev pub Led : Inside → List Section → List Token → Type 0
-Led c p [] = ⊥
-Led c p (op o ∷ rest) = Adds c (Instruction o) rest p ⊎ ((i : Item) × (more : List Token) × Rest (behind_op o) rest more i × Adds c i more p)
-Led c p (number n ∷ rest) = Adds c (Literal n) rest p
-Led c p (label s ∷ rest) = Adds c (Here s) rest p
-Led c p (align ∷ rest) = Adds c Align rest p
-Led c p (data_part ∷ rest) = Adds c Data rest p
-Led c p (comma ∷ rest) = (i : Item) × (more : List Token) × Rest behind_comma rest more i × Adds c i more p
-Led c p (open_mark ∷ rest) = (i : Item) × (more : List Token) × Rest (in_word []) rest more i × Adds c i more p
-Led c p (end ∷ rest) = (c.before.has_word ≡ true) × (rest ≡ []) × (p ≡ sections_closed c)
-Led c p (node ∷ rest) = (c.before.has_word ≡ true) × Completes (naming (sections_closed c) (c.seen ++ c.name ∷ [])) rest p
-Led c p (_ ∷ rest) = ⊥
+abbrev pub Leads : Inside → List Section → List Token → Type 0
+Leads c p [] = ⊥
+Leads c p (op o ∷ rest) = Adds c (Instruction o) rest p ⊎ ((i : Item) × (more : List Token) × Rest (behind_op o) rest more i × Adds c i more p)
+Leads c p (number n ∷ rest) = Adds c (Literal n) rest p
+Leads c p (label s ∷ rest) = Adds c (Here s) rest p
+Leads c p (align ∷ rest) = Adds c Align rest p
+Leads c p (data_part ∷ rest) = Adds c Data rest p
+Leads c p (comma ∷ rest) = (i : Item) × (more : List Token) × Rest behind_comma rest more i × Adds c i more p
+Leads c p (open_mark ∷ rest) = (i : Item) × (more : List Token) × Rest (in_word []) rest more i × Adds c i more p
+Leads c p (end ∷ rest) = (c.before.has_word ≡ true) × (rest ≡ []) × (p ≡ sections_closed c)
+Leads c p (node ∷ rest) = (c.before.has_word ≡ true) × Completes (naming (sections_closed c) (c.seen ++ c.name ∷ [])) rest p
+Leads c p (_ ∷ rest) = ⊥
 
 -- one item more
 grown : (c : Inside) (i : Item) (is : List Item) (ss : List Section) (p : List Section)
@@ -71,7 +71,7 @@ unfolding Items
 adds_follows c i ts p (q, a, b, d, (is, ss, e, ok, more, pe)) = (i ∷ is, ss, ap (item_tokens i) e, (q, a, b, d, ok), more, shrunk c i is ss p pe)
 
 led_items : (c : Inside) (is : List Item) (ss : List Section) (p : List Section) → Items c.before is → Sections (c.seen ++ c.name ∷ []) ss
-    → p ≡ c.done ++ record { name = c.name; items = c.items ++ is } ∷ ss → Led c p (items_tokens is (text_tokens ss))
+    → p ≡ c.done ++ record { name = c.name; items = c.items ++ is } ∷ ss → Leads c p (items_tokens is (text_tokens ss))
 unfolding Items Sections
 led_items c [] [] p ok more e = (ok, refl, simp (append-nil {A = Item}) at e)
 led_items c [] (s ∷ ss) p ok more e = (ok, (s, ss, refl, more, simp append_assoc (simp (append-nil {A = Item}) at e)))
@@ -85,8 +85,8 @@ led_items c (WordTo ops o v k ∷ is) ss p ok more e = (WordTo ops o v k, items_
 led_items c (Plain v ∷ is) ss p ok more e = (Plain v, items_tokens is (text_tokens ss), (v, refl, refl), adds c (Plain v) is ss p ok more e)
 led_items c (Data ∷ is) ss p ok more e = adds c Data is ss p ok more e
 
-pub led : (c : Inside) (ts : List Token) (p : List Section) → Follows c ts p → Led c p ts
-led c ts p (is, ss, e, ok, more, pe) = subst (λ x. Led c p x) (sym e) (led_items c is ss p ok more pe)
+pub led : (c : Inside) (ts : List Token) (p : List Section) → Follows c ts p → Leads c p ts
+led c ts p (is, ss, e, ok, more, pe) = subst (λ x. Leads c p x) (sym e) (led_items c is ss p ok more pe)
 
 -- and back
 rest_follows : (c : Inside) (at : At) (ts more : List Token) (i : Item) (p : List Section) (t : Token)
@@ -94,7 +94,7 @@ rest_follows : (c : Inside) (at : At) (ts more : List Token) (i : Item) (p : Lis
     → Rest at ts more i → Adds c i more p → Follows c (t ∷ ts) p
 rest_follows c at ts more i p t first r a = subst (λ x. Follows c x p) (first more i r) (adds_follows c i more p a)
 
-pub led_back : (c : Inside) (ts : List Token) (p : List Section) → Led c p ts → Follows c ts p
+pub led_back : (c : Inside) (ts : List Token) (p : List Section) → Leads c p ts → Follows c ts p
 unfolding Items Sections
 led_back c (op o ∷ rest) p (inl a) = adds_follows c (Instruction o) rest p a
 led_back c (op o ∷ rest) p (inr (i, more, (v, e, f), a)) = rest_follows c (behind_op o) rest more i p (op o) (λ more i (v, e, f). cc) (v, e, f) a

@@ -1,6 +1,6 @@
 -- The machine keeps its labels those of its items, and its node apart from those that are done.
 use Rattle.std.proofs.Common.{◌≡◌, ℕ, zero, suc, Bool, true, false, List, [], ◌∷◌, ◌++◌, length, Option, Some, None, Result, Ok, Err, refl, sym, ap, ◌∙◌}
-use Rattle.std.specs.Prelude.{◌==◌, ◌^◌, nat_lt, if◌then◌else◌}
+use Rattle.std.specs.Prelude.{◌==◌, nat_lt, if◌then◌else◌}
 use Rattle.ga_word.specs.declared.op.Op.{Op}
 use Rattle.ga_word.specs.Op.{takes_dest}
 use Rattle.ga_pack.specs.Followers.{is_followed}
@@ -8,7 +8,7 @@ use Rattle.ga_pack.specs.Model.Layout.{names_in}
 use Rattle.ga_pack.specs.Model.Token.{SourceKind, Token, op, number, name, label, node, node_name, align, data_part, open_mark, close_mark, comma, slash, bad, end}
 use Rattle.ga_pack.specs.Model.Meaning.{is_reserved}
 use Rattle.ga_pack.specs.Model.Source.{Number, Label, Item, Instruction, Transfer, Literal, Here, Align, Word, WordTo, Plain, Data, Section, Part, Code, Behind, start, part_after, is_among, is_named, labels_with}
-use Rattle.ga_pack.specs.Slots.{dest_bound, op_fits}
+use Rattle.ga_pack.specs.Slots.{dest_bound, op_fits, spare_bound}
 use Rattle.ga_source.specs.inner.Machine.{State, Inside, IsConsistent, between, behind_op, behind_comma, in_word, behind_dest_op, behind_dest, behind_slash, behind_spare, nothing, naming, inside, take, take_first, take_between, item_added}
 use Rattle.ga_pack.proofs.ByCases.{on_test}
 
@@ -69,7 +69,7 @@ naming_consistent done seen (node_name m) =
 naming_consistent done seen t = tt
 
 dest_consistent : (c : Inside) (o : Op) (t : Token) → Open c → ConsistentBy (take (inside c (behind_op o)) t)
-dest_consistent c o (number m) k = by_if (nat_lt m (2 ^ 10)) _ _ (pushed c (Transfer o (Number m)) (Code 0) k) tt
+dest_consistent c o (number m) k = by_if (nat_lt m (dest_bound 0)) _ _ (pushed c (Transfer o (Number m)) (Code 0) k) tt
 dest_consistent c o (name s) k = pushed c (Transfer o (Label s)) (Code 0) k
 dest_consistent c o t k = tt
 
@@ -94,6 +94,6 @@ take_consistent (inside c (behind_dest_op ops o)) (number m) h = by_if (nat_lt m
 take_consistent (inside c (behind_dest_op ops o)) (name s) h = h
 take_consistent (inside c (behind_dest ops o v)) slash h = by_if (length ops == 0) _ _ h tt
 take_consistent (inside c (behind_dest ops o v)) close_mark h = by_part c (WordTo ops o v None) (part_after c.before.part (WordTo ops o v None)) h
-take_consistent (inside c (behind_slash ops o v)) (number m) h = by_if (nat_lt m 8) _ _ h tt
+take_consistent (inside c (behind_slash ops o v)) (number m) h = by_if (nat_lt m (spare_bound 0)) _ _ h tt
 take_consistent (inside c (behind_spare ops o v k)) close_mark h = by_part c (WordTo ops o v (Some k)) (part_after c.before.part (WordTo ops o v (Some k))) h
 take_consistent _ _ h = tt

@@ -11,7 +11,7 @@ use Rattle.ga_pack.specs.Followers.{followers}
 use Rattle.ga_pack.specs.Model.Token.{SourceKind, Token, op, number, node, node_name, data_part, close_mark, comma, end, is_node}
 use Rattle.ga_pack.specs.Model.Source.{Value, Number, Item, Transfer, Word, WordTo, Plain, Data, Section, Part, Code, Behind, Before, start, part_after, is_item, is_new, Items, Sections, Source, items_tokens, stand_from, is_below, is_spare}
 use Rattle.ga_pack.specs.Model.SourceFault.{Begins, GoesOn, ends_in_node}
-use Rattle.ga_pack.specs.Slots.{dest_bound}
+use Rattle.ga_pack.specs.Slots.{dest_bound, spare_bound}
 use Rattle.ga_source.specs.inner.Machine.{At, between, behind_op, behind_comma, in_word, behind_dest_op, behind_dest, behind_slash, behind_spare, Inside, State, nothing, naming, inside, finished, sections_closed, take, Good}
 use Rattle.ga_source.proofs.Completes.{Follows, Adds, Rest, Completes, with_item, led, led_back}
 use Rattle.ga_source.proofs.FaultKinds.{Shape}
@@ -30,7 +30,7 @@ unfolding meanings
 first_is b t ts u e n = ap (λ x. meaning_at b t ∷ meanings x ts) (ap is_node e ∙ n) ∙ ap (λ x. x ∷ meanings false ts) e
 
 -- what these texts are, wherever they stand
-record Spelled (b : Bool) : Type 0 where
+record Spellings (b : Bool) : Type 0 where
   zero_is : meaning_at b (codes "0") ≡ number 0
   close_is : meaning_at b (codes "]") ≡ close_mark
   nop_is : meaning_at b (codes ".") ≡ op Nop
@@ -38,7 +38,7 @@ record Spelled (b : Bool) : Type 0 where
   data_is : meaning_at b (codes "data") ≡ data_part
   node_is : meaning_at b (codes "node") ≡ node
 
-spelled : (b : Bool) → Spelled b
+spelled : (b : Bool) → Spellings b
 unfolding meaning_at meaning_of
 spelled true = record { zero_is = refl; close_is = refl; nop_is = refl; comma_is = refl; data_is = refl; node_is = refl }
 spelled false = record { zero_is = refl; close_is = refl; nop_is = refl; comma_is = refl; data_is = refl; node_is = refl }
@@ -134,7 +134,7 @@ alive (inside c (in_word ops)) g = inr (inl (alive_word c ops g))
 alive (inside c (behind_dest_op ops o)) g = inr (inl (word_to_alive c (behind_dest_op ops o) ops o (Number 0) None g.0 g.1 g.2 (bound_above (length ops)) refl g.3 (λ ys. (codes "0" ∷ codes "]" ∷ ys, λ b. (Number 0, None, zero_close b ys, refl)))))
 alive (inside c (behind_dest ops o v)) g = inr (inl (word_to_alive c (behind_dest ops o v) ops o v None g.0 g.1 g.2 g.3 refl g.4 (λ ys. (codes "]" ∷ ys, λ b. (None, first_is b (codes "]") ys close_mark (spelled b).close_is refl, refl)))))
 alive (inside c (behind_slash ops o v)) g = inr (inl (word_to_alive c (behind_slash ops o v) ops o v (Some 0) g.0 g.1 g.2 g.3 (and_from (length ops == 0) true g.4 refl) g.5 (λ ys. (codes "0" ∷ codes "]" ∷ ys, λ b. (0, zero_close b ys, refl)))))
-alive (inside c (behind_spare ops o v k)) g = inr (inl (word_to_alive c (behind_spare ops o v k) ops o v (Some k) g.0 g.1 g.2 g.3 (and_from (length ops == 0) (nat_lt k 8) g.4 g.5) g.6 (λ ys. (codes "]" ∷ ys, λ b. (first_is b (codes "]") ys close_mark (spelled b).close_is refl, refl)))))
+alive (inside c (behind_spare ops o v k)) g = inr (inl (word_to_alive c (behind_spare ops o v k) ops o v (Some k) g.0 g.1 g.2 g.3 (and_from (length ops == 0) (nat_lt k (spare_bound 0)) g.4 g.5) g.6 (λ ys. (codes "]" ∷ ys, λ b. (first_is b (codes "]") ys close_mark (spelled b).close_is refl, refl)))))
 alive (finished q) g = inl (q, refl)
 
 -- ---- where `node` is refused the end is refused

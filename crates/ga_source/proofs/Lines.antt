@@ -15,16 +15,16 @@ use Rattle.ga_pack.specs.Model.Text.{Lexeme, Run, before_comment, begins_charact
 -- ---- the first part of a list that is cut
 
 -- it is the whole list, or ends at an element that cuts
-abbrev pub Cut : (p : ℕ → Bool) → List ℕ → List ℕ → List (List ℕ) → Type 0
-Cut p xs first others = ((others ≡ []) × (xs ≡ first)) ⊎ ((y : ℕ) × (rest : List ℕ) × (xs ≡ first ++ y ∷ rest) × (p y ≡ true) × (slice_split p rest ≡ others))
+abbrev pub IsCut : (p : ℕ → Bool) → List ℕ → List ℕ → List (List ℕ) → Type 0
+IsCut p xs first others = ((others ≡ []) × (xs ≡ first)) ⊎ ((y : ℕ) × (rest : List ℕ) × (xs ≡ first ++ y ∷ rest) × (p y ≡ true) × (slice_split p rest ≡ others))
 
 pub record First (p : ℕ → Bool) (xs : List ℕ) : Type 0 where
   pub first : List ℕ
   pub others : List (List ℕ)
   pub parts : slice_split p xs ≡ first ∷ others
-  pub cut : Cut p xs first others
+  pub cut : IsCut p xs first others
 
-longer_cut : (p : ℕ → Bool) (x : ℕ) (xs first : List ℕ) (others : List (List ℕ)) → Cut p xs first others → Cut p (x ∷ xs) (x ∷ first) others
+longer_cut : (p : ℕ → Bool) (x : ℕ) (xs first : List ℕ) (others : List (List ℕ)) → IsCut p xs first others → IsCut p (x ∷ xs) (x ∷ first) others
 longer_cut p x xs first others (inl (none, whole)) = inl (none, ap (λ (l : List ℕ). x ∷ l) whole)
 longer_cut p x xs first others (inr (y, rest, whole, yes', left)) = inr (y, rest, ap (λ (l : List ℕ). x ∷ l) whole, yes', left)
 
@@ -41,13 +41,13 @@ pub first_of : (p : ℕ → Bool) (xs : List ℕ) → First p xs
 first_of p [] = record { first = []; others = []; parts = refl; cut = inl (refl, refl) }
 first_of p (x ∷ xs) = first_more p x xs (p x) refl (first_of p xs)
 
-pub cut : (p : ℕ → Bool) (xs first : List ℕ) (others : List (List ℕ)) → slice_split p xs ≡ first ∷ others → Cut p xs first others
+pub cut : (p : ℕ → Bool) (xs first : List ℕ) (others : List (List ℕ)) → slice_split p xs ≡ first ∷ others → IsCut p xs first others
 cut p xs first others e =
     let f = first_of p xs in
     let same : f.first ∷ f.others ≡ first ∷ others = sym f.parts ∙ e in
     let heads : f.first ≡ first = cc in
     let tails : f.others ≡ others = cc in
-    subst (λ (os : List (List ℕ)). Cut p xs first os) tails (subst (λ (o : List ℕ). Cut p xs o f.others) heads f.cut)
+    subst (λ (os : List (List ℕ)). IsCut p xs first os) tails (subst (λ (o : List ℕ). IsCut p xs o f.others) heads f.cut)
 
 -- how many elements parts have, with the one at which each ends
 abbrev pub span : List (List ℕ) → ℕ
@@ -102,7 +102,7 @@ count_append xs ys = sum_by-append _ xs ys
 pub blank_begins : (y : ℕ) → is_blank y ≡ true → begins_character y ≡ true
 blank_begins y e = search rules
 
-next_stands : (bytes : List ℕ) (at column : ℕ) (run : List ℕ) (others : List (List ℕ)) (s : Stands bytes at column (run ∷ others)) → Cut is_blank s.rest run others
+next_stands : (bytes : List ℕ) (at column : ℕ) (run : List ℕ) (others : List (List ℕ)) (s : Stands bytes at column (run ∷ others)) → IsCut is_blank s.rest run others
     → (others ≡ []) ⊎ Stands bytes (at + length run + 1) (column + (count_by begins_character run + 1)) others
 next_stands bytes at column run others s (inl (none, whole)) = inl none
 next_stands bytes at column run others s (inr (y, rest, whole, blank, left)) = inr (record {
@@ -126,7 +126,7 @@ next_part bytes at column run others (inr s) =
       behind = next_stands bytes at column run others s c;
     }
   where
-    cut_inside : (rest run : List ℕ) (others : List (List ℕ)) → Cut is_blank rest run others → length run ≤ length rest
+    cut_inside : (rest run : List ℕ) (others : List (List ℕ)) → IsCut is_blank rest run others → length run ≤ length rest
     cut_inside rest run others (inl (none, whole)) = omega (arith, ap length whole)
     cut_inside rest run others (inr (y, left, whole, blank, parts)) = omega (arith, ap length whole, length-append run (y ∷ left))
 

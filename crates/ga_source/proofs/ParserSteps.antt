@@ -16,11 +16,11 @@ use Rattle.ga_source.specs.declared.parser.Part as standing
 use Rattle.ga_source.specs.declared.parser.Part.TheVariants as part
 use Rattle.ga_source.specs.Error.{kind_of}
 use Rattle.ga_source.specs.inner.Machine.{State, Inside, take_first, with_part, item_added}
-use Rattle.ga_source.specs.inner.Parser.{Answered, RefusedAs, section_part}
+use Rattle.ga_source.specs.inner.Parser.{IsAnswer, RefusedAs, section_part}
 
 -- an item was item_added, as the parser's machine adds it
 pub answered_added : {A : Type 0} (c : Inside) (i : Item) (q : Part) (r : Result A SourceErrorKind) (s' : State)
-    → part_after c.before.part i ≡ Some q → OnOk r (s' ≡ item_added c i q) → IfErr r (λ kind. kind ≡ Memory) → Answered (with_part c i) r s'
+    → part_after c.before.part i ≡ Some q → OnOk r (s' ≡ item_added c i q) → IfErr r (λ kind. kind ≡ Memory) → IsAnswer (with_part c i) r s'
 answered_added c i q (Ok x) s' f ok err = ap (λ o. elim o [ None ↦ Err token.BadToken | Some p ↦ Ok (item_added c i p) ]) f ∙ ap Ok (sym ok)
 answered_added c i q (Err x) s' f ok err = subst (λ y. RefusedAs (with_part c i) (kind_of y)) (sym err) tt
 
@@ -97,6 +97,6 @@ module _ {V : Type 0} (same : ℕ → ℕ → Bool) (is_same : (x y : ℕ) → s
 
 -- followers are owed
 pub some_owed : {A : Type 0} (c : Inside) (t : token.Token) (r : Result A SourceErrorKind) (s' : State) (p : standing.Part) (owed : ℕ)
-    → p ≡ part.Code owed → (owed ≡ 0 → ⊥) → ((n : ℕ) → Answered (take_first (Code (suc n)) c t) r s') → Answered (take_first (section_part p) c t) r s'
+    → p ≡ part.Code owed → (owed ≡ 0 → ⊥) → ((n : ℕ) → IsAnswer (take_first (Code (suc n)) c t) r s') → IsAnswer (take_first (section_part p) c t) r s'
 some_owed c t r s' p zero e n h = absurd (n refl)
-some_owed c t r s' p (suc owed) e n h = subst (λ x. Answered (take_first (section_part x) c t) r s') (sym e) (h owed)
+some_owed c t r s' p (suc owed) e n h = subst (λ x. IsAnswer (take_first (section_part x) c t) r s') (sym e) (h owed)

@@ -1,18 +1,18 @@
 -- Each token that the parser takes keeps what completes its state, and each that it refuses completes nothing.
 use Rattle.std.proofs.Common.{◌≡◌, ◌⊎◌, inl, inr, ⊎_elim, ℕ, zero, suc, ◌+◌, Bool, true, false, List, [], ◌∷◌, ◌++◌, length, Option, Some, None, Result, Ok, Err, refl, sym, ap, ◌∙◌, subst, append_assoc, append-nil, arith}
 use Rattle.std.proofs.lemmas.Bool.{and_parts, and_from, both_ways, not-true, not_from_false}
-use Rattle.std.specs.Prelude.{◌==◌, ◌&&◌, ◌^◌, not, nat_lt, if◌then◌else◌}
+use Rattle.std.specs.Prelude.{◌==◌, ◌&&◌, not, nat_lt, if◌then◌else◌}
 use Rattle.ga_word.specs.declared.op.Op.{Op}
 use Rattle.ga_word.specs.Op.{takes_dest}
 use Rattle.ga_pack.specs.Followers.{followers, is_followed}
 use Rattle.ga_pack.specs.Model.Token.{SourceKind, Token, op, number, name, label, node, node_name, align, data_part, open_mark, close_mark, comma, slash, bad, end}
 use Rattle.ga_pack.specs.Model.Meaning.{is_reserved}
 use Rattle.ga_pack.specs.Model.Source.{Value, Number, Label, Item, Instruction, Transfer, Literal, Here, Align, Word, WordTo, Plain, Data, Section, Part, Code, Behind, start, part_after, is_item, is_new, Sections, Source, text_tokens, items_tokens, op_tokens, value_token, spare_tokens, stand_from, is_below, is_spare, is_among, is_named}
-use Rattle.ga_pack.specs.Slots.{dest_bound, op_fits}
+use Rattle.ga_pack.specs.Slots.{dest_bound, op_fits, spare_bound}
 use Rattle.ga_pack.proofs.ByCases.{on_test}
 use Rattle.ga_pack.proofs.ItemParts.{IsWordTo, instruction_parts, stand_parts, transfer_parts, word_parts, word_to_parts}
 use Rattle.ga_source.specs.inner.Machine.{between, behind_op, behind_comma, in_word, behind_dest_op, behind_dest, behind_slash, behind_spare, Inside, State, nothing, naming, inside, finished, sections_closed, item_added, take, take_between, take_first, take_op, take_label, take_slot, with_part, Good}
-use Rattle.ga_source.proofs.Completes.{Follows, Adds, Completes, Led, led, led_back, with_item}
+use Rattle.ga_source.proofs.Completes.{Follows, Adds, Completes, Leads, led, led_back, with_item}
 
 -- the answer to a token is right
 abbrev pub Right : State → Token → Result State SourceKind → Type 0
@@ -65,9 +65,9 @@ transfer_name c o n rest p (i, more, (v, e, f), a) = let h = is_label n v rest m
 
 behind_op_right : (c : Inside) (o : Op) (t : Token) → Good (inside c (behind_op o)) → Right (inside c (behind_op o)) t (take (inside c (behind_op o)) t)
 unfolding is_item part_after
-behind_op_right c o (number n) g = on_test (nat_lt n (2 ^ 10)) (λ b. Right (inside c (behind_op o)) (number n) (if b then Ok (item_added c (Transfer o (Number n)) (Code 0)) else Err SourceKind.NumberRange))
-    (λ small. whole c (inside c (behind_op o)) (number n) (Transfer o (Number n)) (Code 0) (ap (λ x. part_after x (Transfer o (Number n))) g.1) (and_from (takes_dest o) (nat_lt n (2 ^ 10)) g.0 small) refl (transfer_number c o n) (λ rest p a. (Transfer o (Number n), rest, (Number n, refl, refl), a)))
-    (λ large rest p h. both_ways (nat_lt n (2 ^ 10)) large (and_parts (takes_dest o) (nat_lt n (2 ^ 10)) (transfer_number c o n rest p h).1).1)
+behind_op_right c o (number n) g = on_test (nat_lt n (dest_bound 0)) (λ b. Right (inside c (behind_op o)) (number n) (if b then Ok (item_added c (Transfer o (Number n)) (Code 0)) else Err SourceKind.NumberRange))
+    (λ small. whole c (inside c (behind_op o)) (number n) (Transfer o (Number n)) (Code 0) (ap (λ x. part_after x (Transfer o (Number n))) g.1) (and_from (takes_dest o) (nat_lt n (dest_bound 0)) g.0 small) refl (transfer_number c o n) (λ rest p a. (Transfer o (Number n), rest, (Number n, refl, refl), a)))
+    (λ large rest p h. both_ways (nat_lt n (dest_bound 0)) large (and_parts (takes_dest o) (nat_lt n (dest_bound 0)) (transfer_number c o n rest p h).1).1)
 behind_op_right c o (name s) g = whole c (inside c (behind_op o)) (name s) (Transfer o (Label s)) (Code 0) (ap (λ x. part_after x (Transfer o (Label s))) g.1) (and_from (takes_dest o) true g.0 refl) refl (transfer_name c o s) (λ rest p a. (Transfer o (Label s), rest, (Label s, refl, refl), a))
 behind_op_right c o t g = λ rest p (i, more, (v, e, f), a). no_value t v rest more refl e
 
@@ -235,7 +235,7 @@ slash_led c ops o v rest p (i, more, (None, e, f), a) = absurd (cc)
 slash_led c ops o v rest p (i, more, (Some k, e, f), a) = (i, more, (k, (cc), f), a)
 
 spare_right : (c : Inside) (ops : List Op) (o : Op) (v : Value) (rest : List Token) (p : List Section) → Completes (inside c (behind_slash ops o v)) rest p → (length ops == 0) ≡ true
-spare_right c ops o v rest p (i, more, (k, e, f), a) = (and_parts (length ops == 0) (nat_lt k 8) (word_to_parts ops o v (Some k) (is_right c i (WordTo ops o v (Some k)) more p f a)).spare).0
+spare_right c ops o v rest p (i, more, (k, e, f), a) = (and_parts (length ops == 0) (nat_lt k (spare_bound 0)) (word_to_parts ops o v (Some k) (is_right c i (WordTo ops o v (Some k)) more p f a)).spare).0
 
 behind_dest_right : (c : Inside) (ops : List Op) (o : Op) (v : Value) (t : Token) → Good (inside c (behind_dest ops o v)) → Right (inside c (behind_dest ops o v)) t (take (inside c (behind_dest ops o v)) t)
 unfolding part_after
@@ -251,19 +251,19 @@ behind_dest_right c ops o v t g = λ rest p h. no_end c ops o v t rest p refl h
 spare_number : (c : Inside) (ops : List Op) (o : Op) (v : Value) (n : ℕ) (rest : List Token) (p : List Section) → Completes (inside c (behind_slash ops o v)) (number n ∷ rest) p → Completes (inside c (behind_spare ops o v n)) rest p
 spare_number c ops o v n rest p (i, more, (k, e, f), a) = let h : n ≡ k = cc in (i, more, ((cc), f ∙ ap (λ x. WordTo ops o v (Some x)) (sym h)), a)
 
-spare_below : (c : Inside) (ops : List Op) (o : Op) (v : Value) (k : ℕ) (rest : List Token) (p : List Section) → Completes (inside c (behind_spare ops o v k)) rest p → nat_lt k 8 ≡ true
-spare_below c ops o v k rest p (i, more, (e, f), a) = (and_parts (length ops == 0) (nat_lt k 8) (word_to_parts ops o v (Some k) (is_right c i (WordTo ops o v (Some k)) more p f a)).spare).1
+spare_below : (c : Inside) (ops : List Op) (o : Op) (v : Value) (k : ℕ) (rest : List Token) (p : List Section) → Completes (inside c (behind_spare ops o v k)) rest p → nat_lt k (spare_bound 0) ≡ true
+spare_below c ops o v k rest p (i, more, (e, f), a) = (and_parts (length ops == 0) (nat_lt k (spare_bound 0)) (word_to_parts ops o v (Some k) (is_right c i (WordTo ops o v (Some k)) more p f a)).spare).1
 
 behind_slash_right : (c : Inside) (ops : List Op) (o : Op) (v : Value) (t : Token) → Good (inside c (behind_slash ops o v)) → Right (inside c (behind_slash ops o v)) t (take (inside c (behind_slash ops o v)) t)
-behind_slash_right c ops o v (number n) g = on_test (nat_lt n 8) (λ b. Right (inside c (behind_slash ops o v)) (number n) (if b then Ok (inside c (behind_spare ops o v n)) else Err SourceKind.BadWord))
+behind_slash_right c ops o v (number n) g = on_test (nat_lt n (spare_bound 0)) (λ b. Right (inside c (behind_slash ops o v)) (number n) (if b then Ok (inside c (behind_spare ops o v n)) else Err SourceKind.BadWord))
     (λ below. ((g.0, g.1, g.2, g.3, g.4, below, g.5), spare_number c ops o v n, λ rest p (i, more, (e, f), a). (i, more, (n, ap (λ x. number n ∷ x) e, f), a)))
-    (λ above rest p h. both_ways (nat_lt n 8) above (spare_below c ops o v n rest p (spare_number c ops o v n rest p h)))
+    (λ above rest p h. both_ways (nat_lt n (spare_bound 0)) above (spare_below c ops o v n rest p (spare_number c ops o v n rest p h)))
 behind_slash_right c ops o v t g = λ rest p (i, more, (k, e, f), a). cc
 
 behind_spare_right : (c : Inside) (ops : List Op) (o : Op) (v : Value) (k : ℕ) (t : Token) → Good (inside c (behind_spare ops o v k)) → Right (inside c (behind_spare ops o v k)) t (take (inside c (behind_spare ops o v k)) t)
 unfolding part_after
 behind_spare_right c ops o v k close_mark g = whole_part c (inside c (behind_spare ops o v k)) close_mark (WordTo ops o v (Some k)) (Code (followers ops)) (ap (λ x. part_after x (WordTo ops o v (Some k))) g.6)
-    (is_word_to ops o v (Some k) (record { stands = g.0; short = g.1; dest = g.2; below = g.3; spare = and_from (length ops == 0) (nat_lt k 8) g.4 g.5 })) refl
+    (is_word_to ops o v (Some k) (record { stands = g.0; short = g.1; dest = g.2; below = g.3; spare = and_from (length ops == 0) (nat_lt k (spare_bound 0)) g.4 g.5 })) refl
     (λ rest p (i, more, (e, f), a). carry c i (WordTo ops o v (Some k)) more rest p f (cc) a) (λ rest p a. (WordTo ops o v (Some k), rest, (refl, refl), a))
 behind_spare_right c ops o v k t g = λ rest p (i, more, (e, f), a). cc
 
@@ -277,12 +277,12 @@ barred_as c part i j ts p f e n a = barred c part j ts p e n (subst (λ x. Adds 
 
 -- an item of one token
 one_token : (c : Inside) (part : Part) (t : Token) (i : Item) (q : Part) → c.before.part ≡ part → part_after part i ≡ Some q → is_item i ≡ true → is_new i c.before.labels ≡ true
-    → ((rest : List Token) (p : List Section) → Led c p (t ∷ rest) → Adds c i rest p)
-    → ((rest : List Token) (p : List Section) → Adds c i rest p → Led c p (t ∷ rest))
+    → ((rest : List Token) (p : List Section) → Leads c p (t ∷ rest) → Adds c i rest p)
+    → ((rest : List Token) (p : List Section) → Adds c i rest p → Leads c p (t ∷ rest))
     → Right (inside c between) t (Ok (item_added c i q))
 one_token c part t i q e f a b to from = whole c (inside c between) t i q (subst (λ x. part_after x i ≡ Some q) (sym e) f) a b (λ rest p h. to rest p (led c (t ∷ rest) p h)) (λ rest p h. led_back c (t ∷ rest) p (from rest p h))
 
-op_barred : (c : Inside) (part : Part) (o : Op) (rest : List Token) (p : List Section) → c.before.part ≡ part → ((v : Value) → part_after part (Transfer o v) ≡ None) → part_after part (Instruction o) ≡ None → Led c p (op o ∷ rest) → ⊥
+op_barred : (c : Inside) (part : Part) (o : Op) (rest : List Token) (p : List Section) → c.before.part ≡ part → ((v : Value) → part_after part (Transfer o v) ≡ None) → part_after part (Instruction o) ≡ None → Leads c p (op o ∷ rest) → ⊥
 op_barred c part o rest p e n m (inl a) = barred c part (Instruction o) rest p e m a
 op_barred c part o rest p e n m (inr (i, more, (v, g, f), a)) = barred_as c part i (Transfer o v) more p f e (n v) a
 
@@ -291,7 +291,7 @@ unfolding is_item
 instruction_is o a b = and_from (not (takes_dest o)) (not (is_followed o)) (not_from_false (takes_dest o) a) (not_from_false (is_followed o) b)
 
 -- what an opcode leads to in the code part
-op_led : (c : Inside) (o : Op) (rest : List Token) (p : List Section) → Led c p (op o ∷ rest)
+op_led : (c : Inside) (o : Op) (rest : List Token) (p : List Section) → Leads c p (op o ∷ rest)
     → ((takes_dest o ≡ false) × (is_followed o ≡ false) × Adds c (Instruction o) rest p) ⊎ ((takes_dest o ≡ true) × Completes (inside c (behind_op o)) rest p)
 op_led c o rest p (inl a) = let h = instruction_parts o a.1 in inl (h.0, h.1, a)
 op_led c o rest p (inr (i, more, (v, g, f), a)) = inr ((transfer_parts o v (is_right c i (Transfer o v) more p f a)).0, (i, more, (v, g, f), a))
@@ -334,7 +334,7 @@ first_comma c Behind e = ((Behind, λ v. ap (λ x. part_after x (Plain v)) e), �
 first_comma c (Code (suc m)) e = ((Code m, λ v. ap (λ x. part_after x (Plain v)) e), λ rest p h. led c (comma ∷ rest) p h, λ rest p h. led_back c (comma ∷ rest) p h)
 first_comma c (Code zero) e = λ rest p h. let (i, more, (v, g, f), a) = led c (comma ∷ rest) p h in barred_as c (Code 0) i (Plain v) more p f e refl a
 
-open_barred : (c : Inside) (part : Part) (rest : List Token) (p : List Section) → c.before.part ≡ part → ((ops : List Op) → part_after part (Word ops) ≡ None) → ((ops : List Op) (o : Op) (v : Value) (k : Option ℕ) → part_after part (WordTo ops o v k) ≡ None) → Led c p (open_mark ∷ rest) → ⊥
+open_barred : (c : Inside) (part : Part) (rest : List Token) (p : List Section) → c.before.part ≡ part → ((ops : List Op) → part_after part (Word ops) ≡ None) → ((ops : List Op) (o : Op) (v : Value) (k : Option ℕ) → part_after part (WordTo ops o v k) ≡ None) → Leads c p (open_mark ∷ rest) → ⊥
 open_barred c part rest p e n m (i, more, inl (later, g, f), a) = barred_as c part i (Word later) more p f e (n later) a
 open_barred c part rest p e n m (i, more, inr (later, o, v, k, g, f), a) = barred_as c part i (WordTo later o v k) more p f e (m later o v k) a
 
@@ -346,7 +346,7 @@ first_open c (Code zero) e = ((refl, e), λ rest p h. led c (open_mark ∷ rest)
 
 -- tokens that begin no item
 first_no : (c : Inside) (t : Token) → take_first Behind c t ≡ Err SourceKind.BadToken → ((n : ℕ) → take_first (Code (suc n)) c t ≡ Err SourceKind.BadToken) → take_first (Code 0) c t ≡ Err SourceKind.BadToken
-    → ((rest : List Token) (p : List Section) → Led c p (t ∷ rest) → ⊥) → Right (inside c between) t (take_first c.before.part c t)
+    → ((rest : List Token) (p : List Section) → Leads c p (t ∷ rest) → ⊥) → Right (inside c between) t (take_first c.before.part c t)
 first_no c t behind owed free never = subst (Right (inside c between) t) (sym (is_bad c.before.part)) (λ rest p h. never rest p (led c (t ∷ rest) p h))
   where
     is_bad : (part : Part) → take_first part c t ≡ Err SourceKind.BadToken

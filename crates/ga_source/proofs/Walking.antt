@@ -15,7 +15,7 @@ use Rattle.ga_word.specs.Text.{is_blank}
 use Rattle.ga_pack.specs.Model.Text.{Lexeme, Place, begins_character, end_from, end_of, lexemes, lines_of, texts_of}
 use Rattle.ga_source.specs.Token.{token_of}
 use Rattle.ga_source.specs.declared.token.Token.{Token}
-use Rattle.ga_source.specs.inner.Walk.{BehindRun, Begins, FirstLine, Found, columns_on, is_mark, left_lexemes, lexemes_at, next_line, run_lexemes, step, walk}
+use Rattle.ga_source.specs.inner.Walk.{BehindRun, Begins, FirstLine, FirstRun, columns_on, is_mark, left_lexemes, lexemes_at, next_line, run_lexemes, step, walk}
 use Rattle.ga_source.proofs.Lines.{First, blank_begins, count_append, first_of, lexemes_are, span, span_split}
 
 abbrev NoBlank : List ℕ → Type 0
@@ -228,7 +228,7 @@ module _ (text run behind : List ℕ) (b : Begins text run behind) where
   at_run : (p : Place) (start : ℕ) → lexemes_at p start text ≡ lexemes_at (walk p b.front) (start + length b.front) (run ++ behind)
   at_run p start = ap (lexemes_at p start) b.whole ∙ skip_blanks p start b.front (run ++ behind) b.blanks
 
-  pub found_first : is_mark run ≡ false → Found text run behind
+  pub found_first : is_mark run ≡ false → FirstRun text run behind
   found_first e = record {
     front = b.front;
     whole = b.whole;
@@ -246,7 +246,7 @@ module _ (text run behind : List ℕ) (b : Begins text run behind) where
   comment_shorter line (Some next) rest f left =
       omega (arith, ap length left, ap length f.0, length-append line (10 ∷ next.now), ap length b.whole, length-append b.front (run ++ behind), length-append run behind, b.some)
 
-pub found_behind : (text rest run behind : List ℕ) → Behind text rest → Found rest run behind → Found text run behind
+pub found_behind : (text rest run behind : List ℕ) → Behind text rest → FirstRun rest run behind → FirstRun text run behind
 found_behind text rest run behind a f = record {
   front = a.front ++ f.front;
   whole = a.whole ∙ ap (λ (l : List ℕ). a.front ++ l) f.whole ∙ sym (append_assoc a.front f.front (run ++ behind));
@@ -339,7 +339,7 @@ unfolding texts_of
 texts_at p start text = ap (map (λ l. l.text)) (lexemes_are text) ∙ same_lines (record { line = 1; column = 1 }) p 0 start (lines_of text)
 
 -- the texts of the tokens that are left behind the next one
-pub texts_first : (text run behind : List ℕ) → Found text run behind → texts_of text ≡ run ∷ texts_of behind
+pub texts_first : (text run behind : List ℕ) → FirstRun text run behind → texts_of text ≡ run ∷ texts_of behind
 texts_first text run behind f =
     texts_at (record { line = 1; column = 1 }) 0 text ∙ ap (map (λ l. l.text)) (f.first (record { line = 1; column = 1 }) 0)
     ∙ ap (λ ts. run ∷ ts) (sym (texts_at (walk (walk (record { line = 1; column = 1 }) f.front) run) (0 + length f.front + length run) behind))
@@ -415,17 +415,17 @@ end_walked text = walk_end 1 0 text ∙ end_first 1 (lines_of text)
 -- ---- all tokens
 
 -- so many bytes were walked over, and these tokens were found there
-pub record Walked (text : List ℕ) (line column : ℕ) (rest : List ℕ) (tokens : List Token) : Type 0 where
+pub record HasWalked (text : List ℕ) (line column : ℕ) (rest : List ℕ) (tokens : List Token) : Type 0 where
   pub front : List ℕ
   pub whole : text ≡ front ++ rest
   pub found : map token_of (lexemes text) ≡ tokens ++ map token_of (lexemes_at (record { line = line; column = column }) (length front) rest)
   pub low_line : line + length rest ≤ length text + 1
   pub low_column : column + length rest ≤ length text + 1
 
-pub walked_nothing : (text : List ℕ) → Walked text 1 1 text []
+pub walked_nothing : (text : List ℕ) → HasWalked text 1 1 text []
 walked_nothing text = record { front = []; whole = refl; found = ap (map token_of) (lexemes_are text); low_line = omega arith; low_column = omega arith }
 
-module _ (text rest run behind : List ℕ) (line column : ℕ) (tokens : List Token) (w : Walked text line column rest tokens) (f : Found rest run behind) where
+module _ (text rest run behind : List ℕ) (line column : ℕ) (tokens : List Token) (w : HasWalked text line column rest tokens) (f : FirstRun rest run behind) where
   pub lengths : length rest ≡ length f.front + (length run + length behind)
   lengths = ap length f.whole ∙ length-append f.front (run ++ behind) ∙ ap (λ n. length f.front + n) (length-append run behind)
 
@@ -439,7 +439,7 @@ module _ (text rest run behind : List ℕ) (line column : ℕ) (tokens : List To
 
   pub walked_more : (at there : Place) (token : Token) (more : List Token) → at ≡ walk (record { line = line; column = column }) f.front → there ≡ walk at run
       → token ≡ record { start = length text - length behind - length run; end = length text - length behind; line = at.line; column = at.column } → more ≡ tokens ++ token ∷ []
-      → Walked text there.line there.column behind more
+      → HasWalked text there.line there.column behind more
   walked_more at there token more a t is m =
       let p : Place = record { line = line; column = column } in
       let low = walk_low p f.front in
@@ -463,6 +463,6 @@ module _ (text rest run behind : List ℕ) (line column : ℕ) (tokens : List To
         low_column = omega (arith, w.low_column, lengths, low.1, low'.1, ac, tc);
       }
 
-pub walked_all : (text rest : List ℕ) (line column : ℕ) (tokens : List Token) → Walked text line column rest tokens → ((p : Place) (start : ℕ) → lexemes_at p start rest ≡ []) → tokens ≡ map token_of (lexemes text)
+pub walked_all : (text rest : List ℕ) (line column : ℕ) (tokens : List Token) → HasWalked text line column rest tokens → ((p : Place) (start : ℕ) → lexemes_at p start rest ≡ []) → tokens ≡ map token_of (lexemes text)
 walked_all text rest line column tokens w none =
     sym (append-nil tokens) ∙ ap (λ (ls : List Lexeme). tokens ++ map token_of ls) (sym (none (record { line = line; column = column }) (length w.front))) ∙ sym w.found

@@ -6,7 +6,7 @@ use Rattle.ga_pack.specs.Model.SourceFault.{SourceFault}
 use Rattle.ga_source.specs.inner.Machine.{State, nothing, finished, take}
 use Rattle.std.proofs.lemmas.List.{reverse-append}
 use Rattle.ga_source.proofs.Exact.{Stands, stands_first, stands_next, refused, accepted}
-use Rattle.ga_source.proofs.FaultKinds.{Shape, Shaped, shaped, is_finished}
+use Rattle.ga_source.proofs.FaultKinds.{Shape, HasShape, shaped, is_finished}
 
 -- ---- the invariant of a loop over the tokens
 
@@ -18,8 +18,8 @@ pub at_first : ReadSoFar [] nothing
 at_first = record { stands = stands_first; shape = refl }
 
 module _ (front : List Token) (s : State) (t : Token) (a : ReadSoFar front s) where
-  shaped_by : (answer : Result State SourceKind) → take s t ≡ answer → Shaped s (reverse front) t answer
-  shaped_by answer e = subst (Shaped s (reverse front) t) e (shaped s (reverse front) t a.stands.good a.shape)
+  shaped_by : (answer : Result State SourceKind) → take s t ≡ answer → HasShape s (reverse front) t answer
+  shaped_by answer e = subst (HasShape s (reverse front) t) e (shaped s (reverse front) t a.stands.good a.shape)
 
   -- a token that is taken
   pub at_next : (s' : State) → take s t ≡ Ok s' → ReadSoFar (front ++ t ∷ []) s'

@@ -12,7 +12,7 @@ ghost use Rattle.ga_source.specs.Section.{section_of};
 ghost use Rattle.ga_source.specs.inner.Machine as machine;
 ghost use Rattle.ga_source.specs.inner.Machine.{Good, IsConsistent, item_added, sections_closed, finished, nothing};
 ghost use Rattle.ga_source.specs.inner.Meaning.{IsShort, meaning_of};
-ghost use Rattle.ga_source.specs.inner.Parser.{Answered, RefusedAs, Took, done_of, inside_of, labels_of, names_of, section_part, state_of};
+ghost use Rattle.ga_source.specs.inner.Parser.{IsAnswer, RefusedAs, Took, done_of, inside_of, labels_of, names_of, section_part, state_of};
 ghost use Rattle.ga_source.specs.declared.error.SourceErrorKind.TheVariants.{Memory};
 ghost use Rattle.ga_source.specs.declared.parser.Position.TheVariants as at;
 
@@ -209,7 +209,7 @@ impl Parser {
     fn take_label(&mut self, name: &str) -> Result<(), SourceErrorKind>
         requires position { self.old.position ≡ at.Between }
         requires short { length name.now ≤ 16 }
-        ensures { Answered (machine.take_label (inside_of self.old) name.now) result
+        ensures { IsAnswer (machine.take_label (inside_of self.old) name.now) result
             (state_of self.new) }
     {
         if is_reserved(name) {

@@ -5,7 +5,7 @@ ghost use Rattle.ga_pack.specs.Model.Text as model;
 ghost use Rattle.ga_pack.specs.Model.Text.{begins_character, end_of, lexemes, texts_of};
 ghost use Rattle.ga_source.specs.Token.{place_of, token_of};
 ghost use Rattle.ga_source.specs.inner.Token.{texts_left};
-ghost use Rattle.ga_source.specs.inner.Walk.{BehindRun, Begins, FirstLine, Found, lexemes_at, step, walk};
+ghost use Rattle.ga_source.specs.inner.Walk.{BehindRun, Begins, FirstLine, FirstRun, lexemes_at, step, walk};
 
 use ga_word::{first_blank, first_non_blank};
 use memchr::memchr;
@@ -153,7 +153,7 @@ impl<'a> Iterator for Texts<'a> {
 /// The first token of a text, and what stands behind it.
 #[inline(always)]
 fn next_token(text: &[u8]) -> Option<(&[u8], &[u8])>
-    ensures some { IfSome result (λ parts. Found text.now parts.0.now parts.1.now) }
+    ensures some { IfSome result (λ parts. FirstRun text.now parts.0.now parts.1.now) }
     ensures none { result ≡ None → (p : model.Place) (start : ℕ)
         → lexemes_at p start text.now ≡ [] }
 {

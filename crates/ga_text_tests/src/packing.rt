@@ -1,6 +1,7 @@
 use crate::shared::packed;
 use ga_pack::{
     PackError, Packed, decode, dest_bound, encode, followers, followers_of, is_followed, op_fits,
+    spare_bound,
 };
 use ga_test_values::word;
 use ga_word::Op;
@@ -114,6 +115,7 @@ fn counts_followers(rt: HostRuntime) -> Result<(), Fail> {
 fn slots_have_room(rt: HostRuntime) -> Result<(), Fail> {
     assert!(rt; op_fits(2, Op::Drop) && op_fits(3, Op::Dup) && !op_fits(3, Op::Drop));
     assert!(rt; dest_bound(0) == 1024 && dest_bound(1) == 256 && dest_bound(2) == 8);
+    assert!(rt; spare_bound(0) == 8 && spare_bound(1) == 1);
     Ok(())
 }
 

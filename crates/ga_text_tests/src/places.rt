@@ -40,7 +40,7 @@ fn indices(rt: HostRuntime) -> Result<(), Fail> {
         assert!(rt; node(name)?.index() == index, "at {name}");
     }
     let (first, second) = (Node::new(17), Node::new(100));
-    assert!(rt; first < second && first != second);
+    assert!(rt; first < second && first != second && second == Some(Node::at(18)));
     Ok(())
 }
 

@@ -9,17 +9,12 @@ bits_of_6 : bits 4 6 ≡ 0 ∷ 1 ∷ 1 ∷ 0 ∷ []
 unfolding bits
 bits_of_6 = refl
 
-sum_wraps : word_sum 0x3FFFF 1 ≡ 0
-sum_wraps = refl
-
-half_keeps_the_sign : word_half 0x20000 ≡ 0x30000
-half_keeps_the_sign = refl
-
-not_of_zero : word_not 0 ≡ 0x3FFFF
-not_of_zero = refl
-
-twice_loses_bit_17 : word_twice 0x20001 ≡ 2
-twice_loses_bit_17 = refl
+-- a sum wraps, half keeps the sign, zero inverted has all bits, and twice loses bit 17
+arithmetic : (word_sum 0x3FFFF 1 ≡ 0)
+    × (word_half 0x20000 ≡ 0x30000)
+    × (word_not 0 ≡ 0x3FFFF)
+    × (word_twice 0x20001 ≡ 2)
+arithmetic = (refl, refl, refl, refl)
 
 -- multiplication steps of T and A with S, as many as counted
 abbrev steps : ℕ → ℕ → ℕ × ℕ → ℕ × ℕ
@@ -37,14 +32,9 @@ text_of_one : text_of_words (0x2C9B2 ∷ []) ≡ codes "2C9B2\n"
 unfolding hex_digits
 text_of_one = refl
 
-words_of_one : words_of_text (codes "2C9B2\n") ≡ Ok (0x2C9B2 ∷ [])
+-- one word; the second is too short; 7 is too large a first digit
+texts : (words_of_text (codes "2C9B2\n") ≡ Ok (0x2C9B2 ∷ []))
+    × (words_of_text (codes "04A12 5") ≡ Err 1)
+    × (words_of_text (codes "70000") ≡ Err 0)
 unfolding tokens is_word_text
-words_of_one = refl
-
-second_is_short : words_of_text (codes "04A12 5") ≡ Err 1
-unfolding tokens is_word_text
-second_is_short = refl
-
-seven_is_too_large : words_of_text (codes "70000") ≡ Err 0
-unfolding tokens is_word_text
-seven_is_too_large = refl
+texts = (refl, refl, refl)

@@ -1,7 +1,7 @@
 -- The image of one node, and its first fault.
 use Rattle.std.specs.Prelude.{◌≡◌, ℕ, List, [], ◌∷◌, ◌++◌, length, Option, Some, None}
 use Rattle.ga_pack.specs.Model.Layout.{names_in}
-use Rattle.ga_pack.specs.Model.LayoutFault.{AsmFault, AsmKind, Passed, fault_place}
+use Rattle.ga_pack.specs.Model.LayoutFault.{AsmFault, AsmKind, AllPass, fault_place}
 use Rattle.ga_pack.specs.Model.Program.{PlacedItem}
 use Rattle.ga_pack.specs.Model.Source.{Item}
 use Rattle.ga_pack.specs.Model.Text.{Place}
@@ -10,7 +10,7 @@ use Rattle.ga_asm.specs.Image.{ImageView, IsImage}
 -- an image of items without a fault
 pub record IsFaultless (items : List Item) (image : ImageView) : Type 0 where
   pub image_is : IsImage items image
-  pub passed : Passed (names_in items) [] items
+  pub passed : AllPass (names_in items) [] items
 
 -- the first fault of a node's items, unless memory was refused
 abbrev pub IsNodeFault : List Item → ℕ → Option AsmKind → Type 0

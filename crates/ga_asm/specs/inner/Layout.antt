@@ -3,7 +3,7 @@ use Rattle.std.specs.Prelude.{◌≡◌, ◌<◌, ◌≤◌, ℕ, ◌+◌, Bool,
 use Rattle.std.specs.Option.{option_map, option_or}
 use Rattle.ga_word.specs.declared.op.Op.{Op}
 use Rattle.ga_pack.specs.Model.Layout.{Labels, Group, Shared, Alone, StandIn, address_after, is_loose, joins, labels_after, names_in, op_of, ops_of, size}
-use Rattle.ga_pack.specs.Model.LayoutFault.{AsmKind, FirstPassFault, Passed}
+use Rattle.ga_pack.specs.Model.LayoutFault.{AsmKind, FirstPassFault, AllPass}
 use Rattle.ga_pack.specs.Model.Source.{Item, Here, Data, is_among}
 use Rattle.ga_source.specs.declared.item.Item as an
 use Rattle.ga_source.specs.Item.{item_of}
@@ -121,7 +121,7 @@ pub record IsBlank (l : the.Layout) : Type 0 where
 pub record Laying (names : List (List ℕ)) (items : List Item) (l : the.Layout) : Type 0 where
   pub groups : List Group
   pub stand_in : StandIn items groups
-  pub passed : Passed names [] items
+  pub passed : AllPass names [] items
   pub labels_are : labels_of l.labels.entries ≡ labels_after [] 0 groups
   pub names_are : names_of (labels_of l.labels.entries) ≡ names_in items
   pub address_is : l.address ≡ address_after 0 groups
@@ -135,7 +135,7 @@ pub record Laying (names : List (List ℕ)) (items : List Item) (l : the.Layout)
 pub record Placing (items : List Item) (l : the.Layout) : Type 0 where
   pub groups : List Group
   pub stand_in : StandIn items groups
-  pub passed : Passed (names_in items) [] items
+  pub passed : AllPass (names_in items) [] items
   pub labels_are : labels_of l.labels.entries ≡ labels_after [] 0 groups
   pub address_is : l.address ≡ address_after 0 groups
   pub counts_are : l.counts.items ≡ map count_of groups

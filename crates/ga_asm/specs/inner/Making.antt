@@ -4,7 +4,7 @@ use Rattle.std.specs.Option.{unwrap_or}
 use Rattle.ga_word.specs.declared.op.Op.{Op}
 use Rattle.ga_pack.specs.Encoding.{pack_fault}
 use Rattle.ga_pack.specs.Model.Layout.{Labels, Group, Shared, Alone, GroupWords, Laid, StandIn, Words, address_after, all_in_reach, dest_in, is_loose, items_of, labels_after, last_dest, names_in, ops_of, with_fillers}
-use Rattle.ga_pack.specs.Model.LayoutFault.{AsmKind, Passed, SecondPassFault}
+use Rattle.ga_pack.specs.Model.LayoutFault.{AsmKind, AllPass, SecondPassFault}
 use Rattle.ga_pack.specs.Model.Source.{Item, Transfer, is_item}
 use Rattle.ga_asm.specs.Image.{labels_of}
 use Rattle.ga_asm.specs.inner.Layout.{count_of, data_at}
@@ -48,7 +48,7 @@ pub record Making (items : List Item) (l : the.Layout) (done : ℕ) (rest : List
   pub front : List Group
   pub back : List Group
   pub stand_in : StandIn items (front ++ back)
-  pub passed : Passed (names_in items) [] items
+  pub passed : AllPass (names_in items) [] items
   pub labels_are : labels_of l.labels.entries ≡ labels_after [] 0 (front ++ back)
   pub address_is : l.address ≡ address_after 0 (front ++ back)
   pub data_is : l.data_start ≡ data_at 0 (front ++ back)
@@ -67,6 +67,6 @@ IsSecondPassFault items at (Some kind) = SecondPassFault items at kind
 -- All words are made, and no name is out of reach.
 pub record IsMade (items : List Item) (l : the.Layout) (words : List ℕ) : Type 0 where
   pub laid : Laid items words (labels_of l.labels.entries) (unwrap_or l.data_start l.address)
-  pub passed : Passed (names_in items) [] items
+  pub passed : AllPass (names_in items) [] items
   pub count : length words ≡ l.address
   pub within : unwrap_or l.data_start l.address ≤ length words

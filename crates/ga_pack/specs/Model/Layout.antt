@@ -84,7 +84,7 @@ same_page p dest = dest / 8 == p / 8
 -- The numbers that a destination in a slot reaches: from slot 0 each, from slot 1 those below 100 (hexadecimal),
 -- and from slot 2 those in the page of P.
 abbrev pub reaches : ℕ → ℕ → ℕ → Bool
-reaches slot p dest = (slot == 0) || ((slot == 1) && nat_lt dest 0x100) || ((slot == 2) && same_page p dest)
+reaches slot p dest = (slot == 0) || ((slot == 1) && nat_lt dest (dest_bound 1)) || ((slot == 2) && same_page p dest)
 
 -- a label that is not defined yet may stand in slots 0 and 1, from where each address is in reach
 abbrev pub may_reach : ℕ → ℕ → Option ℕ → Bool
@@ -154,18 +154,18 @@ more_join labels address ops (i ∷ is) = joins labels address ops i
 --
 -- A border closes a word: behind `;`, `ex` and a destination no item joins it, and a label, `align`, `data`, a
 -- bracketed word and a plain word never do.
-unfoldable pub Arranged : Labels → ℕ → List Group → Type 0
-Arranged labels address [] = Unit {0}
-Arranged labels address (Shared i is ∷ groups) =
+unfoldable pub Arrangement : Labels → ℕ → List Group → Type 0
+Arrangement labels address [] = Unit {0}
+Arrangement labels address (Shared i is ∷ groups) =
     (stand labels address [] (i ∷ is) ≡ true) × (more_join labels address (ops_of (i ∷ is)) (items_of groups) ≡ false)
-    × Arranged labels (address + size (Shared i is)) groups
-Arranged labels address (Alone i ∷ groups) =
-    (is_loose i ≡ false) × Arranged (labels_behind labels address (Alone i)) (address + size (Alone i)) groups
+    × Arrangement labels (address + size (Shared i is)) groups
+Arrangement labels address (Alone i ∷ groups) =
+    (is_loose i ≡ false) × Arrangement (labels_behind labels address (Alone i)) (address + size (Alone i)) groups
 
 -- these are the groups of the items, in order, from address 0 on
 pub record StandIn (items : List Item) (groups : List Group) : Type 0 where
   pub in_order : items_of groups ≡ items
-  pub arranged : Arranged [] 0 groups
+  pub arranged : Arrangement [] 0 groups
 
 -- the labels, and the address, behind groups
 abbrev pub labels_after : Labels → ℕ → List Group → Labels

@@ -51,15 +51,15 @@ unfoldable pub fault_behind : List (List ℕ) → List Group → Item → Option
 fault_behind names groups i = fault_at names (labels_after [] 0 groups) (address_after 0 groups) (joins_last [] 0 groups i) i
 
 -- an item behind those before it, which stand in groups, has this fault or none
-pub record Judged (names : List (List ℕ)) (before : List Item) (item : Item) (fault : Option AsmKind) : Type 0 where
+pub record Judgement (names : List (List ℕ)) (before : List Item) (item : Item) (fault : Option AsmKind) : Type 0 where
   pub groups : List Group
   pub stand_in : StandIn before groups
   pub fault_is : fault_behind names groups item ≡ fault
 
 -- none of these items has a fault, each behind those before it
-unfoldable pub Passed : List (List ℕ) → List Item → List Item → Type 0
-Passed names before [] = Unit {0}
-Passed names before (i ∷ is) = Judged names before i None × Passed names (before ++ i ∷ []) is
+unfoldable pub AllPass : List (List ℕ) → List Item → List Item → Type 0
+AllPass names before [] = Unit {0}
+AllPass names before (i ∷ is) = Judgement names before i None × AllPass names (before ++ i ∷ []) is
 
 -- the first item with a fault, by the number of items before it, and its fault
 pub record FirstPassFault (items : List Item) (at : ℕ) (kind : AsmKind) : Type 0 where
@@ -68,14 +68,14 @@ pub record FirstPassFault (items : List Item) (at : ℕ) (kind : AsmKind) : Type
   pub rest : List Item
   pub split : items ≡ before ++ item ∷ rest
   pub at_is : at ≡ length before
-  pub passed : Passed (names_in items) [] before
-  pub judged : Judged (names_in items) before item (Some kind)
+  pub passed : AllPass (names_in items) [] before
+  pub judged : Judgement (names_in items) before item (Some kind)
 
 -- ---- the second pass
 
 -- All items passed, and this one, a bracketed word, is the first whose name is out of reach, by all labels of the node.
 pub record SecondPassFault (items : List Item) (at : ℕ) (kind : AsmKind) : Type 0 where
-  pub passed : Passed (names_in items) [] items
+  pub passed : AllPass (names_in items) [] items
   pub front : List Group
   pub item : Item
   pub back : List Group
@@ -97,7 +97,7 @@ pub record IsRight (items : List Item) : Type 0 where
   pub labels : Labels
   pub code_len : ℕ
   pub laid : Laid items words labels code_len
-  pub passed : Passed (names_in items) [] items
+  pub passed : AllPass (names_in items) [] items
 
 abbrev pub plain_items : PlacedSection → List Item
 plain_items section = map (λ placed. placed.item) section.items

@@ -2,13 +2,13 @@
 --
 -- A program is spelled token by token (`text_tokens`), and of what can be spelled the right programs are
 -- told by their sections and items (`Sections`, `Items`). Nothing here walks a text.
-use Rattle.std.specs.Prelude.{◌≡◌, ◌==◌, ◌&&◌, ◌||◌, ℕ, zero, suc, ◌^◌, Bool, true, false, not, List, [], ◌∷◌, ◌++◌, length, nat_eq, nat_lt, Option, Some, None}
+use Rattle.std.specs.Prelude.{◌≡◌, ◌==◌, ◌&&◌, ◌||◌, ℕ, zero, suc, Bool, true, false, not, List, [], ◌∷◌, ◌++◌, length, nat_eq, nat_lt, Option, Some, None}
 use Rattle.std.specs.List.{list_any}
 use Rattle.std.specs.Str.{bytes_eq}
 use Rattle.ga_word.specs.declared.op.Op.{Op}
 use Rattle.ga_word.specs.Op.{takes_dest}
 use Rattle.ga_pack.specs.Followers.{followers, is_followed}
-use Rattle.ga_pack.specs.Slots.{dest_bound, op_fits}
+use Rattle.ga_pack.specs.Slots.{dest_bound, op_fits, spare_bound}
 use Rattle.ga_pack.specs.Model.Token.{Token, op, number, name, label, node, node_name, align, data_part, open_mark, close_mark, comma, slash, end}
 use Rattle.ga_pack.specs.Model.Meaning.{is_reserved}
 
@@ -87,14 +87,14 @@ abbrev pub stand_from : ℕ → List Op → Bool
 stand_from slot [] = true
 stand_from slot (o ∷ ops) = not (takes_dest o) && op_fits slot o && stand_from (suc slot) ops
 
--- only a destination in slot 0 leaves spare bits, three of them
+-- spare bits are stated behind a destination in slot 0 alone, which leaves some
 abbrev pub is_spare : ℕ → Option ℕ → Bool
 is_spare slot None = true
-is_spare slot (Some spare) = (slot == 0) && nat_lt spare 8
+is_spare slot (Some spare) = (slot == 0) && nat_lt spare (spare_bound 0)
 
 unfoldable pub is_item : Item → Bool
 is_item (Instruction o) = not (takes_dest o) && not (is_followed o)
-is_item (Transfer o v) = takes_dest o && is_below (2 ^ 10) v
+is_item (Transfer o v) = takes_dest o && is_below (dest_bound 0) v
 is_item (Literal n) = true
 is_item (Here s) = not (is_reserved s)
 is_item Align = true

@@ -1,5 +1,5 @@
 -- The parser as a machine that takes one token at a time.
-use Rattle.std.specs.Prelude.{◌≡◌, ◌==◌, ◌^◌, ℕ, zero, suc, true, false, List, [], ◌∷◌, ◌++◌, length, nat_lt, Some, None, Result, Ok, Err, if◌then◌else◌}
+use Rattle.std.specs.Prelude.{◌≡◌, ◌==◌, ℕ, zero, suc, true, false, List, [], ◌∷◌, ◌++◌, length, nat_lt, Some, None, Result, Ok, Err, if◌then◌else◌}
 use Rattle.ga_word.specs.declared.op.Op.{Op}
 use Rattle.ga_word.specs.Op.{takes_dest}
 use Rattle.ga_pack.specs.Followers.{is_followed}
@@ -8,7 +8,7 @@ use Rattle.ga_pack.specs.Model.Layout.{names_in}
 use Rattle.ga_pack.specs.Model.Meaning.{is_reserved}
 use Rattle.ga_pack.specs.Model.Source.{Value, Number, Label, Item, Instruction, Transfer, Literal, Here, Align, Word, WordTo, Plain, Data, Section, Part, Code, Behind, Before, start, after, part_after, stand_from, is_among, is_below, is_named}
 use Rattle.ga_pack.specs.Model.SourceFault.{bracket_fault, value_fault}
-use Rattle.ga_pack.specs.Slots.{dest_bound, op_fits}
+use Rattle.ga_pack.specs.Slots.{dest_bound, op_fits, spare_bound}
 
 -- where the parser stands inside an item: what it has read of it
 pub data At : Type 0 where
@@ -37,7 +37,7 @@ pub data State : Type 0 where
   inside : Inside → At → State
   finished : List Section → State
 
--- the section that is open, sections_closed
+-- the sections, with the one that is open
 abbrev pub sections_closed : Inside → List Section
 sections_closed c = c.done ++ record { name = c.name; items = c.items } ∷ []
 
@@ -98,7 +98,7 @@ take (naming done seen) (bad k) = Err k
 take (naming done seen) (node_name n) = if is_named n seen then Err DuplicateNode else Ok (inside (record { done = done; seen = seen; name = n; items = []; before = start }) between)
 take (naming done seen) _ = Err BadNode
 take (inside c between) t = take_between c t
-take (inside c (behind_op o)) (number n) = if nat_lt n (2 ^ 10) then Ok (item_added c (Transfer o (Number n)) (Code 0)) else Err NumberRange
+take (inside c (behind_op o)) (number n) = if nat_lt n (dest_bound 0) then Ok (item_added c (Transfer o (Number n)) (Code 0)) else Err NumberRange
 take (inside c (behind_op o)) (name s) = Ok (item_added c (Transfer o (Label s)) (Code 0))
 take (inside c (behind_op o)) t = Err (value_fault t)
 take (inside c behind_comma) (number n) = with_part c (Plain (Number n))
@@ -113,7 +113,7 @@ take (inside c (behind_dest_op ops o)) t = Err (bracket_fault t)
 take (inside c (behind_dest ops o v)) slash = if length ops == 0 then Ok (inside c (behind_slash ops o v)) else Err BadWord
 take (inside c (behind_dest ops o v)) close_mark = with_part c (WordTo ops o v None)
 take (inside c (behind_dest ops o v)) t = Err (bracket_fault t)
-take (inside c (behind_slash ops o v)) (number k) = if nat_lt k 8 then Ok (inside c (behind_spare ops o v k)) else Err BadWord
+take (inside c (behind_slash ops o v)) (number k) = if nat_lt k (spare_bound 0) then Ok (inside c (behind_spare ops o v k)) else Err BadWord
 take (inside c (behind_slash ops o v)) t = Err (bracket_fault t)
 take (inside c (behind_spare ops o v k)) close_mark = with_part c (WordTo ops o v (Some k))
 take (inside c (behind_spare ops o v k)) t = Err (bracket_fault t)
@@ -127,7 +127,7 @@ Good (inside c (in_word ops)) = (stand_from 0 ops ≡ true) × (c.before.part �
 Good (inside c (behind_dest_op ops o)) = (stand_from 0 ops ≡ true) × (nat_lt (length ops) 3 ≡ true) × (takes_dest o ≡ true) × (c.before.part ≡ Code 0)
 Good (inside c (behind_dest ops o v)) = (stand_from 0 ops ≡ true) × (nat_lt (length ops) 3 ≡ true) × (takes_dest o ≡ true) × (is_below (dest_bound (length ops)) v ≡ true) × (c.before.part ≡ Code 0)
 Good (inside c (behind_slash ops o v)) = (stand_from 0 ops ≡ true) × (nat_lt (length ops) 3 ≡ true) × (takes_dest o ≡ true) × (is_below (dest_bound (length ops)) v ≡ true) × ((length ops == 0) ≡ true) × (c.before.part ≡ Code 0)
-Good (inside c (behind_spare ops o v k)) = (stand_from 0 ops ≡ true) × (nat_lt (length ops) 3 ≡ true) × (takes_dest o ≡ true) × (is_below (dest_bound (length ops)) v ≡ true) × ((length ops == 0) ≡ true) × (nat_lt k 8 ≡ true) × (c.before.part ≡ Code 0)
+Good (inside c (behind_spare ops o v k)) = (stand_from 0 ops ≡ true) × (nat_lt (length ops) 3 ≡ true) × (takes_dest o ≡ true) × (is_below (dest_bound (length ops)) v ≡ true) × ((length ops == 0) ≡ true) × (nat_lt k (spare_bound 0) ≡ true) × (c.before.part ≡ Code 0)
 Good _ = Unit {0}
 
 -- The node of the open section is not that of a section that is done, and its labels are those of its items.

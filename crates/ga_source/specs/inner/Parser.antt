@@ -51,10 +51,10 @@ RefusedAs r None = Unit {0}
 RefusedAs r (Some k) = r ≡ Err k
 
 -- the answer of the parser's machine, unless memory was refused
-abbrev pub Answered : {A : Type 0} → Result State SourceKind → Result A SourceErrorKind → State → Type 0
-Answered r (Ok x) s' = r ≡ Ok s'
-Answered r (Err e) s' = RefusedAs r (kind_of e)
+abbrev pub IsAnswer : {A : Type 0} → Result State SourceKind → Result A SourceErrorKind → State → Type 0
+IsAnswer r (Ok x) s' = r ≡ Ok s'
+IsAnswer r (Err e) s' = RefusedAs r (kind_of e)
 
 -- the answer of the parser's machine to a token, unless memory was refused
 abbrev pub Took : {A : Type 0} → State → Token → Result A SourceErrorKind → State → Type 0
-Took s t r s' = Answered (take s t) r s'
+Took s t r s' = IsAnswer (take s t) r s'

@@ -61,7 +61,7 @@ FirstLine text line None = (text ≡ line) × All (λ c. (c == 10) ≡ false) li
 FirstLine text line (Some rest) = (text ≡ line ++ 10 ∷ rest.now) × All (λ c. (c == 10) ≡ false) line
 
 -- the first token of a text that is in no comment, and what stands behind it
-pub record Found (text run behind : List ℕ) : Type 0 where
+pub record FirstRun (text run behind : List ℕ) : Type 0 where
   pub front : List ℕ
   pub whole : text ≡ front ++ (run ++ behind)
   pub some : 0 < length run

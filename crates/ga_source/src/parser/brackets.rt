@@ -6,7 +6,7 @@ ghost use Rattle.ga_source.specs.Error.{kind_of};
 ghost use Rattle.ga_source.specs.Item.{item_of, value_of};
 ghost use Rattle.ga_source.specs.inner.Machine as machine;
 ghost use Rattle.ga_source.specs.inner.Meaning.{IsShort, meaning_of};
-ghost use Rattle.ga_source.specs.inner.Parser.{Answered, Took, inside_of, section_part, state_of};
+ghost use Rattle.ga_source.specs.inner.Parser.{IsAnswer, Took, inside_of, section_part, state_of};
 ghost use Rattle.ga_source.specs.declared.parser.Position.TheVariants as at;
 
 use super::{Parser, Part, Position, name_of};
@@ -14,7 +14,7 @@ use crate::error::SourceErrorKind;
 use crate::item::{Item, TransferWord, Value};
 use crate::meaning::Meaning;
 use arrayvec::ArrayVec;
-use ga_pack::{dest_bound, followers_of, op_fits};
+use ga_pack::{dest_bound, followers_of, op_fits, spare_bound};
 use ga_word::Op;
 use std::alloc::{AllocError, Global};
 
@@ -108,7 +108,7 @@ impl Parser {
         ensures { Took (state_of self.old) (meaning_of token.now) result (state_of self.new) }
     {
         match *token {
-            Meaning::Number(spare) if spare.get() < 8 => {
+            Meaning::Number(spare) if spare.get() < u32::from(spare_bound(0)) => {
                 self.position = Position::BehindSpare(op, dest, spare.get() as u8);
                 Ok(())
             }
@@ -138,7 +138,7 @@ impl Parser {
     // A bracketed word without a destination is whole.
     fn close_word(&mut self) -> Result<(), SourceErrorKind>
         requires code { section_part self.old.part ≡ Code 0 }
-        ensures { Answered (machine.with_part (inside_of self.old) (Word self.old.ops.items)) result
+        ensures { IsAnswer (machine.with_part (inside_of self.old) (Word self.old.ops.items)) result
             (state_of self.new) }
     {
         let owed = followers_of(&self.ops);
@@ -149,7 +149,7 @@ impl Parser {
     // A bracketed word with a destination is whole.
     fn close(&mut self, op: Op, dest: Value, spare: Option<u8>) -> Result<(), SourceErrorKind>
         requires code { section_part self.old.part ≡ Code 0 }
-        ensures { Answered (machine.with_part (inside_of self.old)
+        ensures { IsAnswer (machine.with_part (inside_of self.old)
             (WordTo self.old.ops.items op (value_of dest) spare)) result (state_of self.new) }
     {
         let owed = followers_of(&self.ops);

@@ -5,7 +5,7 @@ ghost use Rattle.ga_source.specs.Item.{value_of};
 ghost use Rattle.ga_source.specs.inner.Machine as machine;
 ghost use Rattle.ga_source.specs.inner.Machine.{item_added};
 ghost use Rattle.ga_source.specs.inner.Meaning.{IsShort, meaning_of};
-ghost use Rattle.ga_source.specs.inner.Parser.{Answered, Took, inside_of, section_part, state_of};
+ghost use Rattle.ga_source.specs.inner.Parser.{IsAnswer, Took, inside_of, section_part, state_of};
 ghost use Rattle.ga_source.specs.declared.error.SourceErrorKind.TheVariants.{Memory};
 ghost use Rattle.ga_source.specs.declared.parser.Part.TheVariants as part;
 ghost use Rattle.ga_source.specs.declared.parser.Position.TheVariants as at;
@@ -22,7 +22,7 @@ impl Parser {
     /// What begins an item, but for a label.
     pub(crate) fn take_item(&mut self, token: &Meaning<'_>) -> Result<(), SourceErrorKind>
         requires position { self.old.position ≡ at.Between }
-        ensures { Answered (machine.take_first (section_part self.old.part) (inside_of self.old)
+        ensures { IsAnswer (machine.take_first (section_part self.old.part) (inside_of self.old)
             (meaning_of token.now)) result (state_of self.new) }
     {
         match self.part {
@@ -35,7 +35,7 @@ impl Parser {
     // In the code part, where no follower is owed.
     fn take_code(&mut self, token: &Meaning<'_>) -> Result<(), SourceErrorKind>
         requires position { self.old.position ≡ at.Between }
-        ensures { Answered (machine.take_first (Code 0) (inside_of self.old) (meaning_of token.now))
+        ensures { IsAnswer (machine.take_first (Code 0) (inside_of self.old) (meaning_of token.now))
             result (state_of self.new) }
     {
         match *token {
@@ -55,7 +55,7 @@ impl Parser {
     // An opcode outside brackets, where no follower is owed.
     fn take_op(&mut self, op: Op) -> Result<(), SourceErrorKind>
         requires position { self.old.position ≡ at.Between }
-        ensures { Answered (machine.take_op (inside_of self.old) op) result (state_of self.new) }
+        ensures { IsAnswer (machine.take_op (inside_of self.old) op) result (state_of self.new) }
     {
         if op.takes_dest() {
             self.position = Position::BehindOp(op);
@@ -71,7 +71,7 @@ impl Parser {
     fn take_owed(&mut self, token: &Meaning<'_>) -> Result<(), SourceErrorKind>
         requires position { self.old.position ≡ at.Between }
         ensures { (owed : ℕ)
-            → Answered (machine.take_first (Code (suc owed)) (inside_of self.old)
+            → IsAnswer (machine.take_first (Code (suc owed)) (inside_of self.old)
             (meaning_of token.now)) result (state_of self.new) }
     {
         match *token {
@@ -91,7 +91,7 @@ impl Parser {
     // Behind `data`.
     fn take_data(&mut self, token: &Meaning<'_>) -> Result<(), SourceErrorKind>
         requires position { self.old.position ≡ at.Between }
-        ensures { Answered (machine.take_first Behind (inside_of self.old) (meaning_of token.now))
+        ensures { IsAnswer (machine.take_first Behind (inside_of self.old) (meaning_of token.now))
             result (state_of self.new) }
     {
         match *token {
@@ -145,7 +145,7 @@ impl Parser {
     // A plain word is whole.
     fn add_plain(&mut self, value: Value) -> Result<(), SourceErrorKind>
         requires owed { (owed : ℕ) → self.old.part ≡ part.Code owed → 0 < owed }
-        ensures { Answered (machine.with_part (inside_of self.old) (Plain (value_of value))) result
+        ensures { IsAnswer (machine.with_part (inside_of self.old) (Plain (value_of value))) result
             (state_of self.new) }
     {
         let part = match self.part {

@@ -2,21 +2,21 @@ use Rattle.std.proofs.Common.{rules, ◌≡◌, ◌∙◌, ◌<◌, List, [], �
 use Rattle.std.specs.Prelude.{All, ◌≤◌, slice_range}
 use Rattle.ga_pack.specs.Model.Text.{Place, lexemes}
 use Rattle.ga_source.specs.Token.{place_of, token_of}
-use Rattle.ga_source.specs.inner.Walk.{Found, lexemes_at, walk}
+use Rattle.ga_source.specs.inner.Walk.{FirstRun, lexemes_at, walk}
 use Rattle.ga_source.proofs.Slices.{tokens_inside, tokens_sliced}
-use Rattle.ga_source.proofs.Walking.{Walked, front_is, lengths, walk_low, walked_all, walked_more, walked_nothing}
+use Rattle.ga_source.proofs.Walking.{HasWalked, front_is, lengths, walk_low, walked_all, walked_more, walked_nothing}
 use Rattle.ga_source.proofs.token.tokens.Goals as goal
 
 pub loop-run-init : goal.loop-run-init
 loop-run-init c =
-    subst (Walked c.args.text.now 1 1 c.as_bytes-rest.result.now) (sym c.new-tokens.ensures.items)
-    (subst (λ (rest : List ℕ). Walked c.args.text.now 1 1 rest []) (sym c.as_bytes-rest.ensures.value) (walked_nothing c.args.text.now))
+    subst (HasWalked c.args.text.now 1 1 c.as_bytes-rest.result.now) (sym c.new-tokens.ensures.items)
+    (subst (λ (rest : List ℕ). HasWalked c.args.text.now 1 1 rest []) (sym c.as_bytes-rest.ensures.value) (walked_nothing c.args.text.now))
 
 pub behind-place-requires-in-Some-clause-line : goal.behind-place-requires-in-Some-clause-line
 behind-place-requires-in-Some-clause-line c =
     let rest = c.loop-run.rest.now in
     let w = c.loop-run.invariant in
-    let f : Found rest c.in-Some.run'.now c.in-Some.behind.now = search rules in
+    let f : FirstRun rest c.in-Some.run'.now c.in-Some.behind.now = search rules in
     let long = lengths c.args.text.now rest c.in-Some.run'.now c.in-Some.behind.now c.loop-run.place.line c.loop-run.place.column c.loop-run.tokens.items w f in
     let front = ap length (front_is c.args.text.now rest c.in-Some.run'.now c.in-Some.behind.now c.loop-run.place.line c.loop-run.place.column c.loop-run.tokens.items w f c.split_at.result.0.now c.split_at.ensures.front) in
     omega (arith, w.low_line, (walk_low (place_of c.loop-run.place) c.split_at.result.0.now).0, ap (λ p. p.line) c.behind-place.ensures, long, front)
@@ -25,7 +25,7 @@ pub behind-place-requires-in-Some-clause-column : goal.behind-place-requires-in-
 behind-place-requires-in-Some-clause-column c =
     let rest = c.loop-run.rest.now in
     let w = c.loop-run.invariant in
-    let f : Found rest c.in-Some.run'.now c.in-Some.behind.now = search rules in
+    let f : FirstRun rest c.in-Some.run'.now c.in-Some.behind.now = search rules in
     let long = lengths c.args.text.now rest c.in-Some.run'.now c.in-Some.behind.now c.loop-run.place.line c.loop-run.place.column c.loop-run.tokens.items w f in
     let front = ap length (front_is c.args.text.now rest c.in-Some.run'.now c.in-Some.behind.now c.loop-run.place.line c.loop-run.place.column c.loop-run.tokens.items w f c.split_at.result.0.now c.split_at.ensures.front) in
     omega (arith, w.low_column, (walk_low (place_of c.loop-run.place) c.split_at.result.0.now).1, ap (λ p. p.column) c.behind-place.ensures, long, front)
@@ -33,7 +33,7 @@ behind-place-requires-in-Some-clause-column c =
 pub loop-run-smaller : goal.loop-run-smaller
 loop-run-smaller c =
     let rest = c.loop-run.rest.now in
-    let f : Found rest c.in-Some.run'.now c.in-Some.behind.now = search rules in
+    let f : FirstRun rest c.in-Some.run'.now c.in-Some.behind.now = search rules in
     let long = lengths c.args.text.now rest c.in-Some.run'.now c.in-Some.behind.now c.loop-run.place.line c.loop-run.place.column c.loop-run.tokens.items c.loop-run.invariant f in
     let shorter : length c.in-Some.behind.now < length rest = omega (arith, long, f.some) in
     shorter
@@ -42,7 +42,7 @@ pub loop-run-preserved : goal.loop-run-preserved
 loop-run-preserved c =
     let rest = c.loop-run.rest.now in
     let w = c.loop-run.invariant in
-    let f : Found rest c.in-Some.run'.now c.in-Some.behind.now = search rules in
+    let f : FirstRun rest c.in-Some.run'.now c.in-Some.behind.now = search rules in
     let front = front_is c.args.text.now rest c.in-Some.run'.now c.in-Some.behind.now c.loop-run.place.line c.loop-run.place.column c.loop-run.tokens.items w f c.split_at.result.0.now c.split_at.ensures.front in
     walked_more c.args.text.now rest c.in-Some.run'.now c.in-Some.behind.now c.loop-run.place.line c.loop-run.place.column c.loop-run.tokens.items w f (place_of c.behind-place.result) (place_of c.behind-place-in-Some.result) _ c.push.new.self.items
     (c.behind-place.ensures ∙ ap (walk (place_of c.loop-run.place)) front) c.behind-place-in-Some.ensures refl c.in_ok-push.ensures.items
