@@ -27,7 +27,7 @@ use Rattle.ga_chip.specs.Stuck.{IsClosed, IsUnfed, LeavesStuck, StandsStill, Stu
 use Rattle.ga_chip.proofs.Asked.{among_looked}
 use Rattle.ga_chip.proofs.Events.{Does, DoesNothing, Else, Here, bared, does, moves_else, moves_here, part_else, part_from, part_here}
 use Rattle.ga_chip.proofs.Kept.{fits_name, has_name, legal_kept}
-use Rattle.ga_chip.proofs.Parts.{Fits, Passed, Quiet, moved_asks, passed_after}
+use Rattle.ga_chip.proofs.Parts.{Fits, Passes, Quiet, moved_asks, passed_after}
 use Rattle.ga_chip.proofs.Runs.{moves_of-append}
 use Rattle.ga_chip.proofs.Stays.{each_side}
 use Rattle.ga_chip.proofs.Streams.{open_there}
@@ -49,8 +49,8 @@ taken_dry : (inside : ℕ → Bool) (cells : List (Option ℕ)) (name : ℕ) (si
 taken_dry inside cells name sides all side among = sym (ap (λ b. not b || is_dry inside cells name side) among) ∙ at_each (λ side. not (is_among side sides) || is_dry inside cells name side) all side
 
 -- What a stuck node would find doesn't let it go on.
-abbrev Blocked : Asks → List (Option ℕ) → Type 0
-Blocked q cells = Passed q (found_by q cells) → ⊥
+abbrev IsBlocked : Asks → List (Option ℕ) → Type 0
+IsBlocked q cells = Passes q (found_by q cells) → ⊥
 
 dry_empty : (inside : ℕ → Bool) (cells : List (Option ℕ)) (name : ℕ) (side : Side) → is_dry inside cells name side ≡ true → is_full cells (read_cell name side) ≡ false
 dry_empty inside cells name side dry = by (neighbour_of name side) refl
@@ -59,33 +59,33 @@ dry_empty inside cells name side dry = by (neighbour_of name side) refl
     by None e = ap (λ o. is_full cells (option_and_then (λ other. cell_of other side) o)) e
     by (Some other) e = not-true _ (and_parts _ _ (ap (is_shut inside (not (is_full cells (read_cell name side)))) (sym e) ∙ dry)).0
 
-blocked_at : (cells : List (Option ℕ)) (side : Side) (at : Option ℕ) → is_full cells at ≡ false → Blocked (take_of side at) cells
+blocked_at : (cells : List (Option ℕ)) (side : Side) (at : Option ℕ) → is_full cells at ≡ false → IsBlocked (take_of side at) cells
 blocked_at cells side None empty = λ passed. passed
 blocked_at cells side (Some cell) empty = λ passed. false≢true (sym empty ∙ ap is_some passed.1)
 
-blocked_take : (inside : ℕ → Bool) (cells : List (Option ℕ)) (name : ℕ) (at : Option Side) → ((side : Side) → at ≡ Some side → is_dry inside cells name side ≡ true) → Blocked (take_from name at) cells
+blocked_take : (inside : ℕ → Bool) (cells : List (Option ℕ)) (name : ℕ) (at : Option Side) → ((side : Side) → at ≡ Some side → is_dry inside cells name side ≡ true) → IsBlocked (take_from name at) cells
 blocked_take inside cells name None dry = λ passed. passed
 blocked_take inside cells name (Some side) dry = blocked_at cells side (read_cell name side) (dry_empty inside cells name side (dry side refl))
 
-blocked_post : (cells : List (Option ℕ)) (name word : ℕ) (to : Side) (at : Option ℕ) → cell_of name to ≡ at → not (has_side name to) ≡ true → Blocked (post_to to word at) cells
+blocked_post : (cells : List (Option ℕ)) (name word : ℕ) (to : Side) (at : Option ℕ) → cell_of name to ≡ at → not (has_side name to) ≡ true → IsBlocked (post_to to word at) cells
 blocked_post cells name word to None here lacks = λ passed. passed
 blocked_post cells name word to (Some cell) here lacks =
     let there = neighbour_there name cell to here in
     absurd (false≢true (sym (not-true _ lacks) ∙ ap is_some there.1))
 
-blocked_check : (inside : ℕ → Bool) (cells : List (Option ℕ)) (name : ℕ) (to : Side) (at : Option ℕ) → cell_of name to ≡ at → is_unread inside cells name to ≡ true → Blocked (check_of to at) cells
+blocked_check : (inside : ℕ → Bool) (cells : List (Option ℕ)) (name : ℕ) (to : Side) (at : Option ℕ) → cell_of name to ≡ at → is_unread inside cells name to ≡ true → IsBlocked (check_of to at) cells
 blocked_check inside cells name to None here unread = λ passed. passed
 blocked_check inside cells name to (Some cell) here unread =
     let there = neighbour_there name cell to here in
     let full : is_full cells (cell_of name to) ≡ true = (and_parts _ _ (ap (is_shut inside (is_full cells (cell_of name to))) (sym there.1) ∙ unread)).0 in
     λ passed. false≢true (sym (ap is_some passed) ∙ ap (is_full cells) (sym here) ∙ full)
 
-blocked_input : (cells : List (Option ℕ)) (stream : Option (List ℕ)) → (length (words_left stream) == 0) ≡ true → Blocked (input_of stream) cells
+blocked_input : (cells : List (Option ℕ)) (stream : Option (List ℕ)) → (length (words_left stream) == 0) ≡ true → IsBlocked (input_of stream) cells
 blocked_input cells (Some (word ∷ rest)) none = let empty = eqb-true _ _ none in absurd (omega arith)
 blocked_input cells (Some []) none = λ passed. passed
 blocked_input cells None none = λ passed. passed
 
-blocked_by : (inside : ℕ → Bool) (cells : List (Option ℕ)) (name : ℕ) (stream : Option (List ℕ)) (n : Need) (side : Side) → is_stuck_by inside cells name (words_left stream) n ≡ true → Blocked (asks_by n name stream side) cells
+blocked_by : (inside : ℕ → Bool) (cells : List (Option ℕ)) (name : ℕ) (stream : Option (List ℕ)) (n : Need) (side : Side) → is_stuck_by inside cells name (words_left stream) n ≡ true → IsBlocked (asks_by n name stream side) cells
 blocked_by inside cells name stream need.Own side stuck = absurd (false≢true stuck)
 blocked_by inside cells name stream (need.Take sides) side stuck =
     blocked_take inside cells name (looked_at (one_side sides) sides side) (λ from looked. taken_dry inside cells name sides stuck from (among_looked sides side from looked))
@@ -94,7 +94,7 @@ blocked_by inside cells name stream (need.Check to) side stuck = blocked_check i
 blocked_by inside cells name stream need.Input side stuck = blocked_input cells stream stuck
 blocked_by inside cells name stream (need.Stopped stop) side stuck = λ passed. passed
 
-blocked : (inside : ℕ → Bool) (cells : List (Option ℕ)) (part : Part) (side : Side) → is_stuck inside cells part ≡ true → Blocked (asks_by (need_of part.state) part.state.node part.stream side) cells
+blocked : (inside : ℕ → Bool) (cells : List (Option ℕ)) (part : Part) (side : Side) → is_stuck inside cells part ≡ true → IsBlocked (asks_by (need_of part.state) part.state.node part.stream side) cells
 unfolding is_stuck
 blocked inside cells part side stuck = blocked_by inside cells part.state.node part.stream (need_of part.state) side stuck
 
@@ -116,14 +116,14 @@ pub closed_still : (chip : Chip) (inside : ℕ → Bool) (name : ℕ) (side : Si
 closed_still chip inside name side closed within = λ moved.
     let it = in_closed chip inside name closed within in
     let goes : (after it.part side (found_by (asks it.part side) chip.cells)).0 ≡ Moved = ap (λ r. r.0) (sym (tried_there chip name side it.part it.there)) ∙ moved in
-    blocked inside chip.cells it.part side it.stuck (subst (λ q. Passed q (found_by q chip.cells)) (moved_asks it.part side _ goes) (passed_after it.part side _ goes))
+    blocked inside chip.cells it.part side it.stuck (subst (λ q. Passes q (found_by q chip.cells)) (moved_asks it.part side _ goes) (passed_after it.part side _ goes))
 
 -- nor is an event that names it
 unmoved : (chip : Chip) (event : Event) (inside : ℕ → Bool) (d : Does chip event) → IsClosed chip inside → inside d.name ≡ true → d.outcome ≡ Moved → ⊥
 unmoved chip event inside d closed within moved =
     let it = in_closed chip inside d.name closed within in
     let stuck : is_stuck inside chip.cells d.part ≡ true = subst (λ p. is_stuck inside chip.cells p ≡ true) (same_Some it.part d.part (sym it.there ∙ d.there)) it.stuck in
-    blocked inside chip.cells d.part d.side stuck (subst (λ q. Passed q (found_by q chip.cells)) (d.settled moved) (subst (Passed d.asked) d.looks (d.passed moved)))
+    blocked inside chip.cells d.part d.side stuck (subst (λ q. Passes q (found_by q chip.cells)) (d.settled moved) (subst (Passes d.asked) d.looks (d.passed moved)))
 
 -- what isn't Moved leaves the cells
 quiet_cells : (q : Asks) (found : Option ℕ) (cells : List (Option ℕ)) → Quiet q found → found ≡ found_by q cells → cells_after q cells ≡ cells

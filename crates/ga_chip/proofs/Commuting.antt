@@ -12,7 +12,7 @@ use Rattle.ga_chip.specs.Legal.{IsLegal}
 use Rattle.ga_chip.specs.Laws.{Commuting}
 use Rattle.ga_chip.proofs.Lists.{get-set_else}
 use Rattle.ga_place.proofs.Cells.{one_writer, one_reader, one_place}
-use Rattle.ga_chip.proofs.Parts.{Fits, asks_fits, Passed, passed_after}
+use Rattle.ga_chip.proofs.Parts.{Fits, asks_fits, Passes, passed_after}
 use Rattle.ga_chip.proofs.Kept.{empty_at_post, has_name}
 
 -- a node whose try, that asks so, would be Moved
@@ -20,7 +20,7 @@ record Tries (chip : Chip) (name : ℕ) (q : Asks) : Type 0 where
   part : Part
   there : part_of chip name ≡ Some part
   fits : Fits q (need_of part.state) name
-  passed : Passed q (found_by q chip.cells)
+  passed : Passes q (found_by q chip.cells)
 
 abbrev pub cell_at : Asks → Option ℕ
 cell_at (Nothing outcome) = None

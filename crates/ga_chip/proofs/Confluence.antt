@@ -20,7 +20,7 @@ use Rattle.ga_chip.specs.Legal.{IsLegal, DifferInBreaks, unbroken}
 use Rattle.ga_chip.specs.Laws.{AgreesWith, Confluence}
 use Rattle.ga_chip.proofs.Lists.{agree_left, agree_right, agree_flat_map, agree_front, agree_after, agree_first, agree_push}
 use Rattle.ga_place.proofs.Cells.{writer_there}
-use Rattle.ga_chip.proofs.Parts.{Fits, Passed, same_asks}
+use Rattle.ga_chip.proofs.Parts.{Fits, Passes, same_asks}
 use Rattle.ga_chip.proofs.Events.{replay}
 use Rattle.ga_chip.proofs.Kept.{has_name, legal_ran}
 use Rattle.ga_chip.proofs.Runs.{moves-append, moves_of-append, stand_ran, part_first, flow_ran, posts, takes, posts_ran, takes_ran, HasWriter, HasReader, written_or_none, taken_or_none}
@@ -42,7 +42,7 @@ same_picked need.Input s t xs ys a = refl
 same_picked (need.Stopped stop) s t xs ys a = refl
 
 -- two tries that ask the same and are moved found the same, where two takes find the same word
-same_found : (q : Asks) (one two : Chip) (f g : Option ℕ) → f ≡ found_by q one.cells → g ≡ found_by q two.cells → Passed q f → Passed q g → ((side : Side) (cell w v : ℕ) → q ≡ Take side cell → pending one cell ≡ Some w → pending two cell ≡ Some v → w ≡ v) → f ≡ g
+same_found : (q : Asks) (one two : Chip) (f g : Option ℕ) → f ≡ found_by q one.cells → g ≡ found_by q two.cells → Passes q f → Passes q g → ((side : Side) (cell w v : ℕ) → q ≡ Take side cell → pending one cell ≡ Some w → pending two cell ≡ Some v → w ≡ v) → f ≡ g
 same_found (Nothing outcome) one two f g ef eg pf pg words = ef ∙ sym eg
 same_found Own one two f g ef eg pf pg words = ef ∙ sym eg
 same_found (Feed fed) one two f g ef eg pf pg words = ef ∙ sym eg
@@ -54,14 +54,14 @@ same_fields : (a b : Move) → a.node ≡ b.node → a.asked ≡ b.asked → a.f
 same_fields a b p q r s = λ i. record { node = p i; asked = q i; found = r i; picked = s i }
 
 -- by the same need two nodes ask the same, where they are fed the same
-same_input : (p q : Option (List ℕ)) (f g : Option ℕ) → Passed (input_of p) f → Passed (input_of q) g → ((w v : ℕ) → input_of p ≡ Feed w → input_of q ≡ Feed v → w ≡ v) → input_of p ≡ input_of q
+same_input : (p q : Option (List ℕ)) (f g : Option ℕ) → Passes (input_of p) f → Passes (input_of q) g → ((w v : ℕ) → input_of p ≡ Feed w → input_of q ≡ Feed v → w ≡ v) → input_of p ≡ input_of q
 same_input None q f g a b words = absurd a
 same_input (Some []) q f g a b words = absurd a
 same_input (Some (w ∷ rest)) None f g a b words = absurd b
 same_input (Some (w ∷ rest)) (Some []) f g a b words = absurd b
 same_input (Some (w ∷ rest)) (Some (v ∷ more)) f g a b words = ap Feed (words w v refl refl)
 
-same_asked : (n : Need) (name : ℕ) (p q : Option (List ℕ)) (s t : Side) (f g : Option ℕ) → picked_by n s ≡ picked_by n t → Passed (asks_by n name p s) f → Passed (asks_by n name q t) g → ((w v : ℕ) → asks_by n name p s ≡ Feed w → asks_by n name q t ≡ Feed v → w ≡ v) → asks_by n name p s ≡ asks_by n name q t
+same_asked : (n : Need) (name : ℕ) (p q : Option (List ℕ)) (s t : Side) (f g : Option ℕ) → picked_by n s ≡ picked_by n t → Passes (asks_by n name p s) f → Passes (asks_by n name q t) g → ((w v : ℕ) → asks_by n name p s ≡ Feed w → asks_by n name q t ≡ Feed v → w ≡ v) → asks_by n name p s ≡ asks_by n name q t
 same_asked need.Own name p q s t f g e a b words = refl
 same_asked (need.Take sides) name p q s t f g e a b words = same_asks (need.Take sides) name p s t e
 same_asked (need.Post to word) name p q s t f g e a b words = refl
@@ -88,10 +88,10 @@ same_move one two name m y a b alike xs ys sides words fed = same_fields m y (a.
     asked : m.asked ≡ y.asked
     asked =
         let a_is : m.asked ≡ asks_by (need_of b.part.state) b.part.state.node a.part.stream a.side = a.asked ∙ ap (λ s. asks_by (need_of s) s.node a.part.stream a.side) alike in
-        a_is ∙ same_asked (need_of b.part.state) b.part.state.node a.part.stream b.part.stream a.side b.side m.found y.found same_side (subst (λ q. Passed q m.found) a_is a.passed) (subst (λ q. Passed q y.found) b.asked b.passed) (λ w v e f. fed w v (a_is ∙ e) (b.asked ∙ f)) ∙ sym b.asked
+        a_is ∙ same_asked (need_of b.part.state) b.part.state.node a.part.stream b.part.stream a.side b.side m.found y.found same_side (subst (λ q. Passes q m.found) a_is a.passed) (subst (λ q. Passes q y.found) b.asked b.passed) (λ w v e f. fed w v (a_is ∙ e) (b.asked ∙ f)) ∙ sym b.asked
 
     found : m.found ≡ y.found
-    found = same_found m.asked one two m.found y.found a.looks (b.looks ∙ ap (λ q. found_by q two.cells) (sym asked)) a.passed (subst (λ q. Passed q y.found) (sym asked) b.passed) words
+    found = same_found m.asked one two m.found y.found a.looks (b.looks ∙ ap (λ q. found_by q two.cells) (sym asked)) a.passed (subst (λ q. Passes q y.found) (sym asked) b.passed) words
 
 -- chips that differ in breakpoints and passes have nodes that stand alike
 bare_first : (one two : Chip) (name : ℕ) (p q : Part) → DifferInBreaks one two → part_of one name ≡ Some p → part_of two name ≡ Some q → unbroken p ≡ unbroken q

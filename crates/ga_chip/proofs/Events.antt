@@ -17,7 +17,7 @@ use Rattle.ga_chip.specs.Chip.{with_changed}
 use Rattle.ga_chip.specs.Run.{Event, Try, SetBreak, ClearBreak, PassBreak, Piece, break_set, break_cleared, break_passed, words_left, stream_with, piece_come, piece_of, happened, Move, if_moved, move_at, move_in, input_by, posted_by, taken_by, moves_of}
 use Rattle.ga_chip.proofs.Lists.{get-set_here, get-set_else}
 use Rattle.ga_place.proofs.Cells.{one_place}
-use Rattle.ga_chip.proofs.Parts.{Fits, asks_fits, moved_asks, stand_after, stands_after, feeds_after, opened_after, name_after, written_after, read_after, Quiet, quiet_after, still_after, steps_after, Passed, passed_after, counts_after}
+use Rattle.ga_chip.proofs.Parts.{Fits, asks_fits, moved_asks, stand_after, stands_after, feeds_after, opened_after, name_after, written_after, read_after, Quiet, quiet_after, still_after, steps_after, Passes, passed_after, counts_after}
 
 -- a part without its breakpoints, its pass and its stream
 abbrev pub bared : Part → Part
@@ -39,7 +39,7 @@ pub record Does (chip : Chip) (event : Event) : Type 0 where
   pub looks : found ≡ found_by asked chip.cells
   pub fits : Fits asked (need_of part.state) part.state.node
   pub settled : outcome ≡ Moved → asked ≡ asks_by (need_of part.state) part.state.node part.stream side
-  pub passed : outcome ≡ Moved → Passed asked found
+  pub passed : outcome ≡ Moved → Passes asked found
   pub counts : outcome ≡ Moved → next.state.steps ≡ part.state.steps + 1
   pub quiet : (outcome ≡ Moved → ⊥) → Quiet asked found
   pub rests : (outcome ≡ Moved → ⊥) → bared next ≡ bared part

@@ -97,7 +97,7 @@ one_fewer nodes index member = by (cases_lt index (length nodes))
     by (inr past) = absurd (false≢true (sym (past_end nodes index past) ∙ member))
 
 -- One look at each node up to an index: what is left of a set, and whether a node was left out of it.
-pub record Looked (chip : Chip) (first nodes : List Bool) (left : Bool) (index : ℕ) : Type 0 where
+pub record HasLooked (chip : Chip) (first nodes : List Bool) (left : Bool) (index : ℕ) : Type 0 where
   -- if none was, those left are stuck
   pub stuck : left ≡ false → AreStuck chip nodes index
   -- no closed set has lost a node
@@ -106,13 +106,13 @@ pub record Looked (chip : Chip) (first nodes : List Bool) (left : Bool) (index :
   pub atmost : count_by (λ one. one) nodes ≤ count_by (λ one. one) first
 
 -- a node that isn't stuck is left out
-pub looked_left : (chip : Chip) (first nodes now : List Bool) (left now_left : Bool) (index : ℕ) (part : Part) → IsLegal chip → index < 144 → part ≡ get_or chip.parts index part → get_or nodes index false ≡ true → is_stuck (has_node nodes) chip.cells part ≡ false → now ≡ set nodes index false → now_left ≡ true → Looked chip first nodes left index → Looked chip first now now_left (index + 1)
-looked_left chip first nodes now left now_left index part legal below read member free is same_left looked = subst (λ ns. Looked chip first ns now_left (index + 1)) (sym is) (subst (λ b. Looked chip first (set nodes index false) b (index + 1)) (sym same_left) without)
+pub looked_left : (chip : Chip) (first nodes now : List Bool) (left now_left : Bool) (index : ℕ) (part : Part) → IsLegal chip → index < 144 → part ≡ get_or chip.parts index part → get_or nodes index false ≡ true → is_stuck (has_node nodes) chip.cells part ≡ false → now ≡ set nodes index false → now_left ≡ true → HasLooked chip first nodes left index → HasLooked chip first now now_left (index + 1)
+looked_left chip first nodes now left now_left index part legal below read member free is same_left looked = subst (λ ns. HasLooked chip first ns now_left (index + 1)) (sym is) (subst (λ b. HasLooked chip first (set nodes index false) b (index + 1)) (sym same_left) without)
   where
     less : count_by (λ one. one) (set nodes index false) < count_by (λ one. one) first
     less = let atmost = looked.atmost in omega (arith, one_fewer nodes index member)
 
-    without : Looked chip first (set nodes index false) true (index + 1)
+    without : HasLooked chip first (set nodes index false) true (index + 1)
     without = record {
       stuck = λ e. absurd (false≢true (sym e));
       holds = λ h. left_out chip nodes index part (slice_get_read chip.parts 144 index part (sym legal.parts) below read) free (looked.holds h);
@@ -120,16 +120,16 @@ looked_left chip first nodes now left now_left index part legal below read membe
       atmost = omega (arith, less);
     }
 
-looked_on : (chip : Chip) (first nodes now : List Bool) (left now_left : Bool) (index : ℕ) → (get_or nodes index false ≡ true → option_map_or (is_stuck (has_node nodes) chip.cells) (slice_get chip.parts index) false ≡ true) → now ≡ nodes → now_left ≡ left → Looked chip first nodes left index → Looked chip first now now_left (index + 1)
+looked_on : (chip : Chip) (first nodes now : List Bool) (left now_left : Bool) (index : ℕ) → (get_or nodes index false ≡ true → option_map_or (is_stuck (has_node nodes) chip.cells) (slice_get chip.parts index) false ≡ true) → now ≡ nodes → now_left ≡ left → HasLooked chip first nodes left index → HasLooked chip first now now_left (index + 1)
 looked_on chip first nodes now left now_left index here is same_left looked =
-    subst (λ ns. Looked chip first ns now_left (index + 1)) (sym is) (subst (λ b. Looked chip first nodes b (index + 1)) (sym same_left) (record { stuck = λ e. one_more chip nodes index (looked.stuck e) here; holds = looked.holds; fewer = looked.fewer; atmost = looked.atmost }))
+    subst (λ ns. HasLooked chip first ns now_left (index + 1)) (sym is) (subst (λ b. HasLooked chip first nodes b (index + 1)) (sym same_left) (record { stuck = λ e. one_more chip nodes index (looked.stuck e) here; holds = looked.holds; fewer = looked.fewer; atmost = looked.atmost }))
 
 -- one that is stuck stays in the set
-pub looked_stuck : (chip : Chip) (first nodes now : List Bool) (left now_left : Bool) (index : ℕ) (part : Part) → IsLegal chip → index < 144 → part ≡ get_or chip.parts index part → is_stuck (has_node nodes) chip.cells part ≡ true → now ≡ nodes → now_left ≡ left → Looked chip first nodes left index → Looked chip first now now_left (index + 1)
+pub looked_stuck : (chip : Chip) (first nodes now : List Bool) (left now_left : Bool) (index : ℕ) (part : Part) → IsLegal chip → index < 144 → part ≡ get_or chip.parts index part → is_stuck (has_node nodes) chip.cells part ≡ true → now ≡ nodes → now_left ≡ left → HasLooked chip first nodes left index → HasLooked chip first now now_left (index + 1)
 looked_stuck chip first nodes now left now_left index part legal below read stuck is same_left looked =
     looked_on chip first nodes now left now_left index
     (λ member. ap (λ o. option_map_or (is_stuck (has_node nodes) chip.cells) o false) (slice_get_read chip.parts 144 index part (sym legal.parts) below read) ∙ stuck) is same_left looked
 
 -- and one that isn't in the set isn't looked at
-pub looked_past : (chip : Chip) (first nodes now : List Bool) (left now_left : Bool) (index : ℕ) → get_or nodes index false ≡ false → now ≡ nodes → now_left ≡ left → Looked chip first nodes left index → Looked chip first now now_left (index + 1)
+pub looked_past : (chip : Chip) (first nodes now : List Bool) (left now_left : Bool) (index : ℕ) → get_or nodes index false ≡ false → now ≡ nodes → now_left ≡ left → HasLooked chip first nodes left index → HasLooked chip first now now_left (index + 1)
 looked_past chip first nodes now left now_left index out is same_left looked = looked_on chip first nodes now left now_left index (λ member. absurd (false≢true (sym out ∙ member))) is same_left looked

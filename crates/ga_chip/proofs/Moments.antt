@@ -8,7 +8,7 @@ use Rattle.ga_chip.specs.declared.outcome.Outcome.TheVariants.{Moved, Waits, Hel
 use Rattle.ga_chip.specs.Part.{Part, asks_by, picked_by}
 use Rattle.ga_chip.specs.Chip.{Chip, part_of, found_by}
 use Rattle.ga_chip.specs.Run.{Event, happened, ran, Move, if_moved, move_in, moves, moves_of}
-use Rattle.ga_chip.proofs.Parts.{Fits, Passed}
+use Rattle.ga_chip.proofs.Parts.{Fits, Passes}
 use Rattle.ga_chip.proofs.Events.{Does, DoesNothing, does, moves_here, moves_else}
 use Rattle.ga_chip.proofs.Runs.{moves_of-append}
 
@@ -21,7 +21,7 @@ pub record Makes (chip : Chip) (name : ℕ) (move : Move) : Type 0 where
   pub asked : move.asked ≡ asks_by (need_of part.state) part.state.node part.stream side
   pub looks : move.found ≡ found_by move.asked chip.cells
   pub picks : move.picked ≡ picked_by (need_of part.state) side
-  pub passed : Passed move.asked move.found
+  pub passed : Passes move.asked move.found
   pub fits : Fits move.asked (need_of part.state) part.state.node
 
 -- the move of an event that is moved

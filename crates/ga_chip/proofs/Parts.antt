@@ -272,13 +272,13 @@ unfolding after
 steps_after part side found at h = steps_asked (asks part side) found part at h
 
 -- what a try that is Moved found: nothing at a check, a word at a take
-abbrev pub Passed : Asks → Option ℕ → Type 0
-Passed (Check side cell) found = found ≡ None
-Passed (Take side cell) found = (word : ℕ) × (found ≡ Some word)
-Passed (Nothing outcome) found = ⊥
-Passed _ found = Unit {0}
+abbrev pub Passes : Asks → Option ℕ → Type 0
+Passes (Check side cell) found = found ≡ None
+Passes (Take side cell) found = (word : ℕ) × (found ≡ Some word)
+Passes (Nothing outcome) found = ⊥
+Passes _ found = Unit {0}
 
-passed_asked : (q : Asks) (found : Option ℕ) (part : Part) → Fits q (need_of part.state) part.state.node → (after_asked q found part).0 ≡ Moved → Passed q found
+passed_asked : (q : Asks) (found : Option ℕ) (part : Part) → Fits q (need_of part.state) part.state.node → (after_asked q found part).0 ≡ Moved → Passes q found
 passed_asked (Nothing outcome) found part fits e = fits e
 passed_asked Own found part fits e = tt
 passed_asked (Feed fed) found part fits e = tt
@@ -288,7 +288,7 @@ passed_asked (Check side cell) (Some word) part fits e = cc
 passed_asked (Take side cell) None part fits e = cc
 passed_asked (Take side cell) (Some word) part fits e = (word, refl)
 
-pub passed_after : (part : Part) (side : Side) (found : Option ℕ) → (after part side found).0 ≡ Moved → Passed (asks part side) found
+pub passed_after : (part : Part) (side : Side) (found : Option ℕ) → (after part side found).0 ≡ Moved → Passes (asks part side) found
 unfolding after
 passed_after part side found e = passed_asked (asks part side) found part (asks_fits part side) e
 

@@ -15,7 +15,6 @@ ghost use Rattle.ga_chip.specs.inner.Outcome.{moved_by};
 use crate::error::ChipError;
 use crate::ledger::Ledger;
 use crate::node_set::NodeSet;
-use crate::order::index_of;
 use crate::outcome::{Outcome, Try, side_of_turn};
 use crate::part::NodePart;
 use crate::row::CellRow;
@@ -44,7 +43,8 @@ impl Model for Chip {
 
     ghost view = { λ c. record { parts = vec_items c.parts; cells = c.cells } };
 
-    ghost invariant = { λ c. Knows (record { parts = vec_items c.parts; cells = c.cells }) c.awake };
+    ghost invariant = { λ c. Knows (record { parts = vec_items c.parts; cells = c.cells })
+        c.awake };
 }
 
 impl Chip {
@@ -106,12 +106,13 @@ impl Chip {
         words: Vec<Word18>,
     ) -> Result<(), (ChipError, Vec<Word18>)>
         ensures refused { result ≡ with_words words (stream_refusal self.old node) }
-        ensures chip { self.new ≡ unless_refused (stream_refusal self.old node) (streamed self.old node words.items) self.old }
+        ensures chip { self.new ≡ unless_refused (stream_refusal self.old node)
+            (streamed self.old node words.items) self.old }
     {
         if !node.is_edge() {
             return Err((ChipError::NotEdge, words));
         }
-        let index = index_of(node);
+        let index = node.index();
         let part = &mut self.parts[index];
         if let Some(fault) = part.refusal() {
             return Err((fault, words));
@@ -132,7 +133,7 @@ impl Chip {
         if !node.is_edge() {
             return Err(ChipError::NotEdge);
         }
-        let index = index_of(node);
+        let index = node.index();
         let part = &mut self.parts[index];
         if let Some(fault) = part.refusal() {
             return Err(fault);
@@ -152,7 +153,7 @@ impl Chip {
             (happened self.old (Piece node words.items)) self.old }
         ensures empty { words.items ≡ [] → self.new ≡ self.old }
     {
-        let index = index_of(node);
+        let index = node.index();
         let part = &mut self.parts[index];
         if let Some(fault) = part.feed_refusal() {
             return Err((fault, words));
@@ -166,7 +167,7 @@ impl Chip {
     pub fn stream_left(&self, node: Node) -> usize
         ensures { result ≡ left_of self.now node }
     {
-        self.parts[index_of(node)].stream_left()
+        self.parts[node.index()].stream_left()
     }
 
     /// Gives a node words, at most 64, and an entry, an address of ten bits: it is then as
@@ -176,9 +177,10 @@ impl Chip {
         requires words { length words.now ≤ 64 }
         requires entry { entry < 2 ^ 10 }
         ensures refused { result ≡ answer_of (refusal self.old node) }
-        ensures chip { self.new ≡ unless_refused (refusal self.old node) (placed self.old node words.now entry) self.old }
+        ensures chip { self.new ≡ unless_refused (refusal self.old node)
+            (placed self.old node words.now entry) self.old }
     {
-        let index = index_of(node);
+        let index = node.index();
         let part = &mut self.parts[index];
         if let Some(fault) = part.refusal() {
             return Err(fault);
@@ -194,7 +196,7 @@ impl Chip {
         requires { address < 2 ^ 9 }
         ensures { self.new ≡ happened self.old (SetBreak node address) }
     {
-        self.parts[index_of(node)].set_break(address);
+        self.parts[node.index()].set_break(address);
     }
 
     /// Makes an address of nine bits no breakpoint of a node any more. A pass that the node has stays.
@@ -202,7 +204,7 @@ impl Chip {
         requires { address < 2 ^ 9 }
         ensures { self.new ≡ happened self.old (ClearBreak node address) }
     {
-        let index = index_of(node);
+        let index = node.index();
         self.parts[index].clear_break(address);
         self.awake.insert(index);
     }
@@ -215,7 +217,7 @@ impl Chip {
         ensures chip { self.new ≡ happened self.old (PassBreak node) }
         ensures same { result ≡ Err NotHeld → self.new ≡ self.old }
     {
-        let index = index_of(node);
+        let index = node.index();
         if !self.parts[index].pass_break() {
             return Err(ChipError::NotHeld);
         }
@@ -232,7 +234,7 @@ impl Chip {
         ensures held { result ≡ Held ↔ IsHeld self.old what.node }
         ensures unchanged { result ≢ Moved → self.new ≡ self.old }
     {
-        self.attempt_at(index_of(what.node), what.side)
+        self.attempt_at(what.node.index(), what.side)
     }
 
     /// Tries in order.
@@ -304,7 +306,7 @@ impl Chip {
     pub fn state(&self, node: Node) -> &NodeState
         ensures { Some result.now ≡ state_of self.now node }
     {
-        self.parts[index_of(node)].state()
+        self.parts[node.index()].state()
     }
 
     /// The numbers of the cell that a node writes at a side: how many words were written and read, and how
@@ -321,8 +323,8 @@ impl Chip {
             };
         };
         Ledger {
-            written: self.parts[index_of(node)].written(side),
-            read: self.parts[index_of(other)].read(side),
+            written: self.parts[node.index()].written(side),
+            read: self.parts[other.index()].read(side),
             pending: u8::from(self.cells.pending(at).is_some()),
         }
     }

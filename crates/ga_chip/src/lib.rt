@@ -10,7 +10,6 @@ pub mod laws;
 mod ledger;
 mod looks;
 mod node_set;
-mod order;
 mod outcome;
 mod part;
 mod port;

@@ -1,24 +1,23 @@
-ghost use Rattle.std.specs.Prelude.{◌≡◌, ◌≢◌, ℕ, ◌≤◌, ◌<◌, ◌^◌, [], false, true, if◌then◌else◌, length, IfSome, None, Some, Option, option_map};
+ghost use Rattle.std.specs.Prelude.{◌≡◌, ◌≢◌, ℕ, ◌<◌, ◌^◌, false, true, if◌then◌else◌, IfSome, None, Some, Option, option_map};
 ghost use Rattle.ga_place.specs.Cell.{cell_of, index_of, name_at, read_cell};
 ghost use Rattle.ga_place.specs.Side.{is_among, neighbour_of, one_side};
 ghost use Rattle.ga_place.specs.declared.side.Side.{Side};
 ghost use Rattle.ga_node.specs.Need.{is_check, need_of, takes_at};
-ghost use Rattle.ga_node.specs.State.{is_fetch, loaded_state};
+ghost use Rattle.ga_node.specs.State.{is_fetch};
 ghost use Rattle.ga_node.specs.declared.need.Need.TheVariants as need;
 ghost use Rattle.ga_chip.specs.Part.{Check, Nothing, Own, Post, Take, after, after_asked, asks, asks_by, count_at, input_of, looked_at, stepped, take_from, take_of};
-ghost use Rattle.ga_chip.specs.Asks.{asked_of, look_of, looks_of, told_as};
-ghost use Rattle.ga_chip.specs.Chip.{cells_after, found_by, given, opening, part_refusal, reset_part, streaming};
-ghost use Rattle.ga_chip.specs.Stream.{part_feed_refusal};
+ghost use Rattle.ga_chip.specs.Asks.{told_as};
+ghost use Rattle.ga_chip.specs.Chip.{cells_after, found_by, reset_part};
 ghost use Rattle.ga_chip.specs.inner.Awake.{partner_of};
-ghost use Rattle.ga_chip.specs.Run.{break_cleared, break_passed, break_set, is_hold, piece_come, words_left};
+ghost use Rattle.ga_chip.specs.Run.{break_cleared, break_passed, break_set, is_hold};
 ghost use Rattle.ga_chip.specs.declared.outcome.Outcome.{Outcome};
 ghost use Rattle.ga_chip.specs.declared.outcome.Outcome.TheVariants.{Held, Moved, Waits};
 
+mod by_hand;
+mod streams;
+
 use crate::asks::Asks;
 use crate::counts::Counts;
-use crate::error::ChipError;
-use crate::looks::Looks;
-use crate::order::node_at;
 use crate::outcome::Outcome;
 use crate::port::{Port, Ports};
 use crate::row::CellRow;
@@ -83,11 +82,11 @@ impl Model for NodePart {
 
 impl NodePart {
     /// The node at an index in order of name, after reset.
-    pub(crate) fn reset(index: u16) -> Self
+    pub(crate) fn reset(index: usize) -> Self
         requires { index < 144 }
         ensures { result ≡ reset_part (name_at index) }
     {
-        let node = node_at(index);
+        let node = Node::at(index);
         NodePart {
             watch: Watch::new(),
             state: NodeState::reset(node),
@@ -127,111 +126,6 @@ impl NodePart {
         self.read.at(side)
     }
 
-    /// What a try of the node that names a side asks for. `Nothing` has what comes of the try, and is never
-    /// `Moved`: a node that makes no step any more is `Stopped`; else one that is about to fetch at a breakpoint,
-    /// without a pass, is `Held`; and one that asks at a side without a neighbour, or for a word of its stream
-    /// where none is left, `Waits`. Such a try changes nothing, and needs no further call.
-    pub fn asks(&self, side: Side) -> Asks
-        ensures value { result ≡ asked_of self.now side }
-        ensures still { (outcome : Outcome) → result ≡ Asks.Nothing outcome → outcome ≢ Moved }
-    {
-        let need = self.state.need();
-        if self.is_held(&need) {
-            return Asks::Nothing(Outcome::Held);
-        }
-        self.asked_by(&need, side)
-    }
-
-    /// Where the node's tries look, if each of them asks to take a word or for nothing, whatever side it names. As long
-    /// as no try finds a word, the node stays as it is, and so do its looks.
-    #[tactic(auto, unfolding(crate::specs::Asks::looks_of))]
-    pub fn looks(&self) -> Option<Looks>
-        ensures { result ≡ looks_of self.now }
-    {
-        let right = self.look(Side::Right)?;
-        let down = self.look(Side::Down)?;
-        let left = self.look(Side::Left)?;
-        let up = self.look(Side::Up)?;
-        Some(Looks::new(right, down, left, up))
-    }
-
-    /// Where a try looks that names a side, if it asks to take a word or for nothing.
-    fn look(&self, side: Side) -> Option<Option<CellId>>
-        ensures { result ≡ look_of (asked_of self.now side) }
-    {
-        match self.asks(side) {
-            Asks::Take(_, cell) => Some(Some(cell)),
-            Asks::Nothing(_) => Some(None),
-            Asks::Own | Asks::Post(..) | Asks::Check(..) => None,
-        }
-    }
-
-    /// Makes a try that asks for `Own`: the node does its own work, or takes the next word of its stream.
-    pub fn done_own(&mut self) -> Outcome
-        requires { (side : Side) × (asked_of self.old side ≡ Asks.Own) }
-        ensures part { (side : Side) → asked_of self.old side ≡ Asks.Own
-            → (result, self.new) ≡ after self.old side None }
-        ensures node { self.new.state.node ≡ self.old.state.node }
-    {
-        let need = self.state.need();
-        self.work(&need)
-    }
-
-    /// Makes a try that asks for a post at this side, after the word was put into the cell.
-    pub fn done_post(&mut self, to: Side) -> Outcome
-        requires { (side : Side) × (cell : ℕ) × (word : ℕ)
-            × (asked_of self.old side ≡ Asks.Post to cell word) }
-        ensures part { (side : Side) (cell word : ℕ)
-            → asked_of self.old side ≡ Asks.Post to cell word
-            → (result, self.new) ≡ after self.old side None }
-        ensures node { self.new.state.node ≡ self.old.state.node }
-    {
-        let Need::Post(_, word) = self.state.need() else {
-            unreachable!();
-        };
-        self.post(to, word)
-    }
-
-    /// Makes a try that asks for a take at this side, by the word that was found in the cell and taken from it: the
-    /// node waits where there was none.
-    pub fn done_take(&mut self, from: Side, found: Option<Word18>) -> Outcome
-        requires { (side : Side) × (cell : ℕ) × (asked_of self.old side ≡ Asks.Take from cell) }
-        ensures part { (side : Side) (cell : ℕ) → asked_of self.old side ≡ Asks.Take from cell
-            → (result, self.new) ≡ after self.old side found }
-        ensures node { self.new.state.node ≡ self.old.state.node }
-    {
-        self.take(from, found)
-    }
-
-    /// Makes a try that asks for a check at this side, by whether the cell was found empty, since its word was read:
-    /// the node waits where it wasn't.
-    pub fn done_check(&mut self, to: Side, empty: bool) -> Outcome
-        requires { (side : Side) × (cell : ℕ) × (asked_of self.old side ≡ Asks.Check to cell) }
-        ensures read { (side : Side) (cell : ℕ) → asked_of self.old side ≡ Asks.Check to cell
-            → empty ≡ true → (result, self.new) ≡ after self.old side None }
-        ensures unread { (side : Side) (cell word : ℕ) → asked_of self.old side ≡ Asks.Check to cell
-            → empty ≡ false → (result, self.new) ≡ after self.old side (Some word) }
-        ensures node { self.new.state.node ≡ self.old.state.node }
-    {
-        self.check(empty)
-    }
-
-    /// The quick way of a try that asks for `Own`, as most do: makes its change to the node and answers true. Where the
-    /// try asks for something else it answers false, and it may do so where the node takes a word of its stream, or is
-    /// about to fetch and has a breakpoint or a pass: then nothing is changed, and `asks` tells what to do.
-    #[inline(always)]
-    pub fn done_if_own(&mut self) -> bool
-        ensures asks { result ≡ true → (side : Side) → asked_of self.old side ≡ Asks.Own }
-        ensures quick { need_of self.old.state ≡ need.Own → is_fetch self.old.state.place ≡ false
-            → result ≡ true }
-        ensures part { result ≡ true → (side : Side)
-            → (Moved, self.new) ≡ after self.old side None }
-        ensures same { result ≡ false → self.new ≡ self.old }
-        ensures node { self.new.state.node ≡ self.old.state.node }
-    {
-        self.try_own()
-    }
-
     /// A step where it is the node's own work, but for a fetch of a node that has a breakpoint or a pass; else
     /// nothing. Answers whether the node made it.
     #[inline(always)]
@@ -250,7 +144,8 @@ impl NodePart {
             ≡ after self.old side (found_by (asks self.old side) cells.old) }
         ensures cells { cells.new ≡ cells_after (asks self.old side) cells.old }
         ensures wakes { result.outcome ≡ Moved
-            → result.wakes ≡ option_map index_of (partner_of self.old.state.node (need_of self.old.state) side) }
+            → result.wakes ≡ option_map index_of
+            (partner_of self.old.state.node (need_of self.old.state) side) }
         ensures place { IfSome result.wakes (λ place. place < 144) }
         ensures sleeps { result.sleeps ≡ true → (other : Side)
             → (after self.old other (found_by (asks self.old other) cells.old)).0 ≢ Moved }
@@ -452,7 +347,8 @@ impl NodePart {
         requires own { (side : Side)
             × (told_as (asks_by need.now self.old.state.node self.old.stream side) ≡ Asks.Own) }
         ensures { (side : Side) → (result, self.new)
-            ≡ after_asked (asks_by need.now self.old.state.node self.old.stream side) None self.old }
+            ≡ after_asked (asks_by need.now self.old.state.node self.old.stream side) None
+            self.old }
     {
         match *need {
             Need::Input => self.input(),
@@ -554,82 +450,6 @@ impl NodePart {
             self.watch.pass();
         }
         held
-    }
-
-    /// Why the node can't be given words or a stream, if it can't.
-    pub(crate) fn refusal(&self) -> Option<ChipError>
-        ensures { result ≡ part_refusal self.now }
-    {
-        if self.stream.is_some() {
-            Some(ChipError::AlreadyGiven)
-        } else if self.state.steps() == 0 {
-            None
-        } else {
-            Some(ChipError::Begun)
-        }
-    }
-
-    /// Gives a node that has made no step a stream, from which it loads itself.
-    pub(crate) fn give_stream(&mut self, words: Vec<Word18>)
-        requires new { self.old.state.steps ≡ 0 }
-        ensures { self.new ≡ streaming words.items self.old }
-    {
-        self.state = NodeState::booting(self.state.node());
-        self.stream = Some(Stream::new(words));
-        self.opened = false;
-    }
-
-    /// Opens the stream of a node that has made no step: it loads itself from words that are still to come.
-    pub(crate) fn open_stream(&mut self)
-        requires new { self.old.state.steps ≡ 0 }
-        ensures { self.new ≡ opening self.old }
-    {
-        self.state = NodeState::booting(self.state.node());
-        self.stream = Some(Stream::open());
-        self.opened = true;
-    }
-
-    /// How many words of its stream the node has not yet taken.
-    pub(crate) fn stream_left(&self) -> usize
-        ensures { result ≡ length (words_left self.now.stream) }
-    {
-        match &self.stream {
-            Some(stream) => stream.len(),
-            None => 0,
-        }
-    }
-
-    /// Why the node's stream can't be fed, if it can't.
-    pub(crate) fn feed_refusal(&self) -> Option<ChipError>
-        ensures { result ≡ part_feed_refusal self.now }
-    {
-        if !self.opened {
-            Some(ChipError::NotOpen)
-        } else if self.stream_left() == 0 {
-            None
-        } else {
-            Some(ChipError::NotTaken)
-        }
-    }
-
-    /// Feeds a piece to the node's stream, of which no word is left.
-    pub(crate) fn feed(&mut self, words: Vec<Word18>)
-        requires taken { part_feed_refusal self.old ≡ None }
-        ensures part { self.new ≡ piece_come words.items self.old }
-        ensures empty { words.items ≡ [] → self.new ≡ self.old }
-    {
-        self.stream = Some(Stream::new(words));
-    }
-
-    /// Gives a node that has made no step words for the front of its memory, at most 64, and P an entry, an
-    /// address of ten bits.
-    pub(crate) fn give(&mut self, words: &[Word18], entry: u16)
-        requires words { length words.now ≤ 64 }
-        requires entry { entry < 2 ^ 10 }
-        requires new { self.old.state.steps ≡ 0 }
-        ensures { self.new ≡ given words.now entry self.old }
-    {
-        self.state = NodeState::loaded(self.state.node(), words, entry);
     }
 }
 

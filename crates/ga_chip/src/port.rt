@@ -1,7 +1,6 @@
 ghost use Rattle.std.specs.Prelude.{◌≡◌};
 ghost use Rattle.ga_chip.specs.inner.Port.{port_at, port_of, ports_of};
 
-use crate::order::index_of;
 use ga_place::{CellId, Node, Side, cell, neighbour};
 
 /// What a node shares with its neighbour at a side.
@@ -54,6 +53,6 @@ fn port_of(node: Node, side: Side) -> Option<Port>
     Some(Port {
         reads: cell(other, side)?,
         writes: cell(node, side)?,
-        neighbour: index_of(other) as u8,
+        neighbour: other.index() as u8,
     })
 }

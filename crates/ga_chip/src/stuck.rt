@@ -4,7 +4,6 @@ ghost use Rattle.std.specs.List.{count_by};
 ghost use Rattle.ga_chip.specs.Legal.{IsLegal};
 ghost use Rattle.ga_chip.specs.Stuck.{HoldsEachClosed, IsClosed, has_node, is_dry, is_dry_at, is_stuck, is_unread};
 
-use crate::order::index_of;
 use crate::part::NodePart;
 use crate::row::CellRow;
 use ga_node::Need;
@@ -35,7 +34,7 @@ impl StuckNodes {
     pub fn contains(&self, node: Node) -> bool
         ensures { result ≡ has_node self.now node }
     {
-        self.by_index[index_of(node)]
+        self.by_index[node.index()]
     }
 
     /// How many they are.

@@ -16,13 +16,14 @@ pub(crate) struct Watch {
 
 impl Model for Watch {
     ghost use Rattle.std.specs.Prelude.{◌≡◌, false, replicate};
-    ghost use Rattle.ga_chip.specs.inner.Watch.{Watched};
+    ghost use Rattle.ga_chip.specs.inner.Watch.{WatchView};
 
-    ghost Value = { Watched };
+    ghost Value = { WatchView };
 
     ghost view = { λ watch. record { breaks = watch.breaks; pass = watch.pass } };
 
-    ghost invariant = { λ watch. watch.on ≡ false → (watch.breaks ≡ replicate 512 false) × (watch.pass ≡ false) };
+    ghost invariant = { λ watch. watch.on ≡ false → (watch.breaks ≡ replicate 512 false)
+        × (watch.pass ≡ false) };
 }
 
 impl Watch {
@@ -49,7 +50,8 @@ impl Watch {
     /// Whether a step from this place is held: it is a fetch, the low nine bits of P are a breakpoint, and there is
     /// no pass.
     pub(crate) fn holds(&self, place: Place, p: u16) -> bool
-        ensures { result ≡ (is_fetch place && (not self.now.pass && get_or self.now.breaks (p % 2 ^ 9) false)) }
+        ensures { result
+            ≡ (is_fetch place && (not self.now.pass && get_or self.now.breaks (p % 2 ^ 9) false)) }
     {
         place == Place::Fetch && !self.pass && self.breaks.has(p % 0x200)
     }

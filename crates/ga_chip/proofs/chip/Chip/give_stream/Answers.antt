@@ -11,7 +11,7 @@ pub returns-in-Some-clause-refused : goal.returns-in-Some-clause-refused
 returns-in-Some-clause-refused c =
     let chip : Chip = record { parts = c.self.inside.parts.items; cells = c.self.inside.cells } in
     let edge : is_edge c.args.node ≡ true = on_edge c.args.node (c.is_edge.ensures.value.0 c.if-not-is_edge.false) in
-    let refused = refused_at chip chip c.args.node c.index_of-index.result c.index_mut-part.result.now c.in-Some.fault c.self.invariant.legal c.index_of-index.ensures.value c.index_of-index.ensures.bound c.index_mut-part.ensures.value
+    let refused = refused_at chip chip c.args.node c.index-index.result c.index_mut-part.result.now c.in-Some.fault c.self.invariant.legal c.index-index.ensures.value c.index-index.ensures.bound c.index_mut-part.ensures.value
     (sym c.refusal.ensures ∙ c.in-Some.is) in
     sym (ap (with_words c.args.words) (ap (λ z. stream_refusal z c.args.node) (sym c.self.view_is) ∙ ap (λ b. if b then refusal chip c.args.node else Some NotEdge) edge ∙ refused.0))
 
@@ -19,7 +19,7 @@ pub returns-in-Some-clause-chip : goal.returns-in-Some-clause-chip
 returns-in-Some-clause-chip c =
     let chip : Chip = record { parts = c.self.inside.parts.items; cells = c.self.inside.cells } in
     let edge : is_edge c.args.node ≡ true = on_edge c.args.node (c.is_edge.ensures.value.0 c.if-not-is_edge.false) in
-    (refused_at chip (streamed chip c.args.node c.args.words.items) c.args.node c.index_of-index.result c.index_mut-part.result.now c.in-Some.fault c.self.invariant.legal c.index_of-index.ensures.value c.index_of-index.ensures.bound c.index_mut-part.ensures.value
+    (refused_at chip (streamed chip c.args.node c.args.words.items) c.args.node c.index-index.result c.index_mut-part.result.now c.in-Some.fault c.self.invariant.legal c.index-index.ensures.value c.index-index.ensures.bound c.index_mut-part.ensures.value
     (sym c.refusal.ensures ∙ c.in-Some.is)).1
     ∙ ap (λ b. unless_refused (if b then refusal chip c.args.node else Some NotEdge) (streamed chip c.args.node c.args.words.items) chip) (sym edge)
     ∙ ap (λ z. unless_refused (stream_refusal z c.args.node) (streamed z c.args.node c.args.words.items) z) c.self.view_is
@@ -27,14 +27,14 @@ returns-in-Some-clause-chip c =
 pub invariant_of-self-2 : goal.invariant_of-self-2
 invariant_of-self-2 c =
     let chip : Chip = record { parts = c.self.inside.parts.items; cells = c.self.inside.cells } in
-    let after = given_at (streaming c.args.words.items) chip c.args.node c.index_of-index.result c.index_mut-part.result.now c.give_stream.new.self c.self.invariant.legal c.index_of-index.ensures.value c.index_of-index.ensures.bound c.index_mut-part.ensures.value
+    let after = given_at (streaming c.args.words.items) chip c.args.node c.index-index.result c.index_mut-part.result.now c.give_stream.new.self c.self.invariant.legal c.index-index.ensures.value c.index-index.ensures.bound c.index_mut-part.ensures.value
     (sym c.refusal.ensures ∙ c.in_default.is) c.give_stream.ensures refl refl refl in
-    (placed_knows chip c.self.inside.awake c.insert.new.self c.index_of-index.result c.give_stream.new.self c.self.invariant c.insert.ensures after.2)
+    (placed_knows chip c.self.inside.awake c.insert.new.self c.index-index.result c.give_stream.new.self c.self.invariant c.insert.ensures after.2)
 
 pub returns-clause-refused : goal.returns-clause-refused
 returns-clause-refused c =
     let chip : Chip = record { parts = c.self.inside.parts.items; cells = c.self.inside.cells } in
-    let after = given_at (streaming c.args.words.items) chip c.args.node c.index_of-index.result c.index_mut-part.result.now c.give_stream.new.self c.self.invariant.legal c.index_of-index.ensures.value c.index_of-index.ensures.bound c.index_mut-part.ensures.value
+    let after = given_at (streaming c.args.words.items) chip c.args.node c.index-index.result c.index_mut-part.result.now c.give_stream.new.self c.self.invariant.legal c.index-index.ensures.value c.index-index.ensures.bound c.index_mut-part.ensures.value
     (sym c.refusal.ensures ∙ c.in_default.is) c.give_stream.ensures refl refl refl in
     let edge : is_edge c.args.node ≡ true = on_edge c.args.node (c.is_edge.ensures.value.0 c.if-not-is_edge.false) in
     sym (ap (with_words c.args.words) (ap (λ z. stream_refusal z c.args.node) (sym c.self.view_is) ∙ ap (λ b. if b then refusal chip c.args.node else Some NotEdge) edge ∙ after.0))
@@ -42,7 +42,7 @@ returns-clause-refused c =
 pub returns-clause-chip : goal.returns-clause-chip
 returns-clause-chip c =
     let chip : Chip = record { parts = c.self.inside.parts.items; cells = c.self.inside.cells } in
-    let after = given_at (streaming c.args.words.items) chip c.args.node c.index_of-index.result c.index_mut-part.result.now c.give_stream.new.self c.self.invariant.legal c.index_of-index.ensures.value c.index_of-index.ensures.bound c.index_mut-part.ensures.value
+    let after = given_at (streaming c.args.words.items) chip c.args.node c.index-index.result c.index_mut-part.result.now c.give_stream.new.self c.self.invariant.legal c.index-index.ensures.value c.index-index.ensures.bound c.index_mut-part.ensures.value
     (sym c.refusal.ensures ∙ c.in_default.is) c.give_stream.ensures refl refl refl in
     let edge : is_edge c.args.node ≡ true = on_edge c.args.node (c.is_edge.ensures.value.0 c.if-not-is_edge.false) in
     after.1

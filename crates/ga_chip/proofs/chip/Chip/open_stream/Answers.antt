@@ -12,7 +12,7 @@ pub returns-in-Some-clause-refused : goal.returns-in-Some-clause-refused
 returns-in-Some-clause-refused c =
     let chip : Chip = record { parts = c.self.inside.parts.items; cells = c.self.inside.cells } in
     let edge : is_edge c.args.node ≡ true = on_edge c.args.node (c.is_edge.ensures.value.0 c.if-not-is_edge.false) in
-    let refused = refused_at chip chip c.args.node c.index_of-index.result c.index_mut-part.result.now c.in-Some.fault c.self.invariant.legal c.index_of-index.ensures.value c.index_of-index.ensures.bound c.index_mut-part.ensures.value
+    let refused = refused_at chip chip c.args.node c.index-index.result c.index_mut-part.result.now c.in-Some.fault c.self.invariant.legal c.index-index.ensures.value c.index-index.ensures.bound c.index_mut-part.ensures.value
     (sym c.refusal.ensures ∙ c.in-Some.is) in
     sym (ap answer_of (ap (λ z. stream_refusal z c.args.node) (sym c.self.view_is) ∙ ap (λ b. if b then refusal chip c.args.node else Some NotEdge) edge ∙ refused.0))
 
@@ -20,7 +20,7 @@ pub returns-in-Some-clause-chip : goal.returns-in-Some-clause-chip
 returns-in-Some-clause-chip c =
     let chip : Chip = record { parts = c.self.inside.parts.items; cells = c.self.inside.cells } in
     let edge : is_edge c.args.node ≡ true = on_edge c.args.node (c.is_edge.ensures.value.0 c.if-not-is_edge.false) in
-    (refused_at chip (stream_opened chip c.args.node) c.args.node c.index_of-index.result c.index_mut-part.result.now c.in-Some.fault c.self.invariant.legal c.index_of-index.ensures.value c.index_of-index.ensures.bound c.index_mut-part.ensures.value
+    (refused_at chip (stream_opened chip c.args.node) c.args.node c.index-index.result c.index_mut-part.result.now c.in-Some.fault c.self.invariant.legal c.index-index.ensures.value c.index-index.ensures.bound c.index_mut-part.ensures.value
     (sym c.refusal.ensures ∙ c.in-Some.is)).1
     ∙ ap (λ b. unless_refused (if b then refusal chip c.args.node else Some NotEdge) (stream_opened chip c.args.node) chip) (sym edge)
     ∙ ap (λ z. unless_refused (stream_refusal z c.args.node) (stream_opened z c.args.node) z) c.self.view_is
@@ -28,14 +28,14 @@ returns-in-Some-clause-chip c =
 pub invariant_of-self-2 : goal.invariant_of-self-2
 invariant_of-self-2 c =
     let chip : Chip = record { parts = c.self.inside.parts.items; cells = c.self.inside.cells } in
-    let after = given_at (opening) chip c.args.node c.index_of-index.result c.index_mut-part.result.now c.open_stream.new.self c.self.invariant.legal c.index_of-index.ensures.value c.index_of-index.ensures.bound c.index_mut-part.ensures.value
+    let after = given_at (opening) chip c.args.node c.index-index.result c.index_mut-part.result.now c.open_stream.new.self c.self.invariant.legal c.index-index.ensures.value c.index-index.ensures.bound c.index_mut-part.ensures.value
     (sym c.refusal.ensures ∙ c.in_default.is) c.open_stream.ensures refl refl refl in
-    (placed_knows chip c.self.inside.awake c.insert.new.self c.index_of-index.result c.open_stream.new.self c.self.invariant c.insert.ensures after.2)
+    (placed_knows chip c.self.inside.awake c.insert.new.self c.index-index.result c.open_stream.new.self c.self.invariant c.insert.ensures after.2)
 
 pub returns-clause-refused : goal.returns-clause-refused
 returns-clause-refused c =
     let chip : Chip = record { parts = c.self.inside.parts.items; cells = c.self.inside.cells } in
-    let after = given_at (opening) chip c.args.node c.index_of-index.result c.index_mut-part.result.now c.open_stream.new.self c.self.invariant.legal c.index_of-index.ensures.value c.index_of-index.ensures.bound c.index_mut-part.ensures.value
+    let after = given_at (opening) chip c.args.node c.index-index.result c.index_mut-part.result.now c.open_stream.new.self c.self.invariant.legal c.index-index.ensures.value c.index-index.ensures.bound c.index_mut-part.ensures.value
     (sym c.refusal.ensures ∙ c.in_default.is) c.open_stream.ensures refl refl refl in
     let edge : is_edge c.args.node ≡ true = on_edge c.args.node (c.is_edge.ensures.value.0 c.if-not-is_edge.false) in
     sym (ap answer_of (ap (λ z. stream_refusal z c.args.node) (sym c.self.view_is) ∙ ap (λ b. if b then refusal chip c.args.node else Some NotEdge) edge ∙ after.0))
@@ -43,7 +43,7 @@ returns-clause-refused c =
 pub returns-clause-chip : goal.returns-clause-chip
 returns-clause-chip c =
     let chip : Chip = record { parts = c.self.inside.parts.items; cells = c.self.inside.cells } in
-    let after = given_at (opening) chip c.args.node c.index_of-index.result c.index_mut-part.result.now c.open_stream.new.self c.self.invariant.legal c.index_of-index.ensures.value c.index_of-index.ensures.bound c.index_mut-part.ensures.value
+    let after = given_at (opening) chip c.args.node c.index-index.result c.index_mut-part.result.now c.open_stream.new.self c.self.invariant.legal c.index-index.ensures.value c.index-index.ensures.bound c.index_mut-part.ensures.value
     (sym c.refusal.ensures ∙ c.in_default.is) c.open_stream.ensures refl refl refl in
     let edge : is_edge c.args.node ≡ true = on_edge c.args.node (c.is_edge.ensures.value.0 c.if-not-is_edge.false) in
     after.1
