@@ -6,7 +6,7 @@ use Rattle.atomic_table.specs.Table.{Final, Seen, opening}
 use Rattle.ga_chip.specs.Chip.{Chip, part_of, pending_in}
 use Rattle.ga_chip.specs.Legal.{IsLegal}
 use Rattle.ga_chip.specs.Run.{ran, tries_of}
-use Rattle.ga_port.specs.declared.seat.Kept.{Kept}
+use Rattle.ga_port.specs.declared.seat.Holding.{Holding}
 use Rattle.ga_port.specs.Cells.{IsEnd}
 use Rattle.ga_port.specs.Seat.{kept, untried}
 use Rattle.ga_port.specs.inner.Rule.{AreSmall, Holds, IsCellWord, IsOf, pending_of, row_of, word_of}
@@ -15,7 +15,7 @@ use Rattle.ga_port.proofs.Rows.{held_small, held_word, row_read}
 
 -- ---- the start
 
-one_view : (view now : List (Option Kept)) (id : ℕ) → get_elem? (view ∷ []) id ≡ some now → (id ≡ 0) × (view ≡ now)
+one_view : (view now : List (Option Holding)) (id : ℕ) → get_elem? (view ∷ []) id ≡ some now → (id ≡ 0) × (view ≡ now)
 one_view view now zero e = (refl, some-injective view now e)
 one_view view now (suc id) e = absurd (some-ne-none now (sym e))
 
@@ -26,19 +26,19 @@ starts_is chip legal small = record {
   small = small;
   nodes = legal.parts;
   parts = λ id name view one e h. parts name one (here id name view one e h);
-  sides = λ id name view one e h. ap (λ (k : Kept). k.sides) (untried_from chip.parts name one (here id name view one e h)).2;
+  sides = λ id name view one e h. ap (λ (k : Holding). k.sides) (untried_from chip.parts name one (here id name view one e h)).2;
   once = λ id name view one e h. sym (one_view (untried chip.parts) view id e).0;
   there = λ name part e. (untried chip.parts, record { part = part; sides = [] }, refl, untried_there chip.parts name part e);
   beyond = λ name no_node. refl;
 }
   where
-    here : (id name : ℕ) (view : List (Option Kept)) (one : Kept) → get_elem? (untried chip.parts ∷ []) id ≡ some view → kept view name ≡ Some one → kept (untried chip.parts) name ≡ Some one
+    here : (id name : ℕ) (view : List (Option Holding)) (one : Holding) → get_elem? (untried chip.parts ∷ []) id ≡ some view → kept view name ≡ Some one → kept (untried chip.parts) name ≡ Some one
     here id name view one e h = ap (λ v. kept v name) (one_view (untried chip.parts) view id e).1 ∙ h
 
-    parts : (name : ℕ) (one : Kept) → kept (untried chip.parts) name ≡ Some one → part_of chip name ≡ Some one.part
+    parts : (name : ℕ) (one : Holding) → kept (untried chip.parts) name ≡ Some one → part_of chip name ≡ Some one.part
     parts name one has =
         let from = untried_from chip.parts name one has in
-        from.1 ∙ ap (λ (k : Kept). Some k.part) (sym from.2)
+        from.1 ∙ ap (λ (k : Holding). Some k.part) (sym from.2)
 
 pub starts : (chip : Chip) (words : List ℕ) → IsLegal chip → AreSmall chip.cells → words ≡ row_of chip.cells → Holds chip (opening words [] (untried chip.parts))
 starts chip words legal small e = subst (λ l. Holds chip (opening l [] (untried chip.parts))) (sym e) ([], (λ _. 0), starts_is chip legal small)
@@ -70,7 +70,7 @@ row_back : (cells : List (Option ℕ)) (count : ℕ) → length cells ≡ count 
 unfolding row_of
 row_back cells count e = ap (λ n. map pending_of (take n (map word_of cells ++ replicate 1 0))) (sym e) ∙ reads_back cells (replicate 1 0)
 
-pub final_words : (chip : Chip) (id : ℕ) (nodes : List (Option Kept)) (words : List ℕ) (slots : List ℕ) → Final (Seen (Holds chip) id nodes) words slots → (cell held : ℕ) → cell < 524 → get_elem? words cell ≡ some held → IsCellWord held
+pub final_words : (chip : Chip) (id : ℕ) (nodes : List (Option Holding)) (words : List ℕ) (slots : List ℕ) → Final (Seen (Holds chip) id nodes) words slots → (cell held : ℕ) → cell < 524 → get_elem? words cell ≡ some held → IsCellWord held
 final_words chip id nodes words slots final cell held below e =
     let is = final.1.0.2 in
     let cells = (ran chip (tries_of final.1.0.0)).cells in
@@ -78,7 +78,7 @@ final_words chip id nodes words slots final cell held below e =
     let reads : held ≡ word_of (pending_in cells cell) = at_index words cell held e ∙ ap (λ l. get_or l cell 0) (sym final.2 ∙ is.words) ∙ row_read cells cell inside in
     subst IsCellWord (sym reads) (held_small (pending_in cells cell) (is.small cell))
 
-pub final_ends : (chip : Chip) (id : ℕ) (nodes : List (Option Kept)) (words : List ℕ) (slots : List ℕ) (row : List (Option ℕ)) (final : Final (Seen (Holds chip) id nodes) words slots) → row ≡ map pending_of (take 524 words) → IsEnd chip nodes row final.1.0.0
+pub final_ends : (chip : Chip) (id : ℕ) (nodes : List (Option Holding)) (words : List ℕ) (slots : List ℕ) (row : List (Option ℕ)) (final : Final (Seen (Holds chip) id nodes) words slots) → row ≡ map pending_of (take 524 words) → IsEnd chip nodes row final.1.0.0
 final_ends chip id nodes words slots row final e =
     let is = final.1.0.2 in
     let cells = (ran chip (tries_of final.1.0.0)).cells in
@@ -89,5 +89,5 @@ final_ends chip id nodes words slots row final e =
       beyond = is.beyond;
     }
 
-pub final_count : (chip : Chip) (id : ℕ) (nodes : List (Option Kept)) (words : List ℕ) (slots : List ℕ) (row : List (Option ℕ)) (final : Final (Seen (Holds chip) id nodes) words slots) → row ≡ map pending_of (take 524 words) → length row ≡ 524
+pub final_count : (chip : Chip) (id : ℕ) (nodes : List (Option Holding)) (words : List ℕ) (slots : List ℕ) (row : List (Option ℕ)) (final : Final (Seen (Holds chip) id nodes) words slots) → row ≡ map pending_of (take 524 words) → length row ≡ 524
 final_count chip id nodes words slots row final e = ap length (final_ends chip id nodes words slots row final e).cells ∙ final.1.0.2.cells

@@ -13,25 +13,25 @@ use Rattle.ga_place.specs.Node.{is_among}
 use Rattle.ga_chip.specs.declared.outcome.Try.{Try}
 use Rattle.ga_chip.specs.Chip.{Chip}
 use Rattle.ga_chip.specs.Run.{ran, tries_of}
-use Rattle.ga_port.specs.declared.seat.Kept.{Kept}
+use Rattle.ga_port.specs.declared.seat.Holding.{Holding}
 use Rattle.ga_port.specs.Seat.{kept, merged, only, without}
 use Rattle.ga_port.specs.inner.Rule.{Holds, IsOf}
 use Rattle.ga_port.proofs.Nodes.{kept_none, merged_from, merged_left, merged_right, only_among, only_from, only_keeps, without_among, without_from, without_keeps}
 use Rattle.ga_port.proofs.Steps.{at_bound, place_below}
 
 -- what a seat has came from a seat
-record From (s : State ℕ (List (Option Kept))) (next : ℕ → ℕ) (id name : ℕ) (one : Kept) : Type 0 where
+record From (s : State ℕ (List (Option Holding))) (next : ℕ → ℕ) (id name : ℕ) (one : Holding) : Type 0 where
   old_id : ℕ
-  old : List (Option Kept)
+  old : List (Option Holding)
   at_old : get_elem? s.views old_id ≡ some old
   has_old : kept old name ≡ Some one
   next_is : next name ≡ id
 
 -- a node is at its next seat
-abbrev To : List (List (Option Kept)) → (ℕ → ℕ) → ℕ → Type 0
-To views next name = (view : List (Option Kept)) × (one : Kept) × (get_elem? views (next name) ≡ some view) × (kept view name ≡ Some one)
+abbrev To : List (List (Option Holding)) → (ℕ → ℕ) → ℕ → Type 0
+To views next name = (view : List (Option Holding)) × (one : Holding) × (get_elem? views (next name) ≡ some view) × (kept view name ≡ Some one)
 
-regroup : (chip : Chip) (tries : List Try) (owner : ℕ → ℕ) (s : State ℕ (List (Option Kept))) (views : List (List (Option Kept))) (next : ℕ → ℕ) → IsOf chip tries owner s → ((id name : ℕ) (view : List (Option Kept)) (one : Kept) → get_elem? views id ≡ some view → kept view name ≡ Some one → From s next id name one) → ((name : ℕ) (view : List (Option Kept)) (one : Kept) → index_of name < 144 → get_elem? s.views (owner name) ≡ some view → kept view name ≡ Some one → To views next name) → IsOf chip tries next (record { words = s.words; homes = s.homes; views = views })
+regroup : (chip : Chip) (tries : List Try) (owner : ℕ → ℕ) (s : State ℕ (List (Option Holding))) (views : List (List (Option Holding))) (next : ℕ → ℕ) → IsOf chip tries owner s → ((id name : ℕ) (view : List (Option Holding)) (one : Holding) → get_elem? views id ≡ some view → kept view name ≡ Some one → From s next id name one) → ((name : ℕ) (view : List (Option Holding)) (one : Holding) → index_of name < 144 → get_elem? s.views (owner name) ≡ some view → kept view name ≡ Some one → To views next name) → IsOf chip tries next (record { words = s.words; homes = s.homes; views = views })
 regroup chip tries owner s views next is from to = record {
   words = is.words;
   cells = is.cells;
@@ -45,7 +45,7 @@ regroup chip tries owner s views next is from to = record {
 }
 
 -- the last of a list, or one before it
-at_end : (views : List (List (Option Kept))) (last view : List (Option Kept)) (i : ℕ) → get_elem? (views ++ last ∷ []) i ≡ some view → (get_elem? views i ≡ some view) ⊎ ((i ≡ length views) × (last ≡ view))
+at_end : (views : List (List (Option Holding))) (last view : List (Option Holding)) (i : ℕ) → get_elem? (views ++ last ∷ []) i ≡ some view → (get_elem? views i ≡ some view) ⊎ ((i ≡ length views) × (last ≡ view))
 at_end [] last view zero e = inr (refl, some-injective last view e)
 at_end [] last view (suc i) e = absurd (some-ne-none view (sym e))
 at_end (one ∷ rest) last view zero e = inl e
@@ -57,8 +57,8 @@ at_end (one ∷ rest) last view (suc i) e = by (at_end rest last view i e)
 
 -- ---- a seat gives nodes to a new one
 
-module _ (chip : Chip) (tries : List Try) (owner : ℕ → ℕ) (s : State ℕ (List (Option Kept))) (is : IsOf chip tries owner s) (id : ℕ) (names : List ℕ) (nodes : List (Option Kept)) (at : get_elem? s.views id ≡ some nodes) where
-  abbrev shared : List (List (Option Kept))
+module _ (chip : Chip) (tries : List Try) (owner : ℕ → ℕ) (s : State ℕ (List (Option Holding))) (is : IsOf chip tries owner s) (id : ℕ) (names : List ℕ) (nodes : List (Option Holding)) (at : get_elem? s.views id ≡ some nodes) where
+  abbrev shared : List (List (Option Holding))
   shared = set s.views id (without names nodes) ++ only names nodes ∷ []
 
   abbrev new_seat : ℕ
@@ -77,14 +77,14 @@ module _ (chip : Chip) (tries : List Try) (owner : ℕ → ℕ) (s : State ℕ (
   keeps_seat : (name : ℕ) → (owner name ≡ id → ⊥) → next name ≡ owner name
   keeps_seat name other = ap (λ b. if b && is_among name names then length s.views else owner name) (ne_eqb (owner name) id other)
 
-  below_of : (name : ℕ) (one : Kept) → kept nodes name ≡ Some one → index_of name < 144
+  below_of : (name : ℕ) (one : Holding) → kept nodes name ≡ Some one → index_of name < 144
   below_of name one has = place_below chip tries owner s name one.part is (is.parts id name nodes one at has)
 
   not_true : (b : Bool) → not b ≡ true → b ≡ false
   not_true true e = absurd cc
   not_true false e = refl
 
-  shared_from : (index name : ℕ) (view : List (Option Kept)) (one : Kept) → get_elem? shared index ≡ some view → kept view name ≡ Some one → From s next index name one
+  shared_from : (index name : ℕ) (view : List (Option Holding)) (one : Holding) → get_elem? shared index ≡ some view → kept view name ≡ Some one → From s next index name one
   shared_from index name view one e h = by (at_end (set s.views id (without names nodes)) (only names nodes) view index e)
     where
       new : index ≡ length (set s.views id (without names nodes)) → kept (only names nodes) name ≡ Some one → From s next index name one
@@ -107,7 +107,7 @@ module _ (chip : Chip) (tries : List Try) (owner : ℕ → ℕ) (s : State ℕ (
       by (inl here) = inside (at_set s.views id index (without names nodes) view here)
       by (inr (i, same)) = new i (ap (λ v. kept v name) same ∙ h)
 
-  shared_to : (name : ℕ) (view : List (Option Kept)) (one : Kept) → index_of name < 144 → get_elem? s.views (owner name) ≡ some view → kept view name ≡ Some one → To shared next name
+  shared_to : (name : ℕ) (view : List (Option Holding)) (one : Holding) → index_of name < 144 → get_elem? s.views (owner name) ≡ some view → kept view name ≡ Some one → To shared next name
   shared_to name view one below there has = by (cases_eq (owner name) id)
     where
       mine : owner name ≡ id → kept nodes name ≡ Some one → (b : Bool) → is_among name names ≡ b → To shared next name
@@ -126,14 +126,14 @@ module _ (chip : Chip) (tries : List Try) (owner : ℕ → ℕ) (s : State ℕ (
   shares_is : IsOf chip tries next (record { words = s.words; homes = s.homes; views = shared })
   shares_is = regroup chip tries owner s shared next is shared_from shared_to
 
-pub shares : (opening : Chip) (id : ℕ) (names : List ℕ) (nodes : List (Option Kept)) → Splits (Holds opening) id nodes (without names nodes) (only names nodes)
+pub shares : (opening : Chip) (id : ℕ) (names : List ℕ) (nodes : List (Option Holding)) → Splits (Holds opening) id nodes (without names nodes) (only names nodes)
 shares opening id names nodes s holds at =
     (holds.0, next (ran opening (tries_of holds.0)) holds.0 holds.1 s holds.2 id names nodes at, shares_is (ran opening (tries_of holds.0)) holds.0 holds.1 s holds.2 id names nodes at)
 
 -- ---- a seat takes in the nodes of another
 
-module _ (chip : Chip) (tries : List Try) (owner : ℕ → ℕ) (s : State ℕ (List (Option Kept))) (is : IsOf chip tries owner s) (id other : ℕ) (nodes others : List (Option Kept)) (at : get_elem? s.views id ≡ some nodes) (two : other ≢ id) (at_other : get_elem? s.views other ≡ some others) where
-  abbrev gathered : List (List (Option Kept))
+module _ (chip : Chip) (tries : List Try) (owner : ℕ → ℕ) (s : State ℕ (List (Option Holding))) (is : IsOf chip tries owner s) (id other : ℕ) (nodes others : List (Option Holding)) (at : get_elem? s.views id ≡ some nodes) (two : other ≢ id) (at_other : get_elem? s.views other ≡ some others) where
+  abbrev gathered : List (List (Option Holding))
   gathered = set (set s.views id (merged nodes others)) other []
 
   abbrev next_of : ℕ → ℕ
@@ -148,7 +148,7 @@ module _ (chip : Chip) (tries : List Try) (owner : ℕ → ℕ) (s : State ℕ (
   at_id : get_elem? gathered id ≡ some (merged nodes others)
   at_id = set_else (set s.views id (merged nodes others)) other id [] (λ e. two (sym e)) ∙ set_here s.views id (merged nodes others) (at_bound s.views id nodes at)
 
-  gathered_from : (index name : ℕ) (view : List (Option Kept)) (one : Kept) → get_elem? gathered index ≡ some view → kept view name ≡ Some one → From s next_of index name one
+  gathered_from : (index name : ℕ) (view : List (Option Holding)) (one : Holding) → get_elem? gathered index ≡ some view → kept view name ≡ Some one → From s next_of index name one
   gathered_from index name view one e h = by (at_set (set s.views id (merged nodes others)) other index [] view e)
     where
       both : index ≡ id → (kept nodes name ≡ Some one) ⊎ (kept others name ≡ Some one) → From s next_of index name one
@@ -168,10 +168,10 @@ module _ (chip : Chip) (tries : List Try) (owner : ℕ → ℕ) (s : State ℕ (
       by (inl (i, same)) = absurd (none-some one (sym (kept_none name) ∙ ap (λ v. kept v name) same ∙ h))
       by (inr (apart, here)) = inside apart (at_set s.views id index (merged nodes others) view here)
 
-  gathered_to : (name : ℕ) (view : List (Option Kept)) (one : Kept) → index_of name < 144 → get_elem? s.views (owner name) ≡ some view → kept view name ≡ Some one → To gathered next_of name
+  gathered_to : (name : ℕ) (view : List (Option Holding)) (one : Holding) → index_of name < 144 → get_elem? s.views (owner name) ≡ some view → kept view name ≡ Some one → To gathered next_of name
   gathered_to name view one below there has = by (cases_eq (owner name) other)
     where
-      theirs : owner name ≡ other → kept others name ≡ Some one → (o : Option Kept) → kept nodes name ≡ o → To gathered next_of name
+      theirs : owner name ≡ other → kept others name ≡ Some one → (o : Option Holding) → kept nodes name ≡ o → To gathered next_of name
       theirs o here (Some twice) e = absurd (two (sym o ∙ is.once id name nodes twice at e))
       theirs o here None e = (merged nodes others, one, ap (get_elem? gathered) (comes name o) ∙ at_id, merged_right nodes others name e ∙ here)
 
@@ -191,7 +191,7 @@ module _ (chip : Chip) (tries : List Try) (owner : ℕ → ℕ) (s : State ℕ (
   gathers_is : IsOf chip tries next_of (record { words = s.words; homes = s.homes; views = gathered })
   gathers_is = regroup chip tries owner s gathered next_of is gathered_from gathered_to
 
-pub gathers : (opening : Chip) (id other : ℕ) (nodes others : List (Option Kept)) → Joins (Holds opening) id nodes other others (merged nodes others) []
+pub gathers : (opening : Chip) (id other : ℕ) (nodes others : List (Option Holding)) → Joins (Holds opening) id nodes other others (merged nodes others) []
 gathers opening id other nodes others s holds at two there =
     let at_other : get_elem? s.views other ≡ some others = sym (set_else s.views id other (merged nodes others) two) ∙ there in
     (holds.0, next_of (ran opening (tries_of holds.0)) holds.0 holds.1 s holds.2 id other nodes others at two at_other, gathers_is (ran opening (tries_of holds.0)) holds.0 holds.1 s holds.2 id other nodes others at two at_other)

@@ -20,7 +20,7 @@ use Rattle.ga_chip.proofs.Asked.{told_check, told_post, told_take}
 use Rattle.ga_chip.specs.Chip.{Chip, cells_after, found_by, part_of, pending_in}
 use Rattle.ga_chip.specs.Run.{ran, sides_tried, tries_of}
 use Rattle.ga_chip.proofs.Lists.{get-set_here, get-set_else}
-use Rattle.ga_port.specs.declared.seat.Kept.{Kept}
+use Rattle.ga_port.specs.declared.seat.Holding.{Holding}
 use Rattle.ga_port.specs.Seat.{kept, kept_after, tried_in}
 use Rattle.ga_port.specs.Cells.{AsksForNoCell, AsksToCheck, AsksToPost, AsksToTake, is_off_cells}
 use Rattle.ga_port.specs.inner.Rule.{AreSmall, Enters, EntersEmpty, EntersFound, Holds, IsCellWord, IsOf, pending_of, row_of, word_of}
@@ -35,14 +35,14 @@ at_bound (y ∷ xs) zero x e = omega arith
 at_bound (y ∷ xs) (suc i) x e = let below : i < length xs = at_bound xs i x e in omega arith
 
 -- the parts after a try
-abbrev pub parts_after : List Part → Kept → Try → Option ℕ → List Part
+abbrev pub parts_after : List Part → Holding → Try → Option ℕ → List Part
 parts_after parts one what found = set parts (index_of what.node) (after one.part what.side found).1
 
 -- a node that a seat has has a place
-pub place_below : (chip : Chip) (tries : List Try) (owner : ℕ → ℕ) (s : State ℕ (List (Option Kept))) (name : ℕ) (part : Part) → IsOf chip tries owner s → part_of chip name ≡ Some part → index_of name < 144
+pub place_below : (chip : Chip) (tries : List Try) (owner : ℕ → ℕ) (s : State ℕ (List (Option Holding))) (name : ℕ) (part : Part) → IsOf chip tries owner s → part_of chip name ≡ Some part → index_of name < 144
 place_below chip tries owner s name part is e = subst (λ n. index_of name < n) is.nodes (slice_get_within chip.parts (index_of name) part e)
 
-module _ (chip : Chip) (tries : List Try) (owner : ℕ → ℕ) (s : State ℕ (List (Option Kept))) (is : IsOf chip tries owner s) (id : ℕ) (view : List (Option Kept)) (one : Kept) (what : Try) (found : Option ℕ) (at : get_elem? s.views id ≡ some view) (has : kept view what.node ≡ Some one) where
+module _ (chip : Chip) (tries : List Try) (owner : ℕ → ℕ) (s : State ℕ (List (Option Holding))) (is : IsOf chip tries owner s) (id : ℕ) (view : List (Option Holding)) (one : Holding) (what : Try) (found : Option ℕ) (at : get_elem? s.views id ≡ some view) (has : kept view what.node ≡ Some one) where
   part_here : part_of chip what.node ≡ Some one.part
   part_here = is.parts id what.node view one at has
 
@@ -53,21 +53,21 @@ module _ (chip : Chip) (tries : List Try) (owner : ℕ → ℕ) (s : State ℕ (
   owns = is.once id what.node view one at has
 
   -- an entry of a view is the node that was tried, or an old one
-  record Touched (index name : ℕ) (entry : Kept) : Type 0 where
+  record Touched (index name : ℕ) (entry : Holding) : Type 0 where
     name_is : name ≡ what.node
     id_is : index ≡ id
     entry_is : entry ≡ kept_after one what.side found
 
-  record Other (index name : ℕ) (entry : Kept) : Type 0 where
+  record Other (index name : ℕ) (entry : Holding) : Type 0 where
     apart : name ≢ what.node
-    old : List (Option Kept)
+    old : List (Option Holding)
     at_old : get_elem? s.views index ≡ some old
     has_old : kept old name ≡ Some entry
 
   places_apart : (name : ℕ) → name ≢ what.node → index_of name ≢ index_of what.node
   places_apart name apart e = apart (sym (one_place what.node name below (sym e)))
 
-  entry_of : (index name : ℕ) (now : List (Option Kept)) (entry : Kept) → get_elem? (set s.views id (tried_in view what found)) index ≡ some now → kept now name ≡ Some entry → Touched index name entry ⊎ Other index name entry
+  entry_of : (index name : ℕ) (now : List (Option Holding)) (entry : Holding) → get_elem? (set s.views id (tried_in view what found)) index ≡ some now → kept now name ≡ Some entry → Touched index name entry ⊎ Other index name entry
   entry_of index name now entry e h = by (at_set s.views id index (tried_in view what found) now e)
     where
       here : index ≡ id → kept (tried_in view what found) name ≡ Some entry → (name ≡ what.node) ⊎ (name ≡ what.node → ⊥) → Touched index name entry ⊎ Other index name entry
@@ -79,30 +79,30 @@ module _ (chip : Chip) (tries : List Try) (owner : ℕ → ℕ) (s : State ℕ (
       by (inr (other, old)) = inr (record { apart = λ same. other (sym (is.once index name now entry old h) ∙ ap owner same ∙ owns); old = now; at_old = old; has_old = h })
 
   -- the chip after the try, where its cells become these
-  parts_of : (index name : ℕ) (entry : Kept) (cells : List (Option ℕ)) → Touched index name entry ⊎ Other index name entry → part_of (record { parts = parts_after chip.parts one what found; cells = cells }) name ≡ Some entry.part
+  parts_of : (index name : ℕ) (entry : Holding) (cells : List (Option ℕ)) → Touched index name entry ⊎ Other index name entry → part_of (record { parts = parts_after chip.parts one what found; cells = cells }) name ≡ Some entry.part
   parts_of index name entry cells (inl t) =
       ap (part_of (record { parts = parts_after chip.parts one what found; cells = cells })) t.name_is
       ∙ get-set_here chip.parts (index_of what.node) _ one.part part_here
-      ∙ ap (λ (k : Kept). Some k.part) (sym t.entry_is)
+      ∙ ap (λ (k : Holding). Some k.part) (sym t.entry_is)
   parts_of index name entry cells (inr o) =
       get-set_else chip.parts (index_of what.node) (index_of name) _ (λ e. places_apart name o.apart (sym e))
       ∙ is.parts index name o.old entry o.at_old o.has_old
 
-  sides_of : (index name : ℕ) (entry : Kept) → Touched index name entry ⊎ Other index name entry → entry.sides ≡ sides_tried name (tries ++ what ∷ [])
+  sides_of : (index name : ℕ) (entry : Holding) → Touched index name entry ⊎ Other index name entry → entry.sides ≡ sides_tried name (tries ++ what ∷ [])
   sides_of index name entry (inl t) =
-      ap (λ (k : Kept). k.sides) t.entry_is
+      ap (λ (k : Holding). k.sides) t.entry_is
       ∙ ap (λ l. l ++ what.side ∷ []) (is.sides id what.node view one at has)
       ∙ sym (tried_here tries what)
       ∙ ap (λ n. sides_tried n (tries ++ what ∷ [])) (sym t.name_is)
   sides_of index name entry (inr o) = is.sides index name o.old entry o.at_old o.has_old ∙ sym (tried_else name tries what (λ e. o.apart (sym e)))
 
-  once_of : (index name : ℕ) (entry : Kept) → Touched index name entry ⊎ Other index name entry → owner name ≡ index
+  once_of : (index name : ℕ) (entry : Holding) → Touched index name entry ⊎ Other index name entry → owner name ≡ index
   once_of index name entry (inl t) = ap owner t.name_is ∙ owns ∙ sym t.id_is
   once_of index name entry (inr o) = is.once index name o.old entry o.at_old o.has_old
 
   -- a seat that has the node after the try
   abbrev At : ℕ → Type 0
-  At name = (now : List (Option Kept)) × (entry : Kept) × (get_elem? (set s.views id (tried_in view what found)) (owner name) ≡ some now) × (kept now name ≡ Some entry)
+  At name = (now : List (Option Holding)) × (entry : Holding) × (get_elem? (set s.views id (tried_in view what found)) (owner name) ≡ some now) × (kept now name ≡ Some entry)
 
   at_new : (name : ℕ) → owner name ≡ id → get_elem? (set s.views id (tried_in view what found)) (owner name) ≡ some (tried_in view what found)
   at_new name mine = ap (get_elem? (set s.views id (tried_in view what found))) mine ∙ set_here s.views id (tried_in view what found) (at_bound s.views id view at)
@@ -113,13 +113,13 @@ module _ (chip : Chip) (tries : List Try) (owner : ℕ → ℕ) (s : State ℕ (
   there_of name part e (inr apart) =
       from (is.there name part (sym (get-set_else chip.parts (index_of what.node) (index_of name) _ (λ f. places_apart name apart (sym f))) ∙ e))
     where
-      by : (old : List (Option Kept)) (entry : Kept) → get_elem? s.views (owner name) ≡ some old → kept old name ≡ Some entry → (owner name ≡ id) ⊎ (owner name ≡ id → ⊥) → At name
+      by : (old : List (Option Holding)) (entry : Holding) → get_elem? s.views (owner name) ≡ some old → kept old name ≡ Some entry → (owner name ≡ id) ⊎ (owner name ≡ id → ⊥) → At name
       by old entry there has_old (inl mine) =
           let same : old ≡ view = some-injective old view (sym there ∙ ap (get_elem? s.views) mine ∙ at) in
           (tried_in view what found, entry, at_new name mine, nodes.tried_else view what found name (places_apart name apart) ∙ ap (λ v. kept v name) (sym same) ∙ has_old)
       by old entry there has_old (inr other) = (old, entry, set_else s.views id (owner name) _ other ∙ there, has_old)
 
-      from : (old : List (Option Kept)) × (entry : Kept) × (get_elem? s.views (owner name) ≡ some old) × (kept old name ≡ Some entry) → At name
+      from : (old : List (Option Holding)) × (entry : Holding) × (get_elem? s.views (owner name) ≡ some old) × (kept old name ≡ Some entry) → At name
       from old = by old.0 old.1 old.2 old.3 (cases_eq (owner name) id)
 
   -- the rule after the try
@@ -145,15 +145,15 @@ pub record Suits (asked : Asks) (i : ℕ) (f : ℕ → ℕ) (cells : List (Optio
   pub small : AreSmall (cells_after asked cells)
 
 -- what the step tells, where it enters the try
-abbrev pub Tells : Kept → Try → (ℕ → Me ℕ (List (Option Kept)) → Type 0) → Me ℕ (List (Option Kept)) → ℕ → List (Option ℕ) → Type 0
+abbrev pub Tells : Holding → Try → (ℕ → Me ℕ (List (Option Holding)) → Type 0) → Me ℕ (List (Option Holding)) → ℕ → List (Option ℕ) → Type 0
 Tells one what play me i cells = play (get_or (row_of cells) i 0) (tried_in me.0 what (found_by (asks one.part what.side) cells), me.1)
 
 -- what a step owes, at one state of the table
-abbrev pub Moves : Chip → ℕ → Me ℕ (List (Option Kept)) → ℕ → (ℕ → ℕ) → (ℕ → Me ℕ (List (Option Kept)) → Type 0) → State ℕ (List (Option Kept)) → Type 0
-Moves opening id me i f play s = (view : List (Option Kept)) × (act : Act ℕ) × Valid s.homes me.1 act × Holds opening (stepped s i (f (get_or s.words i 0)) id me.1 view act) × play (get_or s.words i 0) (view, carried_after me.1 act)
+abbrev pub Moves : Chip → ℕ → Me ℕ (List (Option Holding)) → ℕ → (ℕ → ℕ) → (ℕ → Me ℕ (List (Option Holding)) → Type 0) → State ℕ (List (Option Holding)) → Type 0
+Moves opening id me i f play s = (view : List (Option Holding)) × (act : Act ℕ) × Valid s.homes me.1 act × Holds opening (stepped s i (f (get_or s.words i 0)) id me.1 view act) × play (get_or s.words i 0) (view, carried_after me.1 act)
 
 -- so the step keeps the rule
-enters : (opening : Chip) (id : ℕ) (me : Me ℕ (List (Option Kept))) (what : Try) (one : Kept) (i : ℕ) (f : ℕ → ℕ) (play : ℕ → Me ℕ (List (Option Kept)) → Type 0) (s : State ℕ (List (Option Kept))) (holds : Holds opening s) → kept me.0 what.node ≡ Some one → get_elem? s.views id ≡ some me.0 → Suits (asks one.part what.side) i f (ran opening (tries_of holds.0)).cells → Tells one what play me i (ran opening (tries_of holds.0)).cells → Moves opening id me i f play s
+enters : (opening : Chip) (id : ℕ) (me : Me ℕ (List (Option Holding))) (what : Try) (one : Holding) (i : ℕ) (f : ℕ → ℕ) (play : ℕ → Me ℕ (List (Option Holding)) → Type 0) (s : State ℕ (List (Option Holding))) (holds : Holds opening s) → kept me.0 what.node ≡ Some one → get_elem? s.views id ≡ some me.0 → Suits (asks one.part what.side) i f (ran opening (tries_of holds.0)).cells → Tells one what play me i (ran opening (tries_of holds.0)).cells → Moves opening id me i f play s
 enters opening id me what one i f play s holds has at suits tells =
     let chip = ran opening (tries_of holds.0) in
     let is = holds.2 in
@@ -168,7 +168,7 @@ enters opening id me what one i f play s holds has at suits tells =
     )
 
 -- a step that enters no try and changes nothing
-stays : (opening : Chip) (id : ℕ) (me : Me ℕ (List (Option Kept))) (i : ℕ) (play : ℕ → Me ℕ (List (Option Kept)) → Type 0) (s : State ℕ (List (Option Kept))) → Holds opening s → get_elem? s.views id ≡ some me.0 → play (get_or s.words i 0) me → Moves opening id me i (λ n. n) play s
+stays : (opening : Chip) (id : ℕ) (me : Me ℕ (List (Option Holding))) (i : ℕ) (play : ℕ → Me ℕ (List (Option Holding)) → Type 0) (s : State ℕ (List (Option Holding))) → Holds opening s → get_elem? s.views id ≡ some me.0 → play (get_or s.words i 0) me → Moves opening id me i (λ n. n) play s
 stays opening id me i play s holds at tells = (
   me.0,
   keeps,
@@ -188,7 +188,7 @@ suits_post asked at cell word cells e below bound count small =
       small = small_set cells cell (Some word) small (λ w same. subst (λ n. n < 2 ^ 18) (same_Some word w same) bound);
     })
 
-post_at : (opening : Chip) (slots id : ℕ) (me : Me ℕ (List (Option Kept))) (what : Try) (cell word new : ℕ) → AsksToPost me.0 what cell word → cell < 524 → word < 2 ^ 18 → new ≡ word_of (Some word) → Allows (Holds opening) slots id me cell (λ _. new) (λ _. Enters what me)
+post_at : (opening : Chip) (slots id : ℕ) (me : Me ℕ (List (Option Holding))) (what : Try) (cell word new : ℕ) → AsksToPost me.0 what cell word → cell < 524 → word < 2 ^ 18 → new ≡ word_of (Some word) → Allows (Holds opening) slots id me cell (λ _. new) (λ _. Enters what me)
 post_at opening slots id me what cell word new asked below bound same =
     subst (λ n. Allows (Holds opening) slots id me cell (λ _. n) (λ _. Enters what me)) (sym same) (λ s holds room at fits.
     let chip = ran opening (tries_of holds.0) in
@@ -197,14 +197,14 @@ post_at opening slots id me what cell word new asked below bound same =
     (ap (λ a. (tried_in me.0 what (found_by a chip.cells), me.1)) (told_post _ asked.1 cell word asked.3)))
 
 -- by the seat's nodes and the cell as a call names them
-pub post_step : (opening : Chip) (slots id : ℕ) (me : Me ℕ (List (Option Kept))) (what : Try) (cell place word new : ℕ) (nodes : List (Option Kept)) → AsksToPost nodes what cell word → me.0 ≡ nodes → place ≡ cell → place < 524 → word < 2 ^ 18 → new ≡ word_of (Some word) → Allows (Holds opening) slots id me place (λ _. new) (λ _. Enters what me)
+pub post_step : (opening : Chip) (slots id : ℕ) (me : Me ℕ (List (Option Holding))) (what : Try) (cell place word new : ℕ) (nodes : List (Option Holding)) → AsksToPost nodes what cell word → me.0 ≡ nodes → place ≡ cell → place < 524 → word < 2 ^ 18 → new ≡ word_of (Some word) → Allows (Holds opening) slots id me place (λ _. new) (λ _. Enters what me)
 post_step opening slots id me what cell place word new nodes asked same there =
     post_at opening slots id me what place word new (subst (λ n. AsksToPost n what place word) (sym same) (subst (λ i. AsksToPost nodes what i word) (sym there) asked))
 
 -- ---- take, check and poll
 
 -- what is told of a cell
-tells_cell : (what : Try) (me : Me ℕ (List (Option Kept))) (cell : ℕ) (cells : List (Option ℕ)) (found : Option ℕ) → cell < 524 → length cells ≡ 524 → AreSmall cells → found ≡ pending_in cells cell → EntersFound what (get_or (row_of cells) cell 0) me (tried_in me.0 what found, me.1)
+tells_cell : (what : Try) (me : Me ℕ (List (Option Holding))) (cell : ℕ) (cells : List (Option ℕ)) (found : Option ℕ) → cell < 524 → length cells ≡ 524 → AreSmall cells → found ≡ pending_in cells cell → EntersFound what (get_or (row_of cells) cell 0) me (tried_in me.0 what found, me.1)
 tells_cell what me cell cells found below count small e =
     let inside : cell < length cells = omega arith in
     let read = row_read cells cell inside in (
@@ -221,7 +221,7 @@ suits_take asked at cell cells e below count small =
       small = small_set cells cell None small (λ w same. absurd (none-some w same));
     })
 
-take_at : (opening : Chip) (slots id : ℕ) (me : Me ℕ (List (Option Kept))) (what : Try) (cell : ℕ) → AsksToTake me.0 what cell → cell < 524 → Allows (Holds opening) slots id me cell (λ _. 0) (λ held. EntersFound what held me)
+take_at : (opening : Chip) (slots id : ℕ) (me : Me ℕ (List (Option Holding))) (what : Try) (cell : ℕ) → AsksToTake me.0 what cell → cell < 524 → Allows (Holds opening) slots id me cell (λ _. 0) (λ held. EntersFound what held me)
 take_at opening slots id me what cell asked below s holds room at fits =
     let chip = ran opening (tries_of holds.0) in
     let takes = told_take (asks asked.0.part what.side) asked.1 cell asked.3 in
@@ -237,7 +237,7 @@ suits_still asked i cells e count small = record {
   small = subst AreSmall (sym e) small;
 }
 
-check_at : (opening : Chip) (slots id : ℕ) (me : Me ℕ (List (Option Kept))) (what : Try) (cell : ℕ) → AsksToCheck me.0 what cell → cell < 524 → Allows (Holds opening) slots id me cell (λ n. n) (λ held. EntersFound what held me)
+check_at : (opening : Chip) (slots id : ℕ) (me : Me ℕ (List (Option Holding))) (what : Try) (cell : ℕ) → AsksToCheck me.0 what cell → cell < 524 → Allows (Holds opening) slots id me cell (λ n. n) (λ held. EntersFound what held me)
 check_at opening slots id me what cell asked below s holds room at fits =
     let chip = ran opening (tries_of holds.0) in
     let checks = told_check (asks asked.0.part what.side) asked.1 cell asked.3 in
@@ -245,7 +245,7 @@ check_at opening slots id me what cell asked below s holds room at fits =
     (suits_still (asks asked.0.part what.side) cell chip.cells (ap (λ a. cells_after a chip.cells) checks) holds.2.cells holds.2.small)
     (tells_cell what me cell chip.cells _ below holds.2.cells holds.2.small (ap (λ a. found_by a chip.cells) checks))
 
-poll_at : (opening : Chip) (slots id : ℕ) (me : Me ℕ (List (Option Kept))) (what : Try) (cell : ℕ) → AsksToTake me.0 what cell → cell < 524 → Allows (Holds opening) slots id me cell (λ n. n) (λ held. EntersEmpty what held me)
+poll_at : (opening : Chip) (slots id : ℕ) (me : Me ℕ (List (Option Holding))) (what : Try) (cell : ℕ) → AsksToTake me.0 what cell → cell < 524 → Allows (Holds opening) slots id me cell (λ n. n) (λ held. EntersEmpty what held me)
 poll_at opening slots id me what cell asked below s holds room at fits = by (pending_in (ran opening (tries_of holds.0)).cells cell) refl
   where
     chip : Chip
@@ -280,15 +280,15 @@ poll_at opening slots id me what cell asked below s holds room at fits = by (pen
           ap (λ (b : Bool). (if b then tried_in me.0 what None else me.0, me.1)) (sym (ne_eqb (262144 + word) 0 some_word)),
         ))
 
-pub take_step : (opening : Chip) (slots id : ℕ) (me : Me ℕ (List (Option Kept))) (what : Try) (cell place : ℕ) (nodes : List (Option Kept)) → AsksToTake nodes what cell → me.0 ≡ nodes → place ≡ cell → place < 524 → Allows (Holds opening) slots id me place (λ _. 0) (λ held. EntersFound what held me)
+pub take_step : (opening : Chip) (slots id : ℕ) (me : Me ℕ (List (Option Holding))) (what : Try) (cell place : ℕ) (nodes : List (Option Holding)) → AsksToTake nodes what cell → me.0 ≡ nodes → place ≡ cell → place < 524 → Allows (Holds opening) slots id me place (λ _. 0) (λ held. EntersFound what held me)
 take_step opening slots id me what cell place nodes asked same there =
     take_at opening slots id me what place (subst (λ n. AsksToTake n what place) (sym same) (subst (AsksToTake nodes what) (sym there) asked))
 
-pub check_step : (opening : Chip) (slots id : ℕ) (me : Me ℕ (List (Option Kept))) (what : Try) (cell place : ℕ) (nodes : List (Option Kept)) → AsksToCheck nodes what cell → me.0 ≡ nodes → place ≡ cell → place < 524 → Allows (Holds opening) slots id me place (λ n. n) (λ held. EntersFound what held me)
+pub check_step : (opening : Chip) (slots id : ℕ) (me : Me ℕ (List (Option Holding))) (what : Try) (cell place : ℕ) (nodes : List (Option Holding)) → AsksToCheck nodes what cell → me.0 ≡ nodes → place ≡ cell → place < 524 → Allows (Holds opening) slots id me place (λ n. n) (λ held. EntersFound what held me)
 check_step opening slots id me what cell place nodes asked same there =
     check_at opening slots id me what place (subst (λ n. AsksToCheck n what place) (sym same) (subst (AsksToCheck nodes what) (sym there) asked))
 
-pub poll_step : (opening : Chip) (slots id : ℕ) (me : Me ℕ (List (Option Kept))) (what : Try) (cell place : ℕ) (nodes : List (Option Kept)) → AsksToTake nodes what cell → me.0 ≡ nodes → place ≡ cell → place < 524 → Allows (Holds opening) slots id me place (λ n. n) (λ held. EntersEmpty what held me)
+pub poll_step : (opening : Chip) (slots id : ℕ) (me : Me ℕ (List (Option Holding))) (what : Try) (cell place : ℕ) (nodes : List (Option Holding)) → AsksToTake nodes what cell → me.0 ≡ nodes → place ≡ cell → place < 524 → Allows (Holds opening) slots id me place (λ n. n) (λ held. EntersEmpty what held me)
 poll_step opening slots id me what cell place nodes asked same there =
     poll_at opening slots id me what place (subst (λ n. AsksToTake n what place) (sym same) (subst (AsksToTake nodes what) (sym there) asked))
 
@@ -302,7 +302,7 @@ off_cells (Post side cell word) cells e = absurd cc
 off_cells (Take side cell) cells e = absurd cc
 off_cells (Check side cell) cells e = absurd cc
 
-own_at : (opening : Chip) (slots id : ℕ) (me : Me ℕ (List (Option Kept))) (what : Try) (i : ℕ) → AsksForNoCell me.0 what → Allows (Holds opening) slots id me i (λ n. n) (λ _. Enters what me)
+own_at : (opening : Chip) (slots id : ℕ) (me : Me ℕ (List (Option Holding))) (what : Try) (i : ℕ) → AsksForNoCell me.0 what → Allows (Holds opening) slots id me i (λ n. n) (λ _. Enters what me)
 own_at opening slots id me what i asked s holds room at fits =
     let chip = ran opening (tries_of holds.0) in
     let off = off_cells (asks asked.0.part what.side) chip.cells asked.2 in
@@ -310,5 +310,5 @@ own_at opening slots id me what i asked s holds room at fits =
     (suits_still (asks asked.0.part what.side) i chip.cells off.0 holds.2.cells holds.2.small)
     (ap (λ o. (tried_in me.0 what o, me.1)) off.1)
 
-pub own_step : (opening : Chip) (slots id : ℕ) (me : Me ℕ (List (Option Kept))) (what : Try) (i : ℕ) (nodes : List (Option Kept)) → AsksForNoCell nodes what → me.0 ≡ nodes → Allows (Holds opening) slots id me i (λ n. n) (λ _. Enters what me)
+pub own_step : (opening : Chip) (slots id : ℕ) (me : Me ℕ (List (Option Holding))) (what : Try) (i : ℕ) (nodes : List (Option Holding)) → AsksForNoCell nodes what → me.0 ≡ nodes → Allows (Holds opening) slots id me i (λ n. n) (λ _. Enters what me)
 own_step opening slots id me what i nodes asked same = own_at opening slots id me what i (subst (λ n. AsksForNoCell n what) (sym same) asked)

@@ -36,9 +36,14 @@ impl Model for Cells {
 
     ghost Value = { CellsView };
 
-    ghost view = { λ it. record { table = it.table.shared.table_id; opening = it.table.shared.key } };
+    ghost view = { λ it. record {
+      table = it.table.shared.table_id;
+      opening = it.table.shared.key;
+    } };
 
-    ghost invariant = { λ it. (it.table.shared.table_id.words ≡ 525) × (it.table.shared.table_id.slots ≡ 0) × (vec_len it.room ≡ 0) × (524 ≤ vec_capacity it.room) };
+    ghost invariant = { λ it. (it.table.shared.table_id.words ≡ 525)
+        × (it.table.shared.table_id.slots ≡ 0) × (vec_len it.room ≡ 0)
+        × (524 ≤ vec_capacity it.room) };
 }
 
 impl Cells {

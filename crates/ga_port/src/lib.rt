@@ -9,4 +9,4 @@ mod seat;
 mod word;
 
 pub use cells::Cells;
-pub use seat::{Kept, PortSeat};
+pub use seat::{Holding, PortSeat};

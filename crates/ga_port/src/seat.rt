@@ -6,13 +6,13 @@ use std::marker::Model;
 
 /// What a seat has of one of its nodes, for contracts alone: the node's part of the chip, and the sides that its tries
 /// have named so far. No value of it is made.
-pub struct Kept {
+pub struct Holding {
     pub part: NodePart,
     pub sides: LinkedList<Side>,
 }
 
 // The nodes in order of name: what the seat has of each that is one of its own.
-pub(crate) type Nodes = LinkedList<Option<Kept>>;
+pub(crate) type Nodes = LinkedList<Option<Holding>>;
 
 /// A seat at the cells, with the nodes that may be tried by it. Each node is at one seat. It has no bytes, and it is
 /// let go only by `Cells::gather` and `Cells::close`. A contract sees which cells it is of, and what it has of its nodes.

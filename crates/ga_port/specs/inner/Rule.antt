@@ -8,7 +8,7 @@ use Rattle.ga_chip.specs.declared.outcome.Try.{Try}
 use Rattle.ga_chip.specs.Part.{Part}
 use Rattle.ga_chip.specs.Chip.{Chip, part_of, pending_in}
 use Rattle.ga_chip.specs.Run.{ran, sides_tried, tries_of}
-use Rattle.ga_port.specs.declared.seat.Kept.{Kept}
+use Rattle.ga_port.specs.declared.seat.Holding.{Holding}
 use Rattle.ga_port.specs.Seat.{kept, tried_in}
 
 -- what a cell holds: 0, or the pending word and a bit above it
@@ -32,32 +32,32 @@ abbrev pub AreSmall : List (Option ℕ) → Type 0
 AreSmall cells = (cell word : ℕ) → pending_in cells cell ≡ Some word → word < 2 ^ 18
 
 -- the words, and what all seats have, are those of the chip to which these tries lead
-pub record IsOf (chip : Chip) (tries : List Try) (owner : ℕ → ℕ) (s : State ℕ (List (Option Kept))) : Type 0 where
+pub record IsOf (chip : Chip) (tries : List Try) (owner : ℕ → ℕ) (s : State ℕ (List (Option Holding))) : Type 0 where
   pub words : s.words ≡ row_of chip.cells
   pub cells : length chip.cells ≡ 524
   pub small : AreSmall chip.cells
   pub nodes : length chip.parts ≡ 144
   -- a seat has its nodes' parts, and the sides that their tries name
-  pub parts : (id name : ℕ) (view : List (Option Kept)) (one : Kept) → get_elem? s.views id ≡ some view → kept view name ≡ Some one → part_of chip name ≡ Some one.part
-  pub sides : (id name : ℕ) (view : List (Option Kept)) (one : Kept) → get_elem? s.views id ≡ some view → kept view name ≡ Some one → one.sides ≡ sides_tried name tries
+  pub parts : (id name : ℕ) (view : List (Option Holding)) (one : Holding) → get_elem? s.views id ≡ some view → kept view name ≡ Some one → part_of chip name ≡ Some one.part
+  pub sides : (id name : ℕ) (view : List (Option Holding)) (one : Holding) → get_elem? s.views id ≡ some view → kept view name ≡ Some one → one.sides ≡ sides_tried name tries
   -- each node is at one seat
-  pub once : (id name : ℕ) (view : List (Option Kept)) (one : Kept) → get_elem? s.views id ≡ some view → kept view name ≡ Some one → owner name ≡ id
-  pub there : (name : ℕ) (part : Part) → part_of chip name ≡ Some part → (view : List (Option Kept)) × (one : Kept) × (get_elem? s.views (owner name) ≡ some view) × (kept view name ≡ Some one)
+  pub once : (id name : ℕ) (view : List (Option Holding)) (one : Holding) → get_elem? s.views id ≡ some view → kept view name ≡ Some one → owner name ≡ id
+  pub there : (name : ℕ) (part : Part) → part_of chip name ≡ Some part → (view : List (Option Holding)) × (one : Holding) × (get_elem? s.views (owner name) ≡ some view) × (kept view name ≡ Some one)
   -- nothing but nodes is tried
   pub beyond : (name : ℕ) → (IsNodeName name → ⊥) → sides_tried name tries ≡ []
 
 -- there is one run from the opening chip
-abbrev pub Holds : Chip → State ℕ (List (Option Kept)) → Type 0
+abbrev pub Holds : Chip → State ℕ (List (Option Holding)) → Type 0
 Holds opening s = (tries : List Try) × (owner : ℕ → ℕ) × IsOf (ran opening (tries_of tries)) tries owner s
 
 -- a step enters a try that found nothing
-abbrev pub Enters : Try → Me ℕ (List (Option Kept)) → Me ℕ (List (Option Kept)) → Type 0
+abbrev pub Enters : Try → Me ℕ (List (Option Holding)) → Me ℕ (List (Option Holding)) → Type 0
 Enters what old new = new ≡ (tried_in old.0 what None, old.1)
 
 -- a step enters a try that found what the cell held
-abbrev pub EntersFound : Try → ℕ → Me ℕ (List (Option Kept)) → Me ℕ (List (Option Kept)) → Type 0
+abbrev pub EntersFound : Try → ℕ → Me ℕ (List (Option Holding)) → Me ℕ (List (Option Holding)) → Type 0
 EntersFound what held old new = IsCellWord held × (new ≡ (tried_in old.0 what (pending_of held), old.1))
 
 -- a step enters a try that found nothing where the cell was empty, and else none
-abbrev pub EntersEmpty : Try → ℕ → Me ℕ (List (Option Kept)) → Me ℕ (List (Option Kept)) → Type 0
+abbrev pub EntersEmpty : Try → ℕ → Me ℕ (List (Option Holding)) → Me ℕ (List (Option Holding)) → Type 0
 EntersEmpty what held old new = IsCellWord held × (new ≡ (if held == 0 then tried_in old.0 what None else old.0, old.1))
