@@ -15,7 +15,7 @@ use Rattle.ga_chip.specs.Chip.{Chip}
 use Rattle.ga_chip.specs.Legal.{IsLegal}
 use Rattle.ga_chip.specs.Run.{ran, sides_tried, tries_of}
 use Rattle.ga_chip.proofs.Kept.{legal_ran}
-use Rattle.ga_port.specs.declared.seat.Kept.{Kept}
+use Rattle.ga_port.specs.declared.seat.Holding.{Holding}
 use Rattle.ga_port.specs.Cells.{IsEnd}
 use Rattle.ga_port.specs.Seat.{SeatView, kept, untried}
 use Rattle.ga_port.proofs.Nodes.{untried_there}
@@ -110,7 +110,7 @@ some_some xs ys zs one two = record { at = λ index part e. let from = one.at in
 pub front_some : (front back : List Part) → AreSome front (front ++ back)
 front_some front back = record { at = λ index part e. (index, at_front front back index part e) }
 
-pub lent_some : (xs ys : List Part) (nodes : List (Option Kept)) → AreSome xs ys → AreLent ys nodes → AreLent xs nodes
+pub lent_some : (xs ys : List Part) (nodes : List (Option Holding)) → AreSome xs ys → AreLent ys nodes → AreLent xs nodes
 lent_some xs ys nodes some lent = record { at = λ index part e. let from = some.at index part e in lent.at from.0 part from.1 }
 
 pub all_alike : (xs ys : List Part) → names_of ys ≡ names_of xs → HasAllNodes xs → HasAllNodes ys
@@ -166,7 +166,7 @@ module _ (front back after : List Part) (first last : SeatView) (sides : List Si
           }
 
 -- each of the names of lent parts is that of a node
-pub names_known : (parts : List Part) (nodes : List (Option Kept)) (name : ℕ) → AreLent parts nodes → is_among name (names_of parts) ≡ true → IsNodeName name
+pub names_known : (parts : List Part) (nodes : List (Option Holding)) (name : ℕ) → AreLent parts nodes → is_among name (names_of parts) ≡ true → IsNodeName name
 names_known parts nodes name lent among =
     let there = among_place name (names_of parts) among in
     let one = named_part parts there.0 name there.1 in
@@ -179,14 +179,14 @@ abbrev pub chip_of : List Part → List (Option ℕ) → Chip
 chip_of parts row = record { parts = parts; cells = row }
 
 -- what the work of a plan's workers leaves of a chip's parts and of what the seat has
-pub record IsWorkedOff (chip : Chip) (nodes : List ℕ) (sides : List Side) (last : List (Option Kept)) (parts : List Part) : Type 0 where
+pub record IsWorkedOff (chip : Chip) (nodes : List ℕ) (sides : List Side) (last : List (Option Holding)) (parts : List Part) : Type 0 where
   pub legal : IsLegal chip
   pub names : names_of parts ≡ names_of chip.parts
   pub lent : AreLent parts last
   pub gained : HaveGained (untried chip.parts) last nodes sides
   pub known : (name : ℕ) → is_among name nodes ≡ true → IsNodeName name
 
-module _ (chip : Chip) (nodes : List ℕ) (sides : List Side) (last : List (Option Kept)) (parts : List Part) (row : List (Option ℕ)) (tries : List Try) (off : IsWorkedOff chip nodes sides last parts) (end : IsEnd chip last row tries) where
+module _ (chip : Chip) (nodes : List ℕ) (sides : List Side) (last : List (Option Holding)) (parts : List Part) (row : List (Option ℕ)) (tries : List Try) (off : IsWorkedOff chip nodes sides last parts) (end : IsEnd chip last row tries) where
   is_planned : (name : ℕ) → is_among name nodes ≡ true → sides_tried name tries ≡ sides
   is_planned name among =
       let had = first_kept chip off.legal name (index_below name (off.known name among)) in
@@ -218,7 +218,7 @@ module _ (chip : Chip) (nodes : List ℕ) (sides : List Side) (last : List (Opti
   pub legal_end : IsLegal (chip_of parts row)
   legal_end = subst IsLegal (sym is_led) (legal_ran chip (tries_of tries) off.legal)
 
-pub run_end : (chip next : Chip) (plan : Groups) (turns : ℕ) (last : List (Option Kept)) (parts : List Part) (row : List (Option ℕ)) (tries : List Try) → IsWorkedOff chip (concat plan) (sides_of_turns turns) last parts → IsEnd chip last row tries → next ≡ chip_of parts row → IsWorkersRun chip plan turns next
+pub run_end : (chip next : Chip) (plan : Groups) (turns : ℕ) (last : List (Option Holding)) (parts : List Part) (row : List (Option ℕ)) (tries : List Try) → IsWorkedOff chip (concat plan) (sides_of_turns turns) last parts → IsEnd chip last row tries → next ≡ chip_of parts row → IsWorkersRun chip plan turns next
 run_end chip next plan turns last parts row tries off end is = record {
   tries = tries;
   planned = is_planned chip (concat plan) (sides_of_turns turns) last parts row tries off end;
@@ -229,7 +229,7 @@ run_end chip next plan turns last parts row tries off end is = record {
 pub legal_of : (chip : Chip) (parts : List Part) (row : List (Option ℕ)) → parts ≡ chip.parts → row ≡ chip.cells → IsLegal (chip_of parts row) → IsLegal chip
 legal_of chip parts row one other legal = subst IsLegal (ap₂ chip_of one other) legal
 
-pub is_off : (chip : Chip) (plan : Groups) (turns : ℕ) (given parts : List Part) (nodes : List ℕ) (first last : List (Option Kept)) → IsLegal chip → given ≡ chip.parts → nodes ≡ concat plan → first ≡ untried chip.parts
+pub is_off : (chip : Chip) (plan : Groups) (turns : ℕ) (given parts : List Part) (nodes : List ℕ) (first last : List (Option Holding)) → IsLegal chip → given ≡ chip.parts → nodes ≡ concat plan → first ≡ untried chip.parts
     → names_of parts ≡ names_of given → AreLent parts last → HaveGained first last nodes (sides_of_turns turns) → ((name : ℕ) → is_among name nodes ≡ true → IsNodeName name) → IsWorkedOff chip (concat plan) (sides_of_turns turns) last parts
 is_off chip plan turns given parts nodes first last legal all planned start names lent gained known = record {
   legal = legal;

@@ -10,7 +10,7 @@ use Rattle.ga_place.proofs.Cells.{one_place}
 use Rattle.ga_place.specs.declared.side.Side.{Side}
 use Rattle.ga_chip.specs.Part.{Part, after}
 use Rattle.ga_chip.proofs.Lists.{get-set_else, get-set_here}
-use Rattle.ga_port.specs.declared.seat.Kept.{Kept}
+use Rattle.ga_port.specs.declared.seat.Holding.{Holding}
 use Rattle.ga_port.specs.Seat.{CellsId, SeatView, kept, kept_after, tried_in}
 use Rattle.ga_port.proofs.Nodes.{tried_else, tried_here}
 use Rattle.ga_group.specs.Plan.{first_repeated}
@@ -86,26 +86,26 @@ or_first false b none e = sym none ∙ e
 
 -- ---- what nodes have gained
 
-pub gained_none : (nodes : List (Option Kept)) (names : List ℕ) → HaveGained nodes nodes names []
+pub gained_none : (nodes : List (Option Holding)) (names : List ℕ) → HaveGained nodes nodes names []
 gained_none nodes names = record {
   tried = λ name one among has. (one.part, has ∙ ap (λ sides. Some (record { part = one.part; sides = sides })) (sym (append-nil one.sides)));
   others = λ name apart. refl;
 }
 
 -- one behind another
-pub gained_more : (first second third : List (Option Kept)) (names : List ℕ) (sides more : List Side) → HaveGained first second names sides → HaveGained second third names more → HaveGained first third names (sides ++ more)
+pub gained_more : (first second third : List (Option Holding)) (names : List ℕ) (sides more : List Side) → HaveGained first second names sides → HaveGained second third names more → HaveGained first third names (sides ++ more)
 gained_more first second third names sides more gained again = record {
   tried = λ name one among has. by name one among (gained.tried name one among has);
   others = λ name apart. again.others name apart ∙ gained.others name apart;
 }
   where
-    by : (name : ℕ) (one : Kept) → is_among name names ≡ true → (part : Part) × (kept second name ≡ Some (record { part = part; sides = one.sides ++ sides })) → (part : Part) × (kept third name ≡ Some (record { part = part; sides = one.sides ++ (sides ++ more) }))
+    by : (name : ℕ) (one : Holding) → is_among name names ≡ true → (part : Part) × (kept second name ≡ Some (record { part = part; sides = one.sides ++ sides })) → (part : Part) × (kept third name ≡ Some (record { part = part; sides = one.sides ++ (sides ++ more) }))
     by name one among (part, has) =
         let next = again.tried name (record { part = part; sides = one.sides ++ sides }) among has in
         (next.0, next.1 ∙ ap (λ l. Some (record { part = next.0; sides = l })) (append_assoc one.sides sides more))
 
 -- other nodes behind some
-pub gained_join : (first second third : List (Option Kept)) (names others : List ℕ) (sides : List Side) → HaveGained first second names sides → HaveGained second third others sides → ((name : ℕ) → is_among name others ≡ true → is_among name names ≡ false) → HaveGained first third (names ++ others) sides
+pub gained_join : (first second third : List (Option Holding)) (names others : List ℕ) (sides : List Side) → HaveGained first second names sides → HaveGained second third others sides → ((name : ℕ) → is_among name others ≡ true → is_among name names ≡ false) → HaveGained first third (names ++ others) sides
 gained_join first second third names others sides gained again apart = record {
   tried = λ name one among has. by name one (is_among name others) refl (sym (among_either name names others) ∙ among) has;
   others = λ name none.
@@ -113,24 +113,24 @@ gained_join first second third names others sides gained again apart = record {
       again.others name both.1 ∙ gained.others name both.0;
 }
   where
-    stays : (name : ℕ) (one : Kept) → is_among name others ≡ false → (part : Part) × (kept second name ≡ Some (record { part = part; sides = one.sides ++ sides })) → (part : Part) × (kept third name ≡ Some (record { part = part; sides = one.sides ++ sides }))
+    stays : (name : ℕ) (one : Holding) → is_among name others ≡ false → (part : Part) × (kept second name ≡ Some (record { part = part; sides = one.sides ++ sides })) → (part : Part) × (kept third name ≡ Some (record { part = part; sides = one.sides ++ sides }))
     stays name one none (part, there) = (part, again.others name none ∙ there)
 
-    by : (name : ℕ) (one : Kept) (b : Bool) → is_among name others ≡ b → (is_among name names || is_among name others) ≡ true → kept first name ≡ Some one → (part : Part) × (kept third name ≡ Some (record { part = part; sides = one.sides ++ sides }))
+    by : (name : ℕ) (one : Holding) (b : Bool) → is_among name others ≡ b → (is_among name names || is_among name others) ≡ true → kept first name ≡ Some one → (part : Part) × (kept third name ≡ Some (record { part = part; sides = one.sides ++ sides }))
     by name one true among some has = again.tried name one among (gained.others name (apart name among) ∙ has)
     by name one false none some has = stays name one none (gained.tried name one (or_first (is_among name names) (is_among name others) none some) has)
 
 -- a try of a node
-pub gained_one : (nodes : List (Option Kept)) (name : ℕ) (side : Side) (found : Option ℕ) (one : Kept) → kept nodes name ≡ Some one → index_of name < 144 → HaveGained nodes (tried_in nodes (record { node = name; side = side }) found) (name ∷ []) (side ∷ [])
+pub gained_one : (nodes : List (Option Holding)) (name : ℕ) (side : Side) (found : Option ℕ) (one : Holding) → kept nodes name ≡ Some one → index_of name < 144 → HaveGained nodes (tried_in nodes (record { node = name; side = side }) found) (name ∷ []) (side ∷ [])
 gained_one nodes name side found one has below = record {
   tried = λ other kept_one among there. by other kept_one (among_one other name among) there;
   others = λ other none. tried_else nodes (record { node = name; side = side }) found other (λ same. apart_from other none (one_place name other below (sym same)));
 }
   where
-    by : (other : ℕ) (old : Kept) → name ≡ other → kept nodes other ≡ Some old → (part : Part) × (kept (tried_in nodes (record { node = name; side = side }) found) other ≡ Some (record { part = part; sides = old.sides ++ side ∷ [] }))
+    by : (other : ℕ) (old : Holding) → name ≡ other → kept nodes other ≡ Some old → (part : Part) × (kept (tried_in nodes (record { node = name; side = side }) found) other ≡ Some (record { part = part; sides = old.sides ++ side ∷ [] }))
     by other old same there =
         let is : one ≡ old = same_Some one old (sym has ∙ ap (kept nodes) same ∙ there) in
-        ((after one.part side found).1, ap (kept (tried_in nodes (record { node = name; side = side }) found)) (sym same) ∙ tried_here nodes (record { node = name; side = side }) found one has ∙ ap (λ (k : Kept). Some (record { part = (after one.part side found).1; sides = k.sides ++ side ∷ [] })) is)
+        ((after one.part side found).1, ap (kept (tried_in nodes (record { node = name; side = side }) found)) (sym same) ∙ tried_here nodes (record { node = name; side = side }) found one has ∙ ap (λ (k : Holding). Some (record { part = (after one.part side found).1; sides = k.sides ++ side ∷ [] })) is)
 
     apart_from : (other : ℕ) → is_among other (name ∷ []) ≡ false → name ≡ other → ⊥
     apart_from other none same = true≢false (sym (among_here name []) ∙ ap (λ n. is_among n (name ∷ [])) same ∙ none)
@@ -143,7 +143,7 @@ names_set [] index part new there same = refl
 names_set (one ∷ parts) zero part new there same = ap (λ n. n ∷ names_of parts) (same ∙ ap (λ (p : Part). p.state.node) (sym (same_Some one part there)))
 names_set (one ∷ parts) (suc index) part new there same = ap (λ l. one.state.node ∷ l) (names_set parts index part new there same)
 
-module _ (parts : List Part) (nodes : List (Option Kept)) (index : ℕ) (part : Part) (side : Side) (found : Option ℕ) where
+module _ (parts : List Part) (nodes : List (Option Holding)) (index : ℕ) (part : Part) (side : Side) (found : Option ℕ) where
   -- all parts are lent again
   pub lent_set : (new : Part) → AreLent parts nodes → first_repeated [] (names_of parts) ≡ None → slice_get parts index ≡ Some part → new.state.node ≡ part.state.node → new ≡ (after part side found).1
       → AreLent (set parts index new) (tried_in nodes (record { node = part.state.node; side = side }) found)
@@ -177,7 +177,7 @@ take_next [] index name e = absurd (none-some name e)
 take_next (other ∷ names) zero name e = ap (λ n. n ∷ []) (same_Some other name e)
 take_next (other ∷ names) (suc index) name e = ap (λ l. other ∷ l) (take_next names index name e)
 
-pub gained_next : (first nodes : List (Option Kept)) (names : List ℕ) (parts : List Part) (index : ℕ) (part : Part) (side : Side) (found : Option ℕ)
+pub gained_next : (first nodes : List (Option Holding)) (names : List ℕ) (parts : List Part) (index : ℕ) (part : Part) (side : Side) (found : Option ℕ)
     → names_of parts ≡ names → first_repeated [] names ≡ None → AreLent parts nodes → slice_get parts index ≡ Some part → HaveGained first nodes (take index names) (side ∷ [])
     → HaveGained first (tried_in nodes (record { node = part.state.node; side = side }) found) (take (index + 1) names) (side ∷ [])
 gained_next first nodes names parts index part side found same once lent there gained =

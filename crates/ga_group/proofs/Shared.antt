@@ -11,7 +11,7 @@ use Rattle.ga_place.specs.Node.{is_among}
 use Rattle.ga_place.proofs.Cells.{name_back}
 use Rattle.ga_place.specs.declared.side.Side.{Side}
 use Rattle.ga_chip.specs.Part.{Part}
-use Rattle.ga_port.specs.declared.seat.Kept.{Kept}
+use Rattle.ga_port.specs.declared.seat.Holding.{Holding}
 use Rattle.ga_port.specs.Seat.{CellsId, SeatView, either_of, kept, kept_where, merged, only, without}
 use Rattle.ga_port.proofs.Nodes.{merged_left, merged_of, merged_right}
 use Rattle.ga_group.specs.Plan.{first_repeated}
@@ -103,17 +103,17 @@ among_part (part ∷ parts) name e = part_either part parts name (same_or_not pa
 abbrev pub AreBelow : List ℕ → Type 0
 AreBelow names = (name : ℕ) → is_among name names ≡ true → index_of name < 144
 
-pub below_of : (parts : List Part) (nodes : List (Option Kept)) → AreLent parts nodes → AreBelow (names_of parts)
+pub below_of : (parts : List Part) (nodes : List (Option Holding)) → AreLent parts nodes → AreBelow (names_of parts)
 unfolding HasPart
 below_of parts nodes lent name among =
     let there = among_part parts name among in
     subst (λ n. index_of n < 144) there.3 (lent.at there.0 there.1 there.2).below
 
-none_if : (b : Bool) → ◌≡◌ {A = Option Kept} (if b then None else None) None
+none_if : (b : Bool) → ◌≡◌ {A = Option Holding} (if b then None else None) None
 none_if true = refl
 none_if false = refl
 
-where_is : (test : ℕ → Bool) (from : ℕ) (nodes : List (Option Kept)) (index : ℕ) → get_or (kept_where test from nodes) index None ≡ (if test (name_at (from + index)) then get_or nodes index None else None)
+where_is : (test : ℕ → Bool) (from : ℕ) (nodes : List (Option Holding)) (index : ℕ) → get_or (kept_where test from nodes) index None ≡ (if test (name_at (from + index)) then get_or nodes index None else None)
 where_is test from [] index = sym (none_if (test (name_at (from + index))))
 where_is test from (x ∷ rest) zero = ap (λ n. if test (name_at n) then x else None) (sym (add-zero from))
 where_is test from (x ∷ rest) (suc index) =
@@ -138,22 +138,22 @@ module _ (names : List ℕ) (below : AreBelow names) where
           never (name_at (index_of name)) (subst (λ i. 144 ≤ index_of (name_at i)) (sym (past_all name past)) (lit≤ tt)) (is_among (name_at (index_of name)) names) refl
           ∙ sym (never name past (is_among name names) refl)
 
-  seen : (test : Bool → Bool) (nodes : List (Option Kept)) (name : ℕ) → kept (kept_where (λ n. test (is_among n names)) 0 nodes) name ≡ (if test (is_among name names) then kept nodes name else None)
+  seen : (test : Bool → Bool) (nodes : List (Option Holding)) (name : ℕ) → kept (kept_where (λ n. test (is_among n names)) 0 nodes) name ≡ (if test (is_among name names) then kept nodes name else None)
   unfolding kept
   seen test nodes name =
       where_is (λ n. test (is_among n names)) 0 nodes (index_of name)
       ∙ ap (λ i. if test (is_among (name_at i) names) then get_or nodes (index_of name) None else None) (zero-add (index_of name))
       ∙ ap (λ b. if test b then get_or nodes (index_of name) None else None) (among_seen name)
 
-  pub without_is : (nodes : List (Option Kept)) (name : ℕ) → kept (without names nodes) name ≡ (if not (is_among name names) then kept nodes name else None)
+  pub without_is : (nodes : List (Option Holding)) (name : ℕ) → kept (without names nodes) name ≡ (if not (is_among name names) then kept nodes name else None)
   unfolding without
   without_is nodes name = seen not nodes name
 
-  pub only_is : (nodes : List (Option Kept)) (name : ℕ) → kept (only names nodes) name ≡ (if is_among name names then kept nodes name else None)
+  pub only_is : (nodes : List (Option Holding)) (name : ℕ) → kept (only names nodes) name ≡ (if is_among name names then kept nodes name else None)
   unfolding only
   only_is nodes name = seen (λ b. b) nodes name
 
-either_none : (x : Option Kept) → either_of x None ≡ x
+either_none : (x : Option Holding) → either_of x None ≡ x
 either_none (Some one) = refl
 either_none None = refl
 
@@ -242,7 +242,7 @@ module _ {before seat other : SeatView} {left right : List Part} (cut : IsCut be
     of_left : (name : ℕ) → is_among name (names_of right) ≡ false → kept (merged first.nodes second.nodes) name ≡ kept first.nodes name
     of_left name e = merged_of first.nodes second.nodes name ∙ ap (either_of (kept first.nodes name)) (back.gained.others name e ∙ right_of_left name e) ∙ either_none (kept first.nodes name)
 
-    tried : (name : ℕ) (one : Kept) (b : Bool) → is_among name (names_of right) ≡ b → (is_among name (names_of left) || is_among name (names_of right)) ≡ true → kept before.nodes name ≡ Some one
+    tried : (name : ℕ) (one : Holding) (b : Bool) → is_among name (names_of right) ≡ b → (is_among name (names_of left) || is_among name (names_of right)) ≡ true → kept before.nodes name ≡ Some one
         → (part : Part) × (kept (merged first.nodes second.nodes) name ≡ Some (record { part = part; sides = one.sides ++ sides }))
     tried name one true e some has =
         let told = back.gained.tried name one e (right_of_right name e ∙ has) in

@@ -86,15 +86,19 @@ fn both_halves<R: Threads + Sync, G: Gate>(
     requires other { IsReady cells.now.table other.old right_parts.old }
     requires workers { first + length left.now + length right.now < 2 ^ 32 }
     requires turns { turns < 2 ^ 40 }
-    ensures front { HasWorked seat.old seat.new left_parts.old left_parts.new (sides_of_turns turns) }
-    ensures back { HasWorked other.old other.new right_parts.old right_parts.new (sides_of_turns turns) }
+    ensures front { HasWorked seat.old seat.new left_parts.old left_parts.new
+        (sides_of_turns turns) }
+    ensures back { HasWorked other.old other.new right_parts.old right_parts.new
+        (sides_of_turns turns) }
 {
     let next = first + left.len() as u32;
     let mut front = ||
         requires { IsSync R.row × IsSync G.row × (first + length left.now < 2 ^ 32)
             × (turns < 2 ^ 40)
-            × AreGrouped left.now left_nodes.now left_parts.now × IsReady cells.now.table seat.now left_parts.now }
-        ensures { HasWorked seat.entry.now seat.exit.now left_parts.entry.now left_parts.exit.now (sides_of_turns turns) }
+            × AreGrouped left.now left_nodes.now left_parts.now
+            × IsReady cells.now.table seat.now left_parts.now }
+        ensures { HasWorked seat.entry.now seat.exit.now left_parts.entry.now left_parts.exit.now
+            (sides_of_turns turns) }
     {
         work_groups(
             rt, cells, gate, turns, first, left, left_nodes, seat, left_parts,
@@ -103,8 +107,10 @@ fn both_halves<R: Threads + Sync, G: Gate>(
     let mut back = ||
         requires { IsSync R.row × IsSync G.row × (next + length right.now < 2 ^ 32)
             × (turns < 2 ^ 40)
-            × AreGrouped right.now right_nodes.now right_parts.now × IsReady cells.now.table other.now right_parts.now }
-        ensures { HasWorked other.entry.now other.exit.now right_parts.entry.now right_parts.exit.now (sides_of_turns turns) }
+            × AreGrouped right.now right_nodes.now right_parts.now
+            × IsReady cells.now.table other.now right_parts.now }
+        ensures { HasWorked other.entry.now other.exit.now right_parts.entry.now
+            right_parts.exit.now (sides_of_turns turns) }
     {
         work_groups(
             rt,

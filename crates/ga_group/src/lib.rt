@@ -11,6 +11,6 @@ mod work;
 mod workers;
 
 pub use error::{PlanError, RunError};
-pub use gate::Gate;
+pub use gate::{Gate, Open};
 pub use plan::Plan;
 pub use workers::run_workers;

@@ -23,7 +23,8 @@ impl Model for Plan {
 
     ghost view = { λ plan. groups_of plan.groups };
 
-    ghost invariant = { λ plan. (plan_fault (groups_of plan.groups) ≡ None) × (length (concat (groups_of plan.groups)) ≤ 144) };
+    ghost invariant = { λ plan. (plan_fault (groups_of plan.groups) ≡ None)
+        × (length (concat (groups_of plan.groups)) ≤ 144) };
 }
 
 impl Plan {

@@ -78,7 +78,8 @@ fn try_node(
     ensures own { seat.new.table ≡ seat.old.table }
     ensures node { part.new.state.node ≡ part.old.state.node }
     ensures known { IsKnown part.new looks.new }
-    ensures tried { HasTried (record { node = part.old.state.node; side = side }) seat.old.nodes seat.new.nodes part.old part.new }
+    ensures tried { HasTried (record { node = part.old.state.node; side = side })
+        seat.old.nodes seat.new.nodes part.old part.new }
 {
     let node = part.node();
     if part.done_if_own() {
@@ -103,7 +104,8 @@ fn try_other(
     ensures own { seat.new.table ≡ seat.old.table }
     ensures node { part.new.state.node ≡ part.old.state.node }
     ensures known { IsKnown part.new looks.new }
-    ensures tried { HasTried (record { node = part.old.state.node; side = side }) seat.old.nodes seat.new.nodes part.old part.new }
+    ensures tried { HasTried (record { node = part.old.state.node; side = side })
+        seat.old.nodes seat.new.nodes part.old part.new }
 {
     let node = part.node();
     let Some(known) = looks else {

@@ -7,7 +7,7 @@ use Rattle.ga_place.specs.declared.side.Side.{Side}
 use Rattle.ga_chip.specs.Asks.{asked_of, look_of, looks_of}
 use Rattle.ga_chip.specs.declared.outcome.Try.{Try}
 use Rattle.ga_chip.specs.Part.{Part}
-use Rattle.ga_port.specs.declared.seat.Kept.{Kept}
+use Rattle.ga_port.specs.declared.seat.Holding.{Holding}
 use Rattle.ga_port.specs.Seat.{CellsId, SeatView, kept}
 use Rattle.ga_group.specs.Plan.{first_repeated, groups_in}
 
@@ -16,14 +16,14 @@ abbrev pub names_of : List Part → List ℕ
 names_of parts = map (λ part. part.state.node) parts
 
 -- the seat has this part of its node
-pub record IsLent (part : Part) (nodes : List (Option Kept)) : Type 0 where
-  pub one : Kept
+pub record IsLent (part : Part) (nodes : List (Option Holding)) : Type 0 where
+  pub one : Holding
   pub has : kept nodes part.state.node ≡ Some one
   pub same : one.part ≡ part
   pub below : index_of part.state.node < 144
 
 -- so with each of some parts
-pub record AreLent (parts : List Part) (nodes : List (Option Kept)) : Type 0 where
+pub record AreLent (parts : List Part) (nodes : List (Option Holding)) : Type 0 where
   pub at : (index : ℕ) (part : Part) → slice_get parts index ≡ Some part → IsLent part nodes
 
 -- A worker may try the nodes of these parts with this seat: no node has two of the parts.
@@ -33,8 +33,8 @@ pub record IsReady (table : CellsId) (seat : SeatView) (parts : List Part) : Typ
   pub once : first_repeated [] (names_of parts) ≡ None
 
 -- The nodes with these names have got tries that name these sides, and of the others nothing has changed.
-pub record HaveGained (old new : List (Option Kept)) (names : List ℕ) (sides : List Side) : Type 0 where
-  pub tried : (name : ℕ) (one : Kept) → is_among name names ≡ true → kept old name ≡ Some one → (part : Part) × (kept new name ≡ Some (record { part = part; sides = one.sides ++ sides }))
+pub record HaveGained (old new : List (Option Holding)) (names : List ℕ) (sides : List Side) : Type 0 where
+  pub tried : (name : ℕ) (one : Holding) → is_among name names ≡ true → kept old name ≡ Some one → (part : Part) × (kept new name ≡ Some (record { part = part; sides = one.sides ++ sides }))
   pub others : (name : ℕ) → is_among name names ≡ false → kept new name ≡ kept old name
 
 -- What becomes of a seat, and of parts that are lent with it: each node of theirs has got tries that name these sides.
@@ -73,5 +73,5 @@ pub record AreKnown (parts : List Part) (known : List (Option (List (Option ℕ)
   pub at : (index : ℕ) (part : Part) (one : Option (List (Option ℕ))) → slice_get parts index ≡ Some part → slice_get known index ≡ Some one → IsKnown part one
 
 -- A try of a node of the seat looks at this cell, or at none.
-abbrev pub LooksAt : List (Option Kept) → Try → Option ℕ → Type 0
-LooksAt nodes what look = (one : Kept) × (kept nodes what.node ≡ Some one) × (look_of (asked_of one.part what.side) ≡ Some look)
+abbrev pub LooksAt : List (Option Holding) → Try → Option ℕ → Type 0
+LooksAt nodes what look = (one : Holding) × (kept nodes what.node ≡ Some one) × (look_of (asked_of one.part what.side) ≡ Some look)

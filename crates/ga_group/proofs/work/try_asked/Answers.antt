@@ -3,12 +3,12 @@ use Rattle.ga_chip.specs.declared.outcome.Outcome.{Outcome}
 use Rattle.ga_chip.specs.declared.outcome.Try.{Try}
 use Rattle.ga_chip.specs.Part.{Part, after}
 use Rattle.ga_chip.proofs.Asked.{nothing_after}
-use Rattle.ga_port.specs.declared.seat.Kept.{Kept}
+use Rattle.ga_port.specs.declared.seat.Holding.{Holding}
 use Rattle.ga_port.specs.Seat.{tried_in}
 use Rattle.ga_group.proofs.work.try_asked.Goals as goal
 
 -- a check that finds nothing, and one that finds a word, whichever it is
-checked : (nodes new : List (Option Kept)) (what : Try) (part next : Part) (outcome : Outcome) (empty : Bool)
+checked : (nodes new : List (Option Holding)) (what : Try) (part next : Part) (outcome : Outcome) (empty : Bool)
     → (empty ≡ true → new ≡ tried_in nodes what None) → ((word : ℕ) → empty ≡ false → new ≡ tried_in nodes what (Some word))
     → (empty ≡ true → ◌≡◌ {A = Outcome × Part} (outcome, next) (after part what.side None)) → ((word : ℕ) → empty ≡ false → ◌≡◌ {A = Outcome × Part} (outcome, next) (after part what.side (Some word)))
     → (found : Option ℕ) × (new ≡ tried_in nodes what found) × (next ≡ (after part what.side found).1)
