@@ -2,3 +2,4 @@ pub mod Row
 pub mod Node
 pub mod Memory
 pub mod Ledger
+pub mod Chip

@@ -6,5 +6,5 @@ mod plans;
 mod stuck;
 
 pub use orders::{one_side, two_orders, two_parts};
-pub use plans::{plan_behind_plan, plan_beside_tries, two_plans};
+pub use plans::{after_run, plan_behind_plan, plan_beside_tries, two_plans};
 pub use stuck::tries_beside_stuck;

@@ -15,14 +15,17 @@ use ga_chip::{Chip, Try};
 pub fn two_orders(one: &mut Chip, two: &mut Chip, order: &[Try], another: &[Try])
     requires chips { DifferInBreaks one.old two.old }
     requires sides { (name : ℕ)
-        → AgreesWith (sides_of one.old (tries_of order.now) name) (sides_of two.old (tries_of another.now) name) }
+        → AgreesWith (sides_of one.old (tries_of order.now) name)
+        (sides_of two.old (tries_of another.now) name) }
     ensures first { one.new ≡ ran one.old (tries_of order.now) }
     ensures second { two.new ≡ ran two.old (tries_of another.now) }
     ensures nodes { LeaveAlike one.new two.new }
     ensures written { (cell : ℕ)
-        → AgreesWith (written_words one.old (tries_of order.now) cell) (written_words two.old (tries_of another.now) cell) }
+        → AgreesWith (written_words one.old (tries_of order.now) cell)
+        (written_words two.old (tries_of another.now) cell) }
     ensures taken { (cell : ℕ)
-        → AgreesWith (taken_words one.old (tries_of order.now) cell) (taken_words two.old (tries_of another.now) cell) }
+        → AgreesWith (taken_words one.old (tries_of order.now) cell)
+        (taken_words two.old (tries_of another.now) cell) }
 {
     one.legal();
     two.legal();
@@ -48,7 +51,8 @@ pub fn one_side(one: &mut Chip, two: &mut Chip, order: &[Try], another: &[Try])
 pub fn two_parts(one: &mut Chip, two: &mut Chip, front: &[Try], rest: &[Try], order: &[Try])
     requires chips { DifferInBreaks one.old two.old }
     requires sides { (name : ℕ)
-        → AgreesWith (sides_of one.old (tries_of (front.now ++ rest.now)) name) (sides_of two.old (tries_of order.now) name) }
+        → AgreesWith (sides_of one.old (tries_of (front.now ++ rest.now)) name)
+        (sides_of two.old (tries_of order.now) name) }
     ensures first { one.new ≡ ran one.old (tries_of (front.now ++ rest.now)) }
     ensures second { two.new ≡ ran two.old (tries_of order.now) }
     ensures nodes { LeaveAlike one.new two.new }

@@ -31,7 +31,8 @@ pub fn two_plans<R: Threads + Sync, G: Gate>(
     requires chips { DifferInBreaks one two }
     requires sides { (next other : model.Chip) (run : IsWorkersRun one plan.now turns next)
         (again : IsWorkersRun two another.now turns other) (name : ℕ)
-        → AgreesWith (sides_of one (tries_of run.tries) name) (sides_of two (tries_of again.tries) name) }
+        → AgreesWith (sides_of one (tries_of run.tries) name)
+        (sides_of two (tries_of again.tries) name) }
     ensures first { IfOk result (λ ends. IsWorkersRun one plan.now turns ends.0) }
     ensures second { IfOk result (λ ends. IsWorkersRun two another.now turns ends.1) }
     ensures nodes { IfOk result (λ ends. LeaveAlike ends.0 ends.1) }
@@ -58,7 +59,8 @@ pub fn plan_beside_tries<R: Threads + Sync, G: Gate>(
 ) -> Result<Chip, RunError>
     requires chips { DifferInBreaks one two.old }
     requires sides { (next : model.Chip) (run : IsWorkersRun one plan.now turns next) (name : ℕ)
-        → AgreesWith (sides_of one (tries_of run.tries) name) (sides_of two.old (tries_of tries.now) name) }
+        → AgreesWith (sides_of one (tries_of run.tries) name)
+        (sides_of two.old (tries_of tries.now) name) }
     ensures run { IfOk result (λ next. IsWorkersRun one plan.now turns next) }
     ensures tries { IfOk result (λ _. two.new ≡ ran two.old (tries_of tries.now)) }
     ensures nodes { IfOk result (λ next. LeaveAlike next two.new) }
@@ -105,8 +107,8 @@ pub fn plan_behind_plan<R: Threads + Sync, G: Gate>(
     Ok(last)
 }
 
-/// The chip after a run of workers.
-fn after_run<R: Threads + Sync, G: Gate>(
+/// The chip after a run of workers. A refusal is that of `run_workers`, and hands no chip back.
+pub fn after_run<R: Threads + Sync, G: Gate>(
     rt: &R,
     alloc: Global,
     chip: Chip,
