@@ -37,29 +37,20 @@ one_bracket ops word reads =
     laid_in (Alone (Word ops) ∷ []) (refl, refl, refl, refl, refl) (refl, tt)
     (word ∷ [], [], (word, reads, refl), refl, refl)
 
-pub fillers-all : OneBracket (Nop ∷ Nop ∷ Nop ∷ Nop ∷ []) 0x2_C9B2
+-- `[ . . . . ]`, `[ @p a! @p . ]`, `[ push ]` with three fillers, `[ @p !+ unext . ]` and `[ @p ! unext . ]`
+fillers : OneBracket (Nop ∷ Nop ∷ Nop ∷ Nop ∷ []) 0x2_C9B2
+    × OneBracket (FetchP ∷ AStore ∷ FetchP ∷ Nop ∷ []) 0x0_4A12
+    × OneBracket (Push ∷ []) 0x2_E9B2
+    × OneBracket (FetchP ∷ StorePlus ∷ Micronext ∷ Nop ∷ []) 0x0_5872
+    × OneBracket (FetchP ∷ Store ∷ Micronext ∷ Nop ∷ []) 0x0_5A72
 unfolding bits stored stored_upper slot_key xor_bits
-fillers-all = one_bracket (Nop ∷ Nop ∷ Nop ∷ Nop ∷ []) 0x2_C9B2 (record { below = lit< tt; reads = no_dest Nop Nop Nop Nop refl refl refl refl })
-
--- `[ @p a! @p . ]`
-pub fillers-fetch : OneBracket (FetchP ∷ AStore ∷ FetchP ∷ Nop ∷ []) 0x0_4A12
-unfolding bits stored stored_upper slot_key xor_bits
-fillers-fetch = one_bracket (FetchP ∷ AStore ∷ FetchP ∷ Nop ∷ []) 0x0_4A12 (record { below = lit< tt; reads = no_dest FetchP AStore FetchP Nop refl refl refl refl })
-
--- `[ push ]`: three fillers
-pub fillers-push : OneBracket (Push ∷ []) 0x2_E9B2
-unfolding bits stored stored_upper slot_key xor_bits
-fillers-push = one_bracket (Push ∷ []) 0x2_E9B2 (record { below = lit< tt; reads = no_dest Push Nop Nop Nop refl refl refl refl })
-
--- `[ @p !+ unext . ]`
-pub fillers-store_plus : OneBracket (FetchP ∷ StorePlus ∷ Micronext ∷ Nop ∷ []) 0x0_5872
-unfolding bits stored stored_upper slot_key xor_bits
-fillers-store_plus = one_bracket (FetchP ∷ StorePlus ∷ Micronext ∷ Nop ∷ []) 0x0_5872 (record { below = lit< tt; reads = no_dest FetchP StorePlus Micronext Nop refl refl refl refl })
-
--- `[ @p ! unext . ]`
-pub fillers-store : OneBracket (FetchP ∷ Store ∷ Micronext ∷ Nop ∷ []) 0x0_5A72
-unfolding bits stored stored_upper slot_key xor_bits
-fillers-store = one_bracket (FetchP ∷ Store ∷ Micronext ∷ Nop ∷ []) 0x0_5A72 (record { below = lit< tt; reads = no_dest FetchP Store Micronext Nop refl refl refl refl })
+fillers = (
+  one_bracket (Nop ∷ Nop ∷ Nop ∷ Nop ∷ []) 0x2_C9B2 (record { below = lit< tt; reads = no_dest Nop Nop Nop Nop refl refl refl refl }),
+  one_bracket (FetchP ∷ AStore ∷ FetchP ∷ Nop ∷ []) 0x0_4A12 (record { below = lit< tt; reads = no_dest FetchP AStore FetchP Nop refl refl refl refl }),
+  one_bracket (Push ∷ []) 0x2_E9B2 (record { below = lit< tt; reads = no_dest Push Nop Nop Nop refl refl refl refl }),
+  one_bracket (FetchP ∷ StorePlus ∷ Micronext ∷ Nop ∷ []) 0x0_5872 (record { below = lit< tt; reads = no_dest FetchP StorePlus Micronext Nop refl refl refl refl }),
+  one_bracket (FetchP ∷ Store ∷ Micronext ∷ Nop ∷ []) 0x0_5A72 (record { below = lit< tt; reads = no_dest FetchP Store Micronext Nop refl refl refl refl }),
+)
 
 -- ---- slots outside brackets
 
