@@ -23,29 +23,19 @@ use Rattle.ga_debug.specs.declared.replaying.LineError.TheVariants.{Bad, Differs
 use Rattle.ga_debug.specs.declared.word.View.TheVariants.{Mem}
 use Rattle.ga_debug.specs.Command.{action_first, arguments, command_first, command_in}
 use Rattle.ga_debug.specs.Head.{head_in}
-use Rattle.ga_debug.specs.Pieces.{pieces}
 use Rattle.ga_debug.specs.Replaying.{line_on, lines_on, stated_answer, statement_in}
 use Rattle.ga_debug.specs.Session.{reply_to}
 use Rattle.ga_debug.specs.Word.{decimal_of}
 
 -- ---- heads
 
-a_head : head_in (codes "profile 1\nroute 708,709\nnode 709 .\n\ngo\ntry 709 r = waits") ≡ Ok (record { loading = Some (708 ∷ 709 ∷ []); source = codes "node 709 .\n\n"; line = 5; commands = codes "try 709 r = waits" ∷ [] })
-unfolding head_in pieces
-a_head = refl
-
-no_lines : head_in [] ≡ Err BadProfile
-unfolding head_in pieces
-no_lines = refl
-
-two_words : head_in (codes "profile 1\nroute 708 709\ngo") ≡ Err BadRoute
-unfolding head_in pieces
-two_words = refl
-
--- a blank behind it, and the line is no `go`
-never_begins : head_in (codes "profile 1\nplace\nnode 000 .\ngo ") ≡ Err NoGo
-unfolding head_in pieces
-never_begins = refl
+heads : (head_in (codes "profile 1\nroute 708,709\nnode 709 .\n\ngo\ntry 709 r = waits") ≡ Ok (record { loading = Some (708 ∷ 709 ∷ []); source = codes "node 709 .\n\n"; line = 5; commands = codes "try 709 r = waits" ∷ [] }))
+    × (head_in [] ≡ Err BadProfile)
+    × (head_in (codes "profile 1\nroute 708 709\ngo") ≡ Err BadRoute)
+    -- a blank behind it, and the line is no `go`
+    × (head_in (codes "profile 1\nplace\nnode 000 .\ngo ") ≡ Err NoGo)
+unfolding head_in
+heads = (refl, refl, refl, refl)
 
 -- ---- what a head loads
 
@@ -70,79 +60,41 @@ booted_708 : stream_of (chip_of (Some (708 ∷ 709 ∷ [])) ((709, one_word) ∷
 unfolding stream_of one_word streamed reset_chip
 booted_708 = refl
 
-no_neighbour : chip_of (Some (708 ∷ 710 ∷ [])) [] ≡ Err (Route (NotNeighbour 1))
-no_neighbour = refl
-
-off_the_route : chip_of (Some (708 ∷ 709 ∷ [])) ((710, one_word) ∷ []) ≡ Err (Boot (Unreached 710))
-off_the_route = refl
+refused_routes : (chip_of (Some (708 ∷ 710 ∷ [])) [] ≡ Err (Route (NotNeighbour 1)))
+    × (chip_of (Some (708 ∷ 709 ∷ [])) ((710, one_word) ∷ []) ≡ Err (Boot (Unreached 710)))
+refused_routes = (refl, refl)
 
 -- ---- commands
 
-a_break : command_in (codes "break 709 1fF") ≡ Ok (Act (Break 709 0x1FF))
-unfolding command_in command_first arguments pieces
-a_break = refl
-
-a_view : command_in (codes "mem 000") ≡ Ok (Show Mem 0)
-unfolding command_in command_first arguments pieces
-a_view = refl
-
-most_turns : command_in (codes "turn 1000000") ≡ Ok (Act (Turn 1000000))
-unfolding command_in command_first arguments pieces decimal_of
-most_turns = refl
-
-too_many_turns : command_in (codes "turn 1000001") ≡ Err BadCount
-unfolding command_in command_first arguments pieces decimal_of
-too_many_turns = refl
-
-no_such_node : command_in (codes "break 720 200") ≡ Err BadNode
-unfolding command_in command_first arguments pieces
-no_such_node = refl
-
-tenth_bit : command_in (codes "break 717 200") ≡ Err BadAddress
-unfolding command_in command_first arguments pieces
-tenth_bit = refl
-
-capital : command_in (codes "try 709 R") ≡ Err BadSide
-unfolding command_in command_first arguments pieces
-capital = refl
-
--- a blank at the end has an empty word behind it
-blank_behind : command_in (codes "regs 709 ") ≡ Err BadCommand
-unfolding command_in command_first arguments pieces
-blank_behind = refl
+commands : (command_in (codes "break 709 1fF") ≡ Ok (Act (Break 709 0x1FF)))
+    × (command_in (codes "mem 000") ≡ Ok (Show Mem 0))
+    × (command_in (codes "turn 1000000") ≡ Ok (Act (Turn 1000000)))
+    × (command_in (codes "turn 1000001") ≡ Err BadCount)
+    × (command_in (codes "break 720 200") ≡ Err BadNode)
+    × (command_in (codes "break 717 200") ≡ Err BadAddress)
+    × (command_in (codes "try 709 R") ≡ Err BadSide)
+    -- a blank at the end has an empty word behind it
+    × (command_in (codes "regs 709 ") ≡ Err BadCommand)
+unfolding command_in command_first arguments decimal_of
+commands = (refl, refl, refl, refl, refl, refl, refl, refl)
 
 -- ---- replies
 
-waits : reply_to (codes "try 709 r") reset_chip ≡ Ok (codes "waits")
-unfolding command_in command_first arguments pieces tried after asks need_of reset_chip cell_of all_cells
-waits = refl
-
-not_held : reply_to (codes "pass 709") reset_chip ≡ Err NotHeld
-unfolding command_in command_first arguments pieces tried after asks need_of reset_chip cell_of all_cells
-not_held = refl
+replies : (reply_to (codes "try 709 r") reset_chip ≡ Ok (codes "waits"))
+    × (reply_to (codes "pass 709") reset_chip ≡ Err NotHeld)
+unfolding command_in command_first arguments tried after asks need_of reset_chip cell_of all_cells
+replies = (refl, refl)
 
 -- ---- what is stated
 
-a_statement : statement_in (codes "try 709 d = held") ≡ Ok (Try 709 Down, Tried Held)
-unfolding statement_in action_first arguments stated_answer pieces
-a_statement = refl
+statements : (statement_in (codes "try 709 d = held") ≡ Ok (Try 709 Down, Tried Held))
+    × (statement_in (codes "turn 1 = 000000002") ≡ Ok (Turn 1, Moved 2))
+    × (statement_in (codes "turn 1 = 0000000002") ≡ Err BadCommand)
+unfolding statement_in action_first arguments stated_answer decimal_of
+statements = (refl, refl, refl)
 
-nine_digits : statement_in (codes "turn 1 = 000000002") ≡ Ok (Turn 1, Moved 2)
-unfolding statement_in action_first arguments stated_answer pieces decimal_of
-nine_digits = refl
-
-ten_digits : statement_in (codes "turn 1 = 0000000002") ≡ Err BadCommand
-unfolding statement_in action_first arguments stated_answer pieces decimal_of
-ten_digits = refl
-
-one_is_compared : lines_on 5 0 reset_chip (codes "break 709 003" ∷ [] ∷ codes "try 709 r = waits" ∷ []) ≡ Ok 1
-unfolding line_on statement_in action_first arguments stated_answer pieces happened tried after asks need_of reset_chip cell_of all_cells
-one_is_compared = refl
-
-other_outcome : lines_on 5 0 reset_chip ([] ∷ codes "try 709 r = moved" ∷ codes "no command" ∷ []) ≡ Err (Differs 6)
-unfolding line_on statement_in action_first arguments stated_answer pieces tried after asks need_of reset_chip cell_of all_cells
-other_outcome = refl
-
-nothing_stated : lines_on 5 0 reset_chip (codes "try 709 r" ∷ []) ≡ Err (Bad 5 BadCommand)
-unfolding line_on statement_in action_first arguments stated_answer pieces
-nothing_stated = refl
+replays : (lines_on 5 0 reset_chip (codes "break 709 003" ∷ [] ∷ codes "try 709 r = waits" ∷ []) ≡ Ok 1)
+    × (lines_on 5 0 reset_chip ([] ∷ codes "try 709 r = moved" ∷ codes "no command" ∷ []) ≡ Err (Differs 6))
+    × (lines_on 5 0 reset_chip (codes "try 709 r" ∷ []) ≡ Err (Bad 5 BadCommand))
+unfolding line_on statement_in action_first arguments stated_answer happened tried after asks need_of reset_chip cell_of all_cells
+replays = (refl, refl, refl)

@@ -1,15 +1,11 @@
 -- What stands in front of the commands of a replay text.
 use Rattle.std.specs.Prelude.{ℕ, ◌+◌, List, [], ◌∷◌, ◌++◌, codes, Option, Some, None, option_map, Result, Ok, Err, if◌then◌else◌}
 use Rattle.std.specs.Str.{bytes_eq}
+use Rattle.ga_pack.specs.Model.Text.{lines_of}
 use Rattle.ga_path.specs.Names.{nodes_in}
 use Rattle.ga_debug.specs.declared.replay_error.ReplayError.{ReplayError}
 use Rattle.ga_debug.specs.declared.replay_error.ReplayError.TheVariants.{BadProfile, BadRoute, NoGo}
 use Rattle.ga_debug.specs.Command.{words_of}
-use Rattle.ga_debug.specs.Pieces.{pieces}
-
--- the lines of a text: an LF stands between two
-abbrev pub lines_of : List ℕ → List (List ℕ)
-lines_of text = pieces 10 text
 
 -- how the chip is loaded: None where each image is placed, or the nodes along which a stream goes
 abbrev pub Loading : Type 0

@@ -118,7 +118,8 @@ fn address_first(words: &mut Pieces<'_>) -> Result<Address, DebugError>
 }
 
 fn side_first(words: &mut Pieces<'_>) -> Result<Side, DebugError>
-    ensures { Reads (first_word side_of BadSide (pieces_left words.old)) result (pieces_left words.new) }
+    ensures { Reads (first_word side_of BadSide (pieces_left words.old)) result
+        (pieces_left words.new) }
 {
     let Some(word) = words.next() else {
         return Err(DebugError::BadSide);
@@ -127,7 +128,8 @@ fn side_first(words: &mut Pieces<'_>) -> Result<Side, DebugError>
 }
 
 fn count_first(words: &mut Pieces<'_>) -> Result<u32, DebugError>
-    ensures { Reads (first_word count_of BadCount (pieces_left words.old)) result (pieces_left words.new) }
+    ensures { Reads (first_word count_of BadCount (pieces_left words.old)) result
+        (pieces_left words.new) }
 {
     let Some(word) = words.next() else {
         return Err(DebugError::BadCount);

@@ -56,7 +56,8 @@ pub(crate) fn head_of<'a>(alloc: Global, text: &'a str) -> Result<Head<'a>, Repl
 fn source_of(alloc: Global, lines: &mut Pieces<'_>) -> Result<(String, u64), ReplayError>
     requires { 4 + length (pieces_left lines.old) < 2 ^ 64 }
     ensures head { (loading : Loading)
-        → Gives (λ found. head_with loading found (pieces_left lines.new)) result (up_to_go loading 3 (pieces_left lines.old)) }
+        → Gives (λ found. head_with loading found (pieces_left lines.new)) result
+        (up_to_go loading 3 (pieces_left lines.old)) }
     ensures room { IfOk result (λ found. found.1 + 1 + length (pieces_left lines.new) < 2 ^ 64) }
 {
     let mut source = String::new(alloc);
@@ -74,7 +75,8 @@ fn source_of(alloc: Global, lines: &mut Pieces<'_>) -> Result<(String, u64), Rep
 
 /// How the chip is loaded, by the words of the second line.
 fn loading_of(alloc: Global, line: &str) -> Result<Option<Vec<Node>>, ReplayError>
-    ensures { Gives (λ nodes. option_map (λ list. list.items) nodes) result (ok_or (loading_in line.now) BadRoute) }
+    ensures { Gives (λ nodes. option_map (λ list. list.items) nodes) result
+        (ok_or (loading_in line.now) BadRoute) }
 {
     let mut words = Pieces::new(line, ' ');
     match (words.next(), words.next(), words.next()) {

@@ -3,7 +3,7 @@ use Rattle.std.proofs.Common.{◌≡◌, ◌∙◌, inl, inr, ℕ, List, Result,
 use Rattle.ga_asm.specs.Text.{AtMostOne, IsImagesOf}
 use Rattle.ga_asm.proofs.OneAnswer.{one_answer}
 use Rattle.ga_chip.specs.Chip.{Chip}
-use Rattle.ga_debug.specs.Head.{lines_of}
+use Rattle.ga_pack.specs.Model.Text.{lines_of}
 use Rattle.ga_debug.proofs.OneReplay.{one_beginning, one_replayed}
 use Rattle.ga_jobs.specs.Asm.{IsAsmOutput}
 use Rattle.ga_jobs.specs.Boot.{IsBootOutput}

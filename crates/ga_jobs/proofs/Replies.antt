@@ -4,15 +4,13 @@ use Rattle.std.specs.Prelude.{◌==◌}
 use Rattle.std.specs.List.{slice_split}
 use Rattle.std.proofs.lemmas.List.{drop_all, drop_more}
 use Rattle.ga_chip.specs.Chip.{Chip}
-use Rattle.ga_debug.specs.Head.{lines_of}
-use Rattle.ga_debug.specs.Pieces.{pieces}
+use Rattle.ga_pack.specs.Model.Text.{lines_of}
 use Rattle.ga_debug.specs.Session.{reply_to}
 use Rattle.ga_jobs.specs.Debug.{after_reply, reply_line, replies_to}
 
 -- the line that comes next is the first of those that are left
 pub next_line : (text : List ℕ) (n m : ℕ) (line : List ℕ) → (n < length (slice_split (λ c. c == 10) text)) × (line ≡ get_or (slice_split (λ c. c == 10) text) n line) → m ≡ n + 1
     → drop n (lines_of text) ≡ line ∷ drop m (lines_of text)
-unfolding pieces
 next_line text n m line turn more =
     drop_more (slice_split (λ c. c == 10) text) n line turn.0
     ∙ ap (λ first. first ∷ drop (n + 1) (slice_split (λ c. c == 10) text)) (sym turn.1)
@@ -20,7 +18,6 @@ next_line text n m line turn more =
 
 -- no line is left
 pub no_line : (text : List ℕ) (n : ℕ) → length (slice_split (λ c. c == 10) text) ≤ n → drop n (lines_of text) ≡ []
-unfolding pieces
 no_line text n all = drop_all n (slice_split (λ c. c == 10) text) all
 
 -- an empty line has no reply

@@ -21,7 +21,6 @@ use Rattle.ga_chip.specs.Part.{after, asks}
 use Rattle.ga_chip.specs.Run.{happened}
 use Rattle.ga_group.specs.declared.error.PlanError.TheVariants.{Empty}
 use Rattle.ga_debug.specs.Command.{arguments, command_first, command_in}
-use Rattle.ga_debug.specs.Pieces.{pieces}
 use Rattle.ga_jobs.specs.Asm.{image_line, images_text}
 use Rattle.ga_jobs.specs.Debug.{replies_to}
 use Rattle.ga_jobs.specs.Run.{dealt, plan_by}
@@ -100,5 +99,5 @@ too_many_workers = refl
 
 -- an empty line is no command, and one that is refused changes nothing
 replies_to_three : replies_to reset_chip (codes "pass 709" ∷ [] ∷ codes "halt" ∷ codes "break 709 003" ∷ []) ≡ codes "refused NotHeld\nrefused BadCommand\nok\n"
-unfolding command_in command_first arguments pieces happened tried after asks need_of reset_chip cell_of all_cells
+unfolding command_in command_first arguments happened tried after asks need_of reset_chip cell_of all_cells
 replies_to_three = refl

@@ -5,7 +5,7 @@ use Rattle.ga_debug.specs.declared.error.DebugError.{DebugError}
 use Rattle.ga_debug.specs.declared.error.DebugError.TheVariants.{BadAddress, BadCommand, BadCount, BadNode, BadSide, Memory, NotHeld}
 use Rattle.ga_debug.specs.declared.replay_error.ReplayError.{ReplayError}
 use Rattle.ga_debug.specs.Beginning.{IsBeginning}
-use Rattle.ga_debug.specs.Head.{lines_of}
+use Rattle.ga_pack.specs.Model.Text.{lines_of}
 use Rattle.ga_debug.specs.Session.{after_line, reply_to}
 use Rattle.ga_jobs.specs.declared.fault.ServeError.{ServeError}
 use Rattle.ga_jobs.specs.Fault.{fault_of_replay}

@@ -1,6 +1,6 @@
 ghost use Rattle.std.specs.Prelude.{◌≡◌, ◌++◌, IfOk, drop, string_bytes};
 ghost use Rattle.ga_asm.specs.Text.{AtMostOne};
-ghost use Rattle.ga_debug.specs.Head.{lines_of};
+ghost use Rattle.ga_pack.specs.Model.Text.{lines_of};
 ghost use Rattle.ga_debug.specs.Session.{reply_to};
 ghost use Rattle.ga_jobs.specs.Debug.{IsDebugOutput, after_reply, fault_name, reply_line, replies_to};
 ghost use Rattle.ga_jobs.specs.Fault.{Answers};

@@ -1,5 +1,5 @@
 use Rattle.std.proofs.Common.{◌≡◌, ◌++◌, ◌-◌, ◌≤◌, drop, length, string_bytes}
-use Rattle.ga_debug.specs.Head.{lines_of}
+use Rattle.ga_pack.specs.Model.Text.{lines_of}
 use Rattle.ga_jobs.specs.Debug.{replies_to}
 use Rattle.ga_jobs.proofs.debug.replies_to.Given as goal
 
