@@ -27,9 +27,13 @@ IsJobOutput Debug input answer = IsDebugOutput input answer
 IsJobOutput Replay input answer = IsReplayOutput input answer
 IsJobOutput (Explain topic) input answer = answer ≡ Ok (explain_output topic)
 
--- more than 1,048,576 bytes are too long for a job that reads them
+-- the most bytes that an input may have
+abbrev pub INPUT_LIMIT : ℕ
+INPUT_LIMIT = 1048576
+
+-- more bytes are too long for a job that reads them
 abbrev pub is_too_long : Job → List ℕ → Bool
-is_too_long job input = reads_input job && nat_lt 1048576 (length input)
+is_too_long job input = reads_input job && nat_lt INPUT_LIMIT (length input)
 
 -- what the program may answer to an input
 abbrev pub IsOutput : Job → List ℕ → Result (List ℕ) ServeError → Type 0

@@ -1,7 +1,7 @@
-ghost use Rattle.std.specs.Prelude.{◌≡◌, ◌≢◌, ℕ, false, List, IfErr, IfSome};
+ghost use Rattle.std.specs.Prelude.{◌≡◌, ◌≢◌, ℕ, ◌+◌, false, List, IfErr, IfSome};
 ghost use Rattle.std.specs.Io.KnownBytes.{Keeps};
 ghost use Rattle.ga_command_line.specs.Request.{reads_input};
-ghost use Rattle.ga_serve.specs.Answering.{HasOneOutput};
+ghost use Rattle.ga_serve.specs.Answering.{HasOneOutput, INPUT_LIMIT};
 ghost use Rattle.ga_serve.specs.Reading.{ConsumesUpTo, ReadsFirst};
 ghost use Rattle.ga_serve.specs.Engine.{Serves, status_of};
 
@@ -31,7 +31,8 @@ pub fn serve<Rt: AllocGlobal + Threads + Sync, R: Read, W: Write>(
     ensures served { IfSome (R.remaining reader.old) (λ input.
         Serves job.now input (W.contents writer.old) (W.contents writer.new) result) }
     ensures read_first { ReadsFirst job.now result (R.remaining reader.old) (R.remaining reader.new) }
-    ensures read_no_more { ConsumesUpTo 1048577 (R.remaining reader.old) (R.remaining reader.new) }
+    ensures read_no_more { ConsumesUpTo (INPUT_LIMIT + 1) (R.remaining reader.old)
+        (R.remaining reader.new) }
 
     // At any reader.
     ensures unread { reads_input job.now ≡ false → reader.new ≡ reader.old }

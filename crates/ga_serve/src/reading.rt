@@ -1,5 +1,6 @@
 ghost use Rattle.std.specs.Prelude.{◌≡◌, ℕ, ◌+◌, ◌<◌, ◌≤◌, List, length, vec_len, IfOk, IfErr, IfSome, OnOk, Err};
 ghost use Rattle.std.specs.Io.KnownBytes.{Consumes, IsAtEnd};
+ghost use Rattle.ga_serve.specs.Answering as limits;
 ghost use Rattle.ga_serve.specs.Reading.{ConsumesUpTo};
 ghost use Rattle.ga_serve.specs.inner.Reading.{ReadFails};
 
@@ -18,9 +19,10 @@ pub fn read_input<R: Read>(alloc: Global, reader: &mut R) -> Result<Vec<u8>, Ser
     ensures input { IfOk result (λ input.
         Consumes (R.remaining reader.old) (R.remaining reader.new) input.items) }
     ensures end { OnOk result (IsAtEnd (R.remaining reader.new)) }
-    ensures limit { IfOk result (λ input. vec_len input ≤ 1048576) }
+    ensures limit { IfOk result (λ input. vec_len input ≤ limits.INPUT_LIMIT) }
     ensures fault { IfErr result (ReadFails (R.remaining reader.old)) }
-    ensures no_more { ConsumesUpTo 1048577 (R.remaining reader.old) (R.remaining reader.new) }
+    ensures no_more { ConsumesUpTo (limits.INPUT_LIMIT + 1) (R.remaining reader.old)
+        (R.remaining reader.new) }
 {
     // The system gives a page of the room where it is touched.
     let mut input = Vec::with_capacity(alloc, INPUT_LIMIT + 1)?;
