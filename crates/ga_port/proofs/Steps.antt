@@ -53,7 +53,7 @@ module _ (chip : Chip) (tries : List Try) (owner : ℕ → ℕ) (s : State ℕ (
   owns = is.once id what.node view one at has
 
   -- an entry of a view is the node that was tried, or an old one
-  record Touched (index name : ℕ) (entry : Holding) : Type 0 where
+  record IsTouched (index name : ℕ) (entry : Holding) : Type 0 where
     name_is : name ≡ what.node
     id_is : index ≡ id
     entry_is : entry ≡ kept_after one what.side found
@@ -67,19 +67,19 @@ module _ (chip : Chip) (tries : List Try) (owner : ℕ → ℕ) (s : State ℕ (
   places_apart : (name : ℕ) → name ≢ what.node → index_of name ≢ index_of what.node
   places_apart name apart e = apart (sym (one_place what.node name below (sym e)))
 
-  entry_of : (index name : ℕ) (now : List (Option Holding)) (entry : Holding) → get_elem? (set s.views id (tried_in view what found)) index ≡ some now → kept now name ≡ Some entry → Touched index name entry ⊎ Other index name entry
+  entry_of : (index name : ℕ) (now : List (Option Holding)) (entry : Holding) → get_elem? (set s.views id (tried_in view what found)) index ≡ some now → kept now name ≡ Some entry → IsTouched index name entry ⊎ Other index name entry
   entry_of index name now entry e h = by (at_set s.views id index (tried_in view what found) now e)
     where
-      here : index ≡ id → kept (tried_in view what found) name ≡ Some entry → (name ≡ what.node) ⊎ (name ≡ what.node → ⊥) → Touched index name entry ⊎ Other index name entry
+      here : index ≡ id → kept (tried_in view what found) name ≡ Some entry → (name ≡ what.node) ⊎ (name ≡ what.node → ⊥) → IsTouched index name entry ⊎ Other index name entry
       here i h (inl same) = inl (record { name_is = same; id_is = i; entry_is = same_Some entry _ (sym h ∙ ap (kept (tried_in view what found)) same ∙ nodes.tried_here view what found one has) })
       here i h (inr apart) = inr (record { apart = apart; old = view; at_old = ap (get_elem? s.views) i ∙ at; has_old = sym (nodes.tried_else view what found name (places_apart name apart)) ∙ h })
 
-      by : ((index ≡ id) × (tried_in view what found ≡ now)) ⊎ ((index ≢ id) × (get_elem? s.views index ≡ some now)) → Touched index name entry ⊎ Other index name entry
+      by : ((index ≡ id) × (tried_in view what found ≡ now)) ⊎ ((index ≢ id) × (get_elem? s.views index ≡ some now)) → IsTouched index name entry ⊎ Other index name entry
       by (inl (i, same)) = here i (ap (λ v. kept v name) same ∙ h) (cases_eq name what.node)
       by (inr (other, old)) = inr (record { apart = λ same. other (sym (is.once index name now entry old h) ∙ ap owner same ∙ owns); old = now; at_old = old; has_old = h })
 
   -- the chip after the try, where its cells become these
-  parts_of : (index name : ℕ) (entry : Holding) (cells : List (Option ℕ)) → Touched index name entry ⊎ Other index name entry → part_of (record { parts = parts_after chip.parts one what found; cells = cells }) name ≡ Some entry.part
+  parts_of : (index name : ℕ) (entry : Holding) (cells : List (Option ℕ)) → IsTouched index name entry ⊎ Other index name entry → part_of (record { parts = parts_after chip.parts one what found; cells = cells }) name ≡ Some entry.part
   parts_of index name entry cells (inl t) =
       ap (part_of (record { parts = parts_after chip.parts one what found; cells = cells })) t.name_is
       ∙ get-set_here chip.parts (index_of what.node) _ one.part part_here
@@ -88,7 +88,7 @@ module _ (chip : Chip) (tries : List Try) (owner : ℕ → ℕ) (s : State ℕ (
       get-set_else chip.parts (index_of what.node) (index_of name) _ (λ e. places_apart name o.apart (sym e))
       ∙ is.parts index name o.old entry o.at_old o.has_old
 
-  sides_of : (index name : ℕ) (entry : Holding) → Touched index name entry ⊎ Other index name entry → entry.sides ≡ sides_tried name (tries ++ what ∷ [])
+  sides_of : (index name : ℕ) (entry : Holding) → IsTouched index name entry ⊎ Other index name entry → entry.sides ≡ sides_tried name (tries ++ what ∷ [])
   sides_of index name entry (inl t) =
       ap (λ (k : Holding). k.sides) t.entry_is
       ∙ ap (λ l. l ++ what.side ∷ []) (is.sides id what.node view one at has)
@@ -96,7 +96,7 @@ module _ (chip : Chip) (tries : List Try) (owner : ℕ → ℕ) (s : State ℕ (
       ∙ ap (λ n. sides_tried n (tries ++ what ∷ [])) (sym t.name_is)
   sides_of index name entry (inr o) = is.sides index name o.old entry o.at_old o.has_old ∙ sym (tried_else name tries what (λ e. o.apart (sym e)))
 
-  once_of : (index name : ℕ) (entry : Holding) → Touched index name entry ⊎ Other index name entry → owner name ≡ index
+  once_of : (index name : ℕ) (entry : Holding) → IsTouched index name entry ⊎ Other index name entry → owner name ≡ index
   once_of index name entry (inl t) = ap owner t.name_is ∙ owns ∙ sym t.id_is
   once_of index name entry (inr o) = is.once index name o.old entry o.at_old o.has_old
 
