@@ -1,7 +1,7 @@
 use crate::cut::Cut;
 use crate::fault::Fault;
 use ga_chip::{Chip, side_of_turn};
-use ga_dump::{ledger_text, memory_text, node_text};
+use ga_dump::chip_text;
 use ga_place::Node;
 use ga_word::Word18;
 use std::alloc::{AllocError, Global};
@@ -41,7 +41,7 @@ impl WholeRun {
         }
         Ok(WholeRun {
             turns,
-            dump: dump(alloc, &chip)?,
+            dump: chip_text(alloc, &chip)?,
             rest: dump_at_rest(alloc, &mut chip)?,
         })
     }
@@ -66,7 +66,7 @@ impl WholeRun {
             }
             chip.turn(side_of_turn(turn));
         }
-        Ok(dump(alloc, &chip)? != self.dump)
+        Ok(chip_text(alloc, &chip)? != self.dump)
     }
 
     /// Whether the chip comes to rest otherwise where the stream is cut so, and each piece comes late, so that the node
@@ -124,21 +124,8 @@ fn take_stream(chip: &mut Chip, node: Node) -> Result<u64, Fault> {
 fn dump_at_rest(alloc: Global, chip: &mut Chip) -> Result<Option<String>, AllocError> {
     for _ in 0..TO_REST {
         if chip.turns(4) == 0 {
-            return Ok(Some(dump(alloc, chip)?));
+            return Ok(Some(chip_text(alloc, chip)?));
         }
     }
     Ok(None)
-}
-
-/// The registers, stacks and memory of each node, and the numbers of its cells.
-fn dump(alloc: Global, chip: &Chip) -> Result<String, AllocError> {
-    let mut text = String::new(alloc);
-    for name in 0..800 {
-        if let Some(node) = Node::new(name) {
-            text.push_str(&node_text(alloc, chip.state(node))?)?;
-            text.push_str(&memory_text(alloc, chip.state(node))?)?;
-            text.push_str(&ledger_text(alloc, chip, node)?)?;
-        }
-    }
-    Ok(text)
 }

@@ -6,8 +6,8 @@
 #![tactic(auto)]
 
 use ga_chip::Chip;
-use ga_dump::{ledger_text, memory_text, node_text};
-use ga_group::{Gate, Plan, RunError, run_workers};
+use ga_dump::chip_text;
+use ga_group::{Open, Plan, RunError, run_workers};
 use ga_place::Node;
 use ga_word::Word18;
 use std::alloc::{AllocError, Global};
@@ -27,13 +27,6 @@ const RUNS: u32 = 2;
 
 const TURNS: u64 = 16;
 
-/// Lets the workers come as they come.
-struct Open;
-
-impl Gate for Open {
-    fn turn(&self, _worker: u32, _turn: u64, _moved: u64) {}
-}
-
 fn main(rt: HostRuntime) -> ExitCode {
     match tell_runs(&rt, rt.alloc()) {
         Ok(()) => ExitCode::from(0),
@@ -49,12 +42,12 @@ fn tell_runs<R: Threads + Sync + Print>(rt: &R, alloc: Global) -> Result<(), All
     };
     let mut chip = ring(alloc, &nodes)?;
     for _ in 0..RUNS {
-        let before = dump(alloc, &chip)?;
+        let before = chip_text(alloc, &chip)?;
         chip = match run_workers(rt, alloc, chip, &plan, TURNS, &Open) {
             Ok(next) => next,
             Err((fault, same)) => {
                 let line = match fault {
-                    RunError::Memory if dump(alloc, &same)? == before => "refused alike",
+                    RunError::Memory if chip_text(alloc, &same)? == before => "refused alike",
                     RunError::Memory => "refused changed",
                     RunError::TooManyTurns => "fault",
                 };
@@ -102,17 +95,4 @@ fn plan_of(alloc: Global, nodes: &[Node]) -> Result<Option<Plan>, AllocError> {
         groups.push(Vec::from_slice(alloc, &[*node])?)?;
     }
     Ok(Plan::new(groups).ok())
-}
-
-/// The registers, stacks and memory of each node, and the numbers of its cells.
-fn dump(alloc: Global, chip: &Chip) -> Result<String, AllocError> {
-    let mut text = String::new(alloc);
-    for name in 0..800 {
-        if let Some(node) = Node::new(name) {
-            text.push_str(&node_text(alloc, chip.state(node))?)?;
-            text.push_str(&memory_text(alloc, chip.state(node))?)?;
-            text.push_str(&ledger_text(alloc, chip, node)?)?;
-        }
-    }
-    Ok(text)
 }
