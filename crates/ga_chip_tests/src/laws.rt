@@ -3,8 +3,9 @@ ghost use Rattle.std.specs.Prelude.{◌≡◌, IfOk};
 ghost use Rattle.ga_place.specs.declared.side.Side.TheVariants.{Right};
 
 use crate::chips::WRITE_12_RIGHT;
-use crate::workers::{Open, plan};
+use crate::workers::plan;
 use ga_chip::{Chip, Try};
+use ga_group::Open;
 use ga_law_examples::{
     one_side, plan_behind_plan, plan_beside_tries, tries_beside_stuck, two_orders, two_parts,
     two_plans,

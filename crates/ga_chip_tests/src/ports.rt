@@ -1,5 +1,5 @@
-ghost use Rattle.std.specs.Prelude.{◌≡◌, IfOk};
-ghost use Rattle.ga_chip_tests.specs.inner.Hands.{AreKept};
+ghost use Rattle.std.specs.Prelude.{IfOk};
+ghost use Rattle.ga_chip_tests.specs.inner.Hands.{AreInHand};
 
 use crate::chips::{WRITE_12_RIGHT, moves, place};
 use ga_chip::{Asks, Chip, NodePart, Outcome, Try};
@@ -18,10 +18,8 @@ fn poll(
     node: Node,
     side: Side,
 ) -> bool
-    requires own { seat.old.table ≡ cells.now.table }
-    requires parts { AreKept seat.old.nodes parts.old.items }
-    ensures own { seat.new.table ≡ cells.now.table }
-    ensures parts { AreKept seat.new.nodes parts.new.items }
+    requires { AreInHand cells.now seat.old parts.old.items }
+    ensures { AreInHand cells.now seat.new parts.new.items }
 {
     let part = &mut parts[node.index()];
     let Asks::Take(from, cell) = part.asks(side) else {
@@ -42,10 +40,8 @@ fn take(
     node: Node,
     side: Side,
 ) -> Option<Word18>
-    requires own { seat.old.table ≡ cells.now.table }
-    requires parts { AreKept seat.old.nodes parts.old.items }
-    ensures own { seat.new.table ≡ cells.now.table }
-    ensures parts { AreKept seat.new.nodes parts.new.items }
+    requires { AreInHand cells.now seat.old parts.old.items }
+    ensures { AreInHand cells.now seat.new parts.new.items }
 {
     let part = &mut parts[node.index()];
     let Asks::Take(from, cell) = part.asks(side) else {
@@ -67,10 +63,8 @@ fn check(
     node: Node,
     side: Side,
 ) -> Option<bool>
-    requires own { seat.old.table ≡ cells.now.table }
-    requires parts { AreKept seat.old.nodes parts.old.items }
-    ensures own { seat.new.table ≡ cells.now.table }
-    ensures parts { AreKept seat.new.nodes parts.new.items }
+    requires { AreInHand cells.now seat.old parts.old.items }
+    ensures { AreInHand cells.now seat.new parts.new.items }
 {
     let part = &mut parts[node.index()];
     let Asks::Check(to, cell) = part.asks(side) else {
@@ -89,10 +83,8 @@ fn own(
     node: Node,
     side: Side,
 ) -> Option<Outcome>
-    requires own { seat.old.table ≡ cells.now.table }
-    requires parts { AreKept seat.old.nodes parts.old.items }
-    ensures own { seat.new.table ≡ cells.now.table }
-    ensures parts { AreKept seat.new.nodes parts.new.items }
+    requires { AreInHand cells.now seat.old parts.old.items }
+    ensures { AreInHand cells.now seat.new parts.new.items }
 {
     let part = &mut parts[node.index()];
     let Asks::Nothing(outcome) = part.asks(side) else {
@@ -110,10 +102,8 @@ fn post(
     node: Node,
     side: Side,
 ) -> Option<Word18>
-    requires own { seat.old.table ≡ cells.now.table }
-    requires parts { AreKept seat.old.nodes parts.old.items }
-    ensures own { seat.new.table ≡ cells.now.table }
-    ensures parts { AreKept seat.new.nodes parts.new.items }
+    requires { AreInHand cells.now seat.old parts.old.items }
+    ensures { AreInHand cells.now seat.new parts.new.items }
 {
     let part = &mut parts[node.index()];
     let Asks::Post(to, cell, word) = part.asks(side) else {
@@ -127,8 +117,7 @@ fn post(
 /// The cells of a chip on which 708 has made so many tries of those that write 12 to its right, a seat with all nodes, and
 /// their parts.
 fn opened(alloc: Global, node: Node, tries: u32) -> Result<(Cells, PortSeat, Vec<NodePart>), Fail>
-    ensures own { IfOk result (λ made. made.1.table ≡ made.0.table) }
-    ensures parts { IfOk result (λ made. AreKept made.1.nodes made.2.items) }
+    ensures { IfOk result (λ made. AreInHand made.0 made.1 made.2.items) }
 {
     let mut chip = Chip::reset(alloc)?;
     place(&mut chip, node, &WRITE_12_RIGHT)?;

@@ -1,6 +1,7 @@
 use crate::chips::{WRITE_12_RIGHT, chip_with, moves, outcome, place};
 use ga_chip::{Chip, Ledger, Outcome};
-use ga_group::{Gate, Plan, PlanError, RunError, run_workers};
+use ga_group::{Gate, Open, Plan, PlanError, RunError, run_workers};
+use ga_law_examples::after_run;
 use ga_node::Stop;
 use ga_place::{Node, Side};
 use ga_test_values::{node, nodes};
@@ -8,14 +9,6 @@ use std::alloc::Global;
 use std::sync::atomic::{AtomicU64, Ordering};
 use std::test::Fail;
 use std::thread;
-use std::thread::Threads;
-
-/// A gate that lets all through.
-pub struct Open;
-
-impl Gate for Open {
-    fn turn(&self, _worker: u32, _turn: u64, _moved: u64) {}
-}
 
 /// Groups of nodes, by their names.
 fn groups(alloc: Global, names: &[&[u16]]) -> Result<Vec<Vec<Node>>, Fail> {
@@ -33,21 +26,6 @@ fn groups(alloc: Global, names: &[&[u16]]) -> Result<Vec<Vec<Node>>, Fail> {
 /// A plan of groups of nodes, by their names.
 pub fn plan(alloc: Global, names: &[&[u16]]) -> Result<Plan, Fail> {
     Ok(Plan::new(groups(alloc, names)?).map_err(|_| "no plan")?)
-}
-
-/// The chip after so many turns.
-fn run<R: Threads + Sync, G: Gate>(
-    rt: &R,
-    alloc: Global,
-    chip: Chip,
-    plan: &Plan,
-    turns: u64,
-    gate: &G,
-) -> Result<Chip, RunError> {
-    match run_workers(rt, alloc, chip, plan, turns, gate) {
-        Ok(next) => Ok(next),
-        Err((fault, _)) => Err(fault),
-    }
 }
 
 /// Whether one word has crossed from a node to its neighbour on the right.
@@ -96,7 +74,7 @@ fn a_pending_word_is_taken_in_every_schedule(rt: HostRuntime) -> Result<(), Fail
     let mut chip = chip_with(rt.alloc(), node_708, &WRITE_12_RIGHT)?;
     assert!(rt; moves(&mut chip, node_708, Side::Right, 7) == 7);
     let plan = plan(rt.alloc(), &[&[708], &[709]])?;
-    let chip = run(&rt, rt.alloc(), chip, &plan, 4, &Open)?;
+    let chip = after_run(&rt, rt.alloc(), chip, &plan, 4, &Open)?;
     let reader = chip.state(node_709);
     assert!(rt; reader.steps() == 1 && reader.stop() == Some(Stop::IoRead));
     assert!(rt; has_crossed(&chip, node_708));
@@ -152,7 +130,7 @@ fn words_cross_between_two_workers(rt: HostRuntime) -> Result<(), Fail> {
     place(&mut chip, node_709, &[0x04B02, 0x001D5, 0x089B2])?;
     let plan = plan(rt.alloc(), &[&[708], &[709]])?;
     let gate = InStep::new();
-    let chip = run(&rt, rt.alloc(), chip, &plan, 40, &gate)?;
+    let chip = after_run(&rt, rt.alloc(), chip, &plan, 40, &gate)?;
     assert!(rt; gate.given_up.load(Ordering::SeqCst) == 0);
     assert!(rt; gate.moved[0].load(Ordering::SeqCst) == 14);
     assert!(rt; gate.moved[1].load(Ordering::SeqCst) == 12);
@@ -168,7 +146,7 @@ fn break_and_pass(rt: HostRuntime) -> Result<(), Fail> {
     chip.set_break(node_000, 0x003);
     for steps in [16, 34] {
         for turns in [100, 7] {
-            chip = run(&rt, rt.alloc(), chip, &plan, turns, &Open)?;
+            chip = after_run(&rt, rt.alloc(), chip, &plan, turns, &Open)?;
             assert!(rt; chip.state(node_000).steps() == steps);
             assert!(rt; outcome(&mut chip, node_000, Side::Right) == Outcome::Held);
         }
@@ -204,7 +182,7 @@ fn the_gate_is_called_before_the_tries(rt: HostRuntime) -> Result<(), Fail> {
         calls: AtomicU64::new(0),
         strange: AtomicU64::new(0),
     };
-    let _chip = run(&rt, rt.alloc(), chip, &plan, 20, &gate)?;
+    let _chip = after_run(&rt, rt.alloc(), chip, &plan, 20, &gate)?;
     let (calls, strange) = (
         gate.calls.load(Ordering::SeqCst),
         gate.strange.load(Ordering::SeqCst),

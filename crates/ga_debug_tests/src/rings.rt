@@ -3,7 +3,8 @@ use ga_asm::assemble;
 use ga_chip::Chip;
 use ga_debug::booted;
 use ga_dump::node_text;
-use ga_group::{Gate, Plan, RunError, run_workers};
+use ga_group::{Gate, Open, Plan};
+use ga_law_examples::after_run;
 use ga_node::NodeState;
 use ga_path::Route;
 use ga_place::Node;
@@ -22,13 +23,6 @@ node 709 right a! down b! @ $1 + !b jump warm
 node 609 down a! right b! @ $1 + !b jump warm
 node 608 right a! down b! @ $1 + !b jump warm
 ";
-
-/// Lets the workers come as they come.
-struct Open;
-
-impl Gate for Open {
-    fn turn(&self, _worker: u32, _turn: u64, _moved: u64) {}
-}
 
 /// The ring on a chip that is about to boot.
 fn ring(alloc: Global, nodes: &[Node; 4]) -> Result<Chip, Fail> {
@@ -51,25 +45,10 @@ fn are_level(nodes: &[Node; 4], one: &Chip, other: &Chip) -> bool {
     nodes.iter().all(|node| one.state(*node).steps() == other.state(*node).steps())
 }
 
-/// The chip after so many turns.
-fn run<R: Threads + Sync, G: Gate>(
-    rt: &R,
-    alloc: Global,
-    chip: Chip,
-    plan: &Plan,
-    turns: u64,
-    gate: &G,
-) -> Result<Chip, RunError> {
-    match run_workers(rt, alloc, chip, plan, turns, gate) {
-        Ok(next) => Ok(next),
-        Err((fault, _)) => Err(fault),
-    }
-}
-
 /// The ring by one worker.
 fn by_one<R: Threads + Sync>(rt: &R, alloc: Global, nodes: &[Node; 4]) -> Result<Chip, Fail> {
     let plan = plan_of(alloc, &[nodes])?;
-    Ok(run(rt, alloc, ring(alloc, nodes)?, &plan, 4000, &Open)?)
+    Ok(after_run(rt, alloc, ring(alloc, nodes)?, &plan, 4000, &Open)?)
 }
 
 /// The ring by several workers, until it is as far as another.
@@ -85,7 +64,7 @@ fn by_several<R: Threads + Sync>(
         if are_level(nodes, other, &chip) {
             break;
         }
-        chip = run(rt, alloc, chip, plan, 16, &Open)?;
+        chip = after_run(rt, alloc, chip, plan, 16, &Open)?;
     }
     Ok(chip)
 }
@@ -197,7 +176,7 @@ fn overlap<R: Threads + Sync>(
     workers: u32,
 ) -> Result<bool, Fail> {
     let gate = Meeting::new(workers);
-    let _chip = run(rt, alloc, ring(alloc, nodes)?, plan, 2, &gate)?;
+    let _chip = after_run(rt, alloc, ring(alloc, nodes)?, plan, 2, &gate)?;
     Ok(gate.met.load(Ordering::SeqCst) == workers)
 }
 
