@@ -1,11 +1,11 @@
 -- Faults of items that were worked out by hand.
-use Rattle.std.proofs.Common.{◌≡◌, ◌&&◌, inl, inr, ℕ, zero, suc, Bool, true, false, not, List, [], ◌∷◌, ◌++◌, Option, Some, None, refl, ap, ◌+◌}
+use Rattle.std.proofs.Common.{◌≡◌, ◌&&◌, inl, inr, ℕ, zero, suc, Bool, true, false, not, List, [], ◌∷◌, ◌++◌, length, Option, Some, None, refl, ap, ◌+◌}
 use Rattle.std.specs.Prelude.{codes, map}
 use Rattle.std.specs.List.{list_all}
 use Rattle.std.specs.Option.{is_none}
 use Rattle.std.proofs.lemmas.Bool.{and_parts, not-true}
 use Rattle.ga_word.specs.declared.op.Op.TheVariants.{Jump, Micronext, Drop, Dup, Nop}
-use Rattle.ga_pack.specs.Model.Layout.{Labels, Alone, Arrangement, is_loose, items_of, labels_behind, size}
+use Rattle.ga_pack.specs.Model.Layout.{Labels, Alone, Arrangement, is_loose, items_of, labels_behind, names_in, size}
 use Rattle.ga_pack.specs.Model.LayoutFault.{AsmFault, AsmKind, Judgement, OutOfReach, AllPass, TooLong, UndefinedLabel, UnextAlone, fault_at, fault_behind}
 use Rattle.ga_pack.specs.Model.Source.{Item, Label, Instruction, Transfer, Literal, Here, Word, WordTo, Plain}
 
@@ -71,6 +71,19 @@ passed_alone names before (i ∷ is) h =
 
 -- ---- the first fault of a node
 
+-- the last of some items has it
+first_fault : {items : List Item} {at : ℕ} {kind : AsmKind} (before : List Item) (item : Item) → (items ≡ before ++ item ∷ []) × (at ≡ length before)
+    → AllPass (names_in items) [] before → list_all is_alone before ≡ true → fault_behind (names_in items) (map Alone before) item ≡ Some kind → AsmFault items at kind
+first_fault {items = items} {kind = kind} before item split passed alone is = inl (record {
+  before = before;
+  item = item;
+  rest = [];
+  split = split.0;
+  at_is = split.1;
+  passed = passed;
+  judged = judged_alone (names_in items) before item (Some kind) alone is;
+})
+
 abbrev dots : ℕ → List Item
 dots zero = []
 dots (suc n) = Word (Nop ∷ []) ∷ dots n
@@ -82,41 +95,17 @@ full = passed_alone [] [] (dots 64) refl
 
 pub overfull : AsmFault (dots 65) 64 TooLong
 unfolding fault_behind
-overfull = inl (record {
-  before = dots 64;
-  item = Word (Nop ∷ []);
-  rest = [];
-  split = refl;
-  at_is = refl;
-  passed = passed_alone [] [] (dots 64) refl;
-  judged = judged_alone [] (dots 64) (Word (Nop ∷ [])) (Some TooLong) refl refl;
-})
+overfull = first_fault (dots 64) (Word (Nop ∷ [])) (refl, refl) (passed_alone [] [] (dots 64) refl) refl refl
 
 -- `jump x`
 pub undefined : AsmFault (Transfer Jump (Label (codes "x")) ∷ []) 0 UndefinedLabel
 unfolding fault_behind AllPass
-undefined = inl (record {
-  before = [];
-  item = Transfer Jump (Label (codes "x"));
-  rest = [];
-  split = refl;
-  at_is = refl;
-  passed = tt;
-  judged = judged_alone [] [] (Transfer Jump (Label (codes "x"))) (Some UndefinedLabel) refl refl;
-})
+undefined = first_fault [] (Transfer Jump (Label (codes "x"))) (refl, refl) tt refl refl
 
 -- `unext`
 pub unext_alone : AsmFault (Instruction Micronext ∷ []) 0 UnextAlone
 unfolding fault_behind AllPass
-unext_alone = inl (record {
-  before = [];
-  item = Instruction Micronext;
-  rest = [];
-  split = refl;
-  at_is = refl;
-  passed = tt;
-  judged = judged_alone [] [] (Instruction Micronext) (Some UnextAlone) refl refl;
-})
+unext_alone = first_fault [] (Instruction Micronext) (refl, refl) tt refl refl
 
 abbrev back : List ℕ
 back = codes "back"
@@ -130,15 +119,7 @@ in_front = dots 2 ++ Here back ∷ dots 6
 -- two words, `back:`, six words, `[ dup drop jump back ]`: at 008 P is 009, in another page than 002
 pub another_page : AsmFault (in_front ++ to_back ∷ []) 9 OutOfReach
 unfolding fault_behind
-another_page = inl (record {
-  before = in_front;
-  item = to_back;
-  rest = [];
-  split = refl;
-  at_is = refl;
-  passed = passed_alone (back ∷ []) [] in_front refl;
-  judged = judged_alone (back ∷ []) in_front to_back (Some OutOfReach) refl refl;
-})
+another_page = first_fault in_front to_back (refl, refl) (passed_alone (back ∷ []) [] in_front refl) refl refl
 
 -- `[ dup drop jump back ]`, seven words, `back:` and a word: at 000 P is 001, in another page than 008
 abbrev to_later : List Item
