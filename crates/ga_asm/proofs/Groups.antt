@@ -16,8 +16,8 @@ use Rattle.ga_pack.proofs.OneLayout.{joins_loose}
 use Rattle.ga_pack.proofs.Packable.{packable}
 use Rattle.ga_source.specs.declared.item.Item as an
 use Rattle.ga_source.specs.Item.{item_of}
-use Rattle.ga_asm.specs.Image.{labels_of}
-use Rattle.ga_asm.specs.inner.Layout.{Placing, count_of, data_at, plain}
+use Rattle.ga_asm.specs.Image.{item_count, labels_of}
+use Rattle.ga_asm.specs.inner.Layout.{Placing, data_at, plain}
 use Rattle.ga_asm.specs.inner.Making.{IsGroup, IsGroupBy, IsMade, IsPackable, Making, MoreWords}
 use Rattle.ga_asm.specs.declared.layout.Layout as the
 use Rattle.ga_asm.proofs.MakingSteps.{plain_length}
@@ -39,7 +39,7 @@ items_cons : (g : Group) (gs : List Group) → items_of (g ∷ gs) ≡ members g
 items_cons (Shared i is) gs = refl
 items_cons (Alone i) gs = refl
 
-count_members : (g : Group) → count_of g ≡ length (members g)
+count_members : (g : Group) → item_count g ≡ length (members g)
 count_members (Shared i is) = refl
 count_members (Alone i) = refl
 
@@ -140,7 +140,7 @@ pub record Next (items : List Item) (l : the.Layout) (counts : List ℕ) (done :
   pub data_is : l.data_start ≡ data_at 0 (front ++ group ∷ back)
   pub few : l.address ≤ 64
   pub rest_is : rest ≡ members group ++ items_of back
-  pub counts_are : drop (done + 1) l.counts.items ≡ map count_of back
+  pub counts_are : drop (done + 1) l.counts.items ≡ map item_count back
   pub count_is : get_or counts done 0 ≡ length (members group)
   pub words_are : Words (labels_of l.labels.entries) front words
   pub count : length words ≡ address_after 0 front
@@ -149,12 +149,12 @@ pub record Next (items : List Item) (l : the.Layout) (counts : List ℕ) (done :
 next_by : (items : List Item) (l : the.Layout) (counts : List ℕ) (done : ℕ) (rest : List Item) (words : List ℕ) (m : Making items l done rest words) (back : List Group) → m.back ≡ back
     → counts ≡ l.counts.items → done < length counts → Next items l counts done rest words
 next_by items l counts done rest words m [] e same h =
-    absurd (let cut = drop-cons counts done 0 h in let none : drop done counts ≡ [] = ap (drop done) same ∙ m.counts_are ∙ ap (map count_of) e in cc)
+    absurd (let cut = drop-cons counts done 0 h in let none : drop done counts ≡ [] = ap (drop done) same ∙ m.counts_are ∙ ap (map item_count) e in cc)
 next_by items l counts done rest words m (g ∷ back) e same h =
     let cut : drop done counts ≡ get_or counts done 0 ∷ drop (suc done) counts = drop-cons counts done 0 h in
-    let is : drop done counts ≡ count_of g ∷ map count_of back = ap (drop done) same ∙ m.counts_are ∙ ap (map count_of) e in
-    let first : get_or counts done 0 ≡ count_of g = cc in
-    let others : drop (suc done) counts ≡ map count_of back = cc in
+    let is : drop done counts ≡ item_count g ∷ map item_count back = ap (drop done) same ∙ m.counts_are ∙ ap (map item_count) e in
+    let first : get_or counts done 0 ≡ item_count g = cc in
+    let others : drop (suc done) counts ≡ map item_count back = cc in
     let index : done + 1 ≡ suc done = omega arith in
     record {
       front = m.front;
@@ -328,7 +328,7 @@ making_none items l words p none = record {
   near = refl;
 }
 
-no_groups : (groups : List Group) → map count_of groups ≡ [] → groups ≡ []
+no_groups : (groups : List Group) → map item_count groups ≡ [] → groups ≡ []
 no_groups [] e = refl
 no_groups (g ∷ groups) e = absurd (cc)
 

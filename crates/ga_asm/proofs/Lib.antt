@@ -9,3 +9,4 @@ mod Groups
 mod Sections
 pub mod OneAnswer
 mod WorkedImages
+mod WordPlaces

@@ -7,7 +7,7 @@ use Rattle.ga_pack.specs.Model.LayoutFault.{AllRight, AsmFault, AsmKind, IsRight
 use Rattle.ga_pack.specs.Model.Program.{PlacedItem, PlacedSection}
 use Rattle.ga_pack.specs.Model.Source.{Item, Items, Sections, is_named, makes_word, start}
 use Rattle.ga_pack.specs.Model.Text.{Place}
-use Rattle.ga_pack.proofs.OneLayout.{one_laid}
+use Rattle.ga_pack.proofs.OneLayout.{one_laid, one_standing}
 use Rattle.ga_pack.proofs.OneFault.{right_program}
 use Rattle.ga_source.specs.declared.places.ItemPlace as found
 use Rattle.ga_source.specs.declared.section.Section as written
@@ -19,7 +19,7 @@ use Rattle.ga_source.specs.Token.{place_of}
 use Rattle.ga_source.specs.Program.{IsRight as IsRightProgram}
 use Rattle.ga_asm.specs.Assembling.{HasNoFault, IsAssembled, IsFirstFault}
 use Rattle.ga_asm.specs.inner.Assembling.{IsFaultless, IsNodeFault, IsPlaceOf, IsTold}
-use Rattle.ga_asm.specs.Image.{ImageView, IsImage, entry_of, labels_of}
+use Rattle.ga_asm.specs.Image.{ImageView, IsImage, entry_of, item_count, labels_of}
 use Rattle.ga_asm.specs.inner.Image.{Fits}
 use Rattle.ga_asm.specs.inner.Layout.{Placing, plain}
 use Rattle.ga_asm.specs.inner.Making.{IsMade}
@@ -57,7 +57,7 @@ place_at (i ∷ items) (p ∷ places) (suc at) d place same h e =
 
 pub image_fits : (items : List Item) (l : the.Layout) (words : List ℕ) (code_len entry : ℕ) → Items start items → Placing items l → IsMade items l words
     → code_len ≡ unwrap_or l.data_start l.address → entry ≡ entry_of (labels_of l.labels.entries)
-    → Fits (record { words = words; code_len = code_len; entry = entry; labels = labels_of l.labels.entries })
+    → Fits (record { words = words; code_len = code_len; entry = entry; labels = labels_of l.labels.entries; item_counts = l.counts.items })
 image_fits items l words code_len entry right p m code_is entry_is =
     let word : list_any makes_word items ≡ true = items_word start items right in
     let some = words_some 0 p.groups (ap (list_any makes_word) p.stand_in.in_order ∙ word) in
@@ -67,6 +67,28 @@ image_fits items l words code_len entry right p m code_is entry_is =
     let address = p.address_is in
     let few = p.few in
     record { some = omega arith; most = omega arith; code_within = omega arith; entry_near = omega arith; labels_near = p.labels_near }
+
+pub faultless : {items : List Item} {l : the.Layout} {words : List ℕ} (code_len entry : ℕ) → Placing items l → IsMade items l words
+    → code_len ≡ unwrap_or l.data_start l.address → entry ≡ entry_of (labels_of l.labels.entries)
+    → IsFaultless items (record { words = words; code_len = code_len; entry = entry; labels = labels_of l.labels.entries; item_counts = l.counts.items })
+faultless code_len entry placed made code_is entry_is =
+    let laid = made.laid in
+    record {
+      image_is = record {
+        laid = record {
+          groups = laid.groups;
+          stand_in = laid.stand_in;
+          labels_are = laid.labels_are;
+          all_defined = laid.all_defined;
+          in_reach = laid.in_reach;
+          words_are = laid.words_are;
+          code_is = code_is ∙ laid.code_is;
+        };
+        entry_is = entry_is;
+        counts_are = placed.counts_are ∙ ap (map item_count) (one_standing placed.stand_in laid.stand_in);
+      };
+      passed = made.passed;
+    }
 
 -- ---- the sections of a program
 
@@ -144,11 +166,12 @@ assembling_none = record { assembled = tt; all_right = tt; names_are = refl }
 
 -- ---- one list of images
 
-view_same : (p q : ImageView) → p.words ≡ q.words → p.code_len ≡ q.code_len → p.entry ≡ q.entry → p.labels ≡ q.labels → p ≡ q
-view_same p q words code entry labels =
-    ap (λ t. record p { words = t }) words ∙ ap (λ t. record { words = q.words; code_len = t; entry = p.entry; labels = p.labels }) code
-    ∙ ap (λ t. record { words = q.words; code_len = q.code_len; entry = t; labels = p.labels }) entry
-    ∙ ap (λ t. record q { labels = t }) labels
+view_same : (p q : ImageView) → p.words ≡ q.words → p.code_len ≡ q.code_len → p.entry ≡ q.entry → p.labels ≡ q.labels
+    → p.item_counts ≡ q.item_counts → p ≡ q
+view_same p q words code entry labels counts =
+    ap (λ t. record p { words = t }) words ∙ ap (λ t. record p { words = q.words; code_len = t }) code
+    ∙ ap (λ t. record p { words = q.words; code_len = q.code_len; entry = t }) entry
+    ∙ ap (λ t. record q { labels = t; item_counts = p.item_counts }) labels ∙ ap (λ t. record q { item_counts = t }) counts
 
 one_image : (items : List Item) (p q : ImageView) → IsImage items p → IsImage items q → p ≡ q
 one_image items p q a b =
@@ -157,7 +180,8 @@ one_image items p q a b =
     let labels = same.1 in
     let code = same.2 in
     let entry : p.entry ≡ q.entry = a.entry_is ∙ ap entry_of labels ∙ sym b.entry_is in
-    view_same p q words code entry labels
+    let counts = a.counts_are ∙ ap (map item_count) (one_standing a.laid.stand_in b.laid.stand_in) ∙ sym b.counts_are in
+    view_same p q words code entry labels counts
 
 pub one_assembled : (sections : List PlacedSection) (images others : List (ℕ × ImageView)) → IsAssembled sections images → IsAssembled sections others → others ≡ images
 unfolding IsAssembled

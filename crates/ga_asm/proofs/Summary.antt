@@ -9,7 +9,8 @@ use Rattle.ga_pack.specs.Model.Source.{Item, Instruction, Literal, Data}
 use Rattle.ga_pack.proofs.OneLayout.{joins_loose}
 use Rattle.ga_pack.proofs.Placed.{add, fresh}
 use Rattle.ga_asm.proofs.Loose.{loose_data, loose_labels}
-use Rattle.ga_asm.specs.inner.Layout.{Open, closed_counts, count_of, counts_after, data_after, data_at, is_data, joins_open, labels_with, open_after, open_at, open_count}
+use Rattle.ga_asm.specs.Image.{item_count}
+use Rattle.ga_asm.specs.inner.Layout.{Open, closed_counts, counts_after, data_after, data_at, is_data, joins_open, labels_with, open_after, open_at, open_count}
 use Rattle.ga_pack.proofs.ByCases.{on_test}
 
 -- ---- what joins
@@ -98,7 +99,7 @@ labels_add l a (g ∷ h ∷ gs) x = labels_add (labels_behind l a g) (a + size g
 fresh_counts : (x : Item) → closed_counts (fresh x ∷ []) ≡ (if is_loose x then [] else 1 ∷ [])
 fresh_counts x = on_test (is_loose x) (λ b. closed_counts ((if b then Shared x [] else Alone x) ∷ []) ≡ (if b then [] else 1 ∷ [])) (λ e. refl) (λ e. refl)
 
-counts_skips : (a : ℕ) (g h : Group) (gs : List Group) → closed_counts (g ∷ h ∷ gs) ≡ count_of g ∷ closed_counts (h ∷ gs)
+counts_skips : (a : ℕ) (g h : Group) (gs : List Group) → closed_counts (g ∷ h ∷ gs) ≡ item_count g ∷ closed_counts (h ∷ gs)
 counts_skips a (Shared i is) h gs = refl
 counts_skips a (Alone i) h gs = refl
 
@@ -115,16 +116,16 @@ counts_add l a (Shared i is ∷ []) x =
     (λ e. counts_skips a (Shared i is) (fresh x) [] ∙ ap (λ n. n ∷ closed_counts (fresh x ∷ [])) (sym (ops_length (i ∷ is))) ∙ ap (λ r. length (ops_of (i ∷ is)) ∷ r) (fresh_counts x))
 counts_add l a (Alone i ∷ []) x = ap (λ r. 1 ∷ r) (fresh_counts x)
 counts_add l a (g ∷ h ∷ gs) x =
-    add_skip (λ n. closed_counts) (λ g r. count_of g ∷ r) counts_skips (labels_behind l a g) a (a + size g) g h gs x
-    ∙ ap (λ r. count_of g ∷ r) (counts_add (labels_behind l a g) (a + size g) (h ∷ gs) x)
-    ∙ counts_cons (joins_last (labels_behind l a g) (a + size g) (h ∷ gs) x) (open_at (a + size g) (h ∷ gs)) (count_of g) (closed_counts (h ∷ gs)) x
+    add_skip (λ n. closed_counts) (λ g r. item_count g ∷ r) counts_skips (labels_behind l a g) a (a + size g) g h gs x
+    ∙ ap (λ r. item_count g ∷ r) (counts_add (labels_behind l a g) (a + size g) (h ∷ gs) x)
+    ∙ counts_cons (joins_last (labels_behind l a g) (a + size g) (h ∷ gs) x) (open_at (a + size g) (h ∷ gs)) (item_count g) (closed_counts (h ∷ gs)) x
 
 -- where the open word is closed, each group is counted
-pub counts_closed : (a : ℕ) (gs : List Group) → closed_counts gs ++ open_count (open_at a gs) ≡ map count_of gs
+pub counts_closed : (a : ℕ) (gs : List Group) → closed_counts gs ++ open_count (open_at a gs) ≡ map item_count gs
 counts_closed a [] = refl
 counts_closed a (Shared i is ∷ []) = ap (λ n. n ∷ []) (ops_length (i ∷ is))
 counts_closed a (Alone i ∷ []) = refl
-counts_closed a (g ∷ h ∷ gs) = ap (λ r. count_of g ∷ r) (counts_closed (a + size g) (h ∷ gs))
+counts_closed a (g ∷ h ∷ gs) = ap (λ r. item_count g ∷ r) (counts_closed (a + size g) (h ∷ gs))
 
 -- ---- where the data begins
 

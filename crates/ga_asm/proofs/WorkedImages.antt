@@ -19,7 +19,7 @@ abbrev dots : PlacedSection
 dots = record { name = 709; items = record { item = Instruction Nop; place = record { line = 1; column = 10 }; name_place = None } ∷ [] }
 
 abbrev dots_image : ImageView
-dots_image = record { words = 0x2_C9B2 ∷ []; code_len = 1; entry = 0; labels = [] }
+dots_image = record { words = 0x2_C9B2 ∷ []; code_len = 1; entry = 0; labels = []; item_counts = 1 ∷ [] }
 
 pub one_nop : IsAssembled (dots ∷ []) ((709, dots_image) ∷ [])
 unfolding IsAssembled Words GroupWords Arrangement fits bits stored stored_upper slot_key xor_bits
@@ -36,6 +36,7 @@ one_nop = (
       code_is = refl;
     };
     entry_is = refl;
+    counts_are = refl;
   },
   tt,
 )
@@ -53,7 +54,7 @@ one_nop-entry other =
     absurd (omega (arith, entry))
 
 -- `dup main: drop`: the label begins a word, and is the entry
-pub main_second : IsImage (Instruction Dup ∷ Here (codes "main") ∷ Instruction Drop ∷ []) (record { words = 0x2_49B2 ∷ 0x3_A9B2 ∷ []; code_len = 2; entry = 1; labels = (codes "main", 1) ∷ [] })
+pub main_second : IsImage (Instruction Dup ∷ Here (codes "main") ∷ Instruction Drop ∷ []) (record { words = 0x2_49B2 ∷ 0x3_A9B2 ∷ []; code_len = 2; entry = 1; labels = (codes "main", 1) ∷ []; item_counts = 1 ∷ 1 ∷ 1 ∷ [] })
 unfolding Words GroupWords Arrangement fits bits stored stored_upper slot_key xor_bits
 main_second = record {
   laid = record {
@@ -72,6 +73,7 @@ main_second = record {
     code_is = refl;
   };
   entry_is = refl;
+  counts_are = refl;
 }
 
 -- `node 000 jump x`

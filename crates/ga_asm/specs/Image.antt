@@ -1,17 +1,22 @@
 -- What the words of a node are: the image of its items.
-use Rattle.std.specs.Prelude.{String, ◌≡◌, ℕ, Bool, List, codes, map, nat_le}
+use Rattle.std.specs.Prelude.{String, ◌≡◌, ℕ, Bool, List, [], ◌∷◌, ◌++◌, codes, length, map, nat_le}
+use Rattle.std.specs.Fmt.{decimal}
 use Rattle.std.specs.List.{list_all}
 use Rattle.std.specs.Option.{unwrap_or}
 use Rattle.std.specs.String.{string_bytes}
-use Rattle.ga_pack.specs.Model.Layout.{Laid, Labels, address_of}
+use Rattle.ga_pack.specs.Model.Layout.{Group, Shared, Alone, Laid, Labels, address_of}
 use Rattle.ga_pack.specs.Model.Source.{Item}
+use Rattle.ga_place.specs.Node.{node_text}
+use Rattle.ga_word.specs.Hex.{hex_digits}
 
--- the words, how many of them are code, the address where the node begins, and the labels with their addresses
+-- the words, how many of them are code, the address where the node begins, the labels with their addresses, and how
+-- many items each group has
 pub record ImageView : Type 0 where
   pub words : List ℕ
   pub code_len : ℕ
   pub entry : ℕ
   pub labels : Labels
+  pub item_counts : List ℕ
 
 -- labels as the model has them
 abbrev pub labels_of : {A : Type 0} → List (String A × ℕ) → Labels
@@ -25,7 +30,20 @@ entry_of labels = unwrap_or (address_of labels (codes "main")) 0
 abbrev pub all_near : Labels → Bool
 all_near labels = list_all (λ label. nat_le label.1 64) labels
 
--- The items are laid as the words, the labels and the length of code of an image, and its entry is that of its labels.
+-- how many items a group has
+abbrev pub item_count : Group → ℕ
+item_count (Shared i is) = length (i ∷ is)
+item_count (Alone i) = 1
+
+-- The items are laid as the words, the labels and the length of code of an image. Its entry is that of its labels, and
+-- its groups of items are those of the layout.
 pub record IsImage (items : List Item) (image : ImageView) : Type 0 where
   pub laid : Laid items image.words image.labels image.code_len
   pub entry_is : image.entry ≡ entry_of image.labels
+  pub counts_are : image.item_counts ≡ map item_count laid.groups
+
+-- the line of an image: the node, its entry, and how many of its words are code and how many there are
+unfoldable pub image_line : ℕ → ImageView → List ℕ
+image_line node image =
+    codes "node " ++ node_text node ++ codes " entry " ++ hex_digits 3 image.entry ++ codes " code " ++ decimal image.code_len
+    ++ codes " words " ++ decimal (length image.words) ++ 10 ∷ []

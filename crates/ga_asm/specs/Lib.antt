@@ -3,3 +3,4 @@ pub mod Image
 pub mod Assembling
 pub mod Text
 pub mod inner
+pub mod Places

@@ -61,6 +61,7 @@ fn image_of(alloc: Global, section: &Section) -> Result<Image, Refusal>
         code_len,
         entry,
         labels: layout.labels,
+        item_counts: layout.counts,
     })
 }
 

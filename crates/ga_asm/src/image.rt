@@ -1,9 +1,12 @@
-ghost use Rattle.std.specs.Prelude.{◌≡◌, ◌<◌, ◌≤◌, ℕ, length, map, true};
-ghost use Rattle.ga_asm.specs.Image.{ImageView, all_near, labels_of};
+ghost use Rattle.std.specs.Prelude.{◌≡◌, ◌++◌, ◌<◌, ◌≤◌, ℕ, OnOk, length, map, string_bytes, true};
+ghost use Rattle.ga_asm.specs.Image.{ImageView, all_near, image_line, labels_of};
 ghost use Rattle.ga_asm.specs.inner.Image.{Fits};
 
-use ga_word::Word18;
+use ga_place::Node;
+use ga_word::{Hex3, Word18};
 use indexmap::IndexMap;
+use std::alloc::AllocError;
+use std::fmt::Write;
 use std::marker::Model;
 
 /// The words of a node, as they lie in its RAM from address 0 on: 1 to 64 words of 18 bits.
@@ -13,6 +16,7 @@ pub struct Image {
     pub(crate) code_len: usize,
     pub(crate) entry: u8,
     pub(crate) labels: IndexMap<String, u8>,
+    pub(crate) item_counts: Vec<usize>,
 }
 
 impl Model for Image {
@@ -24,6 +28,7 @@ impl Model for Image {
       entry =
           image.entry;
       labels = labels_of image.labels.entries;
+      item_counts = image.item_counts.items;
     } };
 
     ghost invariant = { λ image.
@@ -32,6 +37,7 @@ impl Model for Image {
           code_len = image.code_len;
           entry = image.entry;
           labels = labels_of image.labels.entries;
+          item_counts = image.item_counts.items;
         }) };
 }
 
@@ -71,5 +77,31 @@ impl Image {
         ensures bound { all_near self.now.labels ≡ true }
     {
         &self.labels
+    }
+
+    /// How many items of the node's text each of its groups has, in order: items outside brackets
+    /// that share a word are a group, and any other item is one by itself.
+    pub fn item_counts(&self) -> &[usize]
+        ensures { result.now ≡ self.now.item_counts }
+    {
+        self.item_counts.as_slice()
+    }
+
+    /// Adds to a text the line of the image: the node, its entry in three hex digits, how many of
+    /// its words are code and how many there are. (The line is this project's own: profile.) It fails
+    /// only where memory is refused.
+    #[tactic(auto, unfolding(crate::specs::Image::image_line))]
+    pub fn push_line(&self, text: &mut String, node: Node) -> Result<(), AllocError>
+        ensures { OnOk result (string_bytes text.new
+            ≡ string_bytes text.old ++ image_line node self.now) }
+    {
+        let entry = Hex3::new(u16::from(self.entry));
+        let code_len = self.code_len;
+        let words = self.words.len();
+        writeln!(
+            text,
+            "node {node} entry {entry} code {code_len} words {words}"
+        )?;
+        Ok(())
     }
 }

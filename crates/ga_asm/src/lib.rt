@@ -8,10 +8,12 @@ mod items;
 mod layout;
 mod making;
 mod open_word;
+mod places;
 mod reach;
 mod text;
 
 pub use assembling::{Images, assemble};
 pub use error::{AsmError, AsmErrorKind};
 pub use image::Image;
+pub use places::word_places;
 pub use text::{TextError, assemble_text};

@@ -41,7 +41,7 @@ heads = (refl, refl, refl, refl)
 
 -- an image of one word, of which the words are in the node's memory
 one_word : ImageView
-one_word = record { words = 0x2C9B2 ∷ []; code_len = 1; entry = 0; labels = [] }
+one_word = record { words = 0x2C9B2 ∷ []; code_len = 1; entry = 0; labels = []; item_counts = 1 ∷ [] }
 
 ram_of : Result Chip ReplayError → ℕ → Option (List ℕ)
 ram_of (Ok chip) name = option_map (λ state. take 2 state.ram) (state_of chip name)

@@ -1,5 +1,5 @@
 -- What `dis` writes for words is assembled to these words.
-use Rattle.std.proofs.Common.{◌≡◌, ◌<◌, ◌≤◌, ◌+◌, ◌^◌, ℕ, Bool, true, false, List, [], ◌∷◌, length, Option, Some, Result, Ok, Err, unwrap_or, refl, sym, ap, subst, arith}
+use Rattle.std.proofs.Common.{◌≡◌, ◌<◌, ◌≤◌, ◌+◌, ◌^◌, ℕ, Bool, true, false, List, [], ◌∷◌, length, map, Option, Some, Result, Ok, Err, unwrap_or, refl, sym, ap, subst, arith}
 use Rattle.std.specs.Prelude.{All, nat_lt, if◌then◌else◌}
 use Rattle.std.specs.Str.{IsUtf8}
 use Rattle.std.proofs.lemmas.Bool.Decides.{nat_tests}
@@ -9,7 +9,7 @@ use Rattle.std.proofs.lemmas.Str.{is_utf8-from_IsUtf8}
 use Rattle.ga_word.specs.Hex.{is_word_text, word_of}
 use Rattle.ga_word.specs.Text.{word_onto, words_from, words_of_text}
 use Rattle.ga_asm.specs.Assembling.{IsAssembled}
-use Rattle.ga_asm.specs.Image.{ImageView}
+use Rattle.ga_asm.specs.Image.{ImageView, item_count}
 use Rattle.ga_asm.specs.Text.{HasImages}
 use Rattle.ga_disasm.specs.Source.{FitNode, IsSourceOf}
 use Rattle.ga_jobs.specs.Asm.{IsAsmOutput, images_text}
@@ -78,11 +78,11 @@ module _ (text words : List ℕ) (code_len : ℕ) (utf8 : IsUtf8 text) (source :
   is_text = ap (λ (b : Bool). if b then Ok text else Err (Input BadText)) (is_utf8-from_IsUtf8 text utf8)
 
   abbrev image : ImageView
-  image = plain_image words code_len
+  image = record { words = words; code_len = code_len; entry = 0; labels = []; item_counts = map item_count source.laid.groups }
 
   assembled : IsAssembled (source.section ∷ []) ((0, image) ∷ [])
   unfolding IsAssembled
-  assembled = (sym source.node_is, record { laid = source.laid; entry_is = refl }, tt)
+  assembled = (sym source.node_is, record { laid = source.laid; entry_is = refl; counts_are = refl }, tt)
 
   has_images : HasImages text ((0, image) ∷ [])
   has_images = record { program = source.section ∷ []; program_is = source.program_is; faultless = source.no_program_fault; assembled = assembled }

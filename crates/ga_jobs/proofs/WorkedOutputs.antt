@@ -69,7 +69,7 @@ bad_word_first = refl
 
 -- an image of one word
 one_word : ImageView
-one_word = record { words = 0x2C9B2 ∷ []; code_len = 1; entry = 0; labels = [] }
+one_word = record { words = 0x2C9B2 ∷ []; code_len = 1; entry = 0; labels = []; item_counts = 1 ∷ [] }
 
 boot_of_a_neighbour : text_by ((709, one_word) ∷ []) (route_in (codes "708,709")) ≡ Ok (codes "load 14\n000AE 001D5 00008 101D5 04A12 00000 00000 2E9B2\n05872 2C9B2 2C9B2 000AE 00000 00000\nstart 7\n000AE 001D5 00001 10000 001B5 00000 00000\n")
 unfolding part_text one_word hex_digits digits
@@ -85,7 +85,7 @@ not_reached : text_by ((710, one_word) ∷ []) (route_in (codes "708,709")) ≡ 
 not_reached = refl
 
 -- two images, one with its entry and the code in front of its data
-images_of_two : images_text ((708, one_word) ∷ (709, record { words = 0x05872 ∷ 0x2C9B2 ∷ 0x00001 ∷ []; code_len = 2; entry = 1; labels = [] }) ∷ [])
+images_of_two : images_text ((708, one_word) ∷ (709, record { words = 0x05872 ∷ 0x2C9B2 ∷ 0x00001 ∷ []; code_len = 2; entry = 1; labels = []; item_counts = 3 ∷ 1 ∷ 1 ∷ [] }) ∷ [])
     ≡ codes "node 708 entry 000 code 1 words 1\n2C9B2\nnode 709 entry 001 code 2 words 3\n05872 2C9B2 00001\n"
 unfolding image_line one_word hex_digits digits
 images_of_two = refl

@@ -1,18 +1,9 @@
 -- The job `asm`: what it writes.
-use Rattle.std.specs.Prelude.{ℕ, ◌≡◌, List, [], ◌∷◌, ◌++◌, codes, length, Result, Ok, Err}
-use Rattle.std.specs.Fmt.{decimal}
-use Rattle.ga_word.specs.Hex.{hex_digits}
+use Rattle.std.specs.Prelude.{ℕ, ◌≡◌, List, [], ◌∷◌, ◌++◌, Result, Ok, Err}
 use Rattle.ga_word.specs.Text.{text_of_words}
-use Rattle.ga_place.specs.Node.{node_text}
-use Rattle.ga_asm.specs.Image.{ImageView}
+use Rattle.ga_asm.specs.Image.{ImageView, image_line}
 use Rattle.ga_jobs.specs.declared.fault.ServeError.{ServeError}
 use Rattle.ga_jobs.specs.Source.{IsImagesIn}
-
--- the node, its entry, and how many of its words are code and how many there are
-unfoldable pub image_line : ℕ → ImageView → List ℕ
-image_line node image =
-    codes "node " ++ node_text node ++ codes " entry " ++ hex_digits 3 image.entry ++ codes " code " ++ decimal image.code_len
-    ++ codes " words " ++ decimal (length image.words) ++ 10 ∷ []
 
 -- that line, and the words
 abbrev pub image_text : ℕ → ImageView → List ℕ

@@ -26,9 +26,9 @@ text_after code (Err fault) = Err fault
 abbrev pub dis_output : Option ℕ → List ℕ → Result (List ℕ) ServeError
 dis_output code input = text_after code (words_in input)
 
--- the image of words, of which so many are code, without labels
+-- the image of words, of which so many are code, without labels; what groups of items it was made of isn't written
 abbrev pub plain_image : List ℕ → ℕ → ImageView
-plain_image words code_len = record { words = words; code_len = code_len; entry = 0; labels = [] }
+plain_image words code_len = record { words = words; code_len = code_len; entry = 0; labels = []; item_counts = [] }
 
 -- What `asm` writes for a text is the image of these words, in node 000, and it may write nothing else.
 pub record AssemblesTo (text words : List ℕ) (code_len : ℕ) : Type 0 where

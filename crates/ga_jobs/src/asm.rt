@@ -1,15 +1,14 @@
 ghost use Rattle.std.specs.Prelude.{◌≡◌, ◌++◌, IfOk, string_bytes};
 ghost use Rattle.ga_asm.specs.Text.{AtMostOne};
-ghost use Rattle.ga_jobs.specs.Asm.{IsAsmOutput, image_line, image_text, images_text};
+ghost use Rattle.ga_jobs.specs.Asm.{IsAsmOutput, image_text, images_text};
 ghost use Rattle.ga_jobs.specs.Fault.{Answers};
 
 use crate::fault::ServeError;
 use crate::source::images_of;
 use ga_asm::{Image, Images};
 use ga_place::Node;
-use ga_word::{Hex3, push_words};
+use ga_word::push_words;
 use std::alloc::{AllocError, Global};
-use std::fmt::Write;
 
 /// The most bytes that the text of an image has: a line of 36 bytes, and 64 words.
 const IMAGE_LENGTH: usize = 36 + 64 * 6;
@@ -43,23 +42,7 @@ fn push_image(text: &mut String, node: Node, image: &Image) -> Result<(), AllocE
     ensures { IfOk result (λ done. string_bytes text.new
         ≡ string_bytes text.old ++ image_text node image.now) }
 {
-    push_line(text, node, image)?;
+    image.push_line(text, node)?;
     push_words(text, image.words())?;
-    Ok(())
-}
-
-/// Adds the line with the node, its entry and the numbers of its words.
-#[tactic(auto, unfolding(crate::specs::Asm::image_line))]
-fn push_line(text: &mut String, node: Node, image: &Image) -> Result<(), AllocError>
-    ensures { IfOk result (λ done. string_bytes text.new
-        ≡ string_bytes text.old ++ image_line node image.now) }
-{
-    let entry = Hex3::new(u16::from(image.entry()));
-    let code_len = image.code_len();
-    let words = image.words().len();
-    writeln!(
-        text,
-        "node {node} entry {entry} code {code_len} words {words}"
-    )?;
     Ok(())
 }

@@ -36,7 +36,7 @@ sequences = (refl, refl, refl, refl, refl, refl)
 
 -- an image of one word
 one_word : ImageView
-one_word = record { words = 0x2C9B2 ∷ []; code_len = 1; entry = 0; labels = [] }
+one_word = record { words = 0x2C9B2 ∷ []; code_len = 1; entry = 0; labels = []; item_counts = 1 ∷ [] }
 
 boot_one_neighbour : (load_of ((709, one_word) ∷ []) (708 ∷ 709 ∷ []) ≡ 0x000AE ∷ 0x001D5 ∷ 0x00008 ∷ 0x101D5 ∷ 0x04A12 ∷ 0x00000 ∷ 0x00000 ∷ 0x2E9B2 ∷ 0x05872 ∷ 0x2C9B2 ∷ 0x2C9B2 ∷ 0x000AE ∷ 0x00000 ∷ 0x00000 ∷ [])
     × (start_of ((709, one_word) ∷ []) (708 ∷ 709 ∷ []) ≡ 0x000AE ∷ 0x001D5 ∷ 0x00001 ∷ 0x10000 ∷ 0x001B5 ∷ 0x00000 ∷ 0x00000 ∷ [])

@@ -9,7 +9,7 @@ use Rattle.ga_source.specs.declared.item.Item as an
 use Rattle.ga_source.specs.Item.{item_of}
 use Rattle.ga_source.specs.Name.{NameText}
 use Rattle.ga_asm.specs.Error.{kind_of}
-use Rattle.ga_asm.specs.Image.{all_near, labels_of}
+use Rattle.ga_asm.specs.Image.{all_near, item_count, labels_of}
 use Rattle.ga_asm.specs.declared.error.AsmErrorKind.{AsmErrorKind}
 use Rattle.ga_asm.specs.declared.layout.Layout as the
 use Rattle.ga_asm.specs.declared.open_word.OpenWord.{OpenWord}
@@ -76,16 +76,12 @@ open_at address (Shared i is ∷ []) = Some (address, ops_of (i ∷ is))
 open_at address (Alone i ∷ []) = None
 open_at address (group ∷ next ∷ groups) = open_at (address + size group) (next ∷ groups)
 
-abbrev pub count_of : Group → ℕ
-count_of (Shared i is) = length (i ∷ is)
-count_of (Alone i) = 1
-
 -- how many items each group has, but for a last word that is open
 abbrev pub closed_counts : List Group → List ℕ
 closed_counts [] = []
 closed_counts (Shared i is ∷ []) = []
 closed_counts (Alone i ∷ []) = 1 ∷ []
-closed_counts (group ∷ next ∷ groups) = count_of group ∷ closed_counts (next ∷ groups)
+closed_counts (group ∷ next ∷ groups) = item_count group ∷ closed_counts (next ∷ groups)
 
 -- the address of the first `data` among groups from an address on
 abbrev pub data_at : ℕ → List Group → Option ℕ
@@ -138,7 +134,7 @@ pub record Placing (items : List Item) (l : the.Layout) : Type 0 where
   pub passed : AllPass (names_in items) [] items
   pub labels_are : labels_of l.labels.entries ≡ labels_after [] 0 groups
   pub address_is : l.address ≡ address_after 0 groups
-  pub counts_are : l.counts.items ≡ map count_of groups
+  pub counts_are : l.counts.items ≡ map item_count groups
   pub data_is : l.data_start ≡ data_at 0 groups
   pub few : l.address ≤ 64
   pub labels_near : all_near (labels_of l.labels.entries) ≡ true

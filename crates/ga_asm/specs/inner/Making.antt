@@ -6,8 +6,8 @@ use Rattle.ga_pack.specs.Encoding.{pack_fault}
 use Rattle.ga_pack.specs.Model.Layout.{Labels, Group, Shared, Alone, GroupWords, Laid, StandIn, Words, address_after, all_in_reach, dest_in, is_loose, items_of, labels_after, last_dest, names_in, ops_of, with_fillers}
 use Rattle.ga_pack.specs.Model.LayoutFault.{AsmKind, AllPass, SecondPassFault}
 use Rattle.ga_pack.specs.Model.Source.{Item, Transfer, is_item}
-use Rattle.ga_asm.specs.Image.{labels_of}
-use Rattle.ga_asm.specs.inner.Layout.{count_of, data_at}
+use Rattle.ga_asm.specs.Image.{item_count, labels_of}
+use Rattle.ga_asm.specs.inner.Layout.{data_at}
 use Rattle.ga_asm.specs.declared.layout.Layout as the
 
 -- the group that an item is the first of, and the others
@@ -54,7 +54,7 @@ pub record Making (items : List Item) (l : the.Layout) (done : ℕ) (rest : List
   pub data_is : l.data_start ≡ data_at 0 (front ++ back)
   pub few : l.address ≤ 64
   pub rest_is : rest ≡ items_of back
-  pub counts_are : drop done l.counts.items ≡ map count_of back
+  pub counts_are : drop done l.counts.items ≡ map item_count back
   pub words_are : Words (labels_of l.labels.entries) front words
   pub count : length words ≡ address_after 0 front
   pub near : all_in_reach (labels_of l.labels.entries) 0 front ≡ true

@@ -1,0 +1,105 @@
+//! Where the words of an image begin in the text of its program.
+ghost use Rattle.std.specs.Prelude.{◌≡◌, ◌+◌, ◌++◌, ◌≤◌, IfOk, OnOk, drop, length, map, take};
+ghost use Rattle.ga_pack.specs.Model.Program as model;
+ghost use Rattle.ga_source.specs.Program.{items_at};
+ghost use Rattle.ga_source.specs.Token.{place_of};
+ghost use Rattle.ga_asm.specs.Places as laid;
+ghost use Rattle.ga_asm.specs.Places.{literal_numbers, numbers_in_group};
+ghost use Rattle.ga_asm.specs.inner.Layout.{plain};
+
+use crate::image::Image;
+use ga_source::{Item, ItemPlace, Place, Program};
+use std::alloc::{AllocError, Global};
+
+/// The place in the text of the first item of each word of an image, in the order of the words: a
+/// word that items share begins with the first of them, and a follower with the number that it is.
+/// The image is that of the program's section with this number, from 0. It fails only where memory
+/// is refused.
+pub fn word_places(
+    alloc: Global,
+    program: &Program<'_>,
+    section: usize,
+    image: &Image,
+) -> Result<Vec<Place>, AllocError>
+    ensures { IfOk result (λ places. map place_of places.items
+        ≡ laid.word_places image.now.item_counts (items_at program.now section)) }
+{
+    let found = program.places(alloc, section)?;
+    let items = items_of(program, section);
+    let numbers = first_items(alloc, image.item_counts(), items)?;
+    let mut places = Vec::with_capacity(alloc, numbers.len())?;
+    for number in &numbers {
+        places.push(place_at(&found, *number))?;
+    }
+    Ok(places)
+}
+
+// The items of a section, by its number.
+fn items_of<'a>(program: &'a Program<'_>, section: usize) -> &'a [Item]
+    ensures { plain result.now ≡ map (λ placed. placed.item) (items_at program.now section) }
+{
+    match program.sections().get_index(section) {
+        Some((_, part)) => part.items.as_slice(),
+        None => &[],
+    }
+}
+
+// The place of an item, by its number.
+fn place_at(places: &[ItemPlace], number: usize) -> Place
+    ensures { place_of result ≡ model.place_at (map (λ found. place_of found.place) places.now) number }
+{
+    match places.get(number) {
+        Some(found) => found.place,
+        None => Place { line: 1, column: 1 },
+    }
+}
+
+// The numbers of the items with which words begin, where groups have so many items each.
+fn first_items(alloc: Global, counts: &[usize], items: &[Item]) -> Result<Vec<usize>, AllocError>
+    ensures { IfOk result (λ numbers. numbers.items ≡ laid.first_items 0 counts.now (plain items.now)) }
+{
+    let mut numbers = Vec::new(alloc);
+    let mut rest = items;
+    let mut at = 0;
+    for count in counts {
+        let (group, behind) = split_front(rest, *count);
+        push_group(&mut numbers, at, group)?;
+        at += group.len();
+        rest = behind;
+    }
+    Ok(numbers)
+}
+
+// As many items as that, where there are so many, and those behind them.
+fn split_front(items: &[Item], count: usize) -> (&[Item], &[Item])
+    ensures front { result.0.now ≡ take count items.now }
+    ensures back { result.1.now ≡ drop count items.now }
+{
+    items.split_at(items.len().min(count))
+}
+
+// The numbers of the items with which the words of a group begin, the first of which has a number.
+fn push_group(numbers: &mut Vec<usize>, at: usize, group: &[Item]) -> Result<(), AllocError>
+    requires { at + length group.now ≤ usize.MAX }
+    ensures { OnOk result (numbers.new.items ≡ numbers.old.items ++ numbers_in_group at (plain group.now)) }
+{
+    if let Some(first) = group.first() {
+        if first.makes_word() {
+            numbers.push(at)?;
+        }
+    }
+    push_literals(numbers, at, group)
+}
+
+// The numbers of the items that are numbers themselves, the first of which has a number.
+fn push_literals(numbers: &mut Vec<usize>, at: usize, items: &[Item]) -> Result<(), AllocError>
+    requires { at + length items.now ≤ usize.MAX }
+    ensures { OnOk result (numbers.new.items ≡ numbers.old.items ++ literal_numbers at (plain items.now)) }
+{
+    for (index, item) in items.iter().enumerate() {
+        if let Item::Literal(_) = item {
+            numbers.push(at + index)?;
+        }
+    }
+    Ok(())
+}

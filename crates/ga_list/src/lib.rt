@@ -1,0 +1,10 @@
+//! The listing of a source text: each word of its nodes with what it reads as and where it comes from.
+#![tactic(auto)]
+
+mod labels;
+mod listing;
+mod reading;
+mod row;
+
+pub use labels::labels;
+pub use listing::listing;

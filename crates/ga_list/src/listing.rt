@@ -1,0 +1,66 @@
+ghost use Rattle.std.specs.Prelude.{◌≡◌, ◌≢◌, ◌++◌, ◌∷◌, IfErr, IfOk, OnOk, length, map, string_bytes};
+ghost use Rattle.ga_asm.specs.Text.{AtMostOne, IsTextFault};
+ghost use Rattle.ga_asm.specs.declared.text.TextError.TheVariants.{Memory};
+ghost use Rattle.ga_list.specs.Listing.{HasListing, IsListingOf, listing_from, node_listing};
+ghost use Rattle.ga_source.specs.Token.{place_of};
+
+use crate::row::push_rows;
+use ga_asm::{Image, Images, TextError, assemble, word_places};
+use ga_place::Node;
+use ga_source::{Place, Program, parse};
+use std::alloc::{AllocError, Global};
+
+/// The listing of a source text, or its first fault, as `assemble_text` tells it.
+///
+/// For each node it has the line that `asm` writes for the node, and then a line for each of its
+/// words: the address in three hex digits, the word in five, `code`, `follower` or `data`, the line
+/// of the text in which its first item stands, and what the word reads as, in source text. A
+/// destination that is the address of a label is told by the label. Each label stands on a line of
+/// its own in front of its word. (The text is this project's own: profile.) It fails as `Memory`
+/// only where memory is refused.
+#[tactic(auto, using(crate::proofs::OneListing::one_listing))]
+pub fn listing(alloc: Global, text: &str) -> Result<String, TextError>
+    ensures listing { IfOk result (λ listing. HasListing text.now (string_bytes listing)) }
+    ensures fault { IfErr result (λ fault. fault ≢ Memory → IsTextFault text.now fault) }
+    // a text has one listing, or one first fault
+    ensures only { AtMostOne (IsListingOf text.now) }
+{
+    let program = parse(alloc, text)?;
+    let images = assemble(alloc, &program)?;
+    match listing_of(alloc, &program, &images) {
+        Ok(listing) => Ok(listing),
+        Err(_) => Err(TextError::Memory),
+    }
+}
+
+/// The listing of the images of a program.
+fn listing_of(
+    alloc: Global,
+    program: &Program<'_>,
+    images: &Images,
+) -> Result<String, AllocError>
+    ensures { IfOk result (λ text. string_bytes text ≡ listing_from program.now 0 images.now) }
+{
+    let mut text = String::new(alloc);
+    let mut section = 0;
+    for (node, image) in images.images() {
+        let places = word_places(alloc, program, section, image)?;
+        push_node(&mut text, *node, image, &places)?;
+        section += 1;
+    }
+    Ok(text)
+}
+
+/// Adds the listing of a node's image, whose words begin at these places of the text.
+fn push_node(
+    text: &mut String,
+    node: Node,
+    image: &Image,
+    places: &[Place],
+) -> Result<(), AllocError>
+    ensures { OnOk result (string_bytes text.new ≡ string_bytes text.old
+        ++ node_listing node image.now (map place_of places.now)) }
+{
+    image.push_line(text, node)?;
+    push_rows(text, image, places)
+}
