@@ -1,12 +1,14 @@
 -- The command line: the command as clap's definitions read it, and the job that its words name.
-use Rattle.std.specs.Prelude.{◌≡◌, ◌∷◌, [], List, true, codes, fold, IsSomeAnd, Option, string_bytes}
+use Rattle.std.specs.Prelude.{◌≡◌, ◌∷◌, [], List, true, codes, fold, IsSomeAnd, Option, option_map, string_bytes}
 use Rattle.clap.specs.Words.{App, Row, Text, new_app, subcommand_of, takes}
 use Rattle.ga_command_line.specs.declared.request.Job.{Job}
 use Rattle.ga_command_line.specs.declared.request.Job.TheVariants.{One, Asm, Dis, Boot, Run, Debug, Replay, Explain}
+use Rattle.ga_command_line.specs.declared.request.Job.TheVariants as job
 use Rattle.ga_command_line.specs.Boot.{boot_command}
 use Rattle.ga_command_line.specs.Command.{linked, plain_command}
 use Rattle.ga_command_line.specs.Dis.{IsDisInRange, dis_command}
 use Rattle.ga_command_line.specs.Explain.{IsOfTable, IsTopicAt, explain_command}
+use Rattle.ga_command_line.specs.List.{IsListAt, list_command}
 use Rattle.ga_command_line.specs.Number.{IsNumberAt, IsNumberIfAt}
 use Rattle.ga_command_line.specs.One.{IsOneInRange, one_command}
 use Rattle.ga_command_line.specs.Route.{IsRouteAt}
@@ -22,7 +24,7 @@ bare_command = record named_command { top = record named_command.top { has_versi
 -- the subcommands, in the order of help
 abbrev pub subcommands : List App
 subcommands =
-    one_command ∷ plain_command (codes "asm") ∷ dis_command ∷ boot_command ∷ run_command ∷ plain_command (codes "debug") ∷ plain_command (codes "replay") ∷ explain_command ∷ []
+    one_command ∷ plain_command (codes "asm") ∷ dis_command ∷ boot_command ∷ run_command ∷ plain_command (codes "debug") ∷ plain_command (codes "replay") ∷ list_command ∷ explain_command ∷ []
 
 -- the whole command
 abbrev pub bench_command : App
@@ -37,6 +39,7 @@ job_name (Boot route) = codes "boot"
 job_name (Run route workers turns) = codes "run"
 job_name Debug = codes "debug"
 job_name Replay = codes "replay"
+job_name (job.List labels file) = codes "list"
 job_name (Explain topic) = codes "explain"
 
 -- the arguments that a job is asked for by; other jobs have none
@@ -45,6 +48,7 @@ HasArguments rows (One tries) = IsNumberAt (codes "TRIES") rows tries
 HasArguments rows (Dis code) = IsNumberIfAt (codes "N") rows code
 HasArguments rows (Boot route) = IsRouteAt rows (string_bytes route)
 HasArguments rows (Run route workers turns) = IsRunAt rows (string_bytes route) workers turns
+HasArguments rows (job.List labels file) = IsListAt rows labels (option_map string_bytes file)
 HasArguments rows (Explain topic) = IsTopicAt rows topic
 HasArguments rows job = Unit {0}
 

@@ -8,7 +8,7 @@ ghost use Rattle.ga_command_line.specs.CommandLine.{InRange, IsAskedFor, IsJobOf
 
 use crate::request::Job;
 use crate::route::route_at;
-use crate::{asm, boot, debug, dis, explain, one, replay, run};
+use crate::{asm, boot, debug, dis, explain, list, one, replay, run};
 use clap::error::ErrorKind;
 use clap::{ArgMatches, Command};
 use std::alloc::{AllocError, Global};
@@ -80,6 +80,10 @@ fn job_in(alloc: Global, matches: &ArgMatches<'_>) -> Result<Job, LineError>
         Some(("run", found)) => Ok(run::job_of(alloc, found)?),
         Some(("debug", _)) => Ok(Job::Debug),
         Some(("replay", _)) => Ok(Job::Replay),
+        Some(("list", found)) => Ok(Job::List {
+            labels: list::labels_in(found),
+            file: list::file_in(alloc, found)?,
+        }),
         Some(("explain", found)) => Ok(Job::Explain {
             topic: explain::topic_of(alloc, found)?,
         }),
@@ -115,6 +119,7 @@ fn command<'a>(alloc: Global) -> Result<Command<'a>, AllocError>
     let command = link(command, run::command(alloc));
     let command = link(command, debug::command(alloc));
     let command = link(command, replay::command(alloc));
+    let command = link(command, list::command(alloc));
     link(command, explain::command(alloc))
 }
 
@@ -150,8 +155,8 @@ fn link<'a>(
 }
 
 const STATUS_HELP: &str = "\
-Each command but explain reads standard input to its end, and then writes standard output. explain tells
-what a fault, a need, a stop or an outcome means that a command names.
+Each command but explain reads standard input to its end, or a file where it takes one, and then writes
+standard output. explain tells what a fault, a need, a stop or an outcome means that a command names.
 
 Exit status: 0 where all was written, 1 where the input was refused or a read or a write failed,
 2 where the command line is wrong, 3 where memory ran out. What failed is told on standard error.";

@@ -7,6 +7,7 @@ mod command_line;
 mod debug;
 mod dis;
 mod explain;
+mod list;
 mod number;
 mod one;
 mod replay;

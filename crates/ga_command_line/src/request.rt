@@ -1,5 +1,5 @@
-ghost use Rattle.std.specs.Prelude.{◌≡◌};
-ghost use Rattle.ga_command_line.specs.Request.{reads_input};
+ghost use Rattle.std.specs.Prelude.{◌≡◌, option_map};
+ghost use Rattle.ga_command_line.specs.Request.{file_of, reads_input};
 
 use ga_explain::Topic;
 
@@ -30,6 +30,12 @@ pub enum Job {
     Debug,
     /// How many stated outcomes of a replay text hold.
     Replay,
+    /// The words of a source text with what they read as, or its labels alone. The text stands in the file, or
+    /// comes from standard input where there is none.
+    List {
+        labels: bool,
+        file: Option<String>,
+    },
     /// What a name means that the program writes, or all these names.
     Explain {
         topic: Option<Topic>,
@@ -37,10 +43,24 @@ pub enum Job {
 }
 
 impl Job {
-    /// Whether the job reads standard input.
+    /// Whether the job reads an input.
     pub fn reads_input(&self) -> bool
         ensures { result ≡ reads_input self.now }
     {
         !matches!(self, Job::Explain { .. })
+    }
+
+    /// The name of the file that the job reads in place of standard input, where it names one: `-` stands for
+    /// standard input too.
+    pub fn file(&self) -> Option<&str>
+        ensures { option_map (λ name. name.now) result ≡ file_of self.now }
+    {
+        match self {
+            Job::List {
+                file: Some(file),
+                ..
+            } if file.as_str() != "-" => Some(file.as_str()),
+            _ => None,
+        }
     }
 }

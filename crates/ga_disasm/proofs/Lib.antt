@@ -1,5 +1,5 @@
 mod Stepping
-mod Writing
+pub mod Writing
 mod TextLines
 mod Meanings
 mod SourceItems

@@ -5,8 +5,8 @@ use Rattle.std.specs.Fmt.{decimal}
 use Rattle.ga_word.specs.Hex.{hex_digits}
 use Rattle.ga_word.specs.Op.{name_of}
 use Rattle.ga_word.specs.declared.op.Op.{Op}
-use Rattle.ga_disasm.specs.Disassembling.{ItemView, Code}
-use Rattle.ga_disasm.specs.Printing.{behind_spaces, field_texts, item_line, item_lines, text_of}
+use Rattle.ga_disasm.specs.Disassembling.{ItemView}
+use Rattle.ga_disasm.specs.Printing.{behind_spaces, field_texts, item_lines, line, text_of}
 
 pub behind_spaces-append : (texts more : List (List ℕ)) → behind_spaces (texts ++ more) ≡ behind_spaces texts ++ behind_spaces more
 behind_spaces-append [] more = refl
@@ -35,11 +35,11 @@ no_field old new dest spare none e = rw (none, append-nil old) e
 pub some_field : (old new : List ℕ) (dest : Option ℕ) (field spare : ℕ) → dest ≡ Some field → new ≡ old ++ behind_spaces (field_texts (Some field) spare) → new ≡ old ++ behind_spaces (field_texts dest spare)
 some_field old new dest field spare some e = rw some e
 
-pub word_line : (old begun named fielded new : List ℕ) (ops : List Op) (dest : Option ℕ) (spare : ℕ) → begun ≡ old ++ 91 ∷ [] → named ≡ begun ++ behind_spaces (map name_of ops)
-    → fielded ≡ named ++ behind_spaces (field_texts dest spare) → new ≡ fielded ++ 32 ∷ 93 ∷ 10 ∷ [] → new ≡ old ++ item_line (Code (record { ops = ops; dest = dest; spare = spare }))
-word_line old begun named fielded new ops dest spare e f g h =
+-- the names of opcodes, and what is told of a destination
+pub word_line : (old begun named fielded new : List ℕ) (ops : List Op) (field : List (List ℕ)) → begun ≡ old ++ 91 ∷ [] → named ≡ begun ++ behind_spaces (map name_of ops)
+    → fielded ≡ named ++ behind_spaces field → new ≡ fielded ++ 32 ∷ 93 ∷ 10 ∷ [] → new ≡ old ++ line (codes "[") (map name_of ops ++ field ++ codes "]" ∷ [])
+word_line old begun named fielded new ops field e f g h =
     let names = map name_of ops in
-    let field = field_texts dest spare in
     let inside : behind_spaces (names ++ field ++ codes "]" ∷ []) ≡ (behind_spaces names ++ behind_spaces field) ++ 32 ∷ 93 ∷ [] =
     behind_spaces-append (names ++ field) (codes "]" ∷ []) ∙ ap (λ (t : List ℕ). t ++ 32 ∷ 93 ∷ []) (behind_spaces-append names field) in
     let ends : (t : List ℕ) → (t ++ 32 ∷ 93 ∷ []) ++ 10 ∷ [] ≡ t ++ 32 ∷ 93 ∷ 10 ∷ [] = λ t. append_assoc t (32 ∷ 93 ∷ []) (10 ∷ []) in

@@ -7,4 +7,4 @@ mod printing;
 
 pub use disassembling::items;
 pub use item::Item;
-pub use printing::print;
+pub use printing::{print, push_ops};

@@ -66,8 +66,8 @@ fn push_word(text: &mut String, packed: &Packed) -> Result<(), AllocError>
     Ok(())
 }
 
-/// The names of opcodes, each behind a space.
-fn push_ops(text: &mut String, ops: &[Op]) -> Result<(), AllocError>
+/// Adds the names of opcodes, each behind a space. It fails only where memory is refused.
+pub fn push_ops(text: &mut String, ops: &[Op]) -> Result<(), AllocError>
     ensures { OnOk result (string_bytes text.new ≡ string_bytes text.old
         ++ behind_spaces (map name_of ops.now)) }
 {

@@ -1,14 +1,18 @@
 -- Two outputs of one job for one input are equal.
-use Rattle.std.proofs.Common.{◌≡◌, ◌∙◌, inl, inr, ℕ, List, Result, Ok, Err, ap, drop, subst, sym}
+use Rattle.std.proofs.Common.{◌≡◌, ◌∙◌, inl, inr, ℕ, Bool, true, false, List, Result, Ok, Err, ap, drop, subst, sym}
 use Rattle.ga_asm.specs.Text.{AtMostOne, IsImagesOf}
 use Rattle.ga_asm.proofs.OneAnswer.{one_answer}
 use Rattle.ga_chip.specs.Chip.{Chip}
 use Rattle.ga_pack.specs.Model.Text.{lines_of}
 use Rattle.ga_debug.proofs.OneReplay.{one_beginning, one_replayed}
+use Rattle.ga_list.specs.Labels.{AreLabelsOf}
+use Rattle.ga_list.specs.Listing.{IsListingOf}
+use Rattle.ga_list.proofs.OneListing.{one_labels, one_listing}
 use Rattle.ga_jobs.specs.Asm.{IsAsmOutput}
 use Rattle.ga_jobs.specs.Boot.{IsBootOutput}
 use Rattle.ga_jobs.specs.Debug.{IsDebugOutput, IsReplies, replies_to}
 use Rattle.ga_jobs.specs.Fault.{fault_of_replay, fault_of_text}
+use Rattle.ga_jobs.specs.List.{IsListOutput}
 use Rattle.ga_jobs.specs.Replay.{IsReplayOutput, IsSame}
 use Rattle.ga_jobs.specs.Source.{IsImagesIn}
 use Rattle.ga_jobs.specs.Text.{IsInText, text_in}
@@ -73,3 +77,7 @@ one_same text (Err one) (Err other) p q = cc (one_replayed text (Err one) (Err o
 
 pub one_replay_output : (input : List ℕ) → AtMostOne (IsReplayOutput input)
 one_replay_output input = one_in fault_of_replay IsSame one_same input
+
+pub one_list_output : (labels : Bool) (input : List ℕ) → AtMostOne (IsListOutput labels input)
+one_list_output true input = one_in fault_of_text AreLabelsOf one_labels input
+one_list_output false input = one_in fault_of_text IsListingOf one_listing input

@@ -1,4 +1,5 @@
 pub mod Fault
+pub mod List
 pub mod Text
 pub mod One
 pub mod Source

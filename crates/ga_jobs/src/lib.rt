@@ -6,6 +6,7 @@ pub mod boot;
 pub mod debug;
 pub mod dis;
 mod fault;
+pub mod list;
 pub mod one;
 pub mod replay;
 mod route;

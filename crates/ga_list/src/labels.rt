@@ -1,7 +1,7 @@
 ghost use Rattle.std.specs.Prelude.{◌≡◌, ◌≢◌, ◌++◌, IfErr, IfOk, OnOk, string_bytes};
 ghost use Rattle.ga_asm.specs.Text.{AtMostOne, IsTextFault};
 ghost use Rattle.ga_asm.specs.declared.text.TextError.TheVariants.{Memory};
-ghost use Rattle.ga_list.specs.Labels.{HasLabels, AreLabelsOf, label_line, labels_of_images, labels_of_node};
+ghost use Rattle.ga_list.specs.Labels.{AreLabelsOf, HasLabels, labels_of_images, labels_of_node};
 
 use ga_asm::{Image, Images, TextError, assemble_text};
 use ga_place::Node;
@@ -14,7 +14,7 @@ use std::fmt::Write;
 /// between, in the text's order. (The text is this project's own: profile.) It fails as `Memory`
 /// only where memory is refused.
 #[tactic(auto, using(crate::proofs::OneListing::one_labels))]
-pub fn labels(alloc: Global, text: &str) -> Result<String, TextError>
+pub fn list_labels(alloc: Global, text: &str) -> Result<String, TextError>
     ensures labels { IfOk result (λ labels. HasLabels text.now (string_bytes labels)) }
     ensures fault { IfErr result (λ fault. fault ≢ Memory → IsTextFault text.now fault) }
     // a text has one list of labels, or one first fault

@@ -6,5 +6,5 @@ mod listing;
 mod reading;
 mod row;
 
-pub use labels::labels;
-pub use listing::listing;
+pub use labels::list_labels;
+pub use listing::list;

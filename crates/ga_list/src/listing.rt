@@ -1,4 +1,4 @@
-ghost use Rattle.std.specs.Prelude.{◌≡◌, ◌≢◌, ◌++◌, ◌∷◌, IfErr, IfOk, OnOk, length, map, string_bytes};
+ghost use Rattle.std.specs.Prelude.{◌≡◌, ◌≢◌, ◌++◌, IfErr, IfOk, OnOk, map, string_bytes};
 ghost use Rattle.ga_asm.specs.Text.{AtMostOne, IsTextFault};
 ghost use Rattle.ga_asm.specs.declared.text.TextError.TheVariants.{Memory};
 ghost use Rattle.ga_list.specs.Listing.{HasListing, IsListingOf, listing_from, node_listing};
@@ -19,7 +19,7 @@ use std::alloc::{AllocError, Global};
 /// its own in front of its word. (The text is this project's own: profile.) It fails as `Memory`
 /// only where memory is refused.
 #[tactic(auto, using(crate::proofs::OneListing::one_listing))]
-pub fn listing(alloc: Global, text: &str) -> Result<String, TextError>
+pub fn list(alloc: Global, text: &str) -> Result<String, TextError>
     ensures listing { IfOk result (λ listing. HasListing text.now (string_bytes listing)) }
     ensures fault { IfErr result (λ fault. fault ≢ Memory → IsTextFault text.now fault) }
     // a text has one listing, or one first fault
@@ -34,25 +34,23 @@ pub fn listing(alloc: Global, text: &str) -> Result<String, TextError>
 }
 
 /// The listing of the images of a program.
-fn listing_of(
-    alloc: Global,
-    program: &Program<'_>,
-    images: &Images,
-) -> Result<String, AllocError>
+fn listing_of(alloc: Global, program: &Program<'_>, images: &Images) -> Result<String, AllocError>
     ensures { IfOk result (λ text. string_bytes text ≡ listing_from program.now 0 images.now) }
 {
     let mut text = String::new(alloc);
-    let mut section = 0;
-    for (node, image) in images.images() {
-        let places = word_places(alloc, program, section, image)?;
-        push_node(&mut text, *node, image, &places)?;
-        section += 1;
+    let images = images.images();
+    for section in 0..images.len() {
+        if let Some((node, image)) = images.get_index(section) {
+            let places = word_places(alloc, program, section, image)?;
+            push_node(alloc, &mut text, *node, image, &places)?;
+        }
     }
     Ok(text)
 }
 
 /// Adds the listing of a node's image, whose words begin at these places of the text.
 fn push_node(
+    alloc: Global,
     text: &mut String,
     node: Node,
     image: &Image,
@@ -62,5 +60,6 @@ fn push_node(
         ++ node_listing node image.now (map place_of places.now)) }
 {
     image.push_line(text, node)?;
-    push_rows(text, image, places)
+    push_rows(alloc, text, image, places)?;
+    Ok(())
 }

@@ -3,6 +3,7 @@ use Rattle.std.specs.Prelude.{◌≡◌, ◌&&◌, ℕ, Bool, List, length, nat_
 use Rattle.ga_asm.specs.Text.{AtMostOne}
 use Rattle.ga_command_line.specs.declared.request.Job.{Job}
 use Rattle.ga_command_line.specs.declared.request.Job.TheVariants.{One, Asm, Dis, Boot, Run, Debug, Replay, Explain}
+use Rattle.ga_command_line.specs.declared.request.Job.TheVariants as job
 use Rattle.ga_command_line.specs.Request.{reads_input}
 use Rattle.ga_explain.specs.Output.{explain_output}
 use Rattle.ga_jobs.specs.declared.fault.ServeError.{ServeError}
@@ -12,6 +13,7 @@ use Rattle.ga_jobs.specs.Asm.{IsAsmOutput}
 use Rattle.ga_jobs.specs.Boot.{IsBootOutput}
 use Rattle.ga_jobs.specs.Debug.{IsDebugOutput}
 use Rattle.ga_jobs.specs.Dis.{dis_output}
+use Rattle.ga_jobs.specs.List.{IsListOutput}
 use Rattle.ga_jobs.specs.One.{one_output}
 use Rattle.ga_jobs.specs.Replay.{IsReplayOutput}
 use Rattle.ga_jobs.specs.Run.{IsRunOutput}
@@ -25,6 +27,7 @@ IsJobOutput (Boot route) input answer = IsBootOutput (string_bytes route) input 
 IsJobOutput (Run route workers turns) input answer = IsRunOutput (string_bytes route) workers turns input answer
 IsJobOutput Debug input answer = IsDebugOutput input answer
 IsJobOutput Replay input answer = IsReplayOutput input answer
+IsJobOutput (job.List labels file) input answer = IsListOutput labels input answer
 IsJobOutput (Explain topic) input answer = answer ≡ Ok (explain_output topic)
 
 -- the most bytes that an input may have

@@ -4,7 +4,7 @@ ghost use Rattle.ga_serve.specs.Answering.{HasOneOutput, IsJobOutput, IsOutput};
 
 use ga_command_line::Job;
 use ga_explain::explain;
-use ga_jobs::{InputFault, ServeError, asm, boot, debug, dis, one, replay, run};
+use ga_jobs::{InputFault, ServeError, asm, boot, debug, dis, list, one, replay, run};
 use std::thread::Threads;
 
 /// The most bytes that an input may have.
@@ -51,6 +51,7 @@ fn output<Rt: AllocGlobal + Threads + Sync>(
         } => run::output(rt, route, *workers, *turns, input),
         Job::Debug => debug::output(rt.alloc(), input),
         Job::Replay => replay::output(rt.alloc(), input),
+        Job::List { labels, .. } => list::output(rt.alloc(), *labels, input),
         Job::Explain { topic } => Ok(explain(rt.alloc(), *topic)?),
     }
 }

@@ -15,4 +15,4 @@ returns c =
       | in-Some+in_ok-push_field w ↦ some_field _ _ packed.dest w.in-Some.dest packed.spare w.in-Some.is (ap string_bytes w.text-is ∙ w.in_ok-push_field.ensures)
       | in_default w ↦ no_field _ _ packed.dest packed.spare w.in_default.is (ap string_bytes w.text-is)
     ] in
-    word_line _ _ _ _ _ packed.ops.items packed.dest packed.spare c.in_ok-push_str.ensures.bytes named fielded c.in_ok-push_str-2.ensures.bytes
+    word_line _ _ _ _ _ packed.ops.items (field_texts packed.dest packed.spare) c.in_ok-push_str.ensures.bytes named fielded c.in_ok-push_str-2.ensures.bytes

@@ -1,0 +1,63 @@
+ghost use Rattle.std.specs.Prelude.{IfOk, codes, option_map, string_bytes};
+ghost use Rattle.clap.specs.Words.{found_of, rows_of};
+ghost use Rattle.ga_command_line.specs.inner.Command.{IsCommandOf};
+ghost use Rattle.ga_command_line.specs.List.{IsFileAt, IsFlagAt, flagged_command, list_command};
+
+use clap::{Arg, ArgAction, ArgMatches, Command};
+use std::alloc::{AllocError, Global};
+
+const HELP: &str = "\
+Reads source text from FILE, or from standard input where FILE is left out or is -. Writes for each
+node the line that asm writes for it, and then a line for each word: its address, the word, whether it
+is code, a follower or data, the line of the text in which it begins, and what it reads as, with labels
+for destinations. Each label stands on a line of its own in front of its word.
+
+In a fault the line of the text and a caret under the place are shown behind the line that names it.
+
+Example: printf 'node 709 main: dup jump main' | ga-bench list
+More: Listings in docs/FORMATS.md";
+
+/// The subcommand `list [--labels] [FILE]`.
+#[tactic(auto, unfolding(crate::specs::List::list_command))]
+pub fn command<'a>(alloc: Global) -> Result<Command<'a>, AllocError>
+    ensures { IfOk result (IsCommandOf list_command) }
+{
+    let file = Arg::new(alloc, "FILE").help(
+        "The source text; by default, or where it is -, standard input",
+    );
+    flagged_command(alloc)?.after_help(HELP).arg(file)
+}
+
+/// The subcommand without FILE.
+#[tactic(auto, unfolding(crate::specs::List::flagged_command))]
+fn flagged_command<'a>(alloc: Global) -> Result<Command<'a>, AllocError>
+    ensures { IfOk result (IsCommandOf flagged_command) }
+{
+    let labels = Arg::new(alloc, "LABELS")
+        .long("labels")
+        .action(ArgAction::SetTrue)
+        .help("Writes the labels alone: the node, the label and its address, a line each");
+    Command::new(alloc, "list")
+        .about("Lists the words of a source text, with what they read as and where they come from")
+        .arg(labels)
+}
+
+/// Whether the arguments of `list` ask for the labels alone.
+pub fn labels_in(found: &ArgMatches<'_>) -> bool
+    ensures { IsFlagAt (codes "LABELS") (rows_of (found_of found.now)) result }
+{
+    match found.get_str("LABELS") {
+        Some(given) => given == "true",
+        None => false,
+    }
+}
+
+/// The file that the arguments name, where they name one.
+pub fn file_in(alloc: Global, found: &ArgMatches<'_>) -> Result<Option<String>, AllocError>
+    ensures { IfOk result (λ file. IsFileAt (rows_of (found_of found.now)) (option_map string_bytes file)) }
+{
+    match found.get_str("FILE") {
+        Some(file) => Ok(Some(String::from_str(alloc, file)?)),
+        None => Ok(None),
+    }
+}

@@ -1,0 +1,3 @@
+pub mod OneListing
+mod Rows
+mod Writing

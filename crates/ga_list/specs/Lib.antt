@@ -1,0 +1,4 @@
+pub mod Reading
+pub mod Row
+pub mod Listing
+pub mod Labels

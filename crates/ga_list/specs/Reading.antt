@@ -1,0 +1,37 @@
+-- What the words of a node read as, with labels for destinations.
+use Rattle.std.specs.Prelude.{◌==◌, ℕ, ◌+◌, ◌-◌, ◌*◌, ◌/◌, List, [], ◌∷◌, ◌++◌, codes, length, map, Option, Some, None, if◌then◌else◌}
+use Rattle.std.specs.Option.{option_map_or}
+use Rattle.ga_word.specs.declared.op.Op.{Op}
+use Rattle.ga_word.specs.Op.{name_of}
+use Rattle.ga_pack.specs.Decoded.{Reading}
+use Rattle.ga_pack.specs.Followers.{followers}
+use Rattle.ga_pack.specs.Slots.{dest_bound}
+use Rattle.ga_pack.specs.Model.Layout.{Labels}
+use Rattle.ga_disasm.specs.Disassembling.{ItemView, Code}
+use Rattle.ga_disasm.specs.Printing.{item_line, line, number_text, spare_texts}
+
+-- the first label that has this address
+abbrev pub label_at : Labels → ℕ → Option (List ℕ)
+label_at [] address = None
+label_at (label ∷ labels) address = if label.1 == address then Some label.0 else label_at labels address
+
+-- The address that a destination means which the last of these opcodes of the word at an address takes. P is behind
+-- the word and its followers, and the destination replaces its low bits, as many as it has.
+abbrev pub target : ℕ → List Op → ℕ → ℕ
+target address ops dest =
+    let bound = dest_bound (length ops - 1) in (address + 1 + followers ops) / bound * bound + dest
+
+-- a destination: the label of the address that it means, or else its field
+abbrev pub dest_text : Labels → ℕ → ℕ → List ℕ
+dest_text labels address dest = option_map_or (λ name. name) (label_at labels address) (number_text dest)
+
+abbrev pub dest_texts : Labels → ℕ → List Op → Option ℕ → ℕ → List (List ℕ)
+dest_texts labels address ops None spare = []
+dest_texts labels address ops (Some dest) spare = dest_text labels (target address ops dest) dest ∷ spare_texts spare
+
+-- The line of the word at an address: as the disassembler writes it, but for a destination that means the address of a
+-- label, which is told by the label.
+abbrev pub reading_line : Labels → ℕ → ItemView → List ℕ
+reading_line labels address (Code reading) =
+    line (codes "[") (map name_of reading.ops ++ dest_texts labels address reading.ops reading.dest reading.spare ++ codes "]" ∷ [])
+reading_line labels address item = item_line item
