@@ -24,40 +24,49 @@ import os
 import random
 import re
 import resource
-import subprocess
+import select
+import signal
 import sys
 import time
 
 ROOT = os.path.dirname(os.path.dirname(os.path.abspath(__file__)))
 SECONDS = 20
 MOST_TURNS = 2000
-# The faults of docs/FORMATS.md, but `read`, `write` and `memory`. The first NAME is one of source text, the second of layout.
-FAULT = re.compile(
-    r"ga-bench: (input (TooLong|BadText)"
-    r"|source \d+:\d+ NAME|asm \d{3} \d+:\d+ NAME"
-    r"|route (BadRoute|NotEdge|NotNeighbour \d+|Repeated \d+)|boot Unreached \d{3}|plan Empty \d+"
-    r"|replay (BadProfile|BadRoute|NoGo|Source|Asm|Route|Boot)"
-    r"|replay line \d+ (BadCommand|BadNode|BadAddress|BadSide|BadCount|NotHeld)|replay differs \d+"
-    r"|words (\d+ BadWord|Empty|TooLong|BadCode))\n"
-)
 NUMBERS = ["0", "1", "7", "8", "63", "64", "65", "143", "144", "511", "512", "717", "718", "262143", "262144", "1000000",
            "1000001", "4294967295", "4294967296", "18446744073709551616", "-1", "$3ffff", "$40000", "$ffffffffff", "1ff", "200",
            "3FFFF", "40000", "999999999", "0x10", "00000001"]  # fmt: skip
 
 
-def names_in(page, heading):
-    """The names of the faults that a table of docs/FORMATS.md lists under a heading."""
-    part = page.split(f"\n{heading}\n", 1)[1].split("\n#", 1)[0]
-    return sorted(set(re.findall(r"^\| `([A-Z][A-Za-z]+)`", part, re.MULTILINE)))
+def rows_under(page, heading):
+    """The rows of the table under a heading of a page, as lists of cells."""
+    part = page.split(f"# {heading}\n", 1)[1].split("\n#", 1)[0]
+    return [line.strip("| ").split(" | ") for line in part.splitlines() if line.startswith("| `")]
+
+
+def names_of(page, when):
+    """The names of faults that a cell lists, or else those under the heading to which it links."""
+    names = re.findall(r"`([A-Z][A-Za-z]+(?: I)?)`", when)
+    if not names:
+        names = [row[0].strip("`") for row in rows_under(page, re.search(r"\[(.*?)\]", when)[1])]
+    return names
 
 
 def fault_pattern():
+    """The faults that docs/FORMATS.md lists, but `read`, `write` and `memory`."""
     with open(f"{ROOT}/docs/FORMATS.md", encoding="utf-8") as it:
         page = it.read()
-    source, layout = names_in(page, "### Faults of source text"), names_in(page, "### Faults of layout")
-    assert source and layout, "docs/FORMATS.md lists no faults"
-    text = FAULT.pattern.replace("NAME", "({})".format("|".join(source)), 1).replace("NAME", "({})".format("|".join(layout)), 1)
-    return re.compile(text)
+    texts = []
+    for cell, _status, when in rows_under(page, "Faults"):
+        for text in re.findall("`ga-bench: (.*?)`", cell):
+            if text.endswith("NAME I"):
+                texts += [text.replace("NAME I", name) for name in names_of(page, when) if name.endswith(" I")]
+            elif text.endswith("NAME"):
+                texts += [text.replace("NAME", name) for name in names_of(page, when) if not name.endswith(" I")]
+            elif text not in ("read", "write", "memory"):
+                texts.append(text)
+    assert len(texts) > 30, "docs/FORMATS.md lists too few faults"
+    texts = [re.sub(r"\b[LCI]\b", r"\\d+", text.replace("NNN", r"\d{3}")) for text in texts]
+    return re.compile("ga-bench: ({})\n".format("|".join(texts)))
 
 
 def recorded_cases():
@@ -150,34 +159,56 @@ def input_of(cases, seed, number):
     return few_turns(args, data)
 
 
-def wrong(program, fault, args, data):
+class Runner:
+    """Runs a program with files in memory as its streams, which are used again for each run."""
+
+    def __init__(self, program):
+        self.program = program
+        self.streams = [os.memfd_create(name) for name in ("input", "output", "error")]
+        self.actions = [(os.POSIX_SPAWN_DUP2, stream, number) for number, stream in enumerate(self.streams)]
+
+    def answer(self, args, data):
+        """The status, the number of bytes written, and the text on standard error; no status where it took too long."""
+        for stream in self.streams:
+            os.ftruncate(stream, 0)
+            os.lseek(stream, 0, os.SEEK_SET)
+        os.pwrite(self.streams[0], data, 0)
+        # The bound is this process's own, for the program takes it over.
+        most = (256 << 20) + 1024 * len(data)
+        resource.setrlimit(resource.RLIMIT_AS, (most, resource.RLIM_INFINITY))
+        child = os.posix_spawn(self.program, [self.program, *args], os.environ, file_actions=self.actions)
+        ended = os.pidfd_open(child)
+        is_done = select.select([ended], [], [], SECONDS)[0]
+        if not is_done:
+            os.kill(child, signal.SIGKILL)
+        os.close(ended)
+        status = os.waitstatus_to_exitcode(os.waitpid(child, 0)[1])
+        error = os.pread(self.streams[2], 1 << 16, 0).decode(errors="replace")
+        return status if is_done else None, os.fstat(self.streams[1]).st_size, error
+
+
+def wrong(runner, fault, args, data):
     """What is wrong with the answer to an input, or None."""
-    most = (256 << 20) + 1024 * len(data)
-
-    def limit():
-        resource.setrlimit(resource.RLIMIT_AS, (most, most))
-
-    try:
-        ran = subprocess.run([program, *args], input=data, capture_output=True, timeout=SECONDS, preexec_fn=limit)
-    except subprocess.TimeoutExpired:
+    status, written, error = runner.answer(args, data)
+    if status is None:
         return f"no answer within {SECONDS} seconds"
-    error = ran.stderr.decode(errors="replace")
     right = {
         0: not error,
-        1: not ran.stdout and fault.fullmatch(error),
-        2: not ran.stdout and error,
+        1: not written and fault.fullmatch(error),
+        2: not written and error,
     }
-    return None if right.get(ran.returncode) else f"status {ran.returncode}, {len(ran.stdout)} bytes, {error[:200]!r}"
+    return None if right.get(status) else f"status {status}, {written} bytes, {error[:200]!r}"
 
 
 def run_some(program, seed, numbers, until):
     """Runs the inputs with these numbers, as long as there is time. Returns how many passed, and how many failed."""
+    runner = Runner(program)
     ran, failed = 0, 0
     for number in numbers:
         if until is not None and time.time() > until:
             break
         args, data = input_of(CASES, seed, number)
-        told = wrong(program, PATTERN, args, data)
+        told = wrong(runner, PATTERN, args, data)
         ran += 1
         if told is not None:
             failed += 1
