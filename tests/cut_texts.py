@@ -1,0 +1,56 @@
+"""Runs a program with each front of some texts: python3 tests/cut_texts.py PROGRAM
+
+Each front is answered, or refused by a fault that docs/FORMATS.md lists, as tests/fuzz.py has it. The last line that is
+printed is 'cut texts: N passed, M failed', a run each, and the exit status is 0 where M is 0.
+"""
+import json
+import os
+import sys
+from concurrent.futures import ProcessPoolExecutor
+
+import fuzz
+
+ROUTE = "708,709,609,608"
+# A text, and the command lines that read such a text.
+TEXTS = [
+    ("examples/ring/ring.source", [["asm"], ["boot", ROUTE], ["run", ROUTE, "1", "600"]]),
+    ("examples/ring/ring.debug", [["debug"]]),
+    ("examples/ring/ring.replay", [["replay"]]),
+]
+# The recorded case whose text is read by these command lines too.
+CASE = "replay-of-three"
+CASE_LINES = [["replay"], ["debug"]]
+
+
+def recorded_text():
+    with open(f"{fuzz.ROOT}/tests/cases/worked.jsonl", encoding="utf-8") as lines:
+        return next(case["stdin"].encode() for case in map(json.loads, lines) if case["name"] == CASE)
+
+
+def run_fronts(program, args, data):
+    """How many runs with a front of these bytes were right, and what is wrong with the others."""
+    runner = fuzz.Runner(program)
+    told = [(length, fuzz.wrong(runner, fuzz.PATTERN, args, data[:length])) for length in range(len(data) + 1)]
+    wrong = [f"FAILED {args} with {length} bytes: {what}" for length, what in told if what is not None]
+    return len(told) - len(wrong), wrong
+
+
+def main(program):
+    runs = [(args, recorded_text()) for args in CASE_LINES]
+    for name, lines in TEXTS:
+        with open(f"{fuzz.ROOT}/{name}", "rb") as file:
+            data = file.read()
+        runs += [(args, data) for args in lines]
+    passed, failed = 0, 0
+    with ProcessPoolExecutor() as pool:
+        for right, wrong in pool.map(run_fronts, [program] * len(runs), *zip(*runs)):
+            print("\n".join(wrong), end="\n" if wrong else "")
+            passed, failed = passed + right, failed + len(wrong)
+    print(f"cut texts: {passed} passed, {failed} failed")
+    return 1 if failed else 0
+
+
+if __name__ == "__main__":
+    if len(sys.argv) != 2:
+        sys.exit(__doc__)
+    sys.exit(main(os.path.abspath(sys.argv[1])))
