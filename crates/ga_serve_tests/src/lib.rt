@@ -6,6 +6,8 @@ mod command_lines;
 #[cfg(test)]
 mod outputs;
 #[cfg(test)]
+mod pieces;
+#[cfg(test)]
 mod reading;
 #[cfg(test)]
 mod refusals;

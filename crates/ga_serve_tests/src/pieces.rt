@@ -1,0 +1,132 @@
+//! Every job, by readers and writers that fail at each call in turn, or take and give one byte at a call.
+use crate::streams::{WORDS, sink_of, source_of};
+use ga_command_line::Job;
+use ga_explain::Topic;
+use ga_jobs::ServeError;
+use ga_serve::serve;
+use std::alloc::Global;
+use std::test::Fail;
+use std::thread::Threads;
+
+/// Two nodes of which the second adds 5 and 7.
+const SOURCE: &str = "node 709 main: $5 $7 + @b";
+
+/// A session of a node that is held, and a view of it.
+const SESSION: &str =
+    "profile 1\nplace\nnode 000 . align . x: jump x\ngo\nbreak 000 001\nturn 9\nregs 000\n";
+
+/// Steps of the same node, and what comes of them.
+const STEPS: &str =
+    "profile 1\nplace\nnode 000 . align . x: jump x\ngo\nbreak 000 001\nturn 9 = 5\n";
+
+/// How many bytes are read and written at a call.
+const PIECE: usize = 16;
+
+/// How many calls are made at the most.
+const MOST: u32 = 1000;
+
+/// A job of each subcommand, and an input that it accepts.
+fn jobs(alloc: Global) -> Result<Vec<(Job, &'static str)>, Fail> {
+    let route = String::from_str(alloc, "708,709")?;
+    let run = Job::Run {
+        route: route.clone()?,
+        workers: 1,
+        turns: 200,
+    };
+    let topic = Topic::named(alloc, "NotHeld")?;
+    let mut jobs = Vec::new(alloc);
+    jobs.push((Job::One { tries: 5 }, WORDS))?;
+    jobs.push((Job::Asm, SOURCE))?;
+    jobs.push((Job::Dis { code: Some(2) }, WORDS))?;
+    jobs.push((Job::Boot { route }, SOURCE))?;
+    jobs.push((run, SOURCE))?;
+    jobs.push((Job::Debug, SESSION))?;
+    jobs.push((Job::Replay, STEPS))?;
+    jobs.push((Job::Explain { topic }, ""))?;
+    Ok(jobs)
+}
+
+/// What a job writes for an input, by reads and writes of so many bytes, and how many reads and calls of the writer that
+/// takes.
+fn served(
+    rt: &(impl AllocGlobal + Threads + Sync),
+    job: &Job,
+    input: &str,
+    most: usize,
+) -> Option<(Vec<u8>, u32, u32)> {
+    let mut reader = source_of(input.as_bytes(), most);
+    let mut writer = sink_of(rt.alloc(), most);
+    if serve(rt, &mut reader, &mut writer, job).is_err() {
+        return None;
+    }
+    Some((writer.taken, reader.calls, writer.calls))
+}
+
+/// What comes of a job where one read fails, and whether nothing was written.
+fn read_fails(
+    rt: &(impl AllocGlobal + Threads + Sync),
+    job: &Job,
+    input: &str,
+    call: u32,
+) -> (Result<(), ServeError>, bool) {
+    let mut reader = source_of(input.as_bytes(), PIECE);
+    reader.fails_at = Some(call);
+    let mut writer = sink_of(rt.alloc(), PIECE);
+    let outcome = serve(rt, &mut reader, &mut writer, job);
+    (outcome, writer.calls == 0)
+}
+
+/// What comes of a job where one write fails, or the flush, and what was written.
+fn write_fails(
+    rt: &(impl AllocGlobal + Threads + Sync),
+    job: &Job,
+    input: &str,
+    call: u32,
+) -> (Result<(), ServeError>, Vec<u8>) {
+    let mut reader = source_of(input.as_bytes(), PIECE);
+    let mut writer = sink_of(rt.alloc(), PIECE);
+    writer.fails_at = Some(call);
+    let outcome = serve(rt, &mut reader, &mut writer, job);
+    (outcome, writer.taken)
+}
+
+#[test]
+fn serves_byte_by_byte(rt: HostRuntime) -> Result<(), Fail> {
+    for (job, input) in &jobs(rt.alloc())? {
+        let (text, _, _) = served(&rt, job, input, 8192).ok_or("a refused input")?;
+        let (bytes, _, _) = served(&rt, job, input, 1).ok_or("a refused input")?;
+        assert!(rt; !text.is_empty() && bytes == text, "{job:?}");
+    }
+    Ok(())
+}
+
+#[test]
+fn fails_at_each_read_of_a_job(rt: HostRuntime) -> Result<(), Fail> {
+    for (job, input) in &jobs(rt.alloc())? {
+        let (_, reads, _) = served(&rt, job, input, PIECE).ok_or("a refused input")?;
+        assert!(rt; (reads > 0) == job.reads_input() && reads < MOST);
+        for call in 0..reads {
+            let (outcome, is_silent) = read_fails(&rt, job, input, call);
+            assert!(rt;
+                outcome == Err(ServeError::Read) && is_silent,
+                "{job:?}, read {call}"
+            );
+        }
+    }
+    Ok(())
+}
+
+#[test]
+fn fails_at_each_write_of_a_job(rt: HostRuntime) -> Result<(), Fail> {
+    for (job, input) in &jobs(rt.alloc())? {
+        let (text, _, calls) = served(&rt, job, input, PIECE).ok_or("a refused input")?;
+        assert!(rt; calls > 1 && calls < MOST);
+        for call in 0..calls {
+            let (outcome, taken) = write_fails(&rt, job, input, call);
+            assert!(rt; outcome == Err(ServeError::Write), "{job:?}, write {call}");
+            let front = text.get(..PIECE * call as usize).unwrap_or(&text);
+            assert!(rt; taken.as_slice() == front, "{job:?}, write {call}");
+        }
+    }
+    Ok(())
+}
