@@ -1,15 +1,17 @@
-"""Refuses each allocation of the program in turn: python3 tests/refuse_memory.py PROGRAM [WORKERS]
+"""Refuses each allocation of the program in turn: python3 tests/refuse_memory.py PROGRAM [CALLER]
 
 With one allocation refused a run must tell `ga-bench: memory`, with status 3 and nothing on standard
-output, or answer as it does with ample memory. WORKERS is the program of the crate ga_refused_run: its
-runs of four workers must come about, or be refused with the chip as it was before; with ample memory they
-come about, and with less at least one is refused. The last line that is printed is 'memory: N passed, M failed', a run each, and the exit
-status is 0 where M is 0. It needs a C compiler, the command in the variable CC or else cc.
+output, or answer as it does with ample memory. CALLER is the program of the crate ga_refused_calls: the call that it
+makes must answer what it answers with ample memory, or be refused with what it was lent as it was before, unless memory
+runs out outside the call; and at least one is refused. The last line that is printed is 'memory: N passed, M failed', a
+run each, and the exit status is 0 where M is 0. It needs a C compiler, the command in the variable CC or else cc.
 """
 import os
 import subprocess
 import sys
 import tempfile
+from concurrent.futures import ThreadPoolExecutor
+from functools import partial
 
 FOLDER = os.path.dirname(os.path.abspath(__file__))
 WORDS = b"04A12 00005 00003 2C9B2"
@@ -35,7 +37,6 @@ RUNS = [
     (["dis", "--code", "2"], b"05872 2C9B2 00001"),
     (["dis"], b"3FFFF " * 64),
     (["dis", "--code", "4"], b"05872 2C9B2 00001"),
-    (["dis", "--code", "65"], b""),
     (["debug"], HEAD + b"break 000 001\nturn 9\nregs 000\nmem 000\nports 000\npass 000\npass 000\nstep\n"),
     (["debug"], ROUTE + b"turn 40\ntry 709 r\n"),
     (["debug"], b"profile 1\nplace\n"),
@@ -48,10 +49,32 @@ RUNS = [
     (["replay"], b"profile 1\nplace\nnode 000 jump x\ngo\n"),
     (["explain"], b""),
     (["explain", "NotHeld"], b""),
+]
+# Command lines that name no job.
+LINES = [
+    (["dis", "--code", "65"], b""),
     (["explain", "notheld"], b""),
     (["one"], b""),
     (["one", "--help"], b""),
 ]
+# What CALLER is asked for: the calls that are lent what they could change, or that no subcommand makes, and the engine.
+CALLS = [
+    (["words_text"], b""),
+    (["push_words"], b""),
+    (["tokens"], b""),
+    (["write_frame"], b""),
+    (["read_frames"], b""),
+    (["feed"], b""),
+    (["run_workers"], b""),
+    *[
+        (["command", line], b"")
+        for line in (
+            "break 708 006", "clear 709 005", "pass 709", "try 708 r", "try 709 r", "turn 9", "regs 708", "mem 708",
+            "ports 708", "pass 708",
+        )
+    ],
+    *[(["serve", *words], data) for words, data in RUNS],
+]  # fmt: skip
 MOST = 10000
 
 
@@ -60,48 +83,51 @@ def answer(program, words, data, **variables):
     return ran.returncode, ran.stdout, ran.stderr
 
 
-def refuse_each(program, words, data, library, is_right):
-    """How many runs with one allocation refused came out right, and how many didn't."""
-    passed = failed = 0
+def refuse_each(program, library, rights_of, run):
+    """Runs a program with each allocation refused in turn. Tells how many runs came out right, and what is wrong with
+    the others. `rights_of` makes of what comes with ample memory all that may come, of which the last has to."""
+    words, data = run
+    ample = answer(program, words, data)
+    rights = rights_of(ample)
+    if ample not in rights:
+        return 0, [f"FAILED {words} with ample memory: came {ample}"]
+    passed, wrong, seen = 0, [], set()
     for number in range(1, MOST):
         came = answer(program, words, data, LD_PRELOAD=library, REFUSED=str(number))
         if came[0] == 77:
             break
-        if is_right(came):
+        seen.add(came)
+        if came in rights:
             passed += 1
         else:
-            failed += 1
-            print(f"FAILED {words} with allocation {number} refused: came {came}")
-    if number == 1 or came[0] != 77:
-        failed += 1
-        print(f"FAILED {words}: no allocation was refused, or they had no end")
-    return passed, failed
+            wrong.append(f"FAILED {words} with allocation {number} refused: came {came}")
+    if came[0] != 77 or rights[-1] not in seen:
+        wrong.append(f"FAILED {words}: no allocation was refused to it, or they had no end")
+    return passed, wrong
 
 
-def main(program, workers=None):
-    counts = []
-    with tempfile.TemporaryDirectory() as folder:
+def rights_of_run(ample):
+    return [ample, (3, b"", b"ga-bench: memory\n")] if ample[0] != 3 else []
+
+
+def rights_of_call(ample):
+    """With ample memory a call gives its result, or another fault than `Memory`; 3 is for memory refused outside it."""
+    is_told = ample in [(0, told, b"") for told in (b"answered\n", b"fault alike\n")]
+    return [ample, (3, b"", b""), (0, b"refused alike\n", b"")] if is_told else []
+
+
+def main(program, caller=None):
+    with tempfile.TemporaryDirectory() as folder, ThreadPoolExecutor() as pool:
         library = f"{folder}/refuse_memory.so"
         compiler = os.environ.get("CC", "cc")
         subprocess.run([compiler, "-shared", "-fPIC", "-O1", "-o", library, f"{FOLDER}/refuse_memory.c", "-ldl"], check=True)
-        for words, data in RUNS:
-            ample = answer(program, words, data)
-            right = (ample, (3, b"", b"ga-bench: memory\n"))
-            counts.append(refuse_each(program, words, data, library, lambda came: came in right))
-        if workers:
-            ran, refused = (0, b"ran\n", b""), (0, b"refused alike\n", b"")
-            seen = {answer(workers, [], b"")}
-
-            def is_right(came):
-                seen.add(came)
-                return came in (ran, refused, (3, b"", b""))
-
-            counts.append(refuse_each(workers, [], b"", library, is_right))
-            is_seen = {ran, refused} <= seen
-            counts.append((is_seen, not is_seen))
-    passed, failed = (sum(column) for column in zip(*counts))
-    print(f"memory: {passed} passed, {failed} failed")
-    return 1 if failed else 0
+        told = [*pool.map(partial(refuse_each, program, library, rights_of_run), RUNS + LINES)]
+        if caller:
+            told += pool.map(partial(refuse_each, caller, library, rights_of_call), CALLS)
+    wrong = [line for _, lines in told for line in lines]
+    print("\n".join(wrong), end="\n" if wrong else "")
+    print(f"memory: {sum(passed for passed, _ in told)} passed, {len(wrong)} failed")
+    return 1 if wrong else 0
 
 
 if __name__ == "__main__":

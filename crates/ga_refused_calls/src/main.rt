@@ -1,0 +1,79 @@
+//! Makes one call between two looks at what it is lent, so that a test can refuse memory to it.
+//!
+//! The arguments are the name of the call, and what it is to be given, where that is left open. It writes one line, as
+//! `Told` has it. The status is 3, and nothing is written, where memory runs out outside the call, and 2 where there is
+//! no call of this name.
+#![tactic(auto)]
+
+mod chips;
+mod frames;
+mod runs;
+mod serving;
+mod sessions;
+mod told;
+mod words;
+
+use crate::frames::{feed_told, read_frames_told, write_frame_told};
+use crate::runs::run_workers_told;
+use crate::serving::serve_told;
+use crate::sessions::command_told;
+use crate::told::Told;
+use crate::words::{push_words_told, tokens_told, words_text_told};
+use std::alloc::AllocError;
+use std::env;
+use std::io::Read;
+use std::process::ExitCode;
+use std::rt::Env;
+use std::thread::Threads;
+
+fn main(rt: HostRuntime) -> ExitCode {
+    match told_of_arguments(&rt, &mut rt.reader()) {
+        Ok(Some(told)) => {
+            let _ = println!(&rt; "{told}");
+            ExitCode::from(0)
+        }
+        Ok(None) => ExitCode::from(2),
+        Err(_) => ExitCode::from(3),
+    }
+}
+
+/// What comes of the call that the arguments name.
+fn told_of_arguments<Rt: Env + AllocGlobal + Threads + Sync, R: Read>(
+    rt: &Rt,
+    reader: &mut R,
+) -> Result<Option<Told>, AllocError> {
+    let Ok(arguments) = env::args(rt) else {
+        return Err(AllocError);
+    };
+    let mut words = Vec::new(rt.alloc());
+    for argument in arguments {
+        words.push(argument)?;
+    }
+    let mut texts = Vec::with_capacity(rt.alloc(), words.len())?;
+    for word in &words {
+        texts.push(word.as_str())?;
+    }
+    told_of(rt, reader, texts.get(1..).unwrap_or_default())
+}
+
+/// What comes of a call, which has a name and maybe words behind it.
+fn told_of<Rt: AllocGlobal + Threads + Sync, R: Read>(
+    rt: &Rt,
+    reader: &mut R,
+    words: &[&str],
+) -> Result<Option<Told>, AllocError> {
+    let alloc = rt.alloc();
+    let told = match words {
+        ["words_text"] => words_text_told(alloc)?,
+        ["push_words"] => push_words_told(alloc)?,
+        ["tokens"] => tokens_told(alloc)?,
+        ["write_frame"] => write_frame_told(alloc)?,
+        ["read_frames"] => read_frames_told(alloc)?,
+        ["feed"] => feed_told(alloc)?,
+        ["run_workers"] => run_workers_told(rt, alloc)?,
+        ["command", line] => command_told(alloc, line)?,
+        ["serve", ..] => serve_told(rt, reader, words)?,
+        _ => return Ok(None),
+    };
+    Ok(Some(told))
+}

@@ -1,0 +1,41 @@
+//! Runs of four workers over a ring of four nodes.
+use crate::chips::{dump, ring, ring_nodes};
+use crate::told::Told;
+use ga_group::{Gate, Plan, RunError, run_workers};
+use std::alloc::{AllocError, Global};
+use std::thread::Threads;
+
+/// How many turns the run has.
+const TURNS: u64 = 16;
+
+/// Lets the workers come as they come.
+struct Open;
+
+impl Gate for Open {
+    fn turn(&self, _worker: u32, _turn: u64, _moved: u64) {}
+}
+
+/// A run of a chip, which comes back where it is refused.
+pub fn run_workers_told<R: Threads + Sync>(rt: &R, alloc: Global) -> Result<Told, AllocError> {
+    let plan = plan(alloc)?;
+    let same = ring(alloc)?;
+    match run_workers(rt, alloc, ring(alloc)?, &plan, TURNS, &Open) {
+        Ok(_) => Ok(Told::Answered),
+        Err((fault, chip)) => {
+            let is_alike = dump(alloc, &chip)? == dump(alloc, &same)?;
+            Ok(Told::failed(fault == RunError::Memory, is_alike))
+        }
+    }
+}
+
+/// A worker for each node of the ring.
+fn plan(alloc: Global) -> Result<Plan, AllocError> {
+    let mut groups = Vec::new(alloc);
+    for node in ring_nodes() {
+        groups.push(Vec::from_slice(alloc, &[node])?)?;
+    }
+    match Plan::new(groups) {
+        Ok(plan) => Ok(plan),
+        Err(_) => Err(AllocError),
+    }
+}

@@ -1,0 +1,44 @@
+use std::fmt;
+
+/// What came of a call, and whether what it was lent is as it was before.
+#[derive(Clone, Copy)]
+pub enum Told {
+    /// The call gave its result, and may have changed what it was lent to change.
+    Answered,
+    /// Memory was refused to it.
+    Refused { is_alike: bool },
+    /// It answered another fault.
+    Fault { is_alike: bool },
+}
+
+impl Told {
+    /// What came of a call that fails for want of memory alone.
+    pub fn answered(is_answered: bool, is_alike: bool) -> Told {
+        if is_answered {
+            Told::Answered
+        } else {
+            Told::Refused { is_alike }
+        }
+    }
+
+    /// What came of a call that fails, for want of memory or otherwise.
+    pub fn failed(is_memory: bool, is_alike: bool) -> Told {
+        if is_memory {
+            Told::Refused { is_alike }
+        } else {
+            Told::Fault { is_alike }
+        }
+    }
+}
+
+impl fmt::Display for Told {
+    fn fmt<W: fmt::Write>(&self, f: &mut fmt::Formatter<W>) -> fmt::Result {
+        f.write_str(match self {
+            Told::Answered => "answered",
+            Told::Refused { is_alike: true } => "refused alike",
+            Told::Refused { is_alike: false } => "refused changed",
+            Told::Fault { is_alike: true } => "fault alike",
+            Told::Fault { is_alike: false } => "fault changed",
+        })
+    }
+}
