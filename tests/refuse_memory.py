@@ -47,6 +47,9 @@ RUNS = [
     (["replay"], b"profile 1\nroute 708\nnode 709 .\ngo\n"),
     (["replay"], b"profile 1\nroute 710,708\nnode 709 .\ngo\n"),
     (["replay"], b"profile 1\nplace\nnode 000 jump x\ngo\n"),
+    (["list"], b"node 709 main: $5 $7 + @b\ndata x: , main"),
+    (["list", "--labels", "-"], b"node 709 main: $5 $7 + @b\ndata x: , main"),
+    (["list"], b"node 709 jump x"),
     (["explain"], b""),
     (["explain", "NotHeld"], b""),
 ]

@@ -7,30 +7,64 @@ ghost use Rattle.ga_bench.specs.Status.{HasServed, HasStatus, IsStatusOf};
 
 use clap::error::ErrorKind::InvalidValue;
 use ga_command_line::{Job, LineError, job, refusal};
-use ga_jobs::ServeError;
+use ga_jobs::{InputFault, ServeError};
 use ga_serve::{serve, status};
 use std::alloc::Global;
-use std::io::ErrorKind::OutOfMemory;
+use std::fs::OpenFile;
+use std::io::ErrorKind::{NotFound, OutOfMemory};
 use std::io::{IsTerminal, Read, Write};
 use std::process::ExitCode;
-use std::rt::Env;
+use std::rt::{Env, Files};
 use std::thread::Threads;
-use std::{env, io};
+use std::{env, fs, io};
 
 fn main(rt: HostRuntime) -> ExitCode {
-    let mut reader = rt.reader();
     let status = match job_of_arguments(&rt) {
-        Ok(job) => {
-            if job.reads_input() && reader.is_terminal() {
-                let _ = eprintln!(&rt;
-                    "ga-bench: reads from this terminal, until Ctrl-D at the beginning of a line"
-                );
-            }
-            serve_job(&rt, &mut reader, &mut io::writer(&rt), &job)
-        }
+        Ok(job) => match job.file() {
+            Some(name) => serve_file(&rt, name, &job),
+            None => serve_standard_input(&rt, &job),
+        },
         Err(error) => refuse(&rt, error),
     };
     ExitCode::from(status)
+}
+
+/// Serves a job whose input is standard input. Answers the exit status.
+fn serve_standard_input(rt: &HostRuntime, job: &Job) -> u8
+    ensures { HasStatus result }
+{
+    let mut reader = rt.reader();
+    if job.reads_input() && reader.is_terminal() {
+        let _ = eprintln!(rt;
+            "ga-bench: reads from this terminal, until Ctrl-D at the beginning of a line"
+        );
+    }
+    serve_job(rt, &mut reader, &mut io::writer(rt), job)
+}
+
+/// Serves a job whose input is the file with a name. Answers the exit status.
+fn serve_file(rt: &HostRuntime, name: &str, job: &Job) -> u8
+    ensures { HasStatus result }
+{
+    match opened(rt, name) {
+        Ok(mut reader) => serve_job(rt, &mut reader, &mut io::writer(rt), job),
+        Err(fault) => {
+            let _ = eprintln!(rt; "ga-bench: {fault}");
+            status(&Err(fault))
+        }
+    }
+}
+
+/// The file with a name, to be read.
+fn opened<R: Files>(rt: &R, name: &str) -> Result<R::File, ServeError> {
+    match fs::open(rt, name) {
+        Ok(file) => match file.metadata() {
+            Ok(found) if found.is_dir() => Err(ServeError::Input(InputFault::Folder)),
+            _ => Ok(file),
+        },
+        Err(error) if error.kind() == NotFound => Err(ServeError::Input(InputFault::NoFile)),
+        Err(_) => Err(ServeError::Read),
+    }
 }
 
 /// Serves a job, and tells why it could not be served. Answers the exit status.

@@ -5,7 +5,7 @@ use Rattle.ga_explain.specs.declared.source.TheConstants.{BAD_TOKEN, NUMBER_RANG
 use Rattle.ga_explain.specs.declared.layout.TheConstants.{UNDEFINED_LABEL, OUT_OF_REACH, UNEXT_ALONE, TOO_LONG}
 use Rattle.ga_explain.specs.declared.routes.TheConstants.{BAD_ROUTE, NOT_EDGE, NOT_NEIGHBOUR, REPEATED, UNREACHED}
 use Rattle.ga_explain.specs.declared.sessions.TheConstants.{BAD_COMMAND, BAD_ADDRESS, BAD_SIDE, BAD_COUNT, NOT_HELD, BAD_PROFILE, NO_GO, SOURCE, ASM, ROUTE, BOOT, DIFFERS}
-use Rattle.ga_explain.specs.declared.input.TheConstants.{READ, BAD_TEXT, BAD_CODE, WRITE, MEMORY}
+use Rattle.ga_explain.specs.declared.input.TheConstants.{READ, NO_FILE, FOLDER, BAD_TEXT, BAD_CODE, WRITE, MEMORY}
 use Rattle.ga_explain.specs.declared.needs.TheConstants.{OWN, TAKE, POST, CHECK, INPUT, STOPPED}
 use Rattle.ga_explain.specs.declared.stops.TheConstants.{COUNTED, EXTENDED, IO_READ, ROM, UNMAPPED, MULTI_WRITE}
 use Rattle.ga_explain.specs.declared.outcomes.TheConstants.{MOVED, WAITS, HELD}
@@ -65,6 +65,8 @@ sessions_entries =
 unfoldable pub input_entries : List Entry
 input_entries =
     (codes "read", READ.now) ∷
+    (codes "NoFile", NO_FILE.now) ∷
+    (codes "Folder", FOLDER.now) ∷
     (codes "BadText", BAD_TEXT.now) ∷
     (codes "BadCode", BAD_CODE.now) ∷
     (codes "write", WRITE.now) ∷

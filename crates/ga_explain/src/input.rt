@@ -6,11 +6,13 @@ use crate::topic::Topic;
 
 /// The faults of the input and of the output, in the order of the pages.
 #[tactic(auto, unfolding(crate::specs::Table::input_entries))]
-pub fn topics() -> [Topic; 5]
+pub fn topics() -> [Topic; 7]
     ensures { map entry_of result ≡ input_entries }
 {
     [
         Topic::new("read", READ),
+        Topic::new("NoFile", NO_FILE),
+        Topic::new("Folder", FOLDER),
         Topic::new("BadText", BAD_TEXT),
         Topic::new("BadCode", BAD_CODE),
         Topic::new("write", WRITE),
@@ -28,6 +30,32 @@ end of it. Nothing is written. So it is where the input is a folder:
 Mended, with a file as the input:
 
   ga-bench asm < my.source
+";
+
+const NO_FILE: &str = "\
+NoFile: there is no file of the name that was given. Nothing was read.
+
+  $ ga-bench list no.source
+  ga-bench: input NoFile
+
+Mended, with the text on standard input, which - stands for too:
+
+  $ echo 'node 709 .' | ga-bench list -
+  node 709 entry 000 code 1 words 1
+  000  2C9B2  code         1  [ . . . . ]
+";
+
+const FOLDER: &str = "\
+Folder: what has the name that was given is a folder, and no file.
+
+  $ ga-bench list .
+  ga-bench: input Folder
+
+Mended, with the text on standard input, which - stands for too:
+
+  $ echo 'node 709 .' | ga-bench list -
+  node 709 entry 000 code 1 words 1
+  000  2C9B2  code         1  [ . . . . ]
 ";
 
 const BAD_TEXT: &str = "\

@@ -21,6 +21,12 @@ pub enum InputFault {
     /// It is not UTF-8.
     #[error("BadText")]
     BadText,
+    /// There is no file of the name that was given.
+    #[error("NoFile")]
+    NoFile,
+    /// What has the name that was given is a folder.
+    #[error("Folder")]
+    Folder,
 }
 
 /// Why an input was refused as words.

@@ -13,7 +13,7 @@ use ga_asm::Images;
 use ga_chip::Chip;
 use ga_debug::booted;
 use ga_dump::{ledger_text, node_text};
-use ga_group::{Gate, Plan, RunError, run_workers};
+use ga_group::{Open, Plan, RunError, run_workers};
 use ga_place::Node;
 use std::alloc::{AllocError, Global};
 use std::thread::Threads;
@@ -102,13 +102,6 @@ fn nodes_for(
         }
     }
     Ok(group)
-}
-
-/// Lets the workers come as they come.
-struct Open;
-
-impl Gate for Open {
-    fn turn(&self, _worker: u32, _turn: u64, _moved: u64) {}
 }
 
 /// The chip after so many turns of workers.

@@ -1,6 +1,5 @@
 //! Chips on which a ring of four nodes has begun.
 use ga_chip::Chip;
-use ga_dump::{ledger_text, memory_text, node_text};
 use ga_place::Node;
 use ga_word::Word18;
 use std::alloc::{AllocError, Global};
@@ -46,17 +45,4 @@ fn words_of(numbers: &[u32; 6]) -> [Word18; 6] {
         *word = Word18::new(*number).unwrap_or_default();
     }
     words
-}
-
-/// The registers, stacks and memory of each node, and the numbers of its cells.
-pub fn dump(alloc: Global, chip: &Chip) -> Result<String, AllocError> {
-    let mut text = String::new(alloc);
-    for name in 0..800 {
-        if let Some(node) = Node::new(name) {
-            text.push_str(&node_text(alloc, chip.state(node))?)?;
-            text.push_str(&memory_text(alloc, chip.state(node))?)?;
-            text.push_str(&ledger_text(alloc, chip, node)?)?;
-        }
-    }
-    Ok(text)
 }

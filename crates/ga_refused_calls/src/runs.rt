@@ -1,19 +1,13 @@
 //! Runs of four workers over a ring of four nodes.
-use crate::chips::{dump, ring, ring_nodes};
+use crate::chips::{ring, ring_nodes};
 use crate::told::Told;
-use ga_group::{Gate, Plan, RunError, run_workers};
+use ga_dump::chip_text;
+use ga_group::{Open, Plan, RunError, run_workers};
 use std::alloc::{AllocError, Global};
 use std::thread::Threads;
 
 /// How many turns the run has.
 const TURNS: u64 = 16;
-
-/// Lets the workers come as they come.
-struct Open;
-
-impl Gate for Open {
-    fn turn(&self, _worker: u32, _turn: u64, _moved: u64) {}
-}
 
 /// A run of a chip, which comes back where it is refused.
 pub fn run_workers_told<R: Threads + Sync>(rt: &R, alloc: Global) -> Result<Told, AllocError> {
@@ -22,7 +16,7 @@ pub fn run_workers_told<R: Threads + Sync>(rt: &R, alloc: Global) -> Result<Told
     match run_workers(rt, alloc, ring(alloc)?, &plan, TURNS, &Open) {
         Ok(_) => Ok(Told::Answered),
         Err((fault, chip)) => {
-            let is_alike = dump(alloc, &chip)? == dump(alloc, &same)?;
+            let is_alike = chip_text(alloc, &chip)? == chip_text(alloc, &same)?;
             Ok(Told::failed(fault == RunError::Memory, is_alike))
         }
     }

@@ -34,6 +34,14 @@ fn answers_lines(rt: HostRuntime) -> Result<(), Fail> {
             "node 000\n[ @p !+ unext . ]\n, $2C9B2\ndata\n, $00001\n",
         ),
         (
+            Job::List {
+                labels: true,
+                file: None,
+            },
+            "node 709 . node 000 . x: . , 3 main: .",
+            "000 x 001\n000 main 003\n",
+        ),
+        (
             Job::Dis { code: None },
             "10BD5",
             "node 000\n[ jump $003D5 / 2 ]\n",

@@ -42,6 +42,11 @@ fn jobs(alloc: Global) -> Result<Vec<(Job, &'static str)>, Fail> {
     jobs.push((run, SOURCE))?;
     jobs.push((Job::Debug, SESSION))?;
     jobs.push((Job::Replay, STEPS))?;
+    let listed = Job::List {
+        labels: false,
+        file: None,
+    };
+    jobs.push((listed, SOURCE))?;
     jobs.push((Job::Explain { topic }, ""))?;
     Ok(jobs)
 }

@@ -11,6 +11,8 @@ mod disassembler;
 #[cfg(test)]
 mod frames;
 #[cfg(test)]
+mod listings;
+#[cfg(test)]
 mod packing;
 #[cfg(test)]
 mod places;
