@@ -9,7 +9,7 @@ use Rattle.std.proofs.lemmas.Str.{is_utf8-from_IsUtf8}
 use Rattle.ga_word.specs.Hex.{is_word_text, word_of}
 use Rattle.ga_word.specs.Text.{word_onto, words_from, words_of_text}
 use Rattle.ga_asm.specs.Assembling.{IsAssembled}
-use Rattle.ga_asm.specs.Image.{ImageView, item_count}
+use Rattle.ga_asm.specs.Image.{ImageView, image_line, item_count}
 use Rattle.ga_asm.specs.Text.{HasImages}
 use Rattle.ga_disasm.specs.Source.{FitNode, IsSourceOf}
 use Rattle.ga_jobs.specs.Asm.{IsAsmOutput, images_text}
@@ -87,11 +87,16 @@ module _ (text words : List ℕ) (code_len : ℕ) (utf8 : IsUtf8 text) (source :
   has_images : HasImages text ((0, image) ∷ [])
   has_images = record { program = source.section ∷ []; program_is = source.program_is; faultless = source.no_program_fault; assembled = assembled }
 
-  written : IsAsmOutput text (Ok (images_text ((0, image) ∷ [])))
-  written = ((0, image) ∷ [], (text, is_text, has_images), refl)
+  -- what is written doesn't tell the groups of items
+  same_text : images_text ((0, plain_image words code_len) ∷ []) ≡ images_text ((0, image) ∷ [])
+  unfolding image_line
+  same_text = refl
+
+  written : IsAsmOutput text (Ok (images_text ((0, plain_image words code_len) ∷ [])))
+  written = ((0, image) ∷ [], (text, is_text, has_images), same_text)
 
   pub assembles : AssemblesTo text words code_len
-  assembles = record { written = written; only = λ answer is. one_asm_output text answer (Ok (images_text ((0, image) ∷ []))) is written }
+  assembles = record { written = written; only = λ answer is. one_asm_output text answer (Ok (images_text ((0, plain_image words code_len) ∷ []))) is written }
 
 -- the same of the words of an input
 pub again : (input words words' text : List ℕ) (code : Option ℕ) (code_len : ℕ) → words_in input ≡ Ok words → words_in input ≡ Ok words' → code_len ≡ unwrap_or code (length words) → code_len ≤ length words

@@ -12,7 +12,7 @@ use Rattle.ga_disasm.specs.Printing.{text_of}
 use Rattle.ga_node.specs.Line.{line_of}
 use Rattle.ga_node.specs.Need.{need_of}
 use Rattle.ga_node.specs.Slot.{row, step}
-use Rattle.ga_asm.specs.Image.{ImageView}
+use Rattle.ga_asm.specs.Image.{ImageView, image_line}
 use Rattle.ga_path.specs.declared.error.BootError.TheVariants.{Unreached}
 use Rattle.ga_path.specs.declared.error.RouteError.TheVariants.{NotNeighbour}
 use Rattle.ga_place.specs.Cell.{all_cells, cell_of}
@@ -21,7 +21,7 @@ use Rattle.ga_chip.specs.Part.{after, asks}
 use Rattle.ga_chip.specs.Run.{happened}
 use Rattle.ga_group.specs.declared.error.PlanError.TheVariants.{Empty}
 use Rattle.ga_debug.specs.Command.{arguments, command_first, command_in}
-use Rattle.ga_jobs.specs.Asm.{image_line, images_text}
+use Rattle.ga_jobs.specs.Asm.{images_text}
 use Rattle.ga_jobs.specs.Debug.{replies_to}
 use Rattle.ga_jobs.specs.Run.{dealt, plan_by}
 use Rattle.ga_jobs.specs.declared.fault.RouteFault.TheVariants.{BadRoute, Nodes}
