@@ -68,6 +68,7 @@ CALLS = [
     (["write_frame"], b""),
     (["read_frames"], b""),
     (["feed"], b""),
+    (["chip_text"], b""),
     (["run_workers"], b""),
     *[
         (["command", line], b"")

@@ -14,7 +14,7 @@ mod told;
 mod words;
 
 use crate::frames::{feed_told, read_frames_told, write_frame_told};
-use crate::runs::run_workers_told;
+use crate::runs::{chip_text_told, run_workers_told};
 use crate::serving::serve_told;
 use crate::sessions::command_told;
 use crate::told::Told;
@@ -70,6 +70,7 @@ fn told_of<Rt: AllocGlobal + Threads + Sync, R: Read>(
         ["write_frame"] => write_frame_told(alloc)?,
         ["read_frames"] => read_frames_told(alloc)?,
         ["feed"] => feed_told(alloc)?,
+        ["chip_text"] => chip_text_told(alloc)?,
         ["run_workers"] => run_workers_told(rt, alloc)?,
         ["command", line] => command_told(alloc, line)?,
         ["serve", ..] => serve_told(rt, reader, words)?,

@@ -1,4 +1,4 @@
-//! Runs of four workers over a ring of four nodes.
+//! Calls that are lent a chip, or handed one, on which a ring of four nodes has begun.
 use crate::chips::{ring, ring_nodes};
 use crate::told::Told;
 use ga_dump::chip_text;
@@ -9,7 +9,7 @@ use std::thread::Threads;
 /// How many turns the run has.
 const TURNS: u64 = 16;
 
-/// A run of a chip, which comes back where it is refused.
+/// A run of four workers over a chip, which comes back where it is refused.
 pub fn run_workers_told<R: Threads + Sync>(rt: &R, alloc: Global) -> Result<Told, AllocError> {
     let plan = plan(alloc)?;
     let same = ring(alloc)?;
@@ -20,6 +20,15 @@ pub fn run_workers_told<R: Threads + Sync>(rt: &R, alloc: Global) -> Result<Told
             Ok(Told::failed(fault == RunError::Memory, is_alike))
         }
     }
+}
+
+/// The text of a chip that is lent.
+pub fn chip_text_told(alloc: Global) -> Result<Told, AllocError> {
+    let chip = ring(alloc)?;
+    let same = ring(alloc)?;
+    let is_answered = chip_text(alloc, &chip).is_ok();
+    let is_alike = is_answered || chip_text(alloc, &chip)? == chip_text(alloc, &same)?;
+    Ok(Told::answered(is_answered, is_alike))
 }
 
 /// A worker for each node of the ring.

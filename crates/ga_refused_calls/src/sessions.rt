@@ -45,16 +45,15 @@ fn begun(alloc: Global) -> Result<Session, AllocError> {
 /// All that a session shows: each node, and the replies to some commands behind that.
 fn shown(alloc: Global, session: &mut Session) -> Result<String, AllocError> {
     let mut text = String::new(alloc);
-    for name in 0..800 {
-        if let Some(node) = Node::new(name) {
-            for view in ["regs", "mem", "ports"] {
-                push_reply(
-                    alloc,
-                    &mut text,
-                    session,
-                    &format!(in alloc; "{view} {node}")?,
-                )?;
-            }
+    for index in 0..144 {
+        let node = Node::at(index);
+        for view in ["regs", "mem", "ports"] {
+            push_reply(
+                alloc,
+                &mut text,
+                session,
+                &format!(in alloc; "{view} {node}")?,
+            )?;
         }
     }
     for line in BEHIND {
