@@ -13,7 +13,7 @@ import fuzz
 ROUTE = "708,709,609,608"
 # A text, and the command lines that read such a text.
 TEXTS = [
-    ("examples/ring/ring.source", [["asm"], ["boot", ROUTE], ["run", ROUTE, "1", "600"]]),
+    ("examples/ring/ring.source", [["asm"], ["list"], ["boot", ROUTE], ["run", ROUTE, "1", "600"]]),
     ("examples/ring/ring.debug", [["debug"]]),
     ("examples/ring/ring.replay", [["replay"]]),
 ]
@@ -32,6 +32,8 @@ def run_fronts(program, args, data):
     runner = fuzz.Runner(program)
     told = [(length, fuzz.wrong(runner, fuzz.PATTERN, args, data[:length])) for length in range(len(data) + 1)]
     wrong = [f"FAILED {args} with {length} bytes: {what}" for length, what in told if what is not None]
+    if runner.answer(args, data)[0] != 0:
+        wrong.append(f"FAILED {args}: the whole text is refused")
     return len(told) - len(wrong), wrong
 
 
