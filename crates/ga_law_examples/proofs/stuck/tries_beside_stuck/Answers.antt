@@ -1,6 +1,6 @@
-use Rattle.std.proofs.Common.{◌≡◌, ◌∙◌, Some, ap, sym, true}
-use Rattle.ga_chip.specs.Chip.{part_of, state_of}
-use Rattle.ga_chip.specs.Run.{ran, tries_of}
+use Rattle.std.proofs.Common.{◌∙◌, ap, sym}
+use Rattle.ga_chip.specs.Chip.{state_of}
+use Rattle.ga_chip.specs.Run.{tries_of}
 use Rattle.ga_chip.specs.Stuck.{LeavesStuck, has_node}
 use Rattle.ga_chip.proofs.Closed.{state_kept}
 use Rattle.ga_chip.proofs.Streams.{no_piece}
