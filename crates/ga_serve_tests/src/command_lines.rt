@@ -62,7 +62,14 @@ fn reads_routes(rt: HostRuntime) -> Result<(), Fail> {
 fn reads_files(rt: HostRuntime) -> Result<(), Fail> {
     let alloc = rt.alloc();
     let all = named(alloc, &["ga-bench", "list"])?;
-    assert!(rt; all.file().is_none() && all == Job::List { labels: false, file: None });
+    assert!(rt;
+        all.file().is_none()
+            && all
+                == Job::List {
+                    labels: false,
+                    file: None
+                }
+    );
     let job = named(alloc, &["ga-bench", "list", "x.source", "--labels"])?;
     assert!(rt; job.file() == Some("x.source") && matches!(job, Job::List { labels: true, .. }));
     assert!(rt; named(alloc, &["ga-bench", "list", "-"])?.file().is_none());

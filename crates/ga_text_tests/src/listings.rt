@@ -5,13 +5,15 @@ use ga_test_values::node;
 use std::alloc::Global;
 use std::test::Fail;
 
-const SENDER: &str = "node 708 \\ sender\n  $15 a!\nloop: dup !\n  jump loop\ndata\ntable: , 7 , table\n";
+const SENDER: &str =
+    "node 708 \\ sender\n  $15 a!\nloop: dup !\n  jump loop\ndata\ntable: , 7 , table\n";
 
 #[test]
 fn lists_words(rt: HostRuntime) -> Result<(), Fail> {
     let listing = list(rt.alloc(), SENDER)?;
     assert!(rt;
-        listing.as_str() == "\
+        listing.as_str()
+            == "\
 node 708 entry 000 code 3 words 5
 000  04AB2  code         2  [ @p a! . . ]
 001  00015  follower     2  , $00015
@@ -46,7 +48,10 @@ fn lines_of(alloc: Global, text: &str) -> Result<Vec<usize>, Fail> {
 
 #[test]
 fn words_begin_with_items(rt: HostRuntime) -> Result<(), Fail> {
-    let lines = lines_of(rt.alloc(), "node 000 .\nnode 001 dup\n5 x:\n\n6 [ @p . . . ]\n, x")?;
+    let lines = lines_of(
+        rt.alloc(),
+        "node 000 .\nnode 001 dup\n5 x:\n\n6 [ @p . . . ]\n, x",
+    )?;
     assert!(rt; lines.as_slice() == [2, 3, 5, 5, 5, 6]);
     Ok(())
 }
