@@ -22,28 +22,27 @@ fn main(rt: HostRuntime) -> ExitCode {
     let status = match job_of_arguments(&rt) {
         Ok(job) => match job.file() {
             Some(name) => serve_file(&rt, name, &job),
-            None => serve_standard_input(&rt, &job),
+            None => {
+                let mut reader = rt.reader();
+                if job.reads_input() && reader.is_terminal() {
+                    let _ = eprintln!(&rt;
+                        "ga-bench: reads from this terminal, until Ctrl-D at the beginning of a line"
+                    );
+                }
+                serve_job(&rt, &mut reader, &mut io::writer(&rt), &job)
+            }
         },
         Err(error) => refuse(&rt, error),
     };
     ExitCode::from(status)
 }
 
-/// Serves a job whose input is standard input. Answers the exit status.
-fn serve_standard_input(rt: &HostRuntime, job: &Job) -> u8
-    ensures { HasStatus result }
-{
-    let mut reader = rt.reader();
-    if job.reads_input() && reader.is_terminal() {
-        let _ = eprintln!(rt;
-            "ga-bench: reads from this terminal, until Ctrl-D at the beginning of a line"
-        );
-    }
-    serve_job(rt, &mut reader, &mut io::writer(rt), job)
-}
-
 /// Serves a job whose input is the file with a name. Answers the exit status.
-fn serve_file(rt: &HostRuntime, name: &str, job: &Job) -> u8
+fn serve_file<Rt: AllocGlobal + Print + Eprint + Threads + Sync + Files>(
+    rt: &Rt,
+    name: &str,
+    job: &Job,
+) -> u8
     ensures { HasStatus result }
 {
     match opened(rt, name) {

@@ -38,8 +38,8 @@ fn answers_lines(rt: HostRuntime) -> Result<(), Fail> {
                 labels: true,
                 file: None,
             },
-            "node 709 . node 000 . x: . , 3 main: .",
-            "000 x 001\n000 main 003\n",
+            "node 709 . node 000 . x: . main: .",
+            "000 x 001\n000 main 002\n",
         ),
         (
             Job::Dis { code: None },

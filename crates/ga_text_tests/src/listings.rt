@@ -52,6 +52,6 @@ fn words_begin_with_items(rt: HostRuntime) -> Result<(), Fail> {
         rt.alloc(),
         "node 000 .\nnode 001 dup\n5 x:\n\n6 [ @p . . . ]\n, x",
     )?;
-    assert!(rt; lines.as_slice() == [2, 3, 5, 5, 5, 6]);
+    assert!(rt; lines.as_slice() == [2, 3, 5, 5, 5, 6].as_slice());
     Ok(())
 }
