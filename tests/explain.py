@@ -88,8 +88,8 @@ def key_of_case(case):
 
 
 def key_of_example(command, printed):
-    typed, args = re.fullmatch(r"(?s)(.*)\|\s*ga-bench (.*)", command).groups()
-    made = subprocess.run(["bash", "-c", typed], stdin=subprocess.DEVNULL, capture_output=True, timeout=SECONDS)
+    typed, args = re.fullmatch(r"(?s)(?:(.*)\|\s*)?ga-bench (.*)", command).groups()
+    made = subprocess.run(["bash", "-c", typed or ":"], stdin=subprocess.DEVNULL, capture_output=True, timeout=SECONDS)
     return key(shlex.split(args), made.stdout, printed)
 
 

@@ -10,7 +10,7 @@ right where
 - with status 2 nothing is on standard output, and something on standard error;
 - it comes within 20 seconds, and with at most 256 MiB of memory and 1,024 bytes for each byte of the input.
 A turn costs up to 144 tries, so the turns that an input asks for are at most 2,000 in all. (An input has 1,048,576 bytes at
-most, so it has at most some 110,000 tries.)
+most, so it has at most some 110,000 tries; `one` takes 1,000,000 at most.)
 
 Without a choice 1,000 inputs are run. A failure is printed with its number: `--seed S --first NUMBER --runs 1` runs it again. The last line that is printed is
 'fuzz: N passed, M failed', and the exit status is 0 where M is 0.
