@@ -61,8 +61,11 @@ fn opened<R: Files>(rt: &R, name: &str) -> Result<R::File, ServeError> {
             Ok(found) if found.is_dir() => Err(ServeError::Input(InputFault::Folder)),
             _ => Ok(file),
         },
-        Err(error) if error.kind() == NotFound => Err(ServeError::Input(InputFault::NoFile)),
-        Err(_) => Err(ServeError::Read),
+        Err(error) => Err(match error.kind() {
+            NotFound => ServeError::Input(InputFault::NoFile),
+            OutOfMemory => ServeError::Memory,
+            _ => ServeError::Read,
+        }),
     }
 }
 

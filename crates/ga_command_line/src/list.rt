@@ -10,9 +10,7 @@ const HELP: &str = "\
 Reads source text from FILE, or from standard input where FILE is left out or is -. Writes for each
 node the line that asm writes for it, and then a line for each word: its address, the word, whether it
 is code, a follower or data, the line of the text in which it begins, and what it reads as, with labels
-for destinations. Each label stands on a line of its own in front of its word.
-
-In a fault the line of the text and a caret under the place are shown behind the line that names it.
+for destinations. Each label stands on a line of its own in front of its word, or behind the last one.
 
 Example: printf 'node 709 main: dup jump main' | ga-bench list
 More: Listings in docs/FORMATS.md";
