@@ -12,25 +12,25 @@ use Rattle.ga_source.specs.Item.{item_of}
 use Rattle.ga_source.specs.Program.{item_place, item_place_of, items_at, section_in, sections_in}
 use Rattle.ga_source.specs.Token.{place_of}
 use Rattle.ga_source.specs.Section.{section_of}
-use Rattle.ga_asm.specs.Places.{first_items, numbers_in_group}
+use Rattle.ga_asm.specs.Places.{first_items, indices_in_group}
 use Rattle.ga_asm.specs.inner.Layout.{plain}
 
 -- a group more, of the items that are left
-pub groups_next : (counts : List ℕ) (index at total : ℕ) (rest front back : List an.Item) (numbers more all : List ℕ) → index < length counts
+pub groups_next : (counts : List ℕ) (index at total : ℕ) (rest front back : List an.Item) (indices more all : List ℕ) → index < length counts
     → front ≡ take (get_or counts index 0) rest → back ≡ drop (get_or counts index 0) rest → at + length rest ≡ total
-    → numbers ++ first_items at (drop index counts) (plain rest) ≡ all → more ≡ numbers ++ numbers_in_group at (plain front)
+    → indices ++ first_items at (drop index counts) (plain rest) ≡ all → more ≡ indices ++ indices_in_group at (plain front)
     → (at + length front + length back ≡ total) × (more ++ first_items (at + length front) (drop (index + 1) counts) (plain back) ≡ all)
-groups_next counts index at total rest front back numbers more all h front_is back_is count is more_is =
+groups_next counts index at total rest front back indices more all h front_is back_is count is more_is =
     let n = get_or counts index 0 in
     let cut : drop index counts ≡ n ∷ drop (suc index) counts = drop-cons counts index 0 h in
     let front' : plain front ≡ take n (plain rest) = ap plain front_is ∙ sym (take-map item_of n rest) in
     let back' : plain back ≡ drop n (plain rest) = ap plain back_is ∙ sym (drop-map item_of n rest) in
     let size : length front ≡ length (take n (plain rest)) = sym (length-map front item_of) ∙ ap length front' in
     let others = drop (suc index) counts in
-    let group = numbers_in_group at (plain front) in
+    let group = indices_in_group at (plain front) in
     let step : first_items at (drop index counts) (plain rest) ≡ group ++ first_items (at + length front) others (plain back) =
     ap (λ cs. first_items at cs (plain rest)) cut
-    ∙ ap (λ g. numbers_in_group at g ++ first_items (at + length (take n (plain rest))) others (drop n (plain rest))) (sym front')
+    ∙ ap (λ g. indices_in_group at g ++ first_items (at + length (take n (plain rest))) others (drop n (plain rest))) (sym front')
     ∙ ap (λ k. group ++ first_items (at + k) others (drop n (plain rest))) (sym size)
     ∙ ap (λ b. group ++ first_items (at + length front) others b) (sym back') in
     let whole : length front + length back ≡ length rest =
@@ -39,7 +39,7 @@ groups_next counts index at total rest front back numbers more all h front_is ba
     let next : index + 1 ≡ suc index = omega arith in (
       omega arith,
       ap (λ k. more ++ first_items (at + length front) (drop k counts) (plain back)) next ∙ ap (λ m. m ++ first_items (at + length front) others (plain back)) more_is
-          ∙ append_assoc numbers group (first_items (at + length front) others (plain back)) ∙ ap (λ t. numbers ++ t) (sym step) ∙ is,
+          ∙ append_assoc indices group (first_items (at + length front) others (plain back)) ∙ ap (λ t. indices ++ t) (sym step) ∙ is,
     )
 
 abbrev pub items_in : (entry : ℕ × written.Section) → List an.Item

@@ -5,25 +5,25 @@ use Rattle.ga_pack.specs.Model.Source.{Item, Literal, makes_word}
 use Rattle.ga_pack.specs.Model.Text.{Place}
 
 -- A word begins with the item that it is laid for: the word that items share with the first of them, and each follower
--- of it with its number. Items are told by their numbers from 0.
-abbrev pub literal_number : ℕ → Item → List ℕ
-literal_number at (Literal n) = at ∷ []
-literal_number at i = []
+-- of it with its number. Items are told by their indices from 0.
+abbrev pub literal_index : ℕ → Item → List ℕ
+literal_index at (Literal n) = at ∷ []
+literal_index at i = []
 
-abbrev pub literal_numbers : ℕ → List Item → List ℕ
-literal_numbers at [] = []
-literal_numbers at (i ∷ is) = literal_number at i ++ literal_numbers (suc at) is
+abbrev pub literal_indices : ℕ → List Item → List ℕ
+literal_indices at [] = []
+literal_indices at (i ∷ is) = literal_index at i ++ literal_indices (suc at) is
 
--- the items with which the words of a group begin, where the first of the group has this number
-abbrev pub numbers_in_group : ℕ → List Item → List ℕ
-numbers_in_group at [] = []
-numbers_in_group at (i ∷ is) = (if makes_word i then at ∷ [] else []) ++ literal_numbers at (i ∷ is)
+-- the items with which the words of a group begin, where the first of the group has this index
+abbrev pub indices_in_group : ℕ → List Item → List ℕ
+indices_in_group at [] = []
+indices_in_group at (i ∷ is) = (if makes_word i then at ∷ [] else []) ++ literal_indices at (i ∷ is)
 
 -- the same of groups of so many items each
 abbrev pub first_items : ℕ → List ℕ → List Item → List ℕ
 first_items at [] items = []
 first_items at (count ∷ counts) items =
-    numbers_in_group at (take count items) ++ first_items (at + length (take count items)) counts (drop count items)
+    indices_in_group at (take count items) ++ first_items (at + length (take count items)) counts (drop count items)
 
 -- where the words of a node begin, of which these are the items, in groups of so many each
 unfoldable pub word_places : List ℕ → List PlacedItem → List Place

@@ -1,7 +1,9 @@
 ghost use Rattle.std.specs.Prelude.{◌≡◌, ◌++◌, ◌<◌, ◌≤◌, ℕ, OnOk, length, map, string_bytes, true};
+ghost use Rattle.ga_pack.specs.Model.Layout.{address_of};
 ghost use Rattle.ga_asm.specs.Image.{ImageView, all_near, image_line, labels_of};
 ghost use Rattle.ga_asm.specs.inner.Image.{Fits};
 
+use crate::reach::address_of;
 use ga_place::Node;
 use ga_word::{Hex3, Word18};
 use indexmap::IndexMap;
@@ -77,6 +79,13 @@ impl Image {
         ensures bound { all_near self.now.labels ≡ true }
     {
         &self.labels
+    }
+
+    /// The address of a label, if it is one of the image's.
+    pub fn address_of(&self, label: &str) -> Option<u8>
+        ensures { result ≡ address_of self.now.labels label.now }
+    {
+        address_of(&self.labels, label)
     }
 
     /// How many items of the node's text each of its groups has, in order: items outside brackets

@@ -3,8 +3,8 @@ ghost use Rattle.std.specs.Prelude.{◌≡◌, ◌+◌, ◌++◌, ◌≤◌, IfO
 ghost use Rattle.ga_pack.specs.Model.Program as model;
 ghost use Rattle.ga_source.specs.Program.{items_at};
 ghost use Rattle.ga_source.specs.Token.{place_of};
-ghost use Rattle.ga_asm.specs.Places as laid;
-ghost use Rattle.ga_asm.specs.Places.{literal_numbers, numbers_in_group};
+ghost use Rattle.ga_asm.specs.Places as spec;
+ghost use Rattle.ga_asm.specs.Places.{indices_in_group, literal_indices};
 ghost use Rattle.ga_asm.specs.inner.Layout.{plain};
 
 use crate::image::Image;
@@ -22,14 +22,14 @@ pub fn word_places(
     image: &Image,
 ) -> Result<Vec<Place>, AllocError>
     ensures { IfOk result (λ places. map place_of places.items
-        ≡ laid.word_places image.now.item_counts (items_at program.now section)) }
+        ≡ spec.word_places image.now.item_counts (items_at program.now section)) }
 {
     let found = program.places(alloc, section)?;
     let items = items_of(program, section);
-    let numbers = first_items(alloc, image.item_counts(), items)?;
-    let mut places = Vec::with_capacity(alloc, numbers.len())?;
-    for number in &numbers {
-        places.push(place_at(&found, *number))?;
+    let indices = first_items(alloc, image.item_counts(), items)?;
+    let mut places = Vec::with_capacity(alloc, indices.len())?;
+    for index in &indices {
+        places.push(place_at(&found, *index))?;
     }
     Ok(places)
 }
@@ -44,30 +44,32 @@ fn items_of<'a>(program: &'a Program<'_>, section: usize) -> &'a [Item]
     }
 }
 
-// The place of an item, by its number.
-fn place_at(places: &[ItemPlace], number: usize) -> Place
-    ensures { place_of result ≡ model.place_at (map (λ found. place_of found.place) places.now) number }
+// The place of an item, by its index.
+fn place_at(places: &[ItemPlace], index: usize) -> Place
+    ensures { place_of result
+        ≡ model.place_at (map (λ found. place_of found.place) places.now) index }
 {
-    match places.get(number) {
+    match places.get(index) {
         Some(found) => found.place,
         None => Place { line: 1, column: 1 },
     }
 }
 
-// The numbers of the items with which words begin, where groups have so many items each.
+// The indices of the items with which words begin, where groups have so many items each.
 fn first_items(alloc: Global, counts: &[usize], items: &[Item]) -> Result<Vec<usize>, AllocError>
-    ensures { IfOk result (λ numbers. numbers.items ≡ laid.first_items 0 counts.now (plain items.now)) }
+    ensures { IfOk result (λ indices. indices.items
+        ≡ spec.first_items 0 counts.now (plain items.now)) }
 {
-    let mut numbers = Vec::new(alloc);
+    let mut indices = Vec::new(alloc);
     let mut rest = items;
     let mut at = 0;
     for count in counts {
         let (group, behind) = split_front(rest, *count);
-        push_group(&mut numbers, at, group)?;
+        push_group(&mut indices, at, group)?;
         at += group.len();
         rest = behind;
     }
-    Ok(numbers)
+    Ok(indices)
 }
 
 // As many items as that, where there are so many, and those behind them.
@@ -78,27 +80,29 @@ fn split_front(items: &[Item], count: usize) -> (&[Item], &[Item])
     items.split_at(items.len().min(count))
 }
 
-// The numbers of the items with which the words of a group begin, the first of which has a number.
-fn push_group(numbers: &mut Vec<usize>, at: usize, group: &[Item]) -> Result<(), AllocError>
+// The indices of the items with which the words of a group begin, the first of which has an index.
+fn push_group(indices: &mut Vec<usize>, at: usize, group: &[Item]) -> Result<(), AllocError>
     requires { at + length group.now ≤ usize.MAX }
-    ensures { OnOk result (numbers.new.items ≡ numbers.old.items ++ numbers_in_group at (plain group.now)) }
+    ensures { OnOk result (indices.new.items
+        ≡ indices.old.items ++ indices_in_group at (plain group.now)) }
 {
     if let Some(first) = group.first() {
         if first.makes_word() {
-            numbers.push(at)?;
+            indices.push(at)?;
         }
     }
-    push_literals(numbers, at, group)
+    push_literals(indices, at, group)
 }
 
-// The numbers of the items that are numbers themselves, the first of which has a number.
-fn push_literals(numbers: &mut Vec<usize>, at: usize, items: &[Item]) -> Result<(), AllocError>
+// The indices of the items that are numbers, the first of which has an index.
+fn push_literals(indices: &mut Vec<usize>, at: usize, items: &[Item]) -> Result<(), AllocError>
     requires { at + length items.now ≤ usize.MAX }
-    ensures { OnOk result (numbers.new.items ≡ numbers.old.items ++ literal_numbers at (plain items.now)) }
+    ensures { OnOk result (indices.new.items
+        ≡ indices.old.items ++ literal_indices at (plain items.now)) }
 {
     for (index, item) in items.iter().enumerate() {
         if let Item::Literal(_) = item {
-            numbers.push(at + index)?;
+            indices.push(at + index)?;
         }
     }
     Ok(())

@@ -9,6 +9,7 @@ use ga_source::{Item, TransferWord, Value};
 use ga_word::{Op, Word18};
 use indexmap::IndexMap;
 
+/// The address of a label, if it is among these.
 pub(crate) fn address_of(labels: &IndexMap<String, u8>, name: &str) -> Option<u8>
     ensures { result ≡ laid.address_of (labels_of labels.now.entries) name.now }
 {

@@ -1,5 +1,5 @@
 -- Runs of the chip along a list of events, and the words written and taken in them.
-use Rattle.std.specs.Prelude.{ℕ, zero, suc, ◌%◌, ◌==◌, Bool, true, false, ◌&&◌, ◌||◌, set, slice_index_or, if◌then◌else◌, List, [], ◌∷◌, ◌++◌, map, take, Option, Some, None}
+use Rattle.std.specs.Prelude.{ℕ, zero, suc, ◌%◌, ◌==◌, Bool, true, false, ◌&&◌, ◌||◌, set, slice_index_or, if◌then◌else◌, List, [], ◌∷◌, ◌++◌, get_or, map, take, Option, Some, None}
 use Rattle.std.specs.Option.{option_map_or}
 use Rattle.std.specs.List.{filter, flat_map, range_with_len}
 use Rattle.ga_place.specs.Side.{SIDES}
@@ -49,6 +49,14 @@ turns_of count = flat_map (λ turn. turn_of (side_of_turn turn)) (range_with_len
 abbrev pub is_hold : Asks → Bool
 is_hold (Nothing Held) = true
 is_hold _ = false
+
+-- whether a node's tries are held, whatever side they name
+abbrev pub stands_held : Chip → ℕ → Bool
+stands_held chip name = option_map_or (λ part. is_hold (asks part Right)) (part_of chip name) false
+
+-- whether an address is a breakpoint of a node
+abbrev pub has_break : Chip → ℕ → ℕ → Bool
+has_break chip name at = option_map_or (λ part. get_or part.breaks at false) (part_of chip name) false
 
 -- a part with a breakpoint more or less, or with a pass where the node is held
 abbrev pub break_set : ℕ → Part → Part

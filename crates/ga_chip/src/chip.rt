@@ -9,7 +9,7 @@ ghost use Rattle.ga_chip.specs.Grow.{LedgersGrow};
 ghost use Rattle.ga_chip.specs.Legal.{IsLegal};
 ghost use Rattle.ga_chip.specs.Stream.{feed_refusal, left_of};
 ghost use Rattle.ga_chip.specs.Stuck.{HoldsEachClosed, IsClosed, has_node};
-ghost use Rattle.ga_chip.specs.Run.{ClearBreak, PassBreak, Piece, SetBreak, happened, moves, ran, tries_of, turn_of, turns_of};
+ghost use Rattle.ga_chip.specs.Run.{ClearBreak, PassBreak, Piece, SetBreak, happened, has_break, moves, ran, stands_held, tries_of, turn_of, turns_of};
 ghost use Rattle.ga_chip.specs.inner.Outcome.{moved_by};
 
 use crate::error::ChipError;
@@ -223,6 +223,21 @@ impl Chip {
         }
         self.awake.insert(index);
         Ok(())
+    }
+
+    /// Whether an address of nine bits is a breakpoint of a node. (Profile.)
+    pub fn has_break(&self, node: Node, address: u16) -> bool
+        requires { address < 2 ^ 9 }
+        ensures { result ≡ has_break self.now node address }
+    {
+        self.parts[node.index()].has_break(address)
+    }
+
+    /// Whether a node is held at a breakpoint: a try of it would be `Held`, whatever side it names. (Profile.)
+    pub fn is_held(&self, node: Node) -> bool
+        ensures { result ≡ stands_held self.now node }
+    {
+        self.parts[node.index()].stands_at_break()
     }
 
     /// One try of one node. A node that has stopped is `Stopped`; else one that is about to fetch at a breakpoint,

@@ -1,4 +1,4 @@
-ghost use Rattle.std.specs.Prelude.{◌≡◌, ◌≢◌, ℕ, ◌<◌, ◌^◌, false, true, if◌then◌else◌, IfSome, None, Some, Option, option_map};
+ghost use Rattle.std.specs.Prelude.{◌≡◌, ◌≢◌, ℕ, ◌<◌, ◌^◌, false, true, get_or, if◌then◌else◌, IfSome, None, Some, Option, option_map};
 ghost use Rattle.ga_place.specs.Cell.{cell_of, index_of, name_at, read_cell};
 ghost use Rattle.ga_place.specs.Side.{is_among, neighbour_of, one_side};
 ghost use Rattle.ga_place.specs.declared.side.Side.{Side};
@@ -439,13 +439,27 @@ impl NodePart {
         self.watch.clear(address);
     }
 
+    /// Whether an address is a breakpoint.
+    pub(crate) fn has_break(&self, address: u16) -> bool
+        requires { address < 2 ^ 9 }
+        ensures { result ≡ get_or self.now.breaks address false }
+    {
+        self.watch.has(address)
+    }
+
+    /// Whether the node's tries are held, whatever side they name.
+    pub(crate) fn stands_at_break(&self) -> bool
+        ensures { (side : Side) → result ≡ is_hold (asks self.now side) }
+    {
+        self.is_held(&self.state.need())
+    }
+
     /// Gives the node a pass, where it is held. Answers whether it was.
     pub(crate) fn pass_break(&mut self) -> bool
         ensures held { (side : Side) → result ≡ is_hold (asks self.old side) }
         ensures part { self.new ≡ break_passed self.old }
     {
-        let need = self.state.need();
-        let held = self.is_held(&need);
+        let held = self.stands_at_break();
         if held {
             self.watch.pass();
         }

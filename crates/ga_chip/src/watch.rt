@@ -56,6 +56,14 @@ impl Watch {
         place == Place::Fetch && !self.pass && self.breaks.has(p % 0x200)
     }
 
+    /// Whether an address is a breakpoint.
+    pub(crate) fn has(&self, address: u16) -> bool
+        requires { address < 2 ^ 9 }
+        ensures { result ≡ get_or self.now.breaks address false }
+    {
+        self.breaks.has(address)
+    }
+
     /// Makes an address a breakpoint.
     pub(crate) fn set(&mut self, address: u16)
         requires { address < 2 ^ 9 }

@@ -8,3 +8,4 @@ mod row;
 
 pub use labels::list_labels;
 pub use listing::list;
+pub use reading::label_at;

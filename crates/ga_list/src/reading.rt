@@ -80,9 +80,10 @@ fn push_spare(text: &mut String, spare: u8) -> Result<(), AllocError>
     Ok(())
 }
 
-/// The first label that has this address.
-fn label_at(labels: &IndexMap<String, u8>, address: u32) -> Option<&str>
-    ensures { option_map (λ name. name.now) result ≡ spec.label_at (labels_of labels.now.entries) address }
+/// The first of some labels that has this address.
+pub fn label_at(labels: &IndexMap<String, u8>, address: u32) -> Option<&str>
+    ensures { option_map (λ name. name.now) result
+        ≡ spec.label_at (labels_of labels.now.entries) address }
 {
     for (name, at) in labels {
         if u32::from(*at) == address {
@@ -92,8 +93,8 @@ fn label_at(labels: &IndexMap<String, u8>, address: u32) -> Option<&str>
     None
 }
 
-/// The address that a destination of the word at an address means: P behind the word's followers, of which it replaces
-/// the low bits, as many as it has.
+/// The address that a destination of the word at an address means: P behind the word's followers, of
+/// which it replaces the low bits, as many as it has.
 fn target(address: usize, packed: &Packed, dest: u16) -> u32
     requires { address < 64 }
     ensures { result ≡ spec.target address packed.now.ops.items dest }

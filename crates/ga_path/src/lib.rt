@@ -12,4 +12,5 @@ pub use error::{BootError, NamesError, RouteError};
 pub use names::read_nodes;
 pub use parts::Boot;
 pub use route::Route;
+pub use sequence::image_of;
 pub use stream::boot;

@@ -169,7 +169,7 @@ fn add_own_frame(
 }
 
 /// The image of a node, if it has one.
-fn image_of(images: &Images, node: Node) -> Option<&Image>
+pub fn image_of(images: &Images, node: Node) -> Option<&Image>
     ensures { option_copied result ≡ image_of images.now node }
 {
     images.images().get(&node)

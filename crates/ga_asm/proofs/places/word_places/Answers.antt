@@ -11,10 +11,10 @@ pub returns : goal.returns
 unfolding word_places
 returns c =
     let items = items_at c.args.program.now c.args.section in
-    let numbers = c.deref-number-items.result.now in
-    let all = take_all c.loop-number.number-index numbers (omega (arith, c.loop-number-test.false)) in
+    let indices = c.deref-index-items.result.now in
+    let all = take_all c.loop-index.index-index indices (omega (arith, c.loop-index-test.false)) in
     let own = own_places c.in_ok-found.found.items items c.in_ok-found.ensures in
-    c.loop-number.invariant
-    ∙ ap (λ ps. map (place_at ps) (take c.loop-number.number-index numbers)) own
-    ∙ ap (map (place_at (map (λ (i : PlacedItem). i.place) items))) (all ∙ c.deref-number-items.ensures.value ∙ c.in_ok-numbers.ensures
+    c.loop-index.invariant
+    ∙ ap (λ ps. map (place_at ps) (take c.loop-index.index-index indices)) own
+    ∙ ap (map (place_at (map (λ (i : PlacedItem). i.place) items))) (all ∙ c.deref-index-items.ensures.value ∙ c.in_ok-indices.ensures
     ∙ ap (λ l. first_items 0 l (plain c.items_of-items.result.now)) c.item_counts.ensures ∙ ap (λ l. first_items 0 c.args.image.now.item_counts l) c.items_of-items.ensures)
