@@ -5,5 +5,6 @@ pub mod Room
 pub mod Sources
 pub mod Heads
 pub mod OneReplay
+pub mod Loads
 pub mod FrameLoading
 mod WorkedSessions

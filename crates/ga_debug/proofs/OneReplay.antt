@@ -1,9 +1,10 @@
 -- Two answers to one replay text are equal.
 use Rattle.std.proofs.Common.{◌≡◌, ◌∙◌, ◌+◌, inl, inr, ℕ, List, Result, Ok, Err, ap, subst, sym}
-use Rattle.ga_asm.specs.Text.{AtMostOne}
+use Rattle.ga_asm.specs.Text.{AtMostOne, HasImages}
 use Rattle.ga_asm.proofs.OneAnswer.{one_answer}
 use Rattle.ga_chip.specs.Chip.{Chip}
-use Rattle.ga_debug.specs.Beginning.{IsBeginning, IsBegun, IsChipOf}
+use Rattle.ga_debug.specs.Beginning.{IsBeginning, IsBegun, IsChipOf, IsLoaded, Start, chip_of}
+use Rattle.ga_path.specs.Stream.{Images}
 use Rattle.ga_debug.specs.Head.{Head, head_in}
 use Rattle.ga_debug.specs.Replaying.{IsReplayed, IsReplayedFrom, lines_on, replay_result}
 use Rattle.ga_debug.specs.declared.replay_error.ReplayError.{ReplayError}
@@ -41,6 +42,29 @@ one_begun text (Err one) (Err other) (inr (head, p, made)) (inl q) = cc
 one_begun text (Err one) (Err other) (inr (head, p, made)) (inr (head', q, made')) =
     let same = one_head text head head' p q in
     cc (one_chip_of head' (Err one) (Err other) (subst (λ (h : Head). IsChipOf h (Err one)) same made) made')
+
+same_start : (one other : Start) → one.images ≡ other.images → one.chip ≡ other.chip → one.line ≡ other.line → one.commands ≡ other.commands → one ≡ other
+same_start one other images chips lines behind =
+    ap (λ (is : Images). record one { images = is }) images
+    ∙ ap (λ (c : Chip). record one { images = other.images; chip = c }) chips
+    ∙ ap (λ (l : ℕ). record one { images = other.images; chip = other.chip; line = l }) lines
+    ∙ ap (λ (cs : List (List ℕ)). record other { commands = cs }) behind
+
+pub one_loaded : (text : List ℕ) → AtMostOne (IsLoaded text)
+one_loaded text (Ok one) (Ok other) (head, p, has, made, line, commands) (head', q, has', made', line', commands') =
+    let heads : head ≡ head' = one_head text head head' p q in
+    let images : one.images ≡ other.images =
+    cc (one_answer head'.source (Ok one.images) (Ok other.images) (subst (λ (h : Head). HasImages h.source one.images) heads has) has') in
+    let chips : one.chip ≡ other.chip =
+    cc (sym made ∙ ap (λ (h : Head). chip_of h.loading one.images) heads ∙ ap (chip_of head'.loading) images ∙ made') in
+    let lines : one.line ≡ other.line = sym line ∙ ap (λ (h : Head). h.line) heads ∙ line' in
+    let behind : one.commands ≡ other.commands = sym commands ∙ ap (λ (h : Head). h.commands) heads ∙ commands' in
+    ap Ok (same_start one other images chips lines behind)
+one_loaded text (Ok one) (Err other) (head, p, has, made, line, commands) q =
+    absurd (cc (one_begun text (Ok (one.chip, head)) (Err other) (p, (one.images, has, made)) q))
+one_loaded text (Err one) (Ok other) p (head, q, has, made, line, commands) =
+    absurd (cc (one_begun text (Err one) (Ok (other.chip, head)) p (q, (other.images, has, made))))
+one_loaded text (Err one) (Err other) p q = cc (one_begun text (Err one) (Err other) p q)
 
 pub one_beginning : (text : List ℕ) → AtMostOne (IsBeginning text)
 one_beginning text (Ok (chip, line)) (Ok (chip', line')) (head, p, is) (head', q, is') =

@@ -7,6 +7,7 @@ use Rattle.ga_path.specs.Route.{route_fault}
 use Rattle.ga_path.specs.Stream.{Images, load_of, start_of, unreached}
 use Rattle.ga_path.specs.declared.error.BootError.TheVariants.{Unreached}
 use Rattle.ga_path.specs.declared.error.RouteError.{RouteError}
+use Rattle.ga_debug.specs.declared.beginning.Loaded.{Loaded}
 use Rattle.ga_debug.specs.declared.replay_error.ReplayError.{ReplayError}
 use Rattle.ga_debug.specs.declared.replay_error.ReplayError.TheVariants.{Boot}
 use Rattle.ga_debug.specs.ReplayError.{fault_of_route, fault_of_text}
@@ -51,6 +52,24 @@ IsChipOf head (Err fault) =
 abbrev pub IsBegun : List ℕ → Result (Chip × Head) ReplayError → Type 0
 IsBegun text (Ok (chip, head)) = (head_in text ≡ Ok head) × IsChipOf head (Ok chip)
 IsBegun text (Err fault) = (head_in text ≡ Err fault) ⊎ ((head : Head) × (head_in text ≡ Ok head) × IsChipOf head (Err fault))
+
+-- What a text begins with: a chip, the images that are loaded into it, the number of the line `go`, and the lines behind
+-- it.
+pub record Start : Type 0 where
+  pub chip : Chip
+  pub images : Images
+  pub line : ℕ
+  pub commands : List (List ℕ)
+
+abbrev pub start_view : Loaded → Start
+start_view loaded = record { chip = loaded.chip; images = loaded.images; line = loaded.line; commands = loaded.lines }
+
+-- the chip after the head of a text, with its images; or the first fault
+abbrev pub IsLoaded : List ℕ → Result Start ReplayError → Type 0
+IsLoaded text (Ok start) =
+    (head : Head) × (head_in text ≡ Ok head) × HasImages head.source start.images × (chip_of head.loading start.images ≡ Ok start.chip)
+    × (head.line ≡ start.line) × (head.commands ≡ start.commands)
+IsLoaded text (Err fault) = IsBegun text (Err fault)
 
 -- The chip after the head of a text, and the number of its line `go`; or the first fault.
 abbrev pub IsBeginning : List ℕ → Result (Chip × ℕ) ReplayError → Type 0

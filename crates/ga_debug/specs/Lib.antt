@@ -3,6 +3,7 @@ pub mod Word
 pub mod Command
 pub mod Action
 pub mod Session
+pub mod Error
 pub mod ReplayError
 pub mod Head
 pub mod Beginning

@@ -1,5 +1,5 @@
 -- What only the proof of this crate speaks of: no contract of an exported function rests on it.
 pub mod HeadView
-pub mod ReplayError
 pub mod Pieces
+pub mod ReplayError
 pub mod Command

@@ -2,7 +2,7 @@ use std::marker::Model;
 
 /// An address of nine bits. A contract sees it as its number.
 #[derive(Clone, Copy)]
-pub(crate) struct Address {
+pub struct Address {
     number: u16,
 }
 
@@ -23,7 +23,7 @@ impl Address {
     ghost use Rattle.std.specs.Option.{SomeIff};
 
     /// The address with this number, or `None` from 200 (hexadecimal) up.
-    pub(crate) fn new(number: u16) -> Option<Self>
+    pub fn new(number: u16) -> Option<Self>
         ensures { SomeIff result (number < 2 ^ 9) number }
     {
         if number < 1 << 9 {
@@ -34,7 +34,7 @@ impl Address {
     }
 
     /// Its number, below 200.
-    pub(crate) fn get(self) -> u16
+    pub fn get(self) -> u16
         ensures value { result ≡ self }
         ensures bound { result < 2 ^ 9 }
     {

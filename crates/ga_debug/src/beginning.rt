@@ -1,12 +1,13 @@
-ghost use Rattle.std.specs.Prelude.{◌≡◌, ℕ, IfErr, IfOk, None, Some};
+ghost use Rattle.std.specs.Prelude.{◌≡◌, ◌+◌, ◌<◌, ◌^◌, ℕ, IfErr, IfOk, None, Some, length, option_map};
 ghost use Rattle.ga_asm.specs.Text.{AtMostOne};
 ghost use Rattle.ga_path.specs.Stream.{IsBootFault, unreached};
-ghost use Rattle.ga_debug.specs.Beginning.{IsBeginning, IsChipOf, booted, chip_of};
+ghost use Rattle.ga_debug.specs.Beginning.{IsBeginning, IsChipOf, IsLoaded, booted, chip_of, start_view};
 ghost use Rattle.ga_debug.specs.ReplayError.{Answers};
 ghost use Rattle.ga_debug.specs.inner.ReplayError.{Gives};
 ghost use Rattle.ga_debug.specs.inner.HeadView.{head_view};
 
 use crate::head::{Head, head_of};
+use crate::pieces::Pieces;
 use crate::replay_error::ReplayError;
 use crate::session::Session;
 use ga_asm::{Images, assemble_text};
@@ -14,6 +15,40 @@ use ga_chip::Chip;
 use ga_path::{BootError, Route, boot};
 use ga_place::Node;
 use std::alloc::Global;
+
+/// What the head of a replay text leads to.
+#[derive(Drop)]
+pub struct Loaded<'a> {
+    /// The chip, into which the images are loaded.
+    pub chip: Chip,
+    /// The images of the source text of the head.
+    pub images: Images,
+    /// The number of the line `go`, counted from 1.
+    pub line: u64,
+    /// The lines behind it.
+    pub lines: Pieces<'a>,
+}
+
+/// What the head of a replay text leads to, or the first fault. What stands behind the line `go` isn't looked at. It
+/// fails as [`ReplayError::Memory`] only where memory is refused. (The texts are this project's own: profile.)
+#[tactic(auto, using(crate::proofs::OneReplay::one_loaded))]
+pub fn load<'a>(alloc: Global, text: &'a str) -> Result<Loaded<'a>, ReplayError>
+    ensures loaded { Answers start_view (IsLoaded text.now) result }
+    // the lines of a text can be counted
+    ensures room { IfOk result (λ loaded. loaded.line + 1 + length loaded.lines < 2 ^ 64) }
+    // a text leads to one chip, or to one first fault
+    ensures only { AtMostOne (IsLoaded text.now) }
+{
+    let head = head_of(alloc, text)?;
+    let images = assemble_text(alloc, head.source.as_str())?;
+    let chip = loaded_chip(alloc, head.nodes.as_deref(), &images)?;
+    Ok(Loaded {
+        chip,
+        images,
+        line: head.line,
+        lines: head.lines,
+    })
+}
 
 /// A session over the chip that the head of a replay text leads to, and the number of its line `go`, counted
 /// from 1; or the first fault. What stands behind the line `go` isn't looked at. It fails as
@@ -34,9 +69,16 @@ pub(crate) fn chip_after(alloc: Global, head: &Head<'_>) -> Result<Chip, ReplayE
     ensures { Answers (λ chip. chip) (IsChipOf (head_view head.now)) result }
 {
     let images = assemble_text(alloc, head.source.as_str())?;
-    match &head.nodes {
-        None => all_placed(alloc, &images),
-        Some(nodes) => routed_chip(alloc, nodes, &images),
+    loaded_chip(alloc, head.nodes.as_deref(), &images)
+}
+
+/// A chip into which images are loaded: along a route of these nodes, or else each in its node.
+fn loaded_chip(alloc: Global, nodes: Option<&[Node]>, images: &Images) -> Result<Chip, ReplayError>
+    ensures { Gives (λ chip. chip) result (chip_of (option_map (λ list. list.now) nodes.entry) images.now) }
+{
+    match nodes {
+        None => all_placed(alloc, images),
+        Some(nodes) => routed_chip(alloc, nodes, images),
     }
 }
 

@@ -1,7 +1,6 @@
 ghost use Rattle.std.specs.Prelude.{◌≡◌};
 ghost use Rattle.ga_debug.specs.Command.{action_first, address_first, arguments, command_first, command_in, first_word, node_first, view_first};
 ghost use Rattle.ga_debug.specs.inner.Command.{Reads};
-ghost use Rattle.ga_debug.specs.inner.Pieces.{pieces_left};
 ghost use Rattle.ga_debug.specs.Word.{count_of, side_of};
 ghost use Rattle.ga_debug.specs.declared.error.DebugError.TheVariants.{BadCount, BadSide};
 
@@ -37,7 +36,7 @@ pub(crate) fn command_in(line: &str) -> Result<Command, DebugError>
 /// The command that words begin with.
 #[tactic(auto, unfolding(crate::specs::Command::command_first))]
 fn command_first(words: &mut Pieces<'_>) -> Result<Command, DebugError>
-    ensures { Reads (command_first (pieces_left words.old)) result (pieces_left words.new) }
+    ensures { Reads (command_first words.old) result words.new }
 {
     let Some(word) = words.next() else {
         return Err(DebugError::BadCommand);
@@ -56,7 +55,7 @@ fn command_first(words: &mut Pieces<'_>) -> Result<Command, DebugError>
 /// The action that words begin with.
 #[tactic(auto, unfolding(crate::specs::Command::action_first))]
 pub(crate) fn action_first(words: &mut Pieces<'_>) -> Result<Action, DebugError>
-    ensures { Reads (action_first (pieces_left words.old)) result (pieces_left words.new) }
+    ensures { Reads (action_first words.old) result words.new }
 {
     let Some(word) = words.next() else {
         return Err(DebugError::BadCommand);
@@ -70,7 +69,7 @@ pub(crate) fn action_first(words: &mut Pieces<'_>) -> Result<Action, DebugError>
 /// An action behind its name.
 #[tactic(auto, unfolding(crate::specs::Command::arguments))]
 fn arguments(verb: Verb, words: &mut Pieces<'_>) -> Result<Action, DebugError>
-    ensures { Reads (arguments verb (pieces_left words.old)) result (pieces_left words.new) }
+    ensures { Reads (arguments verb words.old) result words.new }
 {
     match verb {
         Verb::Break => {
@@ -100,7 +99,7 @@ fn arguments(verb: Verb, words: &mut Pieces<'_>) -> Result<Action, DebugError>
 }
 
 fn node_first(words: &mut Pieces<'_>) -> Result<Node, DebugError>
-    ensures { Reads (node_first (pieces_left words.old)) result (pieces_left words.new) }
+    ensures { Reads (node_first words.old) result words.new }
 {
     let Some(word) = words.next() else {
         return Err(DebugError::BadNode);
@@ -109,7 +108,7 @@ fn node_first(words: &mut Pieces<'_>) -> Result<Node, DebugError>
 }
 
 fn address_first(words: &mut Pieces<'_>) -> Result<Address, DebugError>
-    ensures { Reads (address_first (pieces_left words.old)) result (pieces_left words.new) }
+    ensures { Reads (address_first words.old) result words.new }
 {
     let Some(word) = words.next() else {
         return Err(DebugError::BadAddress);
@@ -118,8 +117,7 @@ fn address_first(words: &mut Pieces<'_>) -> Result<Address, DebugError>
 }
 
 fn side_first(words: &mut Pieces<'_>) -> Result<Side, DebugError>
-    ensures { Reads (first_word side_of BadSide (pieces_left words.old)) result
-        (pieces_left words.new) }
+    ensures { Reads (first_word side_of BadSide words.old) result words.new }
 {
     let Some(word) = words.next() else {
         return Err(DebugError::BadSide);
@@ -128,8 +126,7 @@ fn side_first(words: &mut Pieces<'_>) -> Result<Side, DebugError>
 }
 
 fn count_first(words: &mut Pieces<'_>) -> Result<u32, DebugError>
-    ensures { Reads (first_word count_of BadCount (pieces_left words.old)) result
-        (pieces_left words.new) }
+    ensures { Reads (first_word count_of BadCount words.old) result words.new }
 {
     let Some(word) = words.next() else {
         return Err(DebugError::BadCount);

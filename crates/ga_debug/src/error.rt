@@ -1,4 +1,5 @@
 ghost use Rattle.std.specs.Prelude.{◌≡◌};
+ghost use Rattle.ga_debug.specs.Error.{fault_name};
 ghost use Rattle.ga_debug.specs.declared.error.DebugError.TheVariants.{Memory};
 
 use std::alloc::AllocError;
@@ -28,6 +29,23 @@ pub enum DebugError {
     /// Memory ran out.
     #[error("Memory")]
     Memory,
+}
+
+impl DebugError {
+    /// Its name, as replies tell it.
+    pub fn name(self) -> &'static str
+        ensures { result.now ≡ fault_name self }
+    {
+        match self {
+            DebugError::BadCommand => "BadCommand",
+            DebugError::BadNode => "BadNode",
+            DebugError::BadAddress => "BadAddress",
+            DebugError::BadSide => "BadSide",
+            DebugError::BadCount => "BadCount",
+            DebugError::NotHeld => "NotHeld",
+            DebugError::Memory => "Memory",
+        }
+    }
 }
 
 impl From<AllocError> for DebugError {

@@ -2,7 +2,6 @@ ghost use Rattle.std.specs.Prelude.{◌≡◌, ◌+◌, ◌<◌, ◌^◌, IfOk, 
 ghost use Rattle.ga_debug.specs.inner.ReplayError.{Gives};
 ghost use Rattle.ga_debug.specs.Head.{Loading, head_in, loading_in, up_to_go};
 ghost use Rattle.ga_debug.specs.inner.HeadView.{head_view, head_with};
-ghost use Rattle.ga_debug.specs.inner.Pieces.{pieces_left};
 ghost use Rattle.ga_debug.specs.declared.replay_error.ReplayError.TheVariants.{BadRoute};
 
 use crate::pieces::Pieces;
@@ -28,7 +27,7 @@ pub(crate) struct Head<'a> {
 #[tactic(auto, unfolding(crate::specs::Head::head_in))]
 pub(crate) fn head_of<'a>(alloc: Global, text: &'a str) -> Result<Head<'a>, ReplayError>
     ensures head { Gives head_view result (head_in text.now) }
-    ensures room { IfOk result (λ head. head.line + 1 + length (pieces_left head.lines) < 2 ^ 64) }
+    ensures room { IfOk result (λ head. head.line + 1 + length head.lines < 2 ^ 64) }
 {
     // From the text's length the proof has that its lines can be counted.
     let _length = text.len();
@@ -54,11 +53,11 @@ pub(crate) fn head_of<'a>(alloc: Global, text: &'a str) -> Result<Head<'a>, Repl
 
 /// The source lines up to the line `go`, and its number, where the first line has the number 3.
 fn source_of(alloc: Global, lines: &mut Pieces<'_>) -> Result<(String, u64), ReplayError>
-    requires { 4 + length (pieces_left lines.old) < 2 ^ 64 }
+    requires { 4 + length lines.old < 2 ^ 64 }
     ensures head { (loading : Loading)
-        → Gives (λ found. head_with loading found (pieces_left lines.new)) result
-        (up_to_go loading 3 (pieces_left lines.old)) }
-    ensures room { IfOk result (λ found. found.1 + 1 + length (pieces_left lines.new) < 2 ^ 64) }
+        → Gives (λ found. head_with loading found lines.new) result
+        (up_to_go loading 3 lines.old) }
+    ensures room { IfOk result (λ found. found.1 + 1 + length lines.new < 2 ^ 64) }
 {
     let mut source = String::new(alloc);
     let mut number = 3;

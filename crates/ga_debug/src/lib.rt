@@ -13,8 +13,11 @@ mod replaying;
 mod session;
 mod word;
 
-pub use beginning::{begin, booted};
+pub use address::Address;
+pub use beginning::{Loaded, begin, booted, load};
 pub use error::DebugError;
+pub use pieces::Pieces;
 pub use replay_error::ReplayError;
 pub use replaying::replay;
-pub use session::Session;
+pub use session::{Session, reply_to};
+pub use word::{address_of, count_of};

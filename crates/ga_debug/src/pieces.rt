@@ -1,21 +1,33 @@
-ghost use Rattle.std.specs.Prelude.{◌<◌};
+use std::marker::Model;
 
-/// What stands between a separator in a text, from the front: the words of a line, or the lines of a text.
+/// What stands between a separator in a text, from the front: the words of a line, or the lines of a text. Two
+/// separators side by side have an empty piece between them, and a separator at an end of the text has one there. A
+/// contract sees the pieces that are left.
 #[derive(Drop)]
-pub(crate) struct Pieces<'a> {
+pub struct Pieces<'a> {
     rest: Option<&'a str>,
     separator: char,
-    ghost ascii: { separator < 128 },
+}
+
+impl<'a> Model for Pieces<'a> {
+    ghost use Rattle.std.specs.Prelude.{ℕ, ◌<◌, List};
+    ghost use Rattle.ga_debug.specs.inner.Pieces.{pieces_in};
+
+    ghost Value = { List (List ℕ) };
+
+    ghost view = { λ pieces. pieces_in pieces.separator pieces.rest };
+
+    ghost invariant = { λ pieces. pieces.separator < 128 };
 }
 
 impl<'a> Pieces<'a> {
     ghost use Rattle.std.specs.Prelude.{◌≡◌, ◌<◌};
     ghost use Rattle.ga_debug.specs.Pieces.{pieces};
-    ghost use Rattle.ga_debug.specs.inner.Pieces.{pieces_left};
 
-    pub(crate) fn new(text: &'a str, separator: char) -> Self
+    /// The pieces of a text. The separator is a character of ASCII.
+    pub fn new(text: &'a str, separator: char) -> Self
         requires { separator < 128 }
-        ensures { pieces_left result ≡ pieces separator text.now }
+        ensures { result ≡ pieces separator text.now }
     {
         Pieces {
             rest: Some(text),
@@ -26,13 +38,12 @@ impl<'a> Pieces<'a> {
 
 impl<'a> Iterator for Pieces<'a> {
     ghost use Rattle.std.specs.Iterator.{YieldsFirstRef, item_count};
-    ghost use Rattle.ga_debug.specs.inner.Pieces.{pieces_left};
 
     type Item = &'a str;
 
-    ghost next_gives = { YieldsFirstRef pieces_left };
+    ghost next_gives = { YieldsFirstRef (λ left. left) };
 
-    ghost remaining = { item_count pieces_left };
+    ghost remaining = { item_count (λ left. left) };
 
     fn next(&mut self) -> Option<&'a str> {
         let text = self.rest?;

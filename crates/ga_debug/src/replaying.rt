@@ -1,7 +1,6 @@
 ghost use Rattle.std.specs.Prelude.{◌≡◌, ◌+◌, ◌<◌, ◌≤◌, ◌^◌, IfErr, IfOk, Err, Ok, length};
 ghost use Rattle.ga_asm.specs.Text.{AtMostOne};
 ghost use Rattle.ga_debug.specs.ReplayError.{Answers};
-ghost use Rattle.ga_debug.specs.inner.Pieces.{pieces_left};
 ghost use Rattle.ga_debug.specs.Replaying.{IsReplayed, comparisons, fault_of_line, is_same, line_on, lines_on, same_outcome, stated_answer, word_behind_sign};
 
 use crate::action::{Action, Answer, perform};
@@ -54,8 +53,8 @@ pub fn replay(alloc: Global, text: &str) -> Result<u64, ReplayError>
 
 /// Goes along lines, of which the first has a number.
 fn follow(mut chip: Chip, first: u64, lines: Pieces<'_>) -> Result<u64, LineError>
-    requires { first + length (pieces_left lines) < 2 ^ 64 }
-    ensures { result ≡ lines_on first 0 chip (pieces_left lines.entry) }
+    requires { first + length lines < 2 ^ 64 }
+    ensures { result ≡ lines_on first 0 chip lines.entry }
 {
     let mut line = first;
     let mut count = 0;
@@ -99,7 +98,7 @@ fn line_on(chip: &mut Chip, line: u64, text: &str) -> Result<u64, LineError>
 /// What is stated behind an action.
 #[tactic(auto, unfolding(crate::specs::Replaying::stated_answer))]
 fn stated_answer(action: &Action, words: &mut Pieces<'_>) -> Result<Answer, DebugError>
-    ensures { result ≡ stated_answer action.now (pieces_left words.old) }
+    ensures { result ≡ stated_answer action.now words.old }
 {
     match action {
         Action::Try { .. } => {
@@ -125,8 +124,8 @@ fn stated_answer(action: &Action, words: &mut Pieces<'_>) -> Result<Answer, Debu
 
 /// The word behind `=`, with nothing behind it.
 fn word_behind_sign<'a>(words: &mut Pieces<'a>) -> Result<&'a str, DebugError>
-    ensures word { IfOk result (λ word. word_behind_sign (pieces_left words.old) ≡ Ok word.now) }
-    ensures bad { IfErr result (λ fault. word_behind_sign (pieces_left words.old) ≡ Err fault) }
+    ensures word { IfOk result (λ word. word_behind_sign words.old ≡ Ok word.now) }
+    ensures bad { IfErr result (λ fault. word_behind_sign words.old ≡ Err fault) }
 {
     match (words.next(), words.next(), words.next()) {
         (Some(sign), Some(word), None) if sign == "=" => Ok(word),

@@ -45,16 +45,27 @@ impl Session {
         ensures chip { OnOk result (self.new ≡ after_line line.now self.old) }
         ensures same { OnErr result (self.new ≡ self.old) }
     {
-        match command_in(line)? {
-            Command::Act(action) => {
-                let text = String::with_capacity(alloc, ANSWER_LENGTH)?;
-                let answer = perform(&mut self.chip, action)?;
-                Ok(answer_in(text, answer))
-            }
-            Command::Show(view, node) => {
-                let text = view_text(alloc, &self.chip, view, node)?;
-                Ok(text)
-            }
+        reply_to(alloc, &mut self.chip, line)
+    }
+}
+
+/// The reply of a chip to a command, without an LF at its end: what a session over the chip replies, and does to it.
+pub fn reply_to(alloc: Global, chip: &mut Chip, line: &str) -> Result<String, DebugError>
+    ensures reply { IfOk result (λ text. reply_to line.now chip.old ≡ Ok (string_bytes text)) }
+    ensures refused { IfErr result (λ error. (error ≡ Memory)
+        ⊎ (reply_to line.now chip.old ≡ Err error)) }
+    ensures chip { OnOk result (chip.new ≡ after_line line.now chip.old) }
+    ensures same { OnErr result (chip.new ≡ chip.old) }
+{
+    match command_in(line)? {
+        Command::Act(action) => {
+            let text = String::with_capacity(alloc, ANSWER_LENGTH)?;
+            let answer = perform(chip, action)?;
+            Ok(answer_in(text, answer))
+        }
+        Command::Show(view, node) => {
+            let text = view_text(alloc, chip, view, node)?;
+            Ok(text)
         }
     }
 }

@@ -51,8 +51,8 @@ pub(crate) fn view_of(word: &[u8]) -> Option<View>
     Some(view)
 }
 
-/// The address that a word is, in three hex digits of either case.
-pub(crate) fn address_of(word: &[u8]) -> Option<Address>
+/// The address that a word is, in three hex digits of either case, up to 1FF.
+pub fn address_of(word: &[u8]) -> Option<Address>
     ensures { result ≡ address_of word.now }
 {
     let [a, b, c] = word else {
@@ -99,7 +99,7 @@ pub(crate) fn decimal_of(word: &[u8], most: usize) -> Option<u32>
 }
 
 /// The count of turns that a word is, in one to seven decimal digits, up to 1000000.
-pub(crate) fn count_of(word: &[u8]) -> Option<u32>
+pub fn count_of(word: &[u8]) -> Option<u32>
     ensures { result ≡ count_of word.now }
 {
     let number = decimal_of(word, 7)?;

@@ -5,7 +5,6 @@ use Rattle.std.specs.Str.{bytes_eq}
 use Rattle.ga_debug.specs.Head.{Loading, head_in, loaded_by, loading_in, up_to_go}
 use Rattle.ga_debug.specs.inner.HeadView.{head_view}
 use Rattle.ga_debug.specs.Pieces.{pieces}
-use Rattle.ga_debug.specs.inner.Pieces.{pieces_left}
 use Rattle.ga_debug.specs.declared.replay_error.ReplayError.TheVariants.{BadRoute}
 use Rattle.ga_debug.proofs.Heads.{bad_loading, behind_two_lines, fails_as, good_loading, hands_on}
 use Rattle.ga_debug.proofs.Room.{lines_left}
@@ -15,7 +14,7 @@ pub source_of-requires : goal.source_of-requires
 source_of-requires c =
     let text = c.args.text.now in
     let first = c.in-Some.profile.now in
-    let rest = pieces_left c.next-2.new.self in
+    let rest = c.next-2.new.self in
     let cut : pieces 10 text ≡ first ∷ c.in-Some-next.line.now ∷ rest = sym c.new-lines.ensures ∙ c.in-Some.ensures.steps ∙ ap (λ lines. first ∷ lines) c.in-Some-next.ensures.steps in
     let room = lines_left 10 text first (c.in-Some-next.line.now ∷ rest) cut in
     let is : first ≡ codes "profile 1" = search rules in
@@ -27,7 +26,7 @@ returns-in_err-nodes-clause-head c =
     let text = c.args.text.now in
     let first = c.in-Some.profile.now in
     let line = c.in-Some-next.line.now in
-    let rest = pieces_left c.next-2.new.self in
+    let rest = c.next-2.new.self in
     let cut : pieces 10 text ≡ first ∷ line ∷ rest = sym c.new-lines.ensures ∙ c.in-Some.ensures.steps ∙ ap (λ lines. first ∷ lines) c.in-Some-next.ensures.steps in
     let profile = not-false (bytes_eq first (codes "profile 1")) (sym c.ne.ensures ∙ c.if-ne.false) in
     let head = behind_two_lines text first line rest cut profile in
@@ -39,7 +38,7 @@ returns-in_err-source-clause-head c =
     let text = c.args.text.now in
     let first = c.in-Some.profile.now in
     let line = c.in-Some-next.line.now in
-    let rest = pieces_left c.next-2.new.self in
+    let rest = c.next-2.new.self in
     let cut : pieces 10 text ≡ first ∷ line ∷ rest = sym c.new-lines.ensures ∙ c.in-Some.ensures.steps ∙ ap (λ lines. first ∷ lines) c.in-Some-next.ensures.steps in
     let profile = not-false (bytes_eq first (codes "profile 1")) (sym c.ne.ensures ∙ c.if-ne.false) in
     let loading : Loading = option_map (λ list. list.items) c.in_ok-nodes.nodes in
@@ -53,7 +52,7 @@ returns-clause-head c =
     let text = c.args.text.now in
     let first = c.in-Some.profile.now in
     let line = c.in-Some-next.line.now in
-    let rest = pieces_left c.next-2.new.self in
+    let rest = c.next-2.new.self in
     let cut : pieces 10 text ≡ first ∷ line ∷ rest = sym c.new-lines.ensures ∙ c.in-Some.ensures.steps ∙ ap (λ lines. first ∷ lines) c.in-Some-next.ensures.steps in
     let profile = not-false (bytes_eq first (codes "profile 1")) (sym c.ne.ensures ∙ c.if-ne.false) in
     let loading : Loading = option_map (λ list. list.items) c.in_ok-nodes.nodes in

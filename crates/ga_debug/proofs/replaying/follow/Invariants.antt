@@ -1,9 +1,8 @@
 use Rattle.std.proofs.Common.{◌≡◌, ◌+◌, ◌<◌, ◌≤◌, ◌^◌, length}
-use Rattle.ga_debug.specs.inner.Pieces.{pieces_left}
 use Rattle.ga_debug.specs.Replaying.{lines_on}
 use Rattle.ga_debug.proofs.replaying.follow.Given as goal
 
 -- what comes of the lines that are left, and room to count them
 abbrev pub invariant-loop-text : goal.invariant-loop-text
 invariant-loop-text l =
-    (lines_on l.line l.count l.chip (pieces_left l.text-iterator) ≡ lines_on l.fn.first 0 l.fn.chip (pieces_left l.fn.lines)) × (l.line + length (pieces_left l.text-iterator) < 2 ^ 64) × (l.count ≤ l.line)
+    (lines_on l.line l.count l.chip l.text-iterator ≡ lines_on l.fn.first 0 l.fn.chip l.fn.lines) × (l.line + length l.text-iterator < 2 ^ 64) × (l.count ≤ l.line)
