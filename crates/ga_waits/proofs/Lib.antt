@@ -1,0 +1,7 @@
+pub mod Largest
+pub mod Rings
+pub mod Writing
+pub mod Lines
+pub mod Plain
+pub mod Reset
+mod Worked

@@ -1,0 +1,56 @@
+-- Where P is, told by a label of the node's image.
+use Rattle.std.specs.Prelude.{ℕ, ◌-◌, ◌==◌, ◌&&◌, nat_le, nat_lt, List, [], ◌∷◌, ◌++◌, Option, Some, None, if◌then◌else◌}
+use Rattle.std.specs.Fmt.{decimal}
+use Rattle.std.specs.Map.{lookup}
+use Rattle.ga_place.specs.declared.address.Where.{Where}
+use Rattle.ga_place.specs.declared.address.Where.TheVariants.{Ram, Rom, Ports, Io, Unmapped}
+use Rattle.ga_pack.specs.Model.Layout.{Labels}
+use Rattle.ga_asm.specs.Image.{ImageView}
+
+-- the image of a node, if it has one
+abbrev pub image_of : List (ℕ × ImageView) → ℕ → Option ImageView
+image_of images name = lookup (λ other. name == other) images
+
+-- the address found so far, or that of one more label, where that is at or before an index and behind the one found
+abbrev pub nearer : ℕ → Option ℕ → ℕ → Option ℕ
+nearer index None at = if nat_le at index then Some at else None
+nearer index (Some found) at = if nat_le at index && nat_lt found at then Some at else Some found
+
+abbrev pub nearest_from : ℕ → Option ℕ → Labels → Option ℕ
+nearest_from index found [] = found
+nearest_from index found (label ∷ labels) = nearest_from index (nearer index found label.1) labels
+
+-- the greatest address of a label at or before an index
+abbrev pub nearest : Labels → ℕ → Option ℕ
+nearest labels index = nearest_from index None labels
+
+-- the first label that has this address
+abbrev pub label_at : Labels → ℕ → Option (List ℕ)
+label_at [] address = None
+label_at (label ∷ labels) address = if label.1 == address then Some label.0 else label_at labels address
+
+-- how far P is behind a label
+abbrev pub distance_text : ℕ → List ℕ
+distance_text distance = if distance == 0 then [] else 43 ∷ decimal distance
+
+-- a label behind a blank
+abbrev pub name_text : Option (List ℕ) → ℕ → List ℕ
+name_text (Some name) distance = 32 ∷ name ++ distance_text distance
+name_text None distance = []
+
+abbrev pub text_at : Labels → ℕ → Option ℕ → List ℕ
+text_at labels index (Some at) = name_text (label_at labels at) (index - at)
+text_at labels index None = []
+
+-- the last label at or before an index of RAM, and how far the index is behind it
+unfoldable pub label_text : Labels → ℕ → List ℕ
+label_text labels index = text_at labels index (nearest labels index)
+
+-- only an address of RAM of a node that has an image is told so
+abbrev pub label_in : Option ImageView → Where → List ℕ
+label_in (Some image) (Ram index) = label_text image.labels index
+label_in (Some image) (Rom index) = []
+label_in (Some image) (Ports sides) = []
+label_in (Some image) Io = []
+label_in (Some image) Unmapped = []
+label_in None at = []

@@ -1,0 +1,51 @@
+-- The line of a node that has begun.
+use Rattle.std.specs.Prelude.{ℕ, Bool, List, [], ◌∷◌, codes, Option, Some, None, if◌then◌else◌}
+use Rattle.std.specs.List.{concat}
+use Rattle.ga_word.specs.Hex.{hex_digits}
+use Rattle.ga_word.specs.Op.{name_of}
+use Rattle.ga_place.specs.Address.{where_is}
+use Rattle.ga_place.specs.Node.{node_text}
+use Rattle.ga_node.specs.Line.{place_text}
+use Rattle.ga_node.specs.Need.{need_of}
+use Rattle.ga_node.specs.State.{State, op_at}
+use Rattle.ga_node.specs.declared.place.Place.{Place}
+use Rattle.ga_node.specs.declared.place.Place.TheVariants.{Fetch, Slot0, Slot1, Slot2, Slot3, Completion, Transfer, Count, Body}
+use Rattle.ga_asm.specs.Image.{ImageView}
+use Rattle.ga_chip.specs.Chip.{Chip, state_of}
+use Rattle.ga_chip.specs.Run.{stands_held}
+use Rattle.ga_waits.specs.Begun.{has_begun}
+use Rattle.ga_waits.specs.Label.{image_of, label_in}
+use Rattle.ga_waits.specs.Sides.{told_need}
+
+-- in front of a slot, the name of its opcode behind a blank
+abbrev pub op_text : Place → ℕ → List ℕ
+op_text Slot0 word = 32 ∷ name_of (op_at Slot0 word)
+op_text Slot1 word = 32 ∷ name_of (op_at Slot1 word)
+op_text Slot2 word = 32 ∷ name_of (op_at Slot2 word)
+op_text Slot3 word = 32 ∷ name_of (op_at Slot3 word)
+op_text Fetch word = []
+op_text Completion word = []
+op_text Transfer word = []
+op_text Count word = []
+op_text Body word = []
+
+-- what is told of a node at the end of its line, where it is so
+abbrev pub if_so : Bool → List ℕ → List ℕ
+if_so so text = if so then text else []
+
+-- The line of a node in a state: where it stands, what it needs and of whom, whether its tries are held, and whether it is
+-- stuck. The line's end isn't part of it.
+unfoldable pub wait_line : List (ℕ × ImageView) → Chip → Bool → ℕ → State → List ℕ
+wait_line images chip stuck name state =
+    concat (node_text name ∷ codes " P " ∷ hex_digits 3 state.p ∷ label_in (image_of images name) (where_is state.p)
+    ∷ codes " " ∷ place_text state.place ∷ op_text state.place state.word
+    ∷ told_need chip name (need_of state)
+    ∷ if_so (stands_held chip name) (codes ", held") ∷ if_so stuck (codes ", stuck") ∷ [])
+
+-- only a node that has begun has a line
+abbrev pub state_lines : List (ℕ × ImageView) → Chip → Bool → ℕ → Option State → List (List ℕ)
+state_lines images chip stuck name (Some state) = if has_begun name state then wait_line images chip stuck name state ∷ [] else []
+state_lines images chip stuck name None = []
+
+abbrev pub node_lines : List (ℕ × ImageView) → Chip → Bool → ℕ → List (List ℕ)
+node_lines images chip stuck name = state_lines images chip stuck name (state_of chip name)

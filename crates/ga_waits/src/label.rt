@@ -1,0 +1,105 @@
+//! Where P is, told by a label.
+ghost use Rattle.std.specs.Prelude.{◌≡◌, ◌++◌, OnOk, option_map, string_bytes};
+ghost use Rattle.std.specs.Option.{option_copied};
+ghost use Rattle.ga_asm.specs.Image.{labels_of};
+ghost use Rattle.ga_waits.specs.Label as spec;
+ghost use Rattle.ga_waits.specs.Label.{distance_text, label_in, label_text};
+
+use ga_asm::{Image, Images};
+use ga_place::{Node, Where};
+use indexmap::IndexMap;
+use std::alloc::AllocError;
+use std::fmt::Write;
+
+/// Adds the last label at or before what an address of a node reaches, where that is in RAM and the node has an image.
+pub fn push_label(
+    text: &mut String,
+    images: &Images,
+    node: Node,
+    at: Where,
+) -> Result<(), AllocError>
+    ensures { OnOk result (string_bytes text.new
+        ≡ string_bytes text.old ++ label_in (spec.image_of images.now node) at) }
+{
+    let Some(image) = image_of(images, node) else {
+        return Ok(());
+    };
+    let Where::Ram(index) = at else {
+        return Ok(());
+    };
+    push_nearest(text, image.labels(), index)
+}
+
+/// The image of a node, if it has one.
+fn image_of(images: &Images, node: Node) -> Option<&Image>
+    ensures { option_copied result ≡ spec.image_of images.now node }
+{
+    images.images().get(&node)
+}
+
+/// Adds the last label at or before an index of RAM behind a space, and how far the index is behind it.
+#[tactic(auto, unfolding(crate::specs::Label::label_text))]
+fn push_nearest(
+    text: &mut String,
+    labels: &IndexMap<String, u8>,
+    index: u8,
+) -> Result<(), AllocError>
+    ensures { OnOk result (string_bytes text.new
+        ≡ string_bytes text.old ++ label_text (labels_of labels.now.entries) index) }
+{
+    let Some(at) = nearest(labels, index) else {
+        return Ok(());
+    };
+    let Some(name) = label_at(labels, at) else {
+        return Ok(());
+    };
+    write!(text, " {name}")?;
+    push_distance(text, index.saturating_sub(at))
+}
+
+/// Adds how far P is behind a label, where it is.
+fn push_distance(text: &mut String, distance: u8) -> Result<(), AllocError>
+    ensures { OnOk result (string_bytes text.new
+        ≡ string_bytes text.old ++ distance_text distance) }
+{
+    if distance > 0 {
+        write!(text, "+{distance}")?;
+    }
+    Ok(())
+}
+
+/// The greatest address of a label at or before an index.
+fn nearest(labels: &IndexMap<String, u8>, index: u8) -> Option<u8>
+    ensures { result ≡ spec.nearest (labels_of labels.now.entries) index }
+{
+    let mut found = None;
+    for (_, at) in labels {
+        found = nearer(index, found, *at);
+    }
+    found
+}
+
+/// The address found so far, or that of one more label, where that is at or before an index and behind the one found.
+fn nearer(index: u8, found: Option<u8>, at: u8) -> Option<u8>
+    ensures { result ≡ spec.nearer index found at }
+{
+    match found {
+        Some(found) if at <= index && found < at => Some(at),
+        Some(found) => Some(found),
+        None if at <= index => Some(at),
+        None => None,
+    }
+}
+
+/// The first label that has this address.
+fn label_at(labels: &IndexMap<String, u8>, address: u8) -> Option<&str>
+    ensures { option_map (λ name. name.now) result
+        ≡ spec.label_at (labels_of labels.now.entries) address }
+{
+    for (name, at) in labels {
+        if *at == address {
+            return Some(name.as_str());
+        }
+    }
+    None
+}

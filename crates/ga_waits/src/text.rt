@@ -1,0 +1,62 @@
+ghost use Rattle.std.specs.Prelude.{◌≡◌, ℕ, ◌++◌, IfOk, OnOk, string_bytes};
+ghost use Rattle.ga_chip.specs.Stuck.{HoldsEachClosed, IsClosed, has_node};
+ghost use Rattle.ga_waits.specs.Closed.{stuck_in};
+ghost use Rattle.ga_waits.specs.Waits.{all_node_lines, all_ring_lines, text_of, waits_text};
+
+use crate::line::push_line;
+use crate::ring::{next_nodes, push_ring};
+use ga_asm::Images;
+use ga_chip::{Chip, StuckNodes};
+use ga_place::Node;
+use std::alloc::{AllocError, Global};
+
+/// Who waits for whom, as text: a line for each node that has begun, in order of name, and behind these a line for
+/// each ring of nodes in which each waits for the next at one side, in the order of the least name of each.
+///
+/// The line of a node tells where it stands, with the label of its image that is at P or the last before it; what it
+/// needs, and of whom; and what that neighbour does. A node whose tries are held is told to be `held`, and one of the
+/// largest closed set of nodes, which no tries in any order move, `stuck`. The call takes memory for its text alone, and
+/// fails only where that is refused. (The text is this project's own: profile.)
+#[tactic(auto, unfolding(crate::specs::Waits::waits_text, crate::specs::Waits::waits_lines), using(crate::proofs::Largest::closed))]
+pub fn waits(alloc: Global, chip: &Chip, images: &Images) -> Result<String, AllocError>
+    ensures text { IfOk result (λ text. string_bytes text ≡ waits_text images.now chip.now) }
+    // the nodes that are told to be stuck are the largest closed set
+    ensures closed { IsClosed chip.now (stuck_in chip.now) }
+    ensures largest { HoldsEachClosed chip.now (stuck_in chip.now) }
+{
+    let mut text = String::new(alloc);
+    chip.legal();
+    push_nodes(&mut text, chip, images, &chip.stuck())?;
+    push_rings(&mut text, chip)?;
+    Ok(text)
+}
+
+/// Adds the lines of all nodes that have begun.
+fn push_nodes(
+    text: &mut String,
+    chip: &Chip,
+    images: &Images,
+    stuck: &StuckNodes,
+) -> Result<(), AllocError>
+    requires stuck { (name : ℕ) → has_node stuck.now name ≡ stuck_in chip.now name }
+    ensures { OnOk result (string_bytes text.new
+        ≡ string_bytes text.old ++ text_of (all_node_lines images.now chip.now)) }
+{
+    for index in 0..144 {
+        let node = Node::at(index);
+        push_line(text, chip, images, stuck.contains(node), node)?;
+    }
+    Ok(())
+}
+
+/// Adds the lines of all rings.
+fn push_rings(text: &mut String, chip: &Chip) -> Result<(), AllocError>
+    ensures { OnOk result (string_bytes text.new
+        ≡ string_bytes text.old ++ text_of (all_ring_lines chip.now)) }
+{
+    let nexts = next_nodes(chip);
+    for index in 0..144 {
+        push_ring(text, &nexts, Node::at(index))?;
+    }
+    Ok(())
+}
