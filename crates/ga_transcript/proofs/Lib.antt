@@ -1,0 +1,7 @@
+pub mod Following
+pub mod Joined
+pub mod Fronts
+pub mod OneTranscript
+pub mod Recordings
+pub mod Writing
+pub mod Starting

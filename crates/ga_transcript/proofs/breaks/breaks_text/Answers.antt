@@ -1,0 +1,12 @@
+use Rattle.std.proofs.Common.{◌∙◌, ◌++◌, ℕ, ap, string_bytes, sym}
+use Rattle.ga_place.specs.Cell.{name_at}
+use Rattle.ga_dump.proofs.Lines.{next_line}
+use Rattle.ga_transcript.specs.Breaks.{node_breaks}
+use Rattle.ga_transcript.proofs.breaks.breaks_text.Goals as goal
+
+pub loop-index-preserved : goal.loop-index-preserved
+loop-index-preserved c =
+    let breaks = node_breaks c.args.images.now c.args.chip.now in
+    let index = c.loop-index.index in
+    c.in_ok-push_node_breaks.ensures ∙ ap (λ name. string_bytes c.loop-index.text ++ breaks name) c.at.ensures
+    ∙ ap (λ text. text ++ breaks (name_at index)) c.loop-index.invariant ∙ sym (next_line (λ index. breaks (name_at index)) index)

@@ -1,0 +1,77 @@
+-- Whether the replies of a transcript are those that come.
+use Rattle.std.specs.Prelude.{◌≡◌, ◌⊎◌, ℕ, ◌+◌, List, [], ◌∷◌, ◌++◌, Option, Some, None, Result, Ok, Err}
+use Rattle.std.specs.List.{flat_map}
+use Rattle.std.specs.String.{string_bytes}
+use Rattle.ga_debug.specs.Beginning.{IsLoaded, Start}
+use Rattle.ga_debug.specs.Session.{without_line_end}
+use Rattle.ga_debug.specs.declared.replay_error.ReplayError.{ReplayError}
+use Rattle.ga_debug.specs.declared.replay_error.ReplayError.TheVariants as head
+use Rattle.ga_transcript.specs.declared.error.TranscriptError.{TranscriptError}
+use Rattle.ga_transcript.specs.declared.error.TranscriptError.TheVariants as error
+use Rattle.ga_transcript.specs.Following.{Difference, Lines, checked, early_reply}
+use Rattle.ga_transcript.specs.Reply.{step_of}
+
+-- What is wrong with a transcript.
+pub data Fault : Type 0 where
+  -- with its head
+  Head : ReplayError → Fault
+  -- a line of a reply stands in front of all commands; this is its number
+  EarlyReply : ℕ → Fault
+  -- a command replies something else: the number of its line, and the wanted lines and those that came, as text
+  Differs : ℕ → List ℕ → Fault
+  -- want of memory, which no text has by itself
+  Memory : Fault
+
+abbrev pub fault_of_head : ReplayError → TranscriptError
+fault_of_head head.Memory = error.Memory
+fault_of_head fault = error.Head fault
+
+abbrev pub fault_of : TranscriptError → Fault
+fault_of (error.Head fault) = Head fault
+fault_of (error.EarlyReply line) = EarlyReply line
+fault_of (error.Differs line lines) = Differs line (string_bytes lines)
+fault_of error.Memory = Memory
+
+-- lines, each behind a sign and ended by LF
+abbrev pub signed : ℕ → Lines → List ℕ
+signed sign lines = flat_map (λ line. sign ∷ (line ++ 10 ∷ [])) lines
+
+-- the wanted lines behind `-`, and those that came behind `+`, without the last LF
+abbrev pub difference_text : Difference → List ℕ
+difference_text difference = without_line_end (signed 45 difference.wanted ++ signed 43 difference.came)
+
+abbrev pub checked_by : Result ℕ Difference → Result ℕ Fault
+checked_by (Ok count) = Ok count
+checked_by (Err difference) = Err (Differs difference.line (difference_text difference))
+
+abbrev pub unless_early : {A : Type 0} → Option ℕ → Result A Fault → Result A Fault
+unless_early (Some line) result = Err (EarlyReply line)
+unless_early None result = result
+
+-- what comes of the lines behind a head
+unfoldable pub checked_from : Start → Result ℕ Fault
+checked_from start =
+    unless_early (early_reply (start.line + 1) start.commands) (checked_by (checked (step_of start.images) (start.line + 1) 0 start.chip start.commands))
+
+-- the fault is one of the head
+abbrev pub HeadFails : List ℕ → Fault → Type 0
+HeadFails text fault = (error : ReplayError) × IsLoaded text (Err error) × (fault ≡ Head error)
+
+-- what a head leads to, of which that is made, or the first fault
+abbrev pub IsBehindHead : {A : Type 0} → List ℕ → (Start → Result A Fault) → Result A Fault → Type 0
+IsBehindHead text from (Ok value) = (start : Start) × IsLoaded text (Ok start) × (from start ≡ Ok value)
+IsBehindHead text from (Err fault) = HeadFails text fault ⊎ ((start : Start) × IsLoaded text (Ok start) × (from start ≡ Err fault))
+
+-- How many commands a transcript has, where each replies what stands behind it; or the first fault: of its head, or else
+-- a reply in front of all commands, or else the first difference.
+abbrev pub IsChecked : List ℕ → Result ℕ Fault → Type 0
+IsChecked text answer = IsBehindHead text checked_from answer
+
+-- What a function answers is right, a value seen through a view, unless memory ran out.
+abbrev pub FailsRightly : {B : Type 0} → (Result B Fault → Type 0) → Fault → Type 0
+FailsRightly IsRight Memory = Unit {0}
+FailsRightly IsRight fault = IsRight (Err fault)
+
+abbrev pub Answers : {A B : Type 0} → (A → B) → (Result B Fault → Type 0) → Result A TranscriptError → Type 0
+Answers view IsRight (Ok value) = IsRight (Ok (view value))
+Answers view IsRight (Err error) = FailsRightly IsRight (fault_of error)

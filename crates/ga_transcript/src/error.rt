@@ -1,0 +1,45 @@
+ghost use Rattle.std.specs.Prelude.{◌≡◌};
+ghost use Rattle.ga_transcript.specs.Check.{fault_of_head};
+ghost use Rattle.ga_transcript.specs.declared.error.TranscriptError.TheVariants.{Memory};
+
+use ga_debug::ReplayError;
+use std::alloc::AllocError;
+use thiserror::Error;
+
+/// Why a transcript is refused, or doesn't hold. Lines are counted from 1, from the text's first line; inside `Head` as
+/// [`ReplayError`] counts them. (The texts are this project's own: profile.)
+#[derive(Debug, PartialEq, Eq, Drop, Error)]
+pub enum TranscriptError {
+    /// Its head is refused.
+    #[error("{0}")]
+    Head(ReplayError),
+    /// A line of a reply stands in front of all commands.
+    #[error("line {0} EarlyReply")]
+    EarlyReply(u64),
+    /// The command of this line has another reply. The text has the lines of the wanted one, each behind `-`, and then
+    /// those of the one that came, each behind `+`.
+    #[error("differs {0}\n{1}")]
+    Differs(u64, String),
+    /// Memory ran out.
+    #[error("Memory")]
+    Memory,
+}
+
+impl From<ReplayError> for TranscriptError {
+    ghost from_gives = { λ error fault. fault ≡ fault_of_head error };
+
+    fn from(error: ReplayError) -> TranscriptError {
+        match error {
+            ReplayError::Memory => TranscriptError::Memory,
+            _ => TranscriptError::Head(error),
+        }
+    }
+}
+
+impl From<AllocError> for TranscriptError {
+    ghost from_gives = { λ _ fault. fault ≡ Memory };
+
+    fn from(_refused: AllocError) -> TranscriptError {
+        TranscriptError::Memory
+    }
+}

@@ -1,0 +1,108 @@
+ghost use Rattle.std.specs.Prelude.{◌≡◌, ◌<◌, ◌++◌, ◌∷◌, IfOk, Ok, OnOk, map, string_bytes, take};
+ghost use Rattle.ga_asm.specs.Text.{AtMostOne};
+ghost use Rattle.ga_pack.specs.Model.Text.{lines_of};
+ghost use Rattle.ga_transcript.specs.Check.{Answers};
+ghost use Rattle.ga_transcript.specs.Record.{Holds, IsRecorded, behind_ends, joined};
+ghost use Rattle.ga_transcript.specs.Following.{recorded};
+ghost use Rattle.ga_transcript.specs.Reply as spec;
+
+use crate::error::TranscriptError;
+use crate::line::{Line, line_of};
+use crate::lines::{all_lines, early_reply, reply_lines};
+use crate::reply::reply;
+use ga_asm::Images;
+use ga_chip::Chip;
+use ga_debug::{Pieces, load};
+use std::alloc::{AllocError, Global};
+
+/// A transcript with the replies that come: each stands behind its command, and the lines of the one that stood there are
+/// left out. All other lines stay as they are. Or the first fault: of the head, as [`TranscriptError::Head`], or a line of
+/// a reply in front of all commands, as [`TranscriptError::EarlyReply`]. It fails as [`TranscriptError::Memory`] only where
+/// memory is refused. (The texts are this project's own: profile.)
+#[tactic(auto, using(crate::proofs::OneTranscript::one_recorded, crate::proofs::Recordings::recording_holds, crate::proofs::Recordings::recording_again))]
+pub fn record(alloc: Global, text: &str) -> Result<String, TranscriptError>
+    ensures recorded { Answers string_bytes (IsRecorded text.now) result }
+    // a text has one recording, or one first fault
+    ensures only { AtMostOne (IsRecorded text.now) }
+    // `check` accepts a recording
+    ensures holds { IfOk result (λ recording. Holds (string_bytes recording)) }
+    // and it is recorded again as it is
+    ensures again { IfOk result (λ recording. IsRecorded (string_bytes recording)
+        (Ok (string_bytes recording))) }
+{
+    let loaded = load(alloc, text)?;
+    let lines = all_lines(alloc, loaded.lines)?;
+    if let Some(line) = early_reply(loaded.line + 1, &lines) {
+        return Err(TranscriptError::EarlyReply(line));
+    }
+    let mut recording = front(alloc, text, loaded.line)?;
+    push_recorded(alloc, &mut recording, loaded.chip, &loaded.images, &lines)?;
+    Ok(recording)
+}
+
+/// Adds what is recorded of lines, each behind an LF.
+fn push_recorded(
+    alloc: Global,
+    text: &mut String,
+    mut chip: Chip,
+    images: &Images,
+    lines: &[&str],
+) -> Result<(), AllocError>
+    ensures { OnOk result (string_bytes text.new ≡ string_bytes text.old
+        ++ behind_ends (recorded (spec.step_of images.now) chip
+        (map (λ line. line.now) lines.now))) }
+{
+    for line in lines {
+        match line_of(line) {
+            Line::Command(command) => {
+                push_line(text, line)?;
+                let came = reply(alloc, &mut chip, images, command)?;
+                push_reply(alloc, text, &came)?;
+            }
+            Line::Note => push_line(text, line)?,
+            Line::Reply => {}
+        }
+    }
+    Ok(())
+}
+
+/// The first lines of a text, so many, with an LF between two.
+fn front(alloc: Global, text: &str, count: u64) -> Result<String, AllocError>
+    requires { 0 < count }
+    ensures { IfOk result (λ front. string_bytes front ≡ joined (take count (lines_of text.now))) }
+{
+    let mut lines = Pieces::new(text, '\n');
+    let mut front = String::new(alloc);
+    if let Some(line) = lines.next() {
+        front.push_str(line)?;
+    }
+    let mut left = count - 1;
+    while left > 0 {
+        let Some(line) = lines.next() else {
+            return Ok(front);
+        };
+        push_line(&mut front, line)?;
+        left -= 1;
+    }
+    Ok(front)
+}
+
+/// Adds the lines of a reply, each behind an LF.
+fn push_reply(alloc: Global, text: &mut String, came: &str) -> Result<(), AllocError>
+    ensures { OnOk result (string_bytes text.new
+        ≡ string_bytes text.old ++ behind_ends (spec.reply_lines came.now)) }
+{
+    for line in &reply_lines(alloc, came)? {
+        push_line(text, line)?;
+    }
+    Ok(())
+}
+
+/// Adds a line behind an LF.
+fn push_line(text: &mut String, line: &str) -> Result<(), AllocError>
+    ensures { OnOk result (string_bytes text.new ≡ string_bytes text.old ++ 10 ∷ line.now) }
+{
+    text.push('\n')?;
+    text.push_str(line)?;
+    Ok(())
+}
