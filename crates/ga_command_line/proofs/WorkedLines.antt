@@ -3,7 +3,7 @@ use Rattle.std.proofs.Common.{◌≡◌, Global, String, string_bytes, ap, sym, 
 use Rattle.std.specs.Prelude.{codes}
 use Rattle.clap.proofs.OnLiterals.{clap_on_literals}
 use Rattle.clap.specs.Words.{takes}
-use Rattle.ga_command_line.specs.declared.request.Job.TheVariants.{One, Dis, Boot, Explain}
+use Rattle.ga_command_line.specs.declared.request.Job.TheVariants.{One, Dis, Boot, Check, Record, Explain}
 use Rattle.ga_explain.specs.declared.topic.Topic.{Topic}
 use Rattle.ga_command_line.specs.Explain.{IsOfTable}
 use Rattle.ga_command_line.specs.CommandLine.{IsRight, bench_command}
@@ -24,6 +24,14 @@ all_code_line = (refl, (refl, refl), tt)
 boot_line : (route : String Global) → string_bytes route ≡ codes "708,709" → IsRight (codes "ga-bench" ∷ codes "boot" ∷ codes "708,709" ∷ []) (Boot route)
 unfolding whole_command clap_on_literals
 boot_line route is = (refl, (refl, ap Some (sym is)), tt)
+
+check_line : (file : String Global) → string_bytes file ≡ codes "ring" → IsRight (codes "ga-bench" ∷ codes "check" ∷ codes "ring" ∷ []) (Check (Some file))
+unfolding whole_command clap_on_literals
+check_line file is = (refl, (refl, ap Some is), tt)
+
+record_line : IsRight (codes "ga-bench" ∷ codes "record" ∷ []) (Record None)
+unfolding whole_command clap_on_literals
+record_line = (refl, (refl, refl), tt)
 
 names_line : IsRight (codes "ga-bench" ∷ codes "explain" ∷ []) (Explain None)
 unfolding whole_command clap_on_literals

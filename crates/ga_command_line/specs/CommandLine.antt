@@ -8,6 +8,7 @@ use Rattle.ga_command_line.specs.Boot.{boot_command}
 use Rattle.ga_command_line.specs.Command.{linked, plain_command}
 use Rattle.ga_command_line.specs.Dis.{IsDisInRange, dis_command}
 use Rattle.ga_command_line.specs.Explain.{IsOfTable, IsTopicAt, explain_command}
+use Rattle.ga_command_line.specs.File.{IsFileAt, file_command}
 use Rattle.ga_command_line.specs.List.{IsListAt, list_command}
 use Rattle.ga_command_line.specs.Number.{IsNumberAt, IsNumberIfAt}
 use Rattle.ga_command_line.specs.One.{IsOneInRange, one_command}
@@ -24,7 +25,8 @@ bare_command = record named_command { top = record named_command.top { has_versi
 -- the subcommands, in the order of help
 abbrev pub subcommands : List App
 subcommands =
-    one_command ∷ plain_command (codes "asm") ∷ dis_command ∷ boot_command ∷ run_command ∷ plain_command (codes "debug") ∷ plain_command (codes "replay") ∷ list_command ∷ explain_command ∷ []
+    one_command ∷ plain_command (codes "asm") ∷ dis_command ∷ boot_command ∷ run_command ∷ plain_command (codes "debug") ∷ plain_command (codes "replay") ∷ list_command
+    ∷ file_command (codes "check") ∷ file_command (codes "record") ∷ explain_command ∷ []
 
 -- the whole command
 abbrev pub bench_command : App
@@ -40,6 +42,8 @@ job_name (Run route workers turns) = codes "run"
 job_name Debug = codes "debug"
 job_name Replay = codes "replay"
 job_name (job.List labels file) = codes "list"
+job_name (job.Check file) = codes "check"
+job_name (job.Record file) = codes "record"
 job_name (Explain topic) = codes "explain"
 
 -- the arguments that a job is asked for by; other jobs have none
@@ -49,6 +53,8 @@ HasArguments rows (Dis code) = IsNumberIfAt (codes "N") rows code
 HasArguments rows (Boot route) = IsRouteAt rows (string_bytes route)
 HasArguments rows (Run route workers turns) = IsRunAt rows (string_bytes route) workers turns
 HasArguments rows (job.List labels file) = IsListAt rows labels (option_map string_bytes file)
+HasArguments rows (job.Check file) = IsFileAt rows (option_map string_bytes file)
+HasArguments rows (job.Record file) = IsFileAt rows (option_map string_bytes file)
 HasArguments rows (Explain topic) = IsTopicAt rows topic
 HasArguments rows job = Unit {0}
 

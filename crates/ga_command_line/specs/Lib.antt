@@ -6,6 +6,7 @@ pub mod Dis
 pub mod Boot
 pub mod Run
 pub mod Explain
+pub mod File
 pub mod List
 pub mod Request
 pub mod CommandLine

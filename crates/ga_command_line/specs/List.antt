@@ -4,6 +4,7 @@ use Rattle.std.specs.Option.{option_map_or}
 use Rattle.std.specs.Str.{bytes_eq}
 use Rattle.clap.specs.Words.{App, Row, Text, first_of, new_app, new_rule, with_rule}
 use Rattle.clap.specs.declared.builder.action.ArgAction.TheVariants.{SetTrue}
+use Rattle.ga_command_line.specs.File.{IsFileAt}
 
 -- the subcommand as clap's definitions read it: a flag, and a text that may be left out
 unfoldable pub flagged_command : App
@@ -15,10 +16,6 @@ list_command = with_rule flagged_command (new_rule (codes "FILE"))
 -- the flag is given or not
 abbrev pub IsFlagAt : Text → List Row → Bool → Type 0
 IsFlagAt id rows given = given ≡ option_map_or (λ text. bytes_eq text (codes "true")) (first_of id rows) false
-
--- the argument is the name of a file; without one it is left out
-abbrev pub IsFileAt : List Row → Option Text → Type 0
-IsFileAt rows file = file ≡ first_of (codes "FILE") rows
 
 -- the arguments ask for the labels alone or not, and name this file or none
 abbrev pub IsListAt : List Row → Bool → Option Text → Type 0

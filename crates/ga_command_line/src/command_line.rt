@@ -6,9 +6,10 @@ ghost use Rattle.ga_command_line.specs.Command.{linked};
 ghost use Rattle.ga_command_line.specs.inner.Command.{IsCommandOf, has_globals};
 ghost use Rattle.ga_command_line.specs.CommandLine.{InRange, IsAskedFor, IsJobOf, IsRight, bare_command, bench_command};
 
+use crate::file::file_in;
 use crate::request::Job;
 use crate::route::route_at;
-use crate::{asm, boot, debug, dis, explain, list, one, replay, run};
+use crate::{asm, boot, check, debug, dis, explain, list, one, record, replay, run};
 use clap::error::ErrorKind;
 use clap::{ArgMatches, Command};
 use std::alloc::{AllocError, Global};
@@ -82,7 +83,13 @@ fn job_in(alloc: Global, matches: &ArgMatches<'_>) -> Result<Job, LineError>
         Some(("replay", _)) => Ok(Job::Replay),
         Some(("list", found)) => Ok(Job::List {
             labels: list::labels_in(found),
-            file: list::file_in(alloc, found)?,
+            file: file_in(alloc, found)?,
+        }),
+        Some(("check", found)) => Ok(Job::Check {
+            file: file_in(alloc, found)?,
+        }),
+        Some(("record", found)) => Ok(Job::Record {
+            file: file_in(alloc, found)?,
         }),
         Some(("explain", found)) => Ok(Job::Explain {
             topic: explain::topic_of(alloc, found)?,
@@ -120,6 +127,8 @@ fn command<'a>(alloc: Global) -> Result<Command<'a>, AllocError>
     let command = link(command, debug::command(alloc));
     let command = link(command, replay::command(alloc));
     let command = link(command, list::command(alloc));
+    let command = link(command, check::command(alloc));
+    let command = link(command, record::command(alloc));
     link(command, explain::command(alloc))
 }
 

@@ -3,13 +3,16 @@
 
 mod asm;
 mod boot;
+mod check;
 mod command_line;
 mod debug;
 mod dis;
 mod explain;
+mod file;
 mod list;
 mod number;
 mod one;
+mod record;
 mod replay;
 mod request;
 mod route;

@@ -1,7 +1,7 @@
-ghost use Rattle.std.specs.Prelude.{IfOk, codes, option_map, string_bytes};
+ghost use Rattle.std.specs.Prelude.{IfOk, codes};
 ghost use Rattle.clap.specs.Words.{found_of, rows_of};
 ghost use Rattle.ga_command_line.specs.inner.Command.{IsCommandOf};
-ghost use Rattle.ga_command_line.specs.List.{IsFileAt, IsFlagAt, flagged_command, list_command};
+ghost use Rattle.ga_command_line.specs.List.{IsFlagAt, flagged_command, list_command};
 
 use clap::{Arg, ArgAction, ArgMatches, Command};
 use std::alloc::{AllocError, Global};
@@ -47,15 +47,5 @@ pub fn labels_in(found: &ArgMatches<'_>) -> bool
     match found.get_str("LABELS") {
         Some(given) => given == "true",
         None => false,
-    }
-}
-
-/// The file that the arguments name, where they name one.
-pub fn file_in(alloc: Global, found: &ArgMatches<'_>) -> Result<Option<String>, AllocError>
-    ensures { IfOk result (λ file. IsFileAt (rows_of (found_of found.now)) (option_map string_bytes file)) }
-{
-    match found.get_str("FILE") {
-        Some(file) => Ok(Some(String::from_str(alloc, file)?)),
-        None => Ok(None),
     }
 }

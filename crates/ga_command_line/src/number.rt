@@ -37,9 +37,11 @@ pub fn number_if(
     least: u32,
     most: u32,
 ) -> Result<Option<u32>, LineError>
-    ensures in_range { IfOk result (λ found. IfSome found (λ number. (least ≤ number) × (number ≤ most))) }
+    ensures in_range { IfOk result (λ found. IfSome found
+        (λ number. (least ≤ number) × (number ≤ most))) }
     ensures number { IfOk result (IsNumberIfAt id.now (rows_of (found_of found.now))) }
-    ensures right { IfErr result (λ error. (number : Option ℕ) → IfSome number (λ n. (least ≤ n) × (n ≤ most))
+    ensures right { IfErr result (λ error. (number : Option ℕ)
+        → IfSome number (λ n. (least ≤ n) × (n ≤ most))
         → IsNumberIfAt id.now (rows_of (found_of found.now)) number → error ≡ LineError.Memory) }
 {
     match found.try_get_one::<u32>(id) {

@@ -42,7 +42,8 @@ pub fn tries_of(alloc: Global, found: &ArgMatches<'_>) -> Result<u32, LineError>
     ensures in_range { IfOk result IsOneInRange }
     ensures number { IfOk result (IsNumberAt (codes "TRIES") (rows_of (found_of found.now))) }
     ensures right { IfErr result (λ error. (tries : ℕ) → IsOneInRange tries
-        → IsNumberAt (codes "TRIES") (rows_of (found_of found.now)) tries → error ≡ LineError.Memory) }
+        → IsNumberAt (codes "TRIES") (rows_of (found_of found.now)) tries
+        → error ≡ LineError.Memory) }
 {
     number_of(alloc, found, "TRIES", 0, TRIES_LIMIT)
 }

@@ -36,6 +36,15 @@ pub enum Job {
         labels: bool,
         file: Option<String>,
     },
+    /// How many commands of a transcript have the replies that come, if all have. The transcript stands in the file, or
+    /// comes from standard input where there is none.
+    Check {
+        file: Option<String>,
+    },
+    /// A transcript with the replies that come, from there too.
+    Record {
+        file: Option<String>,
+    },
     /// What a name means that the program writes, or all these names.
     Explain {
         topic: Option<Topic>,
@@ -59,7 +68,10 @@ impl Job {
             Job::List {
                 file: Some(file),
                 ..
-            } if file.as_str() != "-" => Some(file.as_str()),
+            }
+            | Job::Check { file: Some(file) }
+            | Job::Record { file: Some(file) }
+                if file.as_str() != "-" => { Some(file.as_str()) }
             _ => None,
         }
     }

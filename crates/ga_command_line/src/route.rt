@@ -9,7 +9,8 @@ use std::alloc::Global;
 
 /// The argument ROUTE, as the text that it is: it is judged after the input.
 pub fn route_at(alloc: Global, found: &ArgMatches<'_>) -> Result<String, LineError>
-    ensures route { IfOk result (λ route. IsRouteAt (rows_of (found_of found.now)) (string_bytes route)) }
+    ensures route { IfOk result (λ route. IsRouteAt (rows_of (found_of found.now))
+        (string_bytes route)) }
     ensures right { IfErr result (λ error. (route : Text)
         → IsRouteAt (rows_of (found_of found.now)) route
         → error ≡ LineError.Memory) }

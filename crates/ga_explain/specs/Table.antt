@@ -4,7 +4,7 @@ use Rattle.ga_explain.specs.Topic.{Entry}
 use Rattle.ga_explain.specs.declared.source.TheConstants.{BAD_TOKEN, NUMBER_RANGE, BAD_NODE, DUPLICATE_NODE, DUPLICATE_LABEL, RESERVED_LABEL, OPEN_BRACKET, BAD_WORD, NO_NODE, EMPTY}
 use Rattle.ga_explain.specs.declared.layout.TheConstants.{UNDEFINED_LABEL, OUT_OF_REACH, UNEXT_ALONE, TOO_LONG}
 use Rattle.ga_explain.specs.declared.routes.TheConstants.{BAD_ROUTE, NOT_EDGE, NOT_NEIGHBOUR, REPEATED, UNREACHED}
-use Rattle.ga_explain.specs.declared.sessions.TheConstants.{BAD_COMMAND, BAD_ADDRESS, BAD_SIDE, BAD_COUNT, NOT_HELD, BAD_PROFILE, NO_GO, SOURCE, ASM, ROUTE, BOOT, DIFFERS}
+use Rattle.ga_explain.specs.declared.sessions.TheConstants.{BAD_COMMAND, BAD_ADDRESS, BAD_SIDE, BAD_COUNT, NOT_HELD, BAD_PROFILE, NO_GO, SOURCE, ASM, ROUTE, BOOT, EARLY_REPLY, DIFFERS}
 use Rattle.ga_explain.specs.declared.input.TheConstants.{READ, NO_FILE, FOLDER, BAD_TEXT, BAD_CODE, WRITE, MEMORY}
 use Rattle.ga_explain.specs.declared.needs.TheConstants.{OWN, TAKE, POST, CHECK, INPUT, STOPPED}
 use Rattle.ga_explain.specs.declared.stops.TheConstants.{COUNTED, EXTENDED, IO_READ, ROM, UNMAPPED, MULTI_WRITE}
@@ -58,6 +58,7 @@ sessions_entries =
     (codes "Asm", ASM.now) ∷
     (codes "Route", ROUTE.now) ∷
     (codes "Boot", BOOT.now) ∷
+    (codes "EarlyReply", EARLY_REPLY.now) ∷
     (codes "differs", DIFFERS.now) ∷
     []
 

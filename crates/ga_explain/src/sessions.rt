@@ -6,7 +6,7 @@ use crate::topic::Topic;
 
 /// The refusals of commands, and faults of replay texts, in the order of the pages.
 #[tactic(auto, unfolding(crate::specs::Table::sessions_entries))]
-pub fn topics() -> [Topic; 12]
+pub fn topics() -> [Topic; 13]
     ensures { map entry_of result ≡ sessions_entries }
 {
     [
@@ -21,6 +21,7 @@ pub fn topics() -> [Topic; 12]
         Topic::new("Asm", ASM),
         Topic::new("Route", ROUTE),
         Topic::new("Boot", BOOT),
+        Topic::new("EarlyReply", EARLY_REPLY),
         Topic::new("differs", DIFFERS),
     ]
 }
@@ -48,7 +49,7 @@ Mended:
 
 const BAD_ADDRESS: &str = "\
 BadAddress: the address of a breakpoint isn't three hex digits up to 1FF. A $
-isn't written there.
+isn't written there. In a transcript it isn't a label of the node either.
 
   $ printf 'profile 1\\nplace\\nnode 000 .\\ngo\\nbreak 000 3\\n' | ga-bench debug
   refused BadAddress
@@ -186,10 +187,27 @@ Mended:
   same 0
 ";
 
+const EARLY_REPLY: &str = "\
+EarlyReply: this line of a transcript, counted from 1, stands behind 'go' and is
+no command, no comment and not empty, so it is one of a reply; and there is no
+command in front of it. A command begins with '> ', a comment with '\\ '.
+
+  $ printf 'profile 1\\nplace\\nnode 000 .\\ngo\\nturn 4\\n' | ga-bench check
+  ga-bench: transcript line 5 EarlyReply
+    turn 4
+  a line that is no command or comment, with no command before it
+
+Mended:
+
+  $ printf 'profile 1\\nplace\\nnode 000 .\\ngo\\n> breaks\\n' | ga-bench check
+  same 1
+";
+
 const DIFFERS: &str = "\
 differs: something else came of the command of this line, counted from 1, than
 the line of the replay text states. 'debug' tells what comes, where the
-statements are left out.
+statements are left out. Of 'check': the command of this line of a transcript
+has another reply than the lines behind it; 'record' writes the one that came.
 
   $ printf 'profile 1\\nplace\\nnode 000 .\\ngo\\nturn 4 = 5\\n' | ga-bench replay
   ga-bench: replay differs 5

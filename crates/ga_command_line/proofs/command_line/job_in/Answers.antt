@@ -1,12 +1,14 @@
-use Rattle.std.proofs.Common.{◌≡◌, ◌∙◌, ap, refl, sym, List, ℕ, Option, codes, string_bytes, true, false}
+use Rattle.std.proofs.Common.{arith, ◌≡◌, ◌∙◌, ap, refl, sym, List, ℕ, Option, codes, string_bytes, true, false}
+use Rattle.std.proofs.lemmas.Grind.{common_steps}
 use Rattle.std.specs.Str.{bytes_eq}
 use Rattle.std.proofs.lemmas.Bool.{true≢false}
-use Rattle.clap.specs.Words.{Row, Text, rows_of, found_of}
+use Rattle.clap.specs.Words.{Row, Text, rows_of, found_of, subcommand_rows_of}
 use Rattle.ga_command_line.specs.declared.command_line.LineError.{LineError}
 use Rattle.ga_command_line.specs.declared.command_line.LineError.TheVariants.{Memory}
 use Rattle.ga_command_line.specs.declared.request.Job.{Job}
-use Rattle.ga_command_line.specs.declared.request.Job.TheVariants.{One, Dis, Boot, Run, Explain}
-use Rattle.ga_command_line.specs.CommandLine.{AsksFor, InRange, job_name}
+use Rattle.ga_command_line.specs.declared.request.Job.TheVariants.{One, Asm, Dis, Boot, Run, Debug, Replay, Explain}
+use Rattle.ga_command_line.specs.declared.request.Job.TheVariants as job
+use Rattle.ga_command_line.specs.CommandLine.{AsksFor, InRange, IsAskedFor, job_name}
 use Rattle.ga_command_line.specs.Dis.{IsDisInRange}
 use Rattle.ga_explain.specs.declared.topic.Topic.{Topic}
 use Rattle.ga_command_line.specs.Explain.{IsOfTable, IsTopicAt}
@@ -91,3 +93,19 @@ returns-in_err-topic_of-in-Some-explain-default-clause-right c =
     let asks = asked c.args.matches.now met.field-0-0.now (rows_of (found_of met.found.now)) met.ensures.name met.ensures.rows in
     each_error c.from_residual-in_err-topic_of-in-Some-explain-default.result _ (λ fault. fault ≡ refused.field-0.0) c.from_residual-in_err-topic_of-in-Some-explain-default.ensures.1
     (λ error same job right within. same ∙ explain_refused met.field-0-0.now (rows_of (found_of met.found.now)) refused.field-0.0 met.is-explain refused.ensures.right job (asks job right, within))
+
+-- where a subcommand has none of these names, no job is asked for
+pub returns-in_default-clause-right : goal.returns-in_default-clause-right
+returns-in_default-clause-right c = λ asked. elim asked as (λ job. IsAskedFor (subcommand_rows_of c.args.matches.now) job → InRange job → c.refusal.result ≡ Memory) [
+  | One tries ↦ λ asks within. grind (arith, common_steps)
+  | Asm ↦ λ asks within. grind (arith, common_steps)
+  | Dis code ↦ λ asks within. grind (arith, common_steps)
+  | Boot route ↦ λ asks within. grind (arith, common_steps)
+  | Run route workers turns ↦ λ asks within. grind (arith, common_steps)
+  | Debug ↦ λ asks within. grind (arith, common_steps)
+  | Replay ↦ λ asks within. grind (arith, common_steps)
+  | job.List labels file ↦ λ asks within. grind (arith, common_steps)
+  | job.Check file ↦ λ asks within. grind (arith, common_steps)
+  | job.Record file ↦ λ asks within. grind (arith, common_steps)
+  | Explain topic ↦ λ asks within. grind (arith, common_steps)
+]
