@@ -1,3 +1,5 @@
+mod NthItem
+mod Listed
 mod Replies
 mod Dealing
 mod Faults

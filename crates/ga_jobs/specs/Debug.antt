@@ -2,23 +2,14 @@
 use Rattle.std.specs.Prelude.{◌≡◌, ℕ, List, [], ◌∷◌, ◌++◌, codes, drop, Result, Ok, Err}
 use Rattle.ga_chip.specs.Chip.{Chip}
 use Rattle.ga_debug.specs.declared.error.DebugError.{DebugError}
-use Rattle.ga_debug.specs.declared.error.DebugError.TheVariants.{BadAddress, BadCommand, BadCount, BadNode, BadSide, Memory, NotHeld}
 use Rattle.ga_debug.specs.declared.replay_error.ReplayError.{ReplayError}
 use Rattle.ga_debug.specs.Beginning.{IsBeginning}
+use Rattle.ga_debug.specs.Error.{fault_name}
 use Rattle.ga_pack.specs.Model.Text.{lines_of}
 use Rattle.ga_debug.specs.Session.{after_line, reply_to}
 use Rattle.ga_jobs.specs.declared.fault.ServeError.{ServeError}
 use Rattle.ga_jobs.specs.Fault.{fault_of_replay}
 use Rattle.ga_jobs.specs.Text.{IsInText}
-
-abbrev pub fault_name : DebugError → List ℕ
-fault_name BadCommand = codes "BadCommand"
-fault_name BadNode = codes "BadNode"
-fault_name BadAddress = codes "BadAddress"
-fault_name BadSide = codes "BadSide"
-fault_name BadCount = codes "BadCount"
-fault_name NotHeld = codes "NotHeld"
-fault_name Memory = codes "Memory"
 
 -- what is written of a reply
 abbrev pub reply_line : Result (List ℕ) DebugError → List ℕ
@@ -44,4 +35,4 @@ IsReplies text (Err error) = IsBeginning text (Err error)
 
 -- what `debug` may write for an input, or its first fault
 abbrev pub IsDebugOutput : List ℕ → Result (List ℕ) ServeError → Type 0
-IsDebugOutput input answer = IsInText fault_of_replay IsReplies input answer
+IsDebugOutput input answer = IsInText (λ text. fault_of_replay) IsReplies input answer

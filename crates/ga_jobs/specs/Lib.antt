@@ -1,4 +1,9 @@
 pub mod Fault
+pub mod Shown
+pub mod Meaning
+pub mod TextFault
+pub mod TranscriptFault
+pub mod Transcript
 pub mod List
 pub mod Text
 pub mod One

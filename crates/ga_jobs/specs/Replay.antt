@@ -14,4 +14,4 @@ IsSame text (Err error) = IsReplayed text (Err error)
 
 -- what `replay` may write for an input, or its first fault
 abbrev pub IsReplayOutput : List ℕ → Result (List ℕ) ServeError → Type 0
-IsReplayOutput input answer = IsInText fault_of_replay IsSame input answer
+IsReplayOutput input answer = IsInText (λ text. fault_of_replay) IsSame input answer

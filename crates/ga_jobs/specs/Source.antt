@@ -8,4 +8,4 @@ use Rattle.ga_jobs.specs.Text.{IsInText}
 
 -- the images of an input, or its first fault: it is no text, or that of the text, or else of its program
 abbrev pub IsImagesIn : List ℕ → Result (List (ℕ × ImageView)) ServeError → Type 0
-IsImagesIn input answer = IsInText fault_of_text IsImagesOf input answer
+IsImagesIn input answer = IsInText (λ text. fault_of_text) IsImagesOf input answer

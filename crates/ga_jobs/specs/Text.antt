@@ -11,12 +11,12 @@ use Rattle.ga_jobs.specs.declared.fault.WordsFault.TheVariants as words
 abbrev pub text_in : List ℕ → Result (List ℕ) ServeError
 text_in input = if is_utf8 input then Ok input else Err (Input BadText)
 
--- What comes of an input that is to be a text: what comes of the text, its faults as the program tells them; or the
--- fault of an input that is no text.
-abbrev pub IsInText : {A E : Type 0} → (E → ServeError) → (List ℕ → Result A E → Type 0) → List ℕ → Result A ServeError → Type 0
+-- What comes of an input that is to be a text: what comes of the text, its faults as the program tells them of this text;
+-- or the fault of an input that is no text.
+abbrev pub IsInText : {A E : Type 0} → (List ℕ → E → ServeError) → (List ℕ → Result A E → Type 0) → List ℕ → Result A ServeError → Type 0
 IsInText told Is input (Ok found) = (text : List ℕ) × (text_in input ≡ Ok text) × Is text (Ok found)
 IsInText {E = E} told Is input (Err fault) =
-    (text_in input ≡ Err fault) ⊎ ((text : List ℕ) × (error : E) × (text_in input ≡ Ok text) × Is text (Err error) × (told error ≡ fault))
+    (text_in input ≡ Err fault) ⊎ ((text : List ℕ) × (error : E) × (text_in input ≡ Ok text) × Is text (Err error) × (told text error ≡ fault))
 
 -- one to 64 words
 abbrev pub words_in_node : List ℕ → Result (List ℕ) ServeError

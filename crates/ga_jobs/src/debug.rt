@@ -2,7 +2,7 @@ ghost use Rattle.std.specs.Prelude.{◌≡◌, ◌++◌, IfOk, drop, string_byte
 ghost use Rattle.ga_asm.specs.Text.{AtMostOne};
 ghost use Rattle.ga_pack.specs.Model.Text.{lines_of};
 ghost use Rattle.ga_debug.specs.Session.{reply_to};
-ghost use Rattle.ga_jobs.specs.Debug.{IsDebugOutput, after_reply, fault_name, reply_line, replies_to};
+ghost use Rattle.ga_jobs.specs.Debug.{IsDebugOutput, after_reply, reply_line, replies_to};
 ghost use Rattle.ga_jobs.specs.Fault.{Answers};
 
 use crate::fault::ServeError;
@@ -57,22 +57,7 @@ fn push_reply(
     match session.command(alloc, command) {
         Ok(reply) => writeln!(replies, "{reply}")?,
         Err(DebugError::Memory) => return Err(AllocError),
-        Err(fault) => writeln!(replies, "refused {}", fault_name(fault))?,
+        Err(fault) => writeln!(replies, "refused {}", fault.name())?,
     }
     Ok(())
-}
-
-/// The name of why a command is refused.
-fn fault_name(fault: DebugError) -> &'static str
-    ensures { result.now ≡ fault_name fault }
-{
-    match fault {
-        DebugError::BadCommand => "BadCommand",
-        DebugError::BadNode => "BadNode",
-        DebugError::BadAddress => "BadAddress",
-        DebugError::BadSide => "BadSide",
-        DebugError::BadCount => "BadCount",
-        DebugError::NotHeld => "NotHeld",
-        DebugError::Memory => "Memory",
-    }
 }

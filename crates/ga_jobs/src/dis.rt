@@ -13,7 +13,8 @@ pub fn output(alloc: Global, code: Option<u32>, input: &[u8]) -> Result<String, 
     ensures output { Gives string_bytes result (dis_output code input.now) }
     // of this text `asm` makes the words of the input again, with this length of code, and nothing else
     ensures again { (words : List ℕ) → words_in input.now ≡ Ok words
-        → IfOk result (λ text. AssemblesTo (string_bytes text) words (unwrap_or code (length words))) }
+        → IfOk result (λ text. AssemblesTo (string_bytes text) words
+        (unwrap_or code (length words))) }
 {
     let words = words_of(alloc, input)?;
     let code_len = match code {

@@ -2,6 +2,7 @@ ghost use Rattle.std.specs.Prelude.{◌≡◌};
 ghost use Rattle.ga_jobs.specs.Fault.{fault_of_boot, fault_of_names, fault_of_replay, fault_of_route, fault_of_text, fault_of_words};
 ghost use Rattle.ga_jobs.specs.declared.fault.ServeError.TheVariants.{Memory, Plan};
 
+use crate::shown::ShownText;
 use ga_asm::{AsmError, TextError};
 use ga_debug::ReplayError;
 use ga_group::PlanError;
@@ -57,6 +58,23 @@ pub enum RouteFault {
     Nodes(RouteError),
 }
 
+/// The first fault of a text of which something is shown. Lines of a transcript are counted from its first one.
+#[derive(Debug, PartialEq, Eq, Drop, Error)]
+pub enum TextFault {
+    #[error("source {0}")]
+    Source(SourceError),
+    #[error("asm {0}")]
+    Asm(AsmError),
+    #[error("replay {0}")]
+    Replay(ReplayError),
+    /// A line of a reply stands in front of all commands of a transcript.
+    #[error("transcript line {0} EarlyReply")]
+    EarlyReply(u64),
+    /// The command of this line of a transcript has another reply than the lines behind it.
+    #[error("check differs {0}")]
+    Differs(u64),
+}
+
 /// Why a job was not served. Its `Display` is the text that the program prints.
 #[derive(Debug, PartialEq, Eq, Drop, Error)]
 pub enum ServeError {
@@ -76,6 +94,9 @@ pub enum ServeError {
     Plan(PlanError),
     #[error("replay {0}")]
     Replay(ReplayError),
+    /// The fault of a text together with what is shown of the text, behind it.
+    #[error("{fault}\n{shown}")]
+    Shown { fault: TextFault, shown: ShownText },
     /// A read failed, or the input came in too many pieces.
     #[error("read")]
     Read,

@@ -3,15 +3,22 @@
 
 pub mod asm;
 pub mod boot;
+pub mod check;
 pub mod debug;
 pub mod dis;
 mod fault;
 pub mod list;
+mod meaning;
 pub mod one;
+pub mod record;
 pub mod replay;
 mod route;
 pub mod run;
+mod shown;
 mod source;
 mod text;
+mod text_fault;
+mod transcript_fault;
 
-pub use crate::fault::{InputFault, RouteFault, ServeError, WordsFault};
+pub use crate::fault::{InputFault, RouteFault, ServeError, TextFault, WordsFault};
+pub use crate::shown::ShownText;

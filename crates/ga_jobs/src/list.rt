@@ -1,14 +1,17 @@
-ghost use Rattle.std.specs.Prelude.{string_bytes};
+ghost use Rattle.std.specs.Prelude.{◌≢◌, Err, IfErr, IfOk, Ok, string_bytes};
 ghost use Rattle.ga_asm.specs.Text.{AtMostOne};
+ghost use Rattle.ga_asm.specs.declared.text.TextError.TheVariants.{Memory};
 ghost use Rattle.ga_jobs.specs.Fault.{Answers};
-ghost use Rattle.ga_jobs.specs.List.{IsListOutput};
+ghost use Rattle.ga_jobs.specs.List.{IsListOutput, IsListed};
 
 use crate::fault::ServeError;
 use crate::text::text_of;
+use crate::text_fault::shown_fault;
+use ga_asm::TextError;
 use ga_list::{list, list_labels};
 use std::alloc::Global;
 
-/// The listing of the input, which is source text, or its labels alone.
+/// The listing of the input, which is source text, or its labels alone. A fault of the text comes with what is shown of it.
 #[tactic(auto, using(crate::proofs::OneOutput::one_list_output))]
 pub fn output(alloc: Global, labels: bool, input: &[u8]) -> Result<String, ServeError>
     ensures output { Answers string_bytes (IsListOutput labels input.now) result }
@@ -16,9 +19,20 @@ pub fn output(alloc: Global, labels: bool, input: &[u8]) -> Result<String, Serve
     ensures only { AtMostOne (IsListOutput labels input.now) }
 {
     let text = text_of(input)?;
+    match listed(alloc, labels, text) {
+        Ok(listing) => Ok(listing),
+        Err(error) => Err(shown_fault(alloc, text, error)?),
+    }
+}
+
+/// The listing of a text, or its labels alone.
+fn listed(alloc: Global, labels: bool, text: &str) -> Result<String, TextError>
+    ensures listed { IfOk result (λ listing. IsListed labels text.now (Ok (string_bytes listing))) }
+    ensures fault { IfErr result (λ error. error ≢ Memory → IsListed labels text.now (Err error)) }
+{
     if labels {
-        Ok(list_labels(alloc, text)?)
+        list_labels(alloc, text)
     } else {
-        Ok(list(alloc, text)?)
+        list(alloc, text)
     }
 }

@@ -7,7 +7,7 @@ use Rattle.ga_command_line.specs.declared.request.Job.TheVariants.{One, Asm, Dis
 use Rattle.ga_command_line.specs.declared.request.Job.TheVariants as job
 use Rattle.ga_jobs.specs.declared.fault.ServeError.TheVariants.{Input}
 use Rattle.ga_jobs.specs.declared.fault.InputFault.TheVariants.{TooLong}
-use Rattle.ga_jobs.proofs.OneOutput.{one_asm_output, one_boot_output, one_debug_output, one_list_output, one_replay_output}
+use Rattle.ga_jobs.proofs.OneOutput.{one_asm_output, one_boot_output, one_check_output, one_debug_output, one_list_output, one_record_output, one_replay_output}
 use Rattle.ga_serve.specs.Answering.{HasOneOutput, IsJobOutput, IsOutput, is_too_long}
 
 -- an input that is too long has one fault
@@ -28,4 +28,6 @@ one_output (Run route workers turns) input = tt
 one_output Debug input = within_limit Debug input (one_debug_output input)
 one_output Replay input = within_limit Replay input (one_replay_output input)
 one_output (job.List labels file) input = within_limit (job.List labels file) input (one_list_output labels input)
+one_output (job.Check file) input = within_limit (job.Check file) input (one_check_output input)
+one_output (job.Record file) input = within_limit (job.Record file) input (one_record_output input)
 one_output (Explain topic) input = within_limit (Explain topic) input (λ one other p q. cc)

@@ -17,6 +17,7 @@ use Rattle.ga_jobs.specs.List.{IsListOutput}
 use Rattle.ga_jobs.specs.One.{one_output}
 use Rattle.ga_jobs.specs.Replay.{IsReplayOutput}
 use Rattle.ga_jobs.specs.Run.{IsRunOutput}
+use Rattle.ga_jobs.specs.Transcript.{IsCheckOutput, IsRecordOutput}
 
 -- what a job may answer to an input that is not too long
 unfoldable pub IsJobOutput : Job → List ℕ → Result (List ℕ) ServeError → Type 0
@@ -28,6 +29,8 @@ IsJobOutput (Run route workers turns) input answer = IsRunOutput (string_bytes r
 IsJobOutput Debug input answer = IsDebugOutput input answer
 IsJobOutput Replay input answer = IsReplayOutput input answer
 IsJobOutput (job.List labels file) input answer = IsListOutput labels input answer
+IsJobOutput (job.Check file) input answer = IsCheckOutput input answer
+IsJobOutput (job.Record file) input answer = IsRecordOutput input answer
 IsJobOutput (Explain topic) input answer = answer ≡ Ok (explain_output topic)
 
 -- the most bytes that an input may have

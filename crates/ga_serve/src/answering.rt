@@ -4,7 +4,9 @@ ghost use Rattle.ga_serve.specs.Answering.{HasOneOutput, IsJobOutput, IsOutput};
 
 use ga_command_line::Job;
 use ga_explain::explain;
-use ga_jobs::{InputFault, ServeError, asm, boot, debug, dis, list, one, replay, run};
+use ga_jobs::{
+    InputFault, ServeError, asm, boot, check, debug, dis, list, one, record, replay, run,
+};
 use std::thread::Threads;
 
 /// The most bytes that an input may have.
@@ -52,6 +54,8 @@ fn output<Rt: AllocGlobal + Threads + Sync>(
         Job::Debug => debug::output(rt.alloc(), input),
         Job::Replay => replay::output(rt.alloc(), input),
         Job::List { labels, .. } => list::output(rt.alloc(), *labels, input),
+        Job::Check { .. } => check::output(rt.alloc(), input),
+        Job::Record { .. } => record::output(rt.alloc(), input),
         Job::Explain { topic } => Ok(explain(rt.alloc(), *topic)?),
     }
 }

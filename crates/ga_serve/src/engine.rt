@@ -30,7 +30,8 @@ pub fn serve<Rt: AllocGlobal + Threads + Sync, R: Read, W: Write>(
     // Where the reader and the writer tell their bytes, what is written is an output for what is read.
     ensures served { IfSome (R.remaining reader.old) (λ input.
         Serves job.now input (W.contents writer.old) (W.contents writer.new) result) }
-    ensures read_first { ReadsFirst job.now result (R.remaining reader.old) (R.remaining reader.new) }
+    ensures read_first { ReadsFirst job.now result
+        (R.remaining reader.old) (R.remaining reader.new) }
     ensures read_no_more { ConsumesUpTo (INPUT_LIMIT + 1) (R.remaining reader.old)
         (R.remaining reader.new) }
 
@@ -56,7 +57,8 @@ fn respond<Rt: AllocGlobal + Threads + Sync, W: Write>(
     job: &Job,
     input: &[u8],
 ) -> Result<(), ServeError>
-    ensures served { Serves job.now input.now (W.contents writer.old) (W.contents writer.new) result }
+    ensures served { Serves job.now input.now
+        (W.contents writer.old) (W.contents writer.new) result }
     ensures no_read { IfErr result (λ fault. fault ≢ ServeError.Read) }
     ensures unwritten { IfErr result (λ fault. fault ≢ ServeError.Write
         → Keeps (W.contents writer.old) (W.contents writer.new)) }

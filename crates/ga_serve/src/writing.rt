@@ -9,8 +9,10 @@ use std::io::{ErrorKind, Write};
 ///
 /// Where it fails, a front of the text was written and nothing else.
 pub fn write_output<W: Write>(writer: &mut W, text: &[u8]) -> Result<(), ServeError>
-    ensures written { OnOk result (Appends (W.contents writer.old) (W.contents writer.new) text.now) }
-    ensures part { OnErr result (AppendsPart (W.contents writer.old) (W.contents writer.new) text.now) }
+    ensures written { OnOk result
+        (Appends (W.contents writer.old) (W.contents writer.new) text.now) }
+    ensures part { OnErr result
+        (AppendsPart (W.contents writer.old) (W.contents writer.new) text.now) }
     ensures fault { IfErr result (λ fault. fault ≡ ServeError.Write) }
 {
     let mut rest = text;

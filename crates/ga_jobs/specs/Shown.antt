@@ -1,0 +1,36 @@
+-- What is shown of a text behind the line that names its fault.
+use Rattle.std.specs.Prelude.{◌==◌, ◌&&◌, ℕ, ◌-◌, List, [], ◌++◌, Option, Some, None, codes, drop, map, nat_le, not, slice_index_or, take, if◌then◌else◌}
+use Rattle.std.specs.Char.{is_control}
+use Rattle.std.specs.Str.{chars, encode_utf8_all}
+use Rattle.std.specs.Str.Lines.{lines}
+
+-- The line of a text with a number from 1, without the LF or CR LF that ends it. A line that the text doesn't have is
+-- empty, and so is the line 0.
+abbrev pub line_at : List ℕ → ℕ → List ℕ
+line_at text line = slice_index_or (lines text) (line - 1) []
+
+-- Where the column is past 80, all but 40 of the characters in front of it are left out.
+abbrev pub left_out : ℕ → ℕ
+left_out column = if nat_le column 80 then 0 else column - 41
+
+-- a control character is shown as a blank, but for the tab
+abbrev pub shown_char : ℕ → ℕ
+shown_char c = if is_control c && not (c == 9) then 32 else c
+
+-- what stands under a character in front of the caret: a tab under a tab, else a blank
+abbrev pub char_under : ℕ → ℕ
+char_under c = if c == 9 then 9 else 32
+
+-- at most 100 characters of a line, behind so many of them
+abbrev pub shown_line : List ℕ → ℕ → List ℕ
+shown_line line skipped = encode_utf8_all (map shown_char (take 100 (drop skipped (chars line))))
+
+-- what stands in front of a caret under a column, or behind the line where it has fewer characters
+abbrev pub line_under : List ℕ → ℕ → ℕ → List ℕ
+line_under line skipped column = encode_utf8_all (map char_under (take (column - 1 - skipped) (drop skipped (chars line))))
+
+-- The line of a place in a text, a caret under its column, and what is meant. Without a column there is no caret.
+unfoldable pub shown_text : List ℕ → ℕ → Option ℕ → List ℕ → List ℕ
+shown_text text line None meaning = codes "  " ++ shown_line (line_at text line) 0 ++ codes "\n" ++ meaning
+shown_text text line (Some column) meaning =
+    codes "  " ++ shown_line (line_at text line) (left_out column) ++ codes "\n  " ++ line_under (line_at text line) (left_out column) column ++ codes "^\n" ++ meaning

@@ -1,0 +1,30 @@
+ghost use Rattle.std.specs.Prelude.{string_bytes};
+ghost use Rattle.ga_asm.specs.Text.{AtMostOne};
+ghost use Rattle.ga_jobs.specs.Fault.{Answers};
+ghost use Rattle.ga_jobs.specs.Transcript.{IsCheckOutput};
+
+use crate::fault::ServeError;
+use crate::text::text_of;
+use crate::transcript_fault::shown_transcript_fault;
+use ga_transcript::check;
+use std::alloc::Global;
+use std::fmt::Write;
+
+/// How many commands of the input, which is a transcript, have the reply that stands behind them, as text. A fault of the
+/// transcript comes with what is shown of it.
+#[tactic(auto, using(crate::proofs::OneOutput::one_check_output))]
+pub fn output(alloc: Global, input: &[u8]) -> Result<String, ServeError>
+    ensures output { Answers string_bytes (IsCheckOutput input.now) result }
+    // an input has one output, or one first fault
+    ensures only { AtMostOne (IsCheckOutput input.now) }
+{
+    let text = text_of(input)?;
+    match check(alloc, text) {
+        Ok(count) => {
+            let mut output = String::new(alloc);
+            writeln!(output, "same {count}")?;
+            Ok(output)
+        }
+        Err(error) => Err(shown_transcript_fault(alloc, text, error)?),
+    }
+}

@@ -1,0 +1,141 @@
+ghost use Rattle.std.specs.Prelude.{◌≡◌, ℕ, IfOk, List, Some, bytes_eq, string_bytes};
+ghost use Rattle.std.proofs.Common.{rules};
+ghost use Rattle.std.specs.Cmp.Rules.{comparing};
+ghost use Rattle.ga_jobs.specs.Shown.{char_under, left_out, line_at, line_under, shown_char, shown_line, shown_text};
+
+use std::alloc::{AllocError, Global};
+use std::fmt;
+use std::marker::Model;
+
+/// The most characters of a line that are shown.
+const WIDTH: usize = 100;
+
+/// The last column up to which a line is shown from its first character on.
+const LAST_COLUMN: usize = 80;
+
+/// How many characters are shown in front of a column behind that one.
+const IN_FRONT: usize = 40;
+
+/// What is shown of a text behind the line that names its fault: the line of the fault's place, a caret under its column,
+/// and what is meant, with LF between them and none at the end. A contract sees it as its bytes.
+#[derive(Debug, Drop)]
+pub struct ShownText {
+    text: String,
+}
+
+impl Model for ShownText {
+    ghost use Rattle.std.specs.Prelude.{ℕ, List, string_bytes};
+
+    ghost Value = { List ℕ };
+
+    ghost view = { λ shown. string_bytes shown.text };
+}
+
+impl ShownText {
+    /// Lines of another kind, with LF between them.
+    pub fn of_lines(text: String) -> ShownText
+        ensures { result ≡ string_bytes text }
+    {
+        ShownText { text }
+    }
+
+    /// What is shown at a line of a text, from 1, and at a column of it, from 1, which counts characters. Without a column
+    /// there is no caret. It fails only where memory is refused.
+    #[tactic(auto, unfolding(crate::specs::Shown::shown_text))]
+    pub fn new(
+        alloc: Global,
+        text: &str,
+        line: usize,
+        column: Option<usize>,
+        meaning: &str,
+    ) -> Result<ShownText, AllocError>
+        ensures { IfOk result (λ shown. shown ≡ shown_text text.now line column meaning.now) }
+    {
+        let found = line_at(text, line);
+        match column {
+            Some(column) => {
+                let skipped = left_out(column);
+                let shown = shown_line(alloc, found, skipped)?;
+                let under = line_under(alloc, found, skipped, column)?;
+                let text = format!(in alloc; "  {shown}\n  {under}^\n{meaning}")?;
+                Ok(ShownText { text })
+            }
+            None => {
+                let shown = shown_line(alloc, found, 0)?;
+                let text = format!(in alloc; "  {shown}\n{meaning}")?;
+                Ok(ShownText { text })
+            }
+        }
+    }
+}
+
+/// Writes the text.
+impl fmt::Display for ShownText {
+    ghost output = { λ shown. Some shown };
+
+    fn fmt<W: fmt::Write>(&self, f: &mut fmt::Formatter<W>) -> fmt::Result {
+        f.write_str(&self.text)
+    }
+}
+
+impl PartialEq for ShownText {
+    ghost eq = { λ one other. bytes_eq one other };
+
+    ghost laws = { Prim.search (comparing, rules) };
+
+    fn eq(&self, other: &ShownText) -> bool {
+        self.text == other.text
+    }
+}
+
+impl Eq for ShownText {
+    ghost laws = { Prim.search (comparing, rules) };
+}
+
+/// The line of a text with this number, from 1; an empty one where the text has none.
+fn line_at(text: &str, line: usize) -> &str
+    ensures { result.now ≡ line_at text.now line }
+{
+    match text.lines().nth(line.saturating_sub(1)) {
+        Some(found) => found,
+        None => "",
+    }
+}
+
+/// How many characters in front of the line are left out, so that the column is shown.
+fn left_out(column: usize) -> usize
+    ensures { result ≡ left_out column }
+{
+    if column <= LAST_COLUMN {
+        0
+    } else {
+        column - 1 - IN_FRONT
+    }
+}
+
+/// The characters of a line that are shown, behind so many of them.
+fn shown_line(alloc: Global, line: &str, skipped: usize) -> Result<String, AllocError>
+    ensures { IfOk result (λ shown. string_bytes shown ≡ shown_line line.now skipped) }
+{
+    line.chars()
+        .skip(skipped)
+        .take(WIDTH)
+        .map(|c| if c.is_control() && c != '\t' { ' ' } else { c })
+        .collect(alloc)
+}
+
+/// What stands under these characters in front of the caret.
+fn line_under(
+    alloc: Global,
+    line: &str,
+    skipped: usize,
+    column: usize,
+) -> Result<String, AllocError>
+    ensures { IfOk result (λ under. string_bytes under ≡ line_under line.now skipped column) }
+{
+    line.chars()
+        .skip(skipped)
+        .take(column.saturating_sub(1).saturating_sub(skipped))
+        .map(|c| if c == '\t' { '\t' } else { ' ' })
+        .collect(alloc)
+}

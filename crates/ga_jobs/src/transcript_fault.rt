@@ -1,0 +1,103 @@
+ghost use Rattle.std.specs.Prelude.{◌≡◌, IfOk};
+ghost use Rattle.ga_transcript.specs.Check.{fault_of};
+ghost use Rattle.ga_jobs.specs.TranscriptFault as spec;
+ghost use Rattle.ga_jobs.specs.TranscriptFault.{shown_head_fault, shown_transcript_fault};
+
+use crate::fault::{ServeError, TextFault};
+use crate::meaning::{EARLY_REPLY, head_meaning};
+use crate::shown::ShownText;
+use crate::text_fault::shown_fault;
+use ga_asm::{AsmError, TextError};
+use ga_debug::ReplayError;
+use ga_source::SourceError;
+use ga_transcript::TranscriptError;
+use std::alloc::{AllocError, Global};
+
+/// The fault of a transcript, with what is shown of it. It fails only where memory is refused.
+pub fn shown_transcript_fault(
+    alloc: Global,
+    text: &str,
+    error: TranscriptError,
+) -> Result<ServeError, AllocError>
+    ensures { IfOk result (λ fault. fault ≡ shown_transcript_fault text.now (fault_of error)) }
+{
+    match error {
+        TranscriptError::Head(error) => shown_head_fault(alloc, text, error),
+        TranscriptError::EarlyReply(line) => {
+            let fault = TextFault::EarlyReply(line);
+            let shown = ShownText::new(alloc, text, line as usize, None, EARLY_REPLY)?;
+            Ok(ServeError::Shown { fault, shown })
+        }
+        TranscriptError::Differs(line, lines) => {
+            let fault = TextFault::Differs(line);
+            let shown = ShownText::of_lines(lines);
+            Ok(ServeError::Shown { fault, shown })
+        }
+        TranscriptError::Memory => Ok(ServeError::Memory),
+    }
+}
+
+/// The fault of a head, with what is shown of the text.
+fn shown_head_fault(alloc: Global, text: &str, error: ReplayError) -> Result<ServeError, AllocError>
+    ensures { IfOk result (λ fault. fault ≡ shown_head_fault text.now error) }
+{
+    match error {
+        ReplayError::Source(fault) => {
+            shown_fault(alloc, text, TextError::Source(source_behind_head(&fault)))
+        }
+        ReplayError::Asm(fault) => {
+            shown_fault(alloc, text, TextError::Asm(asm_behind_head(&fault)))
+        }
+        _ => {
+            let (line, meaning) = (head_line(text, &error), head_meaning(&error));
+            let shown = ShownText::new(alloc, text, line, None, meaning)?;
+            let fault = TextFault::Replay(error);
+            Ok(ServeError::Shown { fault, shown })
+        }
+    }
+}
+
+/// A fault of source lines, with its line of the whole text.
+fn source_behind_head(error: &SourceError) -> SourceError
+    ensures { result ≡ record error.now { line = spec.behind_head error.now.line } }
+{
+    SourceError {
+        kind: error.kind,
+        line: behind_head(error.line),
+        column: error.column,
+    }
+}
+
+/// A fault of the program of source lines, with its line of the whole text.
+fn asm_behind_head(error: &AsmError) -> AsmError
+    ensures { result ≡ record error.now { line = spec.behind_head error.now.line } }
+{
+    AsmError {
+        kind: error.kind,
+        node: error.node,
+        line: behind_head(error.line),
+        column: error.column,
+    }
+}
+
+/// The number of a source line in the whole text, where two lines stand in front.
+fn behind_head(line: usize) -> usize
+    ensures { result ≡ spec.behind_head line }
+{
+    if line < usize::MAX - 1 {
+        line + 2
+    } else {
+        line
+    }
+}
+
+/// The line where a fault of the head is seen.
+fn head_line(text: &str, error: &ReplayError) -> usize
+    ensures { result ≡ spec.head_line text.now error.now }
+{
+    match error {
+        ReplayError::BadProfile => 1,
+        ReplayError::NoGo => text.lines().count(),
+        _ => 2,
+    }
+}
