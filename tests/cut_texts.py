@@ -14,7 +14,7 @@ ROUTE = "708,709,609,608"
 # A text, and the command lines that read such a text.
 TEXTS = [
     ("examples/ring/ring.source", [["asm"], ["list"], ["boot", ROUTE], ["run", ROUTE, "1", "600"]]),
-    ("examples/ring/ring.debug", [["debug"]]),
+    ("examples/ring/ring.transcript", [["debug"], ["check"], ["record"]]),
     ("examples/ring/ring.replay", [["replay"]]),
 ]
 # The recorded case whose text is read by these command lines too.

@@ -1,13 +1,13 @@
 #!/usr/bin/env python3
 """Runs the worked programs of examples/, and compares their data: tests/examples.py PROGRAM [NAME..]
 
-A worked program is a folder examples/NAME with four files:
-  NAME.source    the source text
-  NAME.debug     a session of `debug`, with this source in its head
-  NAME.replies   the replies to it
-  NAME.replay    a text of `replay`, with this source in its head
-Of each, or of those that are named, the session is done and compared with its replies, the replay text holds,
-both have the source, and the row of docs/EXAMPLES.md has the program's nodes, words and steps.
+A worked program is a folder examples/NAME with three files:
+  NAME.source      the source text
+  NAME.transcript  a session with its replies, with this source in its head
+  NAME.replay      a text of `replay`, with this source in its head
+Of each, or of those that are named, `check` accepts the transcript, and `record` writes it as it is; the replay text
+holds; both have the source; and the row of docs/EXAMPLES.md has the program's nodes, words and steps. Each other
+transcript of the folder is checked and recorded too.
 
 Then the program is run with other data, at the limits of its range too, and what comes is compared with
 numbers that this file works out itself, apart from the bench: a product is Python's product.
@@ -15,6 +15,7 @@ numbers that this file works out itself, apart from the bench: a product is Pyth
 The last line that is printed is 'N passed, M failed', and the exit status is 0 where M is 0 and N isn't.
 """
 import binascii
+import glob
 import os
 import random
 import re
@@ -262,7 +263,7 @@ def side(node, neighbour):
 
 def token(bench, source, chance):
     """All 144 nodes stand on the ring, each at its place, and each counts itself; so from three other first nodes."""
-    ring = re.search(r"^route (.*)$", read("token", "debug"), re.M)[1].split(",")
+    ring = re.search(r"^route (.*)$", read("token", "transcript"), re.M)[1].split(",")
     bench.same("the nodes of the ring", sorted(ring), NODES)
     head = source[:source.index("\nnode ") + 1]
     for start in (0, 17, 52, 143):
@@ -401,23 +402,39 @@ def sum_(bench, source, chance):
 
 
 def ring(bench, source, chance):
-    """Three nodes add 1 each."""
+    """Three nodes add 1 each; all are stuck at the end, and none before."""
     for number in [1, 0, 0x3FFFF, 0x3FFFE, 0x12345]:
         lines = bench.run("run 708,709,609,608 1 1000", source.replace("$1 !", f"{number} !"))
         bench.same(f"{number:05X} round the ring", field(lines[0], "T"), (number + 3) % WORDS)
+    for turns, are_stuck in ((200, False), (1000, True)):
+        text = f"profile 1\nroute 708,709,609,608\n{source}go\n> turn {turns}\n> where\n"
+        told = bench.run("record", text)
+        told = told[told.index("> where") + 1:]
+        stuck = [line.endswith(", stuck") for line in told]
+        bench.same(f"the nodes of the ring that are stuck behind {turns} turns", (len(told) >= 4, {*stuck}), (True, {are_stuck}))
 
 
 DATA = [blinker, multiply, echo, fill, two_nodes, send, sum_, ring]
 DATA += [pulse, crc, product, division, port_worker, moving_sum, sort, queue, token, token_ring]
 
 
+def transcripts(bench, name):
+    """Checks and records each transcript of a folder."""
+    for path in sorted(glob.glob(f"{ROOT}/examples/{name}/*.transcript")):
+        with open(path, encoding="utf-8") as file:
+            text = file.read()
+        commands = len(re.findall(r"^> ", text.split("\ngo\n")[1], re.M))
+        bench.same(f"check {path}", bench.run("check", text), [f"same {commands}"])
+        bench.same(f"record {path}", bench.run("record", text), text.splitlines())
+
+
 def kept(bench, name):
-    """Compares the session, the replay text and the row of the page with the source."""
-    source, debug, replay = (read(name, kind) for kind in ("source", "debug", "replay"))
-    bench.same(f"{name}, replies", bench.run("debug", debug), read(name, "replies").splitlines())
+    """Compares the transcript, the replay text and the row of the page with the source."""
+    source, transcript, replay = (read(name, kind) for kind in ("source", "transcript", "replay"))
+    transcripts(bench, name)
     states = len(re.findall(r" = ", replay.split("\ngo\n")[1]))
     bench.same(f"{name}, replay", bench.run("replay", replay), [f"same {states}"])
-    for kind, text in (("debug", debug), ("replay", replay)):
+    for kind, text in (("transcript", transcript), ("replay", replay)):
         first, _, head = text.split("\ngo\n")[0].split("\n", 2)
         kept_source = head[:len(source)] if name in MORE else head + "\n"
         bench.same(f"{name}, the source in {name}.{kind}", first == "profile 1" and kept_source, source)

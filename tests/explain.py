@@ -79,7 +79,8 @@ def examples(text):
 
 
 def key(args, data, printed):
-    return tuple(args), data, printed
+    """An example, whose lines that begin with a blank are joined to the one before, as a long line of a text is."""
+    return tuple(args), data, re.sub("\n(?= )", "", printed)
 
 
 def key_of_case(case):

@@ -6,7 +6,8 @@ right where
 - the status is 0, 1 or 2, and no signal ended the program;
 - with status 0 nothing is on standard error;
 - with status 1 nothing is on standard output, and standard error is one line with a fault that docs/FORMATS.md lists,
-  but neither `read` nor `write`, since the streams don't fail;
+  but neither `read` nor `write`, since the streams don't fail; behind it `list`, `check` and `record` show the text, where the fault has a
+  place there;
 - with status 2 nothing is on standard output, and something on standard error;
 - it comes within 20 seconds, and with at most 256 MiB of memory and 1,024 bytes for each byte of the input.
 A turn costs up to 144 tries, so the turns that an input asks for are at most 2,000 in all. (An input has 1,048,576 bytes at
@@ -140,6 +141,7 @@ def few_turns(args, data):
         return found[1] + str(count).encode()
 
     data = re.sub(rb"(turn[ ])(\d{1,7})(?!\d)", fewer, data)
+    data = re.sub(rb"(until [^ \n]+ [^ \n]+)( \d{1,7})?(?=\n|$)", lambda found: fewer([b"", found[1] + b" ", found[2] or b"1000000"]), data)
     if args and args[0] == "run":
         args = [word if not word.isdecimal() or int(word) > 1000000 else str(min(int(word), 200)) for word in args]
     return args, data
@@ -183,8 +185,22 @@ class Runner:
             os.kill(child, signal.SIGKILL)
         os.close(ended)
         status = os.waitstatus_to_exitcode(os.waitpid(child, 0)[1])
-        error = os.pread(self.streams[2], 1 << 16, 0).decode(errors="replace")
+        error = os.pread(self.streams[2], 1 << 22, 0).decode(errors="replace")
         return status if is_done else None, os.fstat(self.streams[1]).st_size, error
+
+
+def is_fault(fault, args, error):
+    """Whether a text is a fault: a line, behind which `list`, `check` and `record` show something of the text."""
+    line, end, rest = error.partition("\n")
+    shown = ""
+    if args[:1] in (["list"], ["check"], ["record"]):
+        if re.match("ga-bench: (source|asm) ", line):
+            shown = "  .{0,100}\n  [ \t]{0,79}[\\^]\n.{1,80}\n"
+        elif re.match("ga-bench: (replay|transcript) ", line):
+            shown = "  .{0,100}\n.{1,80}\n"
+        elif line.startswith("ga-bench: check differs "):
+            shown = "(-.*\n)*([+].*\n)*"
+    return fault.fullmatch(line + end) and re.fullmatch(shown, rest)
 
 
 def wrong(runner, fault, args, data):
@@ -194,7 +210,7 @@ def wrong(runner, fault, args, data):
         return f"no answer within {SECONDS} seconds"
     right = {
         0: not error,
-        1: not written and fault.fullmatch(error),
+        1: not written and is_fault(fault, args, error),
         2: not written and error,
     }
     return None if right.get(status) else f"status {status}, {written} bytes, {error[:200]!r}"

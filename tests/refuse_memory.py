@@ -50,6 +50,13 @@ RUNS = [
     (["list"], b"node 709 main: $5 $7 + @b\ndata x: , main"),
     (["list", "--labels", "-"], b"node 709 main: $5 $7 + @b\ndata x: , main"),
     (["list"], b"node 709 jump x"),
+    (["check"], HEAD + b"> break 000 x\nok\n> until 000 x 9\nturns 5 moved 5\n> breaks\n000 001 x, held\n> node x\n"),
+    (["check"], HEAD + b"> where\n> node 000\n> mem 000\n> step\nrefused BadCommand\n"),
+    (["check"], HEAD + b"turn 4\n"),
+    (["check"], b"profile 1\nplace\nnode 000 jump x\ngo\n"),
+    (["record"], HEAD + b"> break 000 002\n> until 000 x 9\n> breaks\n> where\n> pass 000\n> regs 000\nold\n\\ end\n"),
+    (["record"], ROUTE + b"> turn 40\n> until 709 1D5\n> where\n> try 709 r\n"),
+    (["record"], b"profile 1\nplace\n"),
     (["explain"], b""),
     (["explain", "NotHeld"], b""),
 ]

@@ -1,4 +1,4 @@
-//! The tests of what takes both images and a chip: boots, rings and sessions, in one file for each.
+//! The tests of what takes both images and a chip: boots, rings, waits, sessions and transcripts, in one file for each.
 //!
 //! A crate that has no test of its own is proved once by the gate, and one with tests twice. So the tests stand here,
 //! and this crate has nothing else.
@@ -10,3 +10,7 @@ mod boots;
 mod rings;
 #[cfg(test)]
 mod sessions;
+#[cfg(test)]
+mod transcripts;
+#[cfg(test)]
+mod waits;

@@ -73,6 +73,9 @@ fn reads_files(rt: HostRuntime) -> Result<(), Fail> {
     let job = named(alloc, &["ga-bench", "list", "x.source", "--labels"])?;
     assert!(rt; job.file() == Some("x.source") && matches!(job, Job::List { labels: true, .. }));
     assert!(rt; named(alloc, &["ga-bench", "list", "-"])?.file().is_none());
+    let check = named(alloc, &["ga-bench", "check", "x.transcript"])?;
+    assert!(rt; check.file() == Some("x.transcript") && matches!(check, Job::Check { .. }));
+    assert!(rt; named(alloc, &["ga-bench", "record", "-"])?.file().is_none());
     Ok(())
 }
 

@@ -42,6 +42,16 @@ fn answers_lines(rt: HostRuntime) -> Result<(), Fail> {
             "000 x 001\n000 main 002\n",
         ),
         (
+            Job::Check { file: None },
+            "profile 1\nplace\nnode 000 .\ngo\n> turn 4\nmoved 4\n",
+            "same 1\n",
+        ),
+        (
+            Job::Record { file: None },
+            "profile 1\nplace\nnode 000 .\ngo\n> turn 4\n",
+            "profile 1\nplace\nnode 000 .\ngo\n> turn 4\nmoved 4\n",
+        ),
+        (
             Job::Dis { code: None },
             "10BD5",
             "node 000\n[ jump $003D5 / 2 ]\n",

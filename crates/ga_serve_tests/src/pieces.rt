@@ -19,6 +19,10 @@ const SESSION: &str =
 const STEPS: &str =
     "profile 1\nplace\nnode 000 . align . x: jump x\ngo\nbreak 000 001\nturn 9 = 5\n";
 
+/// A transcript of the same node.
+const TRANSCRIPT: &str =
+    "profile 1\nplace\nnode 000 . align . x: jump x\ngo\n> break 000 x\nok\n> breaks\n000 002 x\n";
+
 /// How many bytes are read and written at a call.
 const PIECE: usize = 16;
 
@@ -47,6 +51,8 @@ fn jobs(alloc: Global) -> Result<Vec<(Job, &'static str)>, Fail> {
         file: None,
     };
     jobs.push((listed, SOURCE))?;
+    jobs.push((Job::Check { file: None }, TRANSCRIPT))?;
+    jobs.push((Job::Record { file: None }, TRANSCRIPT))?;
     jobs.push((Job::Explain { topic }, ""))?;
     Ok(jobs)
 }

@@ -115,6 +115,37 @@ fn refuses_source_texts(rt: HostRuntime) -> Result<(), Fail> {
     Ok(())
 }
 
+/// What is told of a token that the language does not have, or not where it stands.
+const BAD_TOKEN: &str = "a token that the language doesn't have, or one that may not stand there";
+
+#[test]
+fn shows_what_is_wrong(rt: HostRuntime) -> Result<(), Fail> {
+    let alloc = rt.alloc();
+    let tabs = format!(in alloc; "source 2:6 BadToken\n  \tdup\tfrob !p\n  \t   \t^\n{BAD_TOKEN}")?;
+    let letters = format!(in alloc;
+        "source 1:10 BadToken\n  node 709 \u{fc}ber\n           ^\n{BAD_TOKEN}"
+    )?;
+    let table = [
+        (b"node 709\r\n\tdup\tfrob !p\r\n".as_slice(), tabs.as_str()),
+        (b"node 709 \xC3\xBCber", letters.as_str()),
+        (
+            b"node 709 jump x",
+            "asm 709 1:15 UndefinedLabel\n  node 709 jump x\n                ^\na name that is no label of its node",
+        ),
+        (
+            b"node 709 main:\n",
+            "source 2:1 Empty\n  \n  ^\na section that makes no word",
+        ),
+        (b"node 000 \xFF", "input BadText"),
+    ];
+    for (input, text) in table {
+        for labels in [false, true] {
+            refuses(&rt, &Job::List { labels, file: None }, input, text)?;
+        }
+    }
+    Ok(())
+}
+
 #[test]
 fn refuses_runs(rt: HostRuntime) -> Result<(), Fail> {
     let two_nodes = b"node 709 main: $5 $7 + @b".as_slice();
