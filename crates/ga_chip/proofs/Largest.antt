@@ -21,21 +21,21 @@ use Rattle.ga_chip.specs.Stuck.{HoldsEachClosed, has_node, is_dry, is_full, is_s
 use Rattle.ga_chip.proofs.Closed.{at_each, from_each, in_closed}
 
 -- every node of one set is in another
-abbrev IsPart : (ℕ → Bool) → (ℕ → Bool) → Type 0
+abbrev pub IsPart : (ℕ → Bool) → (ℕ → Bool) → Type 0
 IsPart inside larger = (name : ℕ) → inside name ≡ true → larger name ≡ true
 
 -- What is stuck by a set is stuck by a larger one.
-shut_more : (inside larger : ℕ → Bool) (waits : Bool) (at : Option ℕ) → IsPart inside larger → is_shut inside waits at ≡ true → is_shut larger waits at ≡ true
+pub shut_more : (inside larger : ℕ → Bool) (waits : Bool) (at : Option ℕ) → IsPart inside larger → is_shut inside waits at ≡ true → is_shut larger waits at ≡ true
 shut_more inside larger waits None more shut = refl
 shut_more inside larger waits (Some other) more shut =
     let both = and_parts waits (inside other) shut in
     and_from waits (larger other) both.0 (more other both.1)
 
-taken_more : (inside larger : ℕ → Bool) (cells : List (Option ℕ)) (name : ℕ) (side : Side) (among : Bool) → IsPart inside larger → not among || is_dry inside cells name side ≡ true → not among || is_dry larger cells name side ≡ true
+pub taken_more : (inside larger : ℕ → Bool) (cells : List (Option ℕ)) (name : ℕ) (side : Side) (among : Bool) → IsPart inside larger → not among || is_dry inside cells name side ≡ true → not among || is_dry larger cells name side ≡ true
 taken_more inside larger cells name side true more dry = shut_more inside larger (not (is_full cells (read_cell name side))) (neighbour_of name side) more dry
 taken_more inside larger cells name side false more dry = refl
 
-more_by : (inside larger : ℕ → Bool) (cells : List (Option ℕ)) (name : ℕ) (words : List ℕ) (n : Need) → IsPart inside larger → is_stuck_by inside cells name words n ≡ true → is_stuck_by larger cells name words n ≡ true
+pub more_by : (inside larger : ℕ → Bool) (cells : List (Option ℕ)) (name : ℕ) (words : List ℕ) (n : Need) → IsPart inside larger → is_stuck_by inside cells name words n ≡ true → is_stuck_by larger cells name words n ≡ true
 more_by inside larger cells name words need.Own more stuck = stuck
 more_by inside larger cells name words (need.Take sides) more stuck =
     from_each (λ side. not (is_among side sides) || is_dry larger cells name side)
@@ -45,7 +45,7 @@ more_by inside larger cells name words (need.Check to) more stuck = shut_more in
 more_by inside larger cells name words need.Input more stuck = stuck
 more_by inside larger cells name words (need.Stopped stop) more stuck = refl
 
-stuck_more : (inside larger : ℕ → Bool) (cells : List (Option ℕ)) (part : Part) → IsPart inside larger → is_stuck inside cells part ≡ true → is_stuck larger cells part ≡ true
+pub stuck_more : (inside larger : ℕ → Bool) (cells : List (Option ℕ)) (part : Part) → IsPart inside larger → is_stuck inside cells part ≡ true → is_stuck larger cells part ≡ true
 unfolding is_stuck
 stuck_more inside larger cells part more stuck = more_by inside larger cells part.state.node (words_left part.stream) (need_of part.state) more stuck
 

@@ -1,55 +1,26 @@
 -- What is left after 144 rounds is the largest closed set.
 use Rattle.std.proofs.Common.{◌≡◌, ℕ, zero, suc, ◌+◌, ◌*◌, ◌<◌, ◌≤◌, ◌⊎◌, inl, inr, Bool, true, false, List, length, Option, Some, None, refl, sym, ap, ◌∙◌, subst, arith}
-use Rattle.std.specs.Prelude.{◌||◌, not, if◌then◌else◌}
+use Rattle.std.specs.Prelude.{if◌then◌else◌}
 use Rattle.std.specs.Cmp.{both_ways}
 use Rattle.std.specs.Option.{option_map_or}
 use Rattle.std.proofs.lemmas.Bool.{and_from, and_parts, cases_eq, false≢true, ltb-true}
 use Rattle.std.proofs.lemmas.Option.{slice_get_within}
-use Rattle.ga_place.specs.Cell.{cell_of, index_of, name_at, read_cell}
+use Rattle.ga_place.specs.Cell.{index_of, name_at}
 use Rattle.ga_place.specs.Node.{IsNodeName, column_of, is_node_name, row_of}
-use Rattle.ga_place.specs.Side.{is_among, neighbour_of}
-use Rattle.ga_place.specs.declared.side.Side.{Side}
 use Rattle.ga_place.proofs.Cells.{index_below, name_back}
-use Rattle.ga_node.specs.Need.{need_of}
-use Rattle.ga_node.specs.declared.need.Need.{Need}
-use Rattle.ga_node.specs.declared.need.Need.TheVariants as need
 use Rattle.ga_chip.specs.Part.{Part}
 use Rattle.ga_chip.specs.Chip.{Chip, part_of}
-use Rattle.ga_chip.specs.Run.{words_left}
 use Rattle.ga_chip.specs.Legal.{IsLegal}
-use Rattle.ga_chip.specs.Stuck.{HoldsEachClosed, IsClosed, is_dry, is_full, is_shut, is_stuck, is_stuck_by}
-use Rattle.ga_chip.proofs.Closed.{at_each, from_each, in_closed}
+use Rattle.ga_chip.specs.Stuck.{HoldsEachClosed, IsClosed, is_stuck}
+use Rattle.ga_chip.proofs.Closed.{in_closed}
+use Rattle.ga_chip.proofs.Largest.{IsPart, stuck_more}
 use Rattle.ga_waits.specs.Closed.{left_after, stuck_in}
 
--- every node of one set is in another
-abbrev IsPart : (ℕ → Bool) → (ℕ → Bool) → Type 0
-IsPart inside larger = (name : ℕ) → inside name ≡ true → larger name ≡ true
-
--- What is stuck by a set is stuck by a larger one.
-shut_more : (inside larger : ℕ → Bool) (waits : Bool) (at : Option ℕ) → IsPart inside larger → is_shut inside waits at ≡ true → is_shut larger waits at ≡ true
-shut_more inside larger waits None more shut = refl
-shut_more inside larger waits (Some other) more shut =
-    let both = and_parts waits (inside other) shut in
-    and_from waits (larger other) both.0 (more other both.1)
-
-taken_more : (inside larger : ℕ → Bool) (cells : List (Option ℕ)) (name : ℕ) (side : Side) (among : Bool) → IsPart inside larger → not among || is_dry inside cells name side ≡ true → not among || is_dry larger cells name side ≡ true
-taken_more inside larger cells name side true more dry = shut_more inside larger (not (is_full cells (read_cell name side))) (neighbour_of name side) more dry
-taken_more inside larger cells name side false more dry = refl
-
-more_by : (inside larger : ℕ → Bool) (cells : List (Option ℕ)) (name : ℕ) (words : List ℕ) (n : Need) → IsPart inside larger → is_stuck_by inside cells name words n ≡ true → is_stuck_by larger cells name words n ≡ true
-more_by inside larger cells name words need.Own more stuck = stuck
-more_by inside larger cells name words (need.Take sides) more stuck =
-    from_each (λ side. not (is_among side sides) || is_dry larger cells name side)
-    (λ side. taken_more inside larger cells name side (is_among side sides) more (at_each (λ side. not (is_among side sides) || is_dry inside cells name side) stuck side))
-more_by inside larger cells name words (need.Post to word) more stuck = stuck
-more_by inside larger cells name words (need.Check to) more stuck = shut_more inside larger (is_full cells (cell_of name to)) (neighbour_of name to) more stuck
-more_by inside larger cells name words need.Input more stuck = stuck
-more_by inside larger cells name words (need.Stopped stop) more stuck = refl
-
-stuck_more : (inside larger : ℕ → Bool) (cells : List (Option ℕ)) (part : Option Part) → IsPart inside larger → option_map_or (is_stuck inside cells) part false ≡ true → option_map_or (is_stuck larger cells) part false ≡ true
-unfolding is_stuck
-stuck_more inside larger cells (Some part) more stuck = more_by inside larger cells part.state.node (words_left part.stream) (need_of part.state) more stuck
-stuck_more inside larger cells None more stuck = stuck
+-- What is stuck by a set is stuck by a larger one, where there is a node.
+stuck_there : (inside larger : ℕ → Bool) (cells : List (Option ℕ)) (part : Option Part) → IsPart inside larger
+    → option_map_or (is_stuck inside cells) part false ≡ true → option_map_or (is_stuck larger cells) part false ≡ true
+stuck_there inside larger cells (Some part) more stuck = stuck_more inside larger cells part more stuck
+stuck_there inside larger cells None more stuck = stuck
 
 -- A node of a closed set has the name of a node.
 named : (name count : ℕ) → count ≡ 144 → index_of name < count → is_node_name name ≡ true
@@ -66,7 +37,7 @@ kept chip other legal closed zero name member =
     named name (length chip.parts) legal.parts (slice_get_within chip.parts (index_of name) it.part it.there)
 kept chip other legal closed (suc rounds) name member =
     let before = kept chip other legal closed rounds in
-    and_from _ _ (before name member) (stuck_more other (left_after chip rounds) chip.cells (part_of chip name) before (closed name member))
+    and_from _ _ (before name member) (stuck_there other (left_after chip rounds) chip.cells (part_of chip name) before (closed name member))
 
 -- no round puts a node in
 left_less : (chip : Chip) (rounds : ℕ) → IsPart (left_after chip (suc rounds)) (left_after chip rounds)
@@ -82,7 +53,7 @@ IsSettled chip rounds = IsPart (left_after chip rounds) (left_after chip (suc ro
 
 settled_on : (chip : Chip) (rounds : ℕ) → IsSettled chip rounds → IsSettled chip (suc rounds)
 settled_on chip rounds settled name member =
-    and_from _ _ member (stuck_more (left_after chip rounds) (left_after chip (suc rounds)) chip.cells (part_of chip name) settled (and_parts _ _ member).1)
+    and_from _ _ member (stuck_there (left_after chip rounds) (left_after chip (suc rounds)) chip.cells (part_of chip name) settled (and_parts _ _ member).1)
 
 -- how many of a range of numbers are in a set
 abbrev count_of : Bool → ℕ
