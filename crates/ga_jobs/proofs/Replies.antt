@@ -6,7 +6,8 @@ use Rattle.std.proofs.lemmas.List.{drop_all, drop_more}
 use Rattle.ga_chip.specs.Chip.{Chip}
 use Rattle.ga_pack.specs.Model.Text.{lines_of}
 use Rattle.ga_debug.specs.Session.{reply_to}
-use Rattle.ga_jobs.specs.Debug.{after_reply, reply_line, replies_to}
+use Rattle.ga_transcript.specs.Reply.{after_reply}
+use Rattle.ga_jobs.specs.Debug.{reply_line, replies_to}
 
 -- the line that comes next is the first of those that are left
 pub next_line : (text : List ℕ) (n m : ℕ) (line : List ℕ) → (n < length (slice_split (λ c. c == 10) text)) × (line ≡ get_or (slice_split (λ c. c == 10) text) n line) → m ≡ n + 1

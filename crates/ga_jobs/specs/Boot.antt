@@ -29,4 +29,5 @@ text_by images (Err fault) = Err fault
 -- what `boot` may write for an input, or its first fault: of the source, of the assembly, of the route, of the boot
 abbrev pub IsBootOutput : List ℕ → List ℕ → Result (List ℕ) ServeError → Type 0
 IsBootOutput route input (Ok text) = (images : Images) × IsImagesIn input (Ok images) × (text_by images (route_in route) ≡ Ok text)
-IsBootOutput route input (Err fault) = IsImagesIn input (Err fault) ⊎ ((images : Images) × IsImagesIn input (Ok images) × (text_by images (route_in route) ≡ Err fault))
+IsBootOutput route input (Err fault) =
+    IsImagesIn input (Err fault) ⊎ ((images : Images) × IsImagesIn input (Ok images) × (text_by images (route_in route) ≡ Err fault))

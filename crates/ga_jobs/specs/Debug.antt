@@ -6,7 +6,8 @@ use Rattle.ga_debug.specs.declared.replay_error.ReplayError.{ReplayError}
 use Rattle.ga_debug.specs.Beginning.{IsBeginning}
 use Rattle.ga_debug.specs.Error.{fault_name}
 use Rattle.ga_pack.specs.Model.Text.{lines_of}
-use Rattle.ga_debug.specs.Session.{after_line, reply_to}
+use Rattle.ga_debug.specs.Session.{reply_to}
+use Rattle.ga_transcript.specs.Reply.{after_reply}
 use Rattle.ga_jobs.specs.declared.fault.ServeError.{ServeError}
 use Rattle.ga_jobs.specs.Fault.{fault_of_replay}
 use Rattle.ga_jobs.specs.Text.{IsInText}
@@ -15,11 +16,6 @@ use Rattle.ga_jobs.specs.Text.{IsInText}
 abbrev pub reply_line : Result (List ℕ) DebugError → List ℕ
 reply_line (Ok reply) = reply ++ 10 ∷ []
 reply_line (Err fault) = codes "refused " ++ fault_name fault ++ 10 ∷ []
-
--- the chip behind a command; one that is refused changes nothing
-abbrev pub after_reply : Result (List ℕ) DebugError → List ℕ → Chip → Chip
-after_reply (Ok reply) line chip = after_line line chip
-after_reply (Err fault) line chip = chip
 
 -- what is written of lines, of which the empty ones are no commands
 abbrev pub replies_to : Chip → List (List ℕ) → List ℕ
@@ -30,7 +26,8 @@ replies_to chip ((c ∷ line) ∷ lines) =
 
 -- the replies to the commands of a text, which stand behind the line `go`, or the first fault in front of them
 abbrev pub IsReplies : List ℕ → Result (List ℕ) ReplayError → Type 0
-IsReplies text (Ok replies) = (chip : Chip) × (line : ℕ) × IsBeginning text (Ok (chip, line)) × (replies ≡ replies_to chip (drop line (lines_of text)))
+IsReplies text (Ok replies) =
+    (chip : Chip) × (line : ℕ) × IsBeginning text (Ok (chip, line)) × (replies ≡ replies_to chip (drop line (lines_of text)))
 IsReplies text (Err error) = IsBeginning text (Err error)
 
 -- what `debug` may write for an input, or its first fault

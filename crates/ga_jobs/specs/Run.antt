@@ -67,5 +67,8 @@ IsRunOf images workers turns (Err fault) answer = Err fault ≡ answer
 -- what `run` may write for an input, or its first fault: of the source, of the assembly, of the route, of the boot, of
 -- the plan
 abbrev pub IsRunOutput : List ℕ → ℕ → ℕ → List ℕ → Result (List ℕ) ServeError → Type 0
-IsRunOutput route workers turns input (Ok text) = (images : Images) × IsImagesIn input (Ok images) × IsRunOf images workers turns (route_in route) (Ok text)
-IsRunOutput route workers turns input (Err fault) = IsImagesIn input (Err fault) ⊎ ((images : Images) × IsImagesIn input (Ok images) × IsRunOf images workers turns (route_in route) (Err fault))
+IsRunOutput route workers turns input (Ok text) =
+    (images : Images) × IsImagesIn input (Ok images) × IsRunOf images workers turns (route_in route) (Ok text)
+IsRunOutput route workers turns input (Err fault) =
+    IsImagesIn input (Err fault)
+    ⊎ ((images : Images) × IsImagesIn input (Ok images) × IsRunOf images workers turns (route_in route) (Err fault))

@@ -6,8 +6,8 @@ use Rattle.std.specs.Str.Lines.{lines}
 
 -- The line of a text with a number from 1, without the LF or CR LF that ends it. A line that the text doesn't have is
 -- empty, and so is the line 0.
-abbrev pub line_at : List ℕ → ℕ → List ℕ
-line_at text line = slice_index_or (lines text) (line - 1) []
+abbrev pub numbered_line : List ℕ → ℕ → List ℕ
+numbered_line text line = slice_index_or (lines text) (line - 1) []
 
 -- Where the column is past 80, all but 40 of the characters in front of it are left out.
 abbrev pub left_out : ℕ → ℕ
@@ -31,6 +31,7 @@ line_under line skipped column = encode_utf8_all (map char_under (take (column -
 
 -- The line of a place in a text, a caret under its column, and what is meant. Without a column there is no caret.
 unfoldable pub shown_text : List ℕ → ℕ → Option ℕ → List ℕ → List ℕ
-shown_text text line None meaning = codes "  " ++ shown_line (line_at text line) 0 ++ codes "\n" ++ meaning
+shown_text text line None meaning = codes "  " ++ shown_line (numbered_line text line) 0 ++ codes "\n" ++ meaning
 shown_text text line (Some column) meaning =
-    codes "  " ++ shown_line (line_at text line) (left_out column) ++ codes "\n  " ++ line_under (line_at text line) (left_out column) column ++ codes "^\n" ++ meaning
+    codes "  " ++ shown_line (numbered_line text line) (left_out column) ++ codes "\n  "
+    ++ line_under (numbered_line text line) (left_out column) column ++ codes "^\n" ++ meaning

@@ -4,7 +4,7 @@ ghost use Rattle.ga_jobs.specs.Fault.{Answers};
 ghost use Rattle.ga_jobs.specs.Transcript.{IsCheckOutput};
 
 use crate::fault::ServeError;
-use crate::text::text_of;
+use crate::text::input_text;
 use crate::transcript_fault::shown_transcript_fault;
 use ga_transcript::check;
 use std::alloc::Global;
@@ -18,7 +18,7 @@ pub fn output(alloc: Global, input: &[u8]) -> Result<String, ServeError>
     // an input has one output, or one first fault
     ensures only { AtMostOne (IsCheckOutput input.now) }
 {
-    let text = text_of(input)?;
+    let text = input_text(input)?;
     match check(alloc, text) {
         Ok(count) => {
             let mut output = String::new(alloc);

@@ -2,11 +2,12 @@ ghost use Rattle.std.specs.Prelude.{◌≡◌, ◌++◌, IfOk, drop, string_byte
 ghost use Rattle.ga_asm.specs.Text.{AtMostOne};
 ghost use Rattle.ga_pack.specs.Model.Text.{lines_of};
 ghost use Rattle.ga_debug.specs.Session.{reply_to};
-ghost use Rattle.ga_jobs.specs.Debug.{IsDebugOutput, after_reply, reply_line, replies_to};
+ghost use Rattle.ga_jobs.specs.Debug.{IsDebugOutput, reply_line, replies_to};
 ghost use Rattle.ga_jobs.specs.Fault.{Answers};
+ghost use Rattle.ga_transcript.specs.Reply.{after_reply};
 
 use crate::fault::ServeError;
-use crate::text::text_of;
+use crate::text::input_text;
 use ga_debug::{DebugError, Session, begin};
 use std::alloc::{AllocError, Global};
 use std::fmt::Write;
@@ -18,7 +19,7 @@ pub fn output(alloc: Global, input: &[u8]) -> Result<String, ServeError>
     // an input has one output, or one first fault
     ensures only { AtMostOne (IsDebugOutput input.now) }
 {
-    let text = text_of(input)?;
+    let text = input_text(input)?;
     let (session, line) = begin(alloc, text)?;
     let replies = replies_to(alloc, session, text, line)?;
     Ok(replies)

@@ -5,7 +5,7 @@ ghost use Rattle.ga_jobs.specs.Fault.{Answers};
 ghost use Rattle.ga_jobs.specs.List.{IsListOutput, IsListed};
 
 use crate::fault::ServeError;
-use crate::text::text_of;
+use crate::text::input_text;
 use crate::text_fault::shown_fault;
 use ga_asm::TextError;
 use ga_list::{list, list_labels};
@@ -18,7 +18,7 @@ pub fn output(alloc: Global, labels: bool, input: &[u8]) -> Result<String, Serve
     // an input has one output, or one first fault
     ensures only { AtMostOne (IsListOutput labels input.now) }
 {
-    let text = text_of(input)?;
+    let text = input_text(input)?;
     match listed(alloc, labels, text) {
         Ok(listing) => Ok(listing),
         Err(error) => Err(shown_fault(alloc, text, error)?),

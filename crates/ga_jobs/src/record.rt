@@ -4,7 +4,7 @@ ghost use Rattle.ga_jobs.specs.Fault.{Answers};
 ghost use Rattle.ga_jobs.specs.Transcript.{IsRecordOutput};
 
 use crate::fault::ServeError;
-use crate::text::text_of;
+use crate::text::input_text;
 use crate::transcript_fault::shown_transcript_fault;
 use ga_transcript::record;
 use std::alloc::Global;
@@ -16,7 +16,7 @@ pub fn output(alloc: Global, input: &[u8]) -> Result<String, ServeError>
     // an input has one output, or one first fault
     ensures only { AtMostOne (IsRecordOutput input.now) }
 {
-    let text = text_of(input)?;
+    let text = input_text(input)?;
     match record(alloc, text) {
         Ok(recording) => Ok(recording),
         Err(error) => Err(shown_transcript_fault(alloc, text, error)?),

@@ -4,7 +4,7 @@ ghost use Rattle.ga_jobs.specs.Fault.{Answers};
 ghost use Rattle.ga_jobs.specs.Replay.{IsReplayOutput};
 
 use crate::fault::ServeError;
-use crate::text::text_of;
+use crate::text::input_text;
 use std::alloc::Global;
 use std::fmt::Write;
 
@@ -15,7 +15,7 @@ pub fn output(alloc: Global, input: &[u8]) -> Result<String, ServeError>
     // an input has one output, or one first fault
     ensures only { AtMostOne (IsReplayOutput input.now) }
 {
-    let count = ga_debug::replay(alloc, text_of(input)?)?;
+    let count = ga_debug::replay(alloc, input_text(input)?)?;
     let mut text = String::new(alloc);
     writeln!(text, "same {count}")?;
     Ok(text)

@@ -1,7 +1,7 @@
 ghost use Rattle.std.specs.Prelude.{◌≡◌, ℕ, IfOk, List, Some, bytes_eq, string_bytes};
 ghost use Rattle.std.proofs.Common.{rules};
 ghost use Rattle.std.specs.Cmp.Rules.{comparing};
-ghost use Rattle.ga_jobs.specs.Shown.{char_under, left_out, line_at, line_under, shown_char, shown_line, shown_text};
+ghost use Rattle.ga_jobs.specs.Shown.{char_under, left_out, numbered_line, line_under, shown_char, shown_line, shown_text};
 
 use std::alloc::{AllocError, Global};
 use std::fmt;
@@ -51,7 +51,7 @@ impl ShownText {
     ) -> Result<ShownText, AllocError>
         ensures { IfOk result (λ shown. shown ≡ shown_text text.now line column meaning.now) }
     {
-        let found = line_at(text, line);
+        let found = numbered_line(text, line);
         match column {
             Some(column) => {
                 let skipped = left_out(column);
@@ -93,8 +93,8 @@ impl Eq for ShownText {
 }
 
 /// The line of a text with this number, from 1; an empty one where the text has none.
-fn line_at(text: &str, line: usize) -> &str
-    ensures { result.now ≡ line_at text.now line }
+fn numbered_line(text: &str, line: usize) -> &str
+    ensures { result.now ≡ numbered_line text.now line }
 {
     match text.lines().nth(line.saturating_sub(1)) {
         Some(found) => found,

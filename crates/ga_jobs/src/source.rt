@@ -2,7 +2,7 @@ ghost use Rattle.ga_jobs.specs.Fault.{Answers};
 ghost use Rattle.ga_jobs.specs.Source.{IsImagesIn};
 
 use crate::fault::ServeError;
-use crate::text::text_of;
+use crate::text::input_text;
 use ga_asm::{Images, assemble_text};
 use std::alloc::Global;
 
@@ -10,6 +10,6 @@ use std::alloc::Global;
 pub fn images_of(alloc: Global, input: &[u8]) -> Result<Images, ServeError>
     ensures { Answers (λ images. images) (IsImagesIn input.now) result }
 {
-    let images = assemble_text(alloc, text_of(input)?)?;
+    let images = assemble_text(alloc, input_text(input)?)?;
     Ok(images)
 }

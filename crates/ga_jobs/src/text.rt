@@ -11,7 +11,7 @@ use std::str;
 const WORDS_LIMIT: usize = 64;
 
 /// The input as text.
-pub fn text_of(input: &[u8]) -> Result<&str, ServeError>
+pub fn input_text(input: &[u8]) -> Result<&str, ServeError>
     ensures { Gives (λ text. text.now) result (text_in input.now) }
 {
     match str::from_utf8(input) {
@@ -26,7 +26,7 @@ pub fn words_of(alloc: Global, input: &[u8]) -> Result<Vec<Word18>, ServeError>
     ensures words { Gives (λ words. words.items) result (words_in input.now) }
     ensures count { IfOk result (λ words. vec_len words ≤ 64) }
 {
-    let words = read_words(alloc, text_of(input)?)?;
+    let words = read_words(alloc, input_text(input)?)?;
     if words.is_empty() {
         return Err(ServeError::Words(WordsFault::Empty));
     }
