@@ -35,11 +35,11 @@ abbrev pub head_of : Group → Item
 head_of (Shared i is) = i
 head_of (Alone i) = i
 
-items_cons : (g : Group) (gs : List Group) → items_of (g ∷ gs) ≡ members g ++ items_of gs
+pub items_cons : (g : Group) (gs : List Group) → items_of (g ∷ gs) ≡ members g ++ items_of gs
 items_cons (Shared i is) gs = refl
 items_cons (Alone i) gs = refl
 
-count_members : (g : Group) → item_count g ≡ length (members g)
+pub count_members : (g : Group) → item_count g ≡ length (members g)
 count_members (Shared i is) = refl
 count_members (Alone i) = refl
 
@@ -65,7 +65,7 @@ packable_few (a ∷ b ∷ c ∷ d ∷ e ∷ ops) (Some dest) h = absurd (let non
 packable_few (a ∷ b ∷ c ∷ d ∷ e ∷ ops) None h = absurd (let none = shapeless_many (a ∷ b ∷ c ∷ d ∷ e ∷ ops) None 0 (omega arith) in cc)
 packable_few _ dest h = omega arith
 
-shared_loose : (labels : Labels) (address : ℕ) (i : Item) (is : List Item) → stand labels address [] (i ∷ is) ≡ true → is_loose i ≡ true
+pub shared_loose : (labels : Labels) (address : ℕ) (i : Item) (is : List Item) → stand labels address [] (i ∷ is) ≡ true → is_loose i ≡ true
 shared_loose labels address i is h = joins_loose labels address [] i (and_parts (joins labels address [] i) (stand labels address (op_of i ∷ []) is) h).0
 
 group_right : (before labels : Labels) (address : ℕ) (g : Group) (back : List Group) → Arrangement before address (g ∷ back) → list_all is_item (members g) ≡ true → IsGroup labels (members g)
@@ -97,7 +97,7 @@ words_snoc labels [] g words new none here = (new, [], here, refl, ap (λ t. t +
 words_snoc labels (f ∷ front) g words new (first, others, made, more, e) here =
     (first, others ++ new, made, words_snoc labels front g others new more here, ap (λ t. t ++ new) e ∙ append_assoc first others new)
 
-group_length : (before labels : Labels) (address : ℕ) (g : Group) (back : List Group) (words : List ℕ) → Arrangement before address (g ∷ back) → GroupWords labels g words → length words ≡ size g
+pub group_length : (before labels : Labels) (address : ℕ) (g : Group) (back : List Group) (words : List ℕ) → Arrangement before address (g ∷ back) → GroupWords labels g words → length words ≡ size g
 unfolding Arrangement GroupWords
 group_length before labels address (Shared i is) back words arranged (word, is_word, e) = let count = ap length e in omega arith
 group_length before labels address (Alone (Word ops)) back words arranged (word, is_word, e) = ap length e

@@ -10,3 +10,4 @@ mod Sections
 pub mod OneAnswer
 mod WorkedImages
 mod WordPlaces
+pub mod PlaceCount

@@ -1,7 +1,8 @@
 -- What the words of a node are: the image of its items.
-use Rattle.std.specs.Prelude.{String, ◌≡◌, ℕ, Bool, List, [], ◌∷◌, ◌++◌, codes, length, map, nat_le}
+use Rattle.std.specs.Prelude.{String, ◌≡◌, ◌==◌, ℕ, Bool, List, [], ◌∷◌, ◌++◌, Option, Some, None, codes, length, map, nat_le, if◌then◌else◌}
 use Rattle.std.specs.Fmt.{decimal}
 use Rattle.std.specs.List.{list_all}
+use Rattle.std.specs.Map.{lookup}
 use Rattle.std.specs.Option.{unwrap_or}
 use Rattle.std.specs.String.{string_bytes}
 use Rattle.ga_pack.specs.Model.Layout.{Group, Shared, Alone, Laid, Labels, address_of}
@@ -22,6 +23,11 @@ pub record ImageView : Type 0 where
 abbrev pub labels_of : {A : Type 0} → List (String A × ℕ) → Labels
 labels_of entries = map (λ entry. (string_bytes entry.0, entry.1)) entries
 
+-- the first label that has this address
+abbrev pub label_at : Labels → ℕ → Option (List ℕ)
+label_at [] address = None
+label_at (label ∷ labels) address = if label.1 == address then Some label.0 else label_at labels address
+
 -- the address of the label `main`, or 0 where no label is `main`
 abbrev pub entry_of : Labels → ℕ
 entry_of labels = unwrap_or (address_of labels (codes "main")) 0
@@ -34,6 +40,10 @@ all_near labels = list_all (λ label. nat_le label.1 64) labels
 abbrev pub item_count : Group → ℕ
 item_count (Shared i is) = length (i ∷ is)
 item_count (Alone i) = 1
+
+-- the image of a node, if it is among these
+abbrev pub image_of : List (ℕ × ImageView) → ℕ → Option ImageView
+image_of images name = lookup (λ other. name == other) images
 
 -- The items are laid as the words, the labels and the length of code of an image. Its entry is that of its labels, and
 -- its groups of items are those of the layout.

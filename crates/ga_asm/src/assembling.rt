@@ -1,11 +1,13 @@
 //! The images of a program.
 ghost use Rattle.std.specs.Prelude.{◌≡◌, ◌<◌, ℕ, ◌++◌, ◌∷◌, [], IfErr, IfOk, List, None, OnOk, false, length, map};
+ghost use Rattle.std.specs.Option.{option_copied};
 ghost use Rattle.ga_pack.specs.Model.Source.{Items, is_named, start};
 ghost use Rattle.ga_source.specs.Program.{items_at};
 ghost use Rattle.ga_source.specs.Token.{place_of};
 ghost use Rattle.ga_asm.specs.Assembling.{HasNoFault, IsAssembled, IsFirstFault};
 ghost use Rattle.ga_asm.specs.inner.Assembling.{IsFaultless, IsNodeFault, IsPlaceOf, IsTold};
 ghost use Rattle.ga_asm.specs.Error.{error_place, kind_of};
+ghost use Rattle.ga_asm.specs.Image as spec;
 ghost use Rattle.ga_asm.specs.Image.{ImageView};
 ghost use Rattle.ga_asm.specs.inner.Layout.{plain};
 ghost use Rattle.ga_asm.specs.declared.error.AsmErrorKind.TheVariants.{Memory};
@@ -40,6 +42,13 @@ impl Images {
         ensures { result.now.entries ≡ self.now }
     {
         &self.images
+    }
+
+    /// The image of a node, if it is among these.
+    pub fn image_of(&self, node: Node) -> Option<&Image>
+        ensures { option_copied result ≡ spec.image_of self.now node }
+    {
+        self.images.get(&node)
     }
 }
 

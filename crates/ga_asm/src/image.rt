@@ -1,5 +1,6 @@
-ghost use Rattle.std.specs.Prelude.{◌≡◌, ◌++◌, ◌<◌, ◌≤◌, ℕ, OnOk, length, map, string_bytes, true};
+ghost use Rattle.std.specs.Prelude.{◌≡◌, ◌++◌, ◌<◌, ◌≤◌, ℕ, OnErr, OnOk, length, map, option_map, string_bytes, true};
 ghost use Rattle.ga_pack.specs.Model.Layout.{address_of};
+ghost use Rattle.ga_asm.specs.Image as spec;
 ghost use Rattle.ga_asm.specs.Image.{ImageView, all_near, image_line, labels_of};
 ghost use Rattle.ga_asm.specs.inner.Image.{Fits};
 
@@ -98,9 +99,21 @@ impl Image {
 
     /// Adds to a text the line of the image: the node, its entry in three hex digits, how many of
     /// its words are code and how many there are. (The line is this project's own: profile.) It fails
-    /// only where memory is refused.
-    #[tactic(auto, unfolding(crate::specs::Image::image_line))]
+    /// only where memory is refused, and then the text is as it was.
     pub fn push_line(&self, text: &mut String, node: Node) -> Result<(), AllocError>
+        ensures line { OnOk result (string_bytes text.new
+            ≡ string_bytes text.old ++ image_line node self.now) }
+        ensures refused { OnErr result (string_bytes text.new ≡ string_bytes text.old) }
+    {
+        let mut line = String::new(*text.allocator());
+        self.write_line(&mut line, node)?;
+        text.push_str(&line)?;
+        Ok(())
+    }
+
+    // The same, but where memory is refused a part of the line may be written.
+    #[tactic(auto, unfolding(crate::specs::Image::image_line))]
+    fn write_line(&self, text: &mut String, node: Node) -> Result<(), AllocError>
         ensures { OnOk result (string_bytes text.new
             ≡ string_bytes text.old ++ image_line node self.now) }
     {
@@ -113,4 +126,17 @@ impl Image {
         )?;
         Ok(())
     }
+}
+
+/// The first of some labels that has this address.
+pub fn label_at(labels: &IndexMap<String, u8>, address: u32) -> Option<&str>
+    ensures { option_map (λ name. name.now) result
+        ≡ spec.label_at (labels_of labels.now.entries) address }
+{
+    for (name, at) in labels {
+        if u32::from(*at) == address {
+            return Some(name.as_str());
+        }
+    }
+    None
 }

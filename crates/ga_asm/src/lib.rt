@@ -14,6 +14,6 @@ mod text;
 
 pub use assembling::{Images, assemble};
 pub use error::{AsmError, AsmErrorKind};
-pub use image::Image;
+pub use image::{Image, label_at};
 pub use places::word_places;
 pub use text::{TextError, assemble_text};

@@ -3,6 +3,7 @@ ghost use Rattle.std.specs.Prelude.{◌≡◌, ◌+◌, ◌++◌, ◌≤◌, IfO
 ghost use Rattle.ga_pack.specs.Model.Program as model;
 ghost use Rattle.ga_source.specs.Program.{items_at};
 ghost use Rattle.ga_source.specs.Token.{place_of};
+ghost use Rattle.ga_asm.specs.Image.{IsImage};
 ghost use Rattle.ga_asm.specs.Places as spec;
 ghost use Rattle.ga_asm.specs.Places.{indices_in_group, literal_indices};
 ghost use Rattle.ga_asm.specs.inner.Layout.{plain};
@@ -13,16 +14,20 @@ use std::alloc::{AllocError, Global};
 
 /// The place in the text of the first item of each word of an image, in the order of the words: a
 /// word that items share begins with the first of them, and a follower with the number that it is.
-/// The image is that of the program's section with this number, from 0. It fails only where memory
-/// is refused.
+/// The image is that of the program's section with this number, from 0, and there are as many
+/// places as it has words. It fails only where memory is refused.
 pub fn word_places(
     alloc: Global,
     program: &Program<'_>,
     section: usize,
     image: &Image,
 ) -> Result<Vec<Place>, AllocError>
-    ensures { IfOk result (λ places. map place_of places.items
+    ensures places { IfOk result (λ places. map place_of places.items
         ≡ spec.word_places image.now.item_counts (items_at program.now section)) }
+    // as many as words, where it is the image of that section
+    ensures count { IfOk result (λ places.
+        IsImage (map (λ placed. placed.item) (items_at program.now section)) image.now
+        → length places.items ≡ length image.now.words) }
 {
     let found = program.places(alloc, section)?;
     let items = items_of(program, section);

@@ -1,6 +1,6 @@
 //! Tests of transcripts, and of the calls that they make.
+use ga_asm::label_at;
 use ga_debug::{DebugError, Pieces, address_of, count_of, load, reply_to};
-use ga_list::label_at;
 use ga_path::image_of;
 use ga_test_values::node;
 use ga_transcript::{TranscriptError, check, record};
@@ -61,9 +61,10 @@ fn loads_a_head(rt: HostRuntime) -> Result<(), Fail> {
     let name = node(0)?;
     let mut loaded = load(rt.alloc(), ASKED)?;
     assert!(rt; loaded.line == 4 && loaded.lines.next() == Some("\\ it goes round"));
-    let Some(image) = image_of(&loaded.images, name) else {
+    let Some(image) = loaded.images.image_of(name) else {
         return Ok(());
     };
+    assert!(rt; image_of(&loaded.images, name).is_some());
     assert!(rt; image.address_of("x") == Some(1) && label_at(image.labels(), 1) == Some("x"));
     let reply = reply_to(rt.alloc(), &mut loaded.chip, "turn 5")?;
     assert!(rt; reply.as_str() == "moved 5" && !loaded.chip.is_held(name));

@@ -5,16 +5,10 @@ use Rattle.std.specs.Fmt.{decimal}
 use Rattle.ga_place.specs.Node.{node_text}
 use Rattle.ga_place.specs.Side.{SIDES, has_side}
 use Rattle.ga_place.specs.declared.side.Side.{Side}
-use Rattle.ga_place.specs.declared.side.Side.TheVariants.{Right, Down, Left, Up}
 use Rattle.ga_chip.specs.declared.ledger.Ledger.{Ledger}
 use Rattle.ga_chip.specs.Chip.{Chip}
 use Rattle.ga_chip.specs.Ledger.{ledger_of}
-
-abbrev pub side_text : Side → List ℕ
-side_text Right = codes "right"
-side_text Down = codes "down"
-side_text Left = codes "left"
-side_text Up = codes "up"
+use Rattle.ga_dump.specs.Side.{side_text}
 
 -- a line with a node, a side, and how many words were written, were read and are pending there
 unfoldable pub ledger_line : ℕ → Side → Ledger → List ℕ

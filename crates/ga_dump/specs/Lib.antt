@@ -1,4 +1,5 @@
 pub mod Row
+pub mod Side
 pub mod Node
 pub mod Memory
 pub mod Ledger

@@ -1,6 +1,7 @@
 ghost use Rattle.std.specs.Prelude.{◌≡◌, ◌++◌, IfOk, OnOk, string_bytes};
-ghost use Rattle.ga_dump.specs.Ledger.{ledger_dump, side_line, side_text};
+ghost use Rattle.ga_dump.specs.Ledger.{ledger_dump, side_line};
 
+use crate::side::side_name;
 use ga_chip::Chip;
 use ga_place::{Node, SIDES, Side, neighbour};
 use std::alloc::{AllocError, Global};
@@ -38,16 +39,4 @@ fn push_side(text: &mut String, chip: &Chip, node: Node, side: Side) -> Result<(
     )?;
     writeln!(text, " read {} pending {}", ledger.read, ledger.pending)?;
     Ok(())
-}
-
-/// The side's name in lower case.
-fn side_name(side: Side) -> &'static str
-    ensures { result.now ≡ side_text side }
-{
-    match side {
-        Side::Right => "right",
-        Side::Down => "down",
-        Side::Left => "left",
-        Side::Up => "up",
-    }
 }

@@ -6,8 +6,10 @@ mod ledger;
 mod memory;
 mod node;
 mod row;
+mod side;
 
 pub use chip::chip_text;
 pub use ledger::ledger_text;
 pub use memory::memory_text;
 pub use node::node_text;
+pub use side::side_name;

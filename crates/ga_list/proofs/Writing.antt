@@ -4,10 +4,11 @@ use Rattle.std.specs.Option.{option_map_or}
 use Rattle.ga_word.specs.Hex.{hex_digits}
 use Rattle.ga_word.specs.declared.op.Op.{Op}
 use Rattle.ga_pack.specs.Model.Layout.{Labels}
+use Rattle.ga_asm.specs.Image.{label_at}
 use Rattle.ga_disasm.specs.Printing.{behind_spaces, number_text, spare_texts}
 use Rattle.ga_disasm.proofs.Writing.{behind_spaces-append}
 use Rattle.ga_list.specs.Reading.{target as means}
-use Rattle.ga_list.specs.Reading.{dest_text, dest_texts, label_at}
+use Rattle.ga_list.specs.Reading.{dest_text, dest_texts}
 
 -- the field of a destination that means no label
 pub by_number : (labels : Labels) (target dest : ℕ) (old new digits : List ℕ) → None ≡ label_at labels target → digits ≡ hex_digits 5 dest

@@ -1,5 +1,5 @@
 -- What the words of a node read as, with labels for destinations.
-use Rattle.std.specs.Prelude.{◌==◌, ℕ, ◌+◌, ◌-◌, ◌*◌, ◌/◌, List, [], ◌∷◌, ◌++◌, codes, length, map, Option, Some, None, if◌then◌else◌}
+use Rattle.std.specs.Prelude.{ℕ, ◌+◌, ◌-◌, ◌*◌, ◌/◌, List, [], ◌∷◌, ◌++◌, codes, length, map, Option, Some, None}
 use Rattle.std.specs.Option.{option_map_or}
 use Rattle.ga_word.specs.declared.op.Op.{Op}
 use Rattle.ga_word.specs.Op.{name_of}
@@ -7,13 +7,9 @@ use Rattle.ga_pack.specs.Decoded.{Reading}
 use Rattle.ga_pack.specs.Followers.{followers}
 use Rattle.ga_pack.specs.Slots.{dest_bound}
 use Rattle.ga_pack.specs.Model.Layout.{Labels}
+use Rattle.ga_asm.specs.Image.{label_at}
 use Rattle.ga_disasm.specs.Disassembling.{ItemView, Code}
 use Rattle.ga_disasm.specs.Printing.{item_line, line, number_text, spare_texts}
-
--- the first label that has this address
-abbrev pub label_at : Labels → ℕ → Option (List ℕ)
-label_at [] address = None
-label_at (label ∷ labels) address = if label.1 == address then Some label.0 else label_at labels address
 
 -- The address that a destination means which the last of these opcodes of the word at an address takes. P is behind
 -- the word and its followers, and the destination replaces its low bits, as many as it has.

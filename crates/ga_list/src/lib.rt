@@ -8,4 +8,3 @@ mod row;
 
 pub use labels::list_labels;
 pub use listing::list;
-pub use reading::label_at;

@@ -1,11 +1,12 @@
 //! What a word reads as, with labels for destinations.
-ghost use Rattle.std.specs.Prelude.{◌≡◌, ◌<◌, ◌++◌, ◌∷◌, [], OnOk, option_map, string_bytes};
+ghost use Rattle.std.specs.Prelude.{◌≡◌, ◌<◌, ◌++◌, ◌∷◌, [], OnOk, string_bytes};
 ghost use Rattle.ga_asm.specs.Image.{labels_of};
 ghost use Rattle.ga_disasm.specs.Disassembling.{item_view};
 ghost use Rattle.ga_disasm.specs.Printing.{behind_spaces, spare_texts};
 ghost use Rattle.ga_list.specs.Reading as spec;
 ghost use Rattle.ga_list.specs.Reading.{reading_line};
 
+use ga_asm::label_at;
 use ga_disasm::{Item, push_ops};
 use ga_pack::{Packed, dest_bound, followers};
 use indexmap::IndexMap;
@@ -78,19 +79,6 @@ fn push_spare(text: &mut String, spare: u8) -> Result<(), AllocError>
         write!(text, " / {spare}")?;
     }
     Ok(())
-}
-
-/// The first of some labels that has this address.
-pub fn label_at(labels: &IndexMap<String, u8>, address: u32) -> Option<&str>
-    ensures { option_map (λ name. name.now) result
-        ≡ spec.label_at (labels_of labels.now.entries) address }
-{
-    for (name, at) in labels {
-        if u32::from(*at) == address {
-            return Some(name.as_str());
-        }
-    }
-    None
 }
 
 /// The address that a destination of the word at an address means: P behind the word's followers, of

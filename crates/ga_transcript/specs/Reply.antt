@@ -9,8 +9,8 @@ use Rattle.ga_debug.specs.declared.error.DebugError.{DebugError}
 use Rattle.ga_debug.specs.Error.{fault_name}
 use Rattle.ga_debug.specs.Pieces.{pieces}
 use Rattle.ga_debug.specs.Session.{after_line, reply_to}
-use Rattle.ga_transcript.specs.declared.command.Command.{Command}
-use Rattle.ga_transcript.specs.declared.command.Command.TheVariants.{Break, Clear, Node, Breaks, Until, Where, Session}
+use Rattle.ga_transcript.specs.declared.command.TranscriptCommand.{TranscriptCommand}
+use Rattle.ga_transcript.specs.declared.command.TranscriptCommand.TheVariants.{Break, Clear, Node, Breaks, Until, Where, Session}
 use Rattle.ga_waits.specs.Waits.{waits_text}
 use Rattle.ga_transcript.specs.Breaks.{break_reply, breaks_text}
 use Rattle.ga_transcript.specs.Command.{command_in}
@@ -23,7 +23,7 @@ text_or_refusal (Ok text) = text
 text_or_refusal (Err fault) = codes "refused " ++ fault_name fault
 
 -- what a command replies, which is this line
-abbrev pub command_text : Images → List ℕ → Command → Chip → List ℕ
+abbrev pub command_text : Images → List ℕ → TranscriptCommand → Chip → List ℕ
 command_text images line (Break node at) chip = break_reply images node at
 command_text images line (Clear node at) chip = codes "ok"
 command_text images line (Node node) chip = option_map_or node_dump (state_of chip node) []
@@ -38,7 +38,7 @@ after_reply (Ok reply) line chip = after_line line chip
 after_reply (Err fault) line chip = chip
 
 -- the chip afterwards
-abbrev pub after_command : List ℕ → Command → Chip → Chip
+abbrev pub after_command : List ℕ → TranscriptCommand → Chip → Chip
 after_command line (Break node at) chip = happened chip (SetBreak node at)
 after_command line (Clear node at) chip = happened chip (ClearBreak node at)
 after_command line (Node node) chip = chip
@@ -47,11 +47,11 @@ after_command line (Until node at count) chip = after_until node at count chip
 after_command line Where chip = chip
 after_command line Session chip = after_reply (reply_to line chip) line chip
 
-abbrev pub text_by : Images → List ℕ → Result Command DebugError → Chip → List ℕ
+abbrev pub text_by : Images → List ℕ → Result TranscriptCommand DebugError → Chip → List ℕ
 text_by images line (Ok command) chip = command_text images line command chip
 text_by images line (Err fault) chip = text_or_refusal (Err fault)
 
-abbrev pub after_by : List ℕ → Result Command DebugError → Chip → Chip
+abbrev pub after_by : List ℕ → Result TranscriptCommand DebugError → Chip → Chip
 after_by line (Ok command) chip = after_command line command chip
 after_by line (Err fault) chip = chip
 

@@ -1,16 +1,20 @@
 ghost use Rattle.std.specs.Prelude.{◌≡◌, ◌<◌, ◌++◌, ◌^◌, IfOk, OnOk, option_map, string_bytes};
 ghost use Rattle.ga_transcript.specs.Breaks.{begins_no_instruction, behind_space, break_at, break_line, break_reply, breaks_text, is_held_at, label_of, node_breaks};
 
-use ga_asm::Images;
+use ga_asm::{Images, label_at};
 use ga_chip::Chip;
 use ga_debug::Address;
 use ga_disasm::{Item, items};
-use ga_list::label_at;
-use ga_path::image_of;
 use ga_place::{Node, Where, locate};
 use ga_word::Hex3;
 use std::alloc::{AllocError, Global};
 use std::fmt::Write;
+
+/// How many nodes a chip has.
+const NODE_COUNT: usize = 144;
+
+/// How many addresses may be breakpoints: those of nine bits.
+const ADDRESS_COUNT: u16 = 0x200;
 
 /// The breakpoints of a chip, node by node and each on a line.
 #[tactic(auto, unfolding(crate::specs::Breaks::breaks_text))]
@@ -18,7 +22,7 @@ pub(crate) fn breaks_text(alloc: Global, chip: &Chip, images: &Images) -> Result
     ensures { IfOk result (λ text. string_bytes text ≡ breaks_text images.now chip.now) }
 {
     let mut text = String::new(alloc);
-    for index in 0..144 {
+    for index in 0..NODE_COUNT {
         push_node_breaks(&mut text, chip, images, Node::at(index))?;
     }
     Ok(text)
@@ -35,7 +39,7 @@ fn push_node_breaks(
     ensures { OnOk result (string_bytes text.new
         ≡ string_bytes text.old ++ node_breaks images.now chip.now node) }
 {
-    for address in 0..0x200 {
+    for address in 0..ADDRESS_COUNT {
         push_break_at(text, chip, images, node, address)?;
     }
     Ok(())
@@ -98,7 +102,7 @@ fn push_label(text: &mut String, label: Option<&str>) -> Result<(), AllocError>
 fn label_of(images: &Images, node: Node, address: u16) -> Option<&str>
     ensures { option_map (λ label. label.now) result ≡ label_of images.now node address }
 {
-    let image = image_of(images, node)?;
+    let image = images.image_of(node)?;
     label_at(image.labels(), u32::from(address))
 }
 
@@ -106,7 +110,7 @@ fn label_of(images: &Images, node: Node, address: u16) -> Option<&str>
 pub(crate) fn is_held_at(chip: &Chip, node: Node, address: u16) -> bool
     ensures { result ≡ is_held_at chip.now node address }
 {
-    chip.is_held(node) && chip.state(node).p() % 0x200 == address
+    chip.is_held(node) && chip.state(node).p() % ADDRESS_COUNT == address
 }
 
 /// What is replied where an address has become a breakpoint.
@@ -134,7 +138,7 @@ fn begins_no_instruction(
 ) -> Result<bool, AllocError>
     ensures { IfOk result (λ none. none ≡ begins_no_instruction images.now node address) }
 {
-    let (Some(image), Where::Ram(index)) = (image_of(images, node), locate(address.get())) else {
+    let (Some(image), Where::Ram(index)) = (images.image_of(node), locate(address.get())) else {
         return Ok(false);
     };
     let found = items(alloc, image.words(), image.code_len())?;

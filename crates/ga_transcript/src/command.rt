@@ -6,7 +6,6 @@ ghost use Rattle.ga_debug.specs.inner.Command.{Reads};
 
 use ga_asm::Images;
 use ga_debug::{Address, DebugError, Pieces, address_of, count_of};
-use ga_path::image_of;
 use ga_place::Node;
 
 /// The most turns that `until` makes, where no count says less.
@@ -14,7 +13,7 @@ const MOST_TURNS: u32 = 1_000_000;
 
 /// The first word of a command that sessions don't have, or of one that takes an address.
 #[derive(Clone, Copy)]
-pub(crate) enum Verb {
+pub(crate) enum TranscriptVerb {
     Break,
     Clear,
     Node,
@@ -25,7 +24,7 @@ pub(crate) enum Verb {
 
 /// A command of a transcript.
 #[derive(Clone, Copy)]
-pub(crate) enum Command {
+pub(crate) enum TranscriptCommand {
     /// An address becomes a breakpoint of a node.
     Break {
         node: Node,
@@ -56,15 +55,15 @@ pub(crate) enum Command {
 
 /// The command that a line is, or its first fault: a bad word, by words from the left, or words left over.
 #[tactic(auto, unfolding(crate::specs::Command::command_in))]
-pub(crate) fn command_in(images: &Images, line: &str) -> Result<Command, DebugError>
+pub(crate) fn command_in(images: &Images, line: &str) -> Result<TranscriptCommand, DebugError>
     ensures { result ≡ command_in images.now line.now }
 {
     let mut words = Pieces::new(line, ' ');
     let Some(word) = words.next() else {
-        return Ok(Command::Session);
+        return Ok(TranscriptCommand::Session);
     };
     let Some(verb) = verb_of(word.as_bytes()) else {
-        return Ok(Command::Session);
+        return Ok(TranscriptCommand::Session);
     };
     let command = arguments(images, verb, &mut words)?;
     match words.next() {
@@ -74,16 +73,16 @@ pub(crate) fn command_in(images: &Images, line: &str) -> Result<Command, DebugEr
 }
 
 /// The verb that a word is.
-fn verb_of(word: &[u8]) -> Option<Verb>
+fn verb_of(word: &[u8]) -> Option<TranscriptVerb>
     ensures { result ≡ verb_of word.now }
 {
     let verb = match word {
-        b"break" => Verb::Break,
-        b"clear" => Verb::Clear,
-        b"node" => Verb::Node,
-        b"breaks" => Verb::Breaks,
-        b"until" => Verb::Until,
-        b"where" => Verb::Where,
+        b"break" => TranscriptVerb::Break,
+        b"clear" => TranscriptVerb::Clear,
+        b"node" => TranscriptVerb::Node,
+        b"breaks" => TranscriptVerb::Breaks,
+        b"until" => TranscriptVerb::Until,
+        b"where" => TranscriptVerb::Where,
         _ => return None,
     };
     Some(verb)
@@ -91,36 +90,40 @@ fn verb_of(word: &[u8]) -> Option<Verb>
 
 /// A command behind its name.
 #[tactic(auto, unfolding(crate::specs::Command::arguments))]
-fn arguments(images: &Images, verb: Verb, words: &mut Pieces<'_>) -> Result<Command, DebugError>
+fn arguments(
+    images: &Images,
+    verb: TranscriptVerb,
+    words: &mut Pieces<'_>,
+) -> Result<TranscriptCommand, DebugError>
     ensures { Reads (arguments images.now verb words.old) result words.new }
 {
     match verb {
-        Verb::Break => {
+        TranscriptVerb::Break => {
             let node = node_first(words)?;
             let address = address_first(images, node, words)?;
-            Ok(Command::Break { node, address })
+            Ok(TranscriptCommand::Break { node, address })
         }
-        Verb::Clear => {
+        TranscriptVerb::Clear => {
             let node = node_first(words)?;
             let address = address_first(images, node, words)?;
-            Ok(Command::Clear { node, address })
+            Ok(TranscriptCommand::Clear { node, address })
         }
-        Verb::Node => {
+        TranscriptVerb::Node => {
             let node = node_first(words)?;
-            Ok(Command::Node { node })
+            Ok(TranscriptCommand::Node { node })
         }
-        Verb::Until => {
+        TranscriptVerb::Until => {
             let node = node_first(words)?;
             let address = address_first(images, node, words)?;
             let count = count_first(words)?;
-            Ok(Command::Until {
+            Ok(TranscriptCommand::Until {
                 node,
                 address,
                 count,
             })
         }
-        Verb::Breaks => Ok(Command::Breaks),
-        Verb::Where => Ok(Command::Where),
+        TranscriptVerb::Breaks => Ok(TranscriptCommand::Breaks),
+        TranscriptVerb::Where => Ok(TranscriptCommand::Where),
     }
 }
 
@@ -159,6 +162,6 @@ fn address_in(images: &Images, node: Node, word: &str) -> Option<Address>
     if let Some(address) = address_of(word.as_bytes()) {
         return Some(address);
     }
-    let address = image_of(images, node)?.address_of(word)?;
+    let address = images.image_of(node)?.address_of(word)?;
     Address::new(u16::from(address))
 }

@@ -4,7 +4,7 @@ ghost use Rattle.ga_debug.specs.Session as session;
 ghost use Rattle.ga_transcript.specs.Reply.{after_command, after_reply, chip_behind, command_text, reply_text, text_or_refusal};
 
 use crate::breaks::{break_reply, breaks_text};
-use crate::command::{Command, command_in};
+use crate::command::{TranscriptCommand, command_in};
 use crate::until::{until, until_reply};
 use ga_asm::Images;
 use ga_chip::Chip;
@@ -37,7 +37,7 @@ fn command_reply(
     alloc: Global,
     chip: &mut Chip,
     images: &Images,
-    command: Command,
+    command: TranscriptCommand,
     line: &str,
 ) -> Result<String, AllocError>
     ensures text { IfOk result (λ text. string_bytes text
@@ -45,17 +45,17 @@ fn command_reply(
     ensures chip { OnOk result (chip.new ≡ after_command line.now command chip.old) }
 {
     match command {
-        Command::Break { node, address } => {
+        TranscriptCommand::Break { node, address } => {
             chip.set_break(node, address.get());
             break_reply(alloc, images, node, address)
         }
-        Command::Clear { node, address } => {
+        TranscriptCommand::Clear { node, address } => {
             chip.clear_break(node, address.get());
             String::from_str(alloc, "ok")
         }
-        Command::Node { node } => node_text(alloc, chip.state(node)),
-        Command::Breaks => breaks_text(alloc, chip, images),
-        Command::Until {
+        TranscriptCommand::Node { node } => node_text(alloc, chip.state(node)),
+        TranscriptCommand::Breaks => breaks_text(alloc, chip, images),
+        TranscriptCommand::Until {
             node,
             address,
             count,
@@ -63,8 +63,8 @@ fn command_reply(
             let reached = until(chip, node, address, count);
             until_reply(alloc, reached)
         }
-        Command::Where => waits(alloc, chip, images),
-        Command::Session => session_reply(alloc, chip, line),
+        TranscriptCommand::Where => waits(alloc, chip, images),
+        TranscriptCommand::Session => session_reply(alloc, chip, line),
     }
 }
 

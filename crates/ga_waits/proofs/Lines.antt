@@ -29,23 +29,24 @@ use Rattle.ga_node.specs.declared.need.Stop.TheVariants as stop
 use Rattle.ga_node.specs.declared.place.Place.{Place}
 use Rattle.ga_node.specs.declared.place.Place.TheVariants as place
 use Rattle.ga_node.specs.Line.{need_text}
-use Rattle.ga_asm.specs.Image.{ImageView}
+use Rattle.ga_asm.specs.Image.{ImageView, image_of, label_at}
 use Rattle.ga_chip.specs.Chip.{Chip, state_of}
 use Rattle.ga_chip.specs.Run.{stands_held}
+use Rattle.ga_dump.specs.Side.{side_text}
 use Rattle.ga_waits.specs.Begun.{has_begun}
 use Rattle.ga_waits.specs.Closed.{stuck_in}
-use Rattle.ga_waits.specs.Label.{distance_text, image_of, label_at, label_in, label_text, name_text, nearest, text_at}
+use Rattle.ga_waits.specs.Label.{distance_text, label_in, label_text, name_text, nearest, text_at}
 use Rattle.ga_waits.specs.Line.{if_so, node_lines, op_text, state_lines, wait_line}
 use Rattle.ga_waits.specs.Ring.{begins_ring, names_behind, names_of_ring, next_of, ring_line, ring_lines}
-use Rattle.ga_waits.specs.Sides.{act_text, doing_text, end_text, joined, other_doing, other_text, side_text, told_end, told_need}
+use Rattle.ga_waits.specs.Sides.{act_text, doing_text, end_text, joined, other_doing, other_text, told_end, told_need}
 use Rattle.ga_waits.specs.Waits.{all_node_lines, all_ring_lines, text_of, waits_lines as lines_of, waits_text}
 use Rattle.ga_waits.specs.inner.Plain.{are_labels_plain, is_plain, is_plain_line}
 
 -- Texts without LF.
-abbrev IsPlain : List ℕ → Type 0
+abbrev pub IsPlain : List ℕ → Type 0
 IsPlain text = is_plain text ≡ true
 
-both : (one other : List ℕ) → IsPlain one → IsPlain other → IsPlain (one ++ other)
+pub both : (one other : List ℕ) → IsPlain one → IsPlain other → IsPlain (one ++ other)
 both one other p q = list_all-append (λ c. not (c == 10)) one other ∙ and_from _ _ p q
 
 not_ten : (c : ℕ) → 10 < c → not (c == 10) ≡ true
@@ -55,11 +56,11 @@ not_ten c above = by (c == 10) refl
     by true e = let is : c ≡ 10 = eqb-true c 10 e in absurd (omega (arith, above, is))
     by false e = ap not e
 
-one_more : (c : ℕ) (text : List ℕ) → 10 < c → IsPlain text → IsPlain (c ∷ text)
+pub one_more : (c : ℕ) (text : List ℕ) → 10 < c → IsPlain text → IsPlain (c ∷ text)
 one_more c text above p = and_from _ _ (not_ten c above) p
 
 -- digits
-glyph : (upper : Bool) (d : ℕ) → 10 < digit_glyph upper d
+pub glyph : (upper : Bool) (d : ℕ) → 10 < digit_glyph upper d
 glyph upper d = by upper (nat_lt d 10)
   where
     by : (u b : Bool) → 10 < (if b then 48 + d else (if u then 55 + d else 87 + d))
@@ -77,22 +78,22 @@ plain_onto (suc k) base upper n text p =
     by true here behind = here
     by false here behind = behind
 
-plain_decimal : (n : ℕ) → IsPlain (decimal n)
+pub plain_decimal : (n : ℕ) → IsPlain (decimal n)
 unfolding digits
 plain_decimal n = plain_onto 64 10 false n [] refl
 
-plain_hex : (width n : ℕ) → IsPlain (hex_digits width n)
+pub plain_hex : (width n : ℕ) → IsPlain (hex_digits width n)
 unfolding hex_digits
 plain_hex zero n = refl
 plain_hex (suc width) n = both (hex_digits width (n / 16)) (digit_glyph true (n % 16) ∷ []) (plain_hex width (n / 16)) (one_more (digit_glyph true (n % 16)) [] (glyph true (n % 16)) refl)
 
-plain_node : (name : ℕ) → IsPlain (node_text name)
+pub plain_node : (name : ℕ) → IsPlain (node_text name)
 plain_node name =
     let last = one_more (48 + name % 10) [] (omega arith) refl in
     one_more (48 + name / 100) ((48 + name / 10 % 10) ∷ (48 + name % 10) ∷ []) (omega arith) (one_more (48 + name / 10 % 10) ((48 + name % 10) ∷ []) (omega arith) last)
 
 -- sides
-plain_side : (side : Side) → IsPlain (side_text side)
+pub plain_side : (side : Side) → IsPlain (side_text side)
 plain_side side.Right = refl
 plain_side side.Down = refl
 plain_side side.Left = refl
@@ -153,7 +154,7 @@ plain_need chip name need.Input = refl
 plain_need chip name (need.Stopped stop) = plain_stop stop
 
 -- the place, and the opcode there
-plain_place : (p : Place) → IsPlain (place_text p)
+pub plain_place : (p : Place) → IsPlain (place_text p)
 plain_place place.Fetch = refl
 plain_place place.Slot0 = refl
 plain_place place.Slot1 = refl
@@ -210,14 +211,14 @@ plain_op place.Count word = refl
 plain_op place.Body word = refl
 
 -- the label
-abbrev are_plain : Labels → Bool
+abbrev pub are_plain : Labels → Bool
 are_plain labels = list_all (λ label. is_plain label.0) labels
 
-abbrev IsPlainName : Option (List ℕ) → Type 0
+abbrev pub IsPlainName : Option (List ℕ) → Type 0
 IsPlainName (Some name) = IsPlain name
 IsPlainName None = Unit {0}
 
-plain_at : (labels : Labels) (address : ℕ) → are_plain labels ≡ true → IsPlainName (label_at labels address)
+pub plain_at : (labels : Labels) (address : ℕ) → are_plain labels ≡ true → IsPlainName (label_at labels address)
 plain_at [] address p = tt
 plain_at (label ∷ labels) address p = by (label.1 == address) (plain_at labels address (and_parts _ _ p).1)
   where
@@ -244,11 +245,11 @@ plain_label : (labels : Labels) (index : ℕ) → are_plain labels ≡ true → 
 unfolding label_text
 plain_label labels index p = plain_text_at labels index (nearest labels index) p
 
-abbrev IsPlainImage : Option ImageView → Type 0
+abbrev pub IsPlainImage : Option ImageView → Type 0
 IsPlainImage (Some image) = are_plain image.labels ≡ true
 IsPlainImage None = Unit {0}
 
-plain_image : (images : List (ℕ × ImageView)) (name : ℕ) → are_labels_plain images ≡ true → IsPlainImage (image_of images name)
+pub plain_image : (images : List (ℕ × ImageView)) (name : ℕ) → are_labels_plain images ≡ true → IsPlainImage (image_of images name)
 plain_image [] name p = tt
 plain_image (image ∷ images) name p = by (name == image.0) (plain_image images name (and_parts _ _ p).1)
   where
@@ -269,10 +270,10 @@ plain_if true text p = p
 plain_if false text p = refl
 
 -- A line begins with a digit below 8, or with `r`.
-first_digit : (index : ℕ) → index < 144 → (name_at index / 100 < 8)
+pub first_digit : (index : ℕ) → index < 144 → (name_at index / 100 < 8)
 first_digit index below = omega arith
 
-not_eq : (a b : ℕ) → a ≢ b → not (a == b) ≡ true
+pub not_eq : (a b : ℕ) → a ≢ b → not (a == b) ≡ true
 not_eq a b apart = by (a == b) refl
   where
     by : (c : Bool) → (a == b) ≡ c → not (a == b) ≡ true
@@ -280,10 +281,10 @@ not_eq a b apart = by (a == b) refl
     by false e = ap not e
 
 -- texts, one behind the other
-abbrev AllPlain : List (List ℕ) → Type 0
+abbrev pub AllPlain : List (List ℕ) → Type 0
 AllPlain texts = list_all is_plain texts ≡ true
 
-plain_concat : (texts : List (List ℕ)) → AllPlain texts → IsPlain (concat texts)
+pub plain_concat : (texts : List (List ℕ)) → AllPlain texts → IsPlain (concat texts)
 plain_concat [] p = refl
 plain_concat (text ∷ texts) p = let parts = and_parts (is_plain text) (list_all is_plain texts) p in both text (concat texts) parts.0 (plain_concat texts parts.1)
 
@@ -315,7 +316,7 @@ plain_line images chip stuck name state row p =
     and_from (not (first == 62)) _ (not_eq first 62 (λ e. omega (arith, row, e)))
     (and_from (not (first == 92)) _ (not_eq first 92 (λ e. omega (arith, row, e))) (line_is_plain images chip stuck name state p))
 
-abbrev ArePlainLines : List (List ℕ) → Type 0
+abbrev pub ArePlainLines : List (List ℕ) → Type 0
 ArePlainLines lines = list_all is_plain_line lines ≡ true
 
 plain_state : (images : List (ℕ × ImageView)) (chip : Chip) (stuck : Bool) (name : ℕ) (state : Option State) → name / 100 < 8 → are_labels_plain images ≡ true → ArePlainLines (state_lines images chip stuck name state)
@@ -352,7 +353,7 @@ plain_rings next first = by (begins_ring next first)
     by true = and_from _ _ (plain_ring next first) refl
     by false = refl
 
-plain_all : (lines : ℕ → List (List ℕ)) (start n : ℕ) → ((index : ℕ) → index < start + n → ArePlainLines (lines index)) → ArePlainLines (flat_map lines (range_with_len start n))
+pub plain_all : (lines : ℕ → List (List ℕ)) (start n : ℕ) → ((index : ℕ) → index < start + n → ArePlainLines (lines index)) → ArePlainLines (flat_map lines (range_with_len start n))
 plain_all lines start zero each = refl
 plain_all lines start (suc n) each =
     list_all-append is_plain_line (lines start) (flat_map lines (range_with_len (start + 1) n))

@@ -1,15 +1,10 @@
 -- Where P is, told by a label of the node's image.
 use Rattle.std.specs.Prelude.{ℕ, ◌-◌, ◌==◌, ◌&&◌, nat_le, nat_lt, List, [], ◌∷◌, ◌++◌, Option, Some, None, if◌then◌else◌}
 use Rattle.std.specs.Fmt.{decimal}
-use Rattle.std.specs.Map.{lookup}
 use Rattle.ga_place.specs.declared.address.Where.{Where}
 use Rattle.ga_place.specs.declared.address.Where.TheVariants.{Ram, Rom, Ports, Io, Unmapped}
 use Rattle.ga_pack.specs.Model.Layout.{Labels}
-use Rattle.ga_asm.specs.Image.{ImageView}
-
--- the image of a node, if it has one
-abbrev pub image_of : List (ℕ × ImageView) → ℕ → Option ImageView
-image_of images name = lookup (λ other. name == other) images
+use Rattle.ga_asm.specs.Image.{ImageView, label_at}
 
 -- the address found so far, or that of one more label, where that is at or before an index and behind the one found
 abbrev pub nearer : ℕ → Option ℕ → ℕ → Option ℕ
@@ -23,11 +18,6 @@ nearest_from index found (label ∷ labels) = nearest_from index (nearer index f
 -- the greatest address of a label at or before an index
 abbrev pub nearest : Labels → ℕ → Option ℕ
 nearest labels index = nearest_from index None labels
-
--- the first label that has this address
-abbrev pub label_at : Labels → ℕ → Option (List ℕ)
-label_at [] address = None
-label_at (label ∷ labels) address = if label.1 == address then Some label.0 else label_at labels address
 
 -- how far P is behind a label
 abbrev pub distance_text : ℕ → List ℕ

@@ -10,11 +10,11 @@ use Rattle.ga_node.specs.Need.{need_of}
 use Rattle.ga_node.specs.State.{State, op_at}
 use Rattle.ga_node.specs.declared.place.Place.{Place}
 use Rattle.ga_node.specs.declared.place.Place.TheVariants.{Fetch, Slot0, Slot1, Slot2, Slot3, Completion, Transfer, Count, Body}
-use Rattle.ga_asm.specs.Image.{ImageView}
+use Rattle.ga_asm.specs.Image.{ImageView, image_of}
 use Rattle.ga_chip.specs.Chip.{Chip, state_of}
 use Rattle.ga_chip.specs.Run.{stands_held}
 use Rattle.ga_waits.specs.Begun.{has_begun}
-use Rattle.ga_waits.specs.Label.{image_of, label_in}
+use Rattle.ga_waits.specs.Label.{label_in}
 use Rattle.ga_waits.specs.Sides.{told_need}
 
 -- in front of a slot, the name of its opcode behind a blank

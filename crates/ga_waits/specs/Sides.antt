@@ -3,7 +3,6 @@ use Rattle.std.specs.Prelude.{ℕ, Bool, true, false, List, [], ◌∷◌, ◌++
 use Rattle.ga_place.specs.Node.{node_text}
 use Rattle.ga_place.specs.Side.{SIDES, is_among, neighbour_of}
 use Rattle.ga_place.specs.declared.side.Side.{Side}
-use Rattle.ga_place.specs.declared.side.Side.TheVariants.{Right, Down, Left, Up}
 use Rattle.ga_place.specs.declared.side.Sides.{Sides}
 use Rattle.ga_node.specs.Line.{need_text}
 use Rattle.ga_node.specs.Need.{need_of}
@@ -12,12 +11,7 @@ use Rattle.ga_node.specs.declared.need.Need.{Need}
 use Rattle.ga_node.specs.declared.need.Need.TheVariants.{Own, Take, Post, Check, Input, Stopped}
 use Rattle.ga_chip.specs.Chip.{Chip, state_of}
 use Rattle.ga_chip.specs.Run.{stands_held}
-
-abbrev pub side_text : Side → List ℕ
-side_text Right = codes "right"
-side_text Down = codes "down"
-side_text Left = codes "left"
-side_text Up = codes "up"
+use Rattle.ga_dump.specs.Side.{side_text}
 
 -- the texts of those of these sides that are in a set, with one text in front of the first, and another between two
 abbrev pub joined : (Side → List ℕ) → List ℕ → List ℕ → Sides → List Side → List ℕ

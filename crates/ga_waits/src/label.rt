@@ -1,11 +1,10 @@
 //! Where P is, told by a label.
-ghost use Rattle.std.specs.Prelude.{◌≡◌, ◌++◌, OnOk, option_map, string_bytes};
-ghost use Rattle.std.specs.Option.{option_copied};
-ghost use Rattle.ga_asm.specs.Image.{labels_of};
+ghost use Rattle.std.specs.Prelude.{◌≡◌, ◌++◌, OnOk, string_bytes};
+ghost use Rattle.ga_asm.specs.Image.{image_of, labels_of};
 ghost use Rattle.ga_waits.specs.Label as spec;
 ghost use Rattle.ga_waits.specs.Label.{distance_text, label_in, label_text};
 
-use ga_asm::{Image, Images};
+use ga_asm::{Images, label_at};
 use ga_place::{Node, Where};
 use indexmap::IndexMap;
 use std::alloc::AllocError;
@@ -19,22 +18,15 @@ pub fn push_label(
     at: Where,
 ) -> Result<(), AllocError>
     ensures { OnOk result (string_bytes text.new
-        ≡ string_bytes text.old ++ label_in (spec.image_of images.now node) at) }
+        ≡ string_bytes text.old ++ label_in (image_of images.now node) at) }
 {
-    let Some(image) = image_of(images, node) else {
+    let Some(image) = images.image_of(node) else {
         return Ok(());
     };
     let Where::Ram(index) = at else {
         return Ok(());
     };
     push_nearest(text, image.labels(), index)
-}
-
-/// The image of a node, if it has one.
-fn image_of(images: &Images, node: Node) -> Option<&Image>
-    ensures { option_copied result ≡ spec.image_of images.now node }
-{
-    images.images().get(&node)
 }
 
 /// Adds the last label at or before an index of RAM behind a space, and how far the index is behind it.
@@ -50,7 +42,7 @@ fn push_nearest(
     let Some(at) = nearest(labels, index) else {
         return Ok(());
     };
-    let Some(name) = label_at(labels, at) else {
+    let Some(name) = label_at(labels, u32::from(at)) else {
         return Ok(());
     };
     write!(text, " {name}")?;
@@ -89,17 +81,4 @@ fn nearer(index: u8, found: Option<u8>, at: u8) -> Option<u8>
         None if at <= index => Some(at),
         None => None,
     }
-}
-
-/// The first label that has this address.
-fn label_at(labels: &IndexMap<String, u8>, address: u8) -> Option<&str>
-    ensures { option_map (λ name. name.now) result
-        ≡ spec.label_at (labels_of labels.now.entries) address }
-{
-    for (name, at) in labels {
-        if *at == address {
-            return Some(name.as_str());
-        }
-    }
-    None
 }

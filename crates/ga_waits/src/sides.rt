@@ -3,9 +3,10 @@ ghost use Rattle.std.specs.Prelude.{◌≡◌, ◌++◌, [], OnOk, codes, string
 ghost use Rattle.ga_place.specs.Side.{SIDES};
 ghost use Rattle.ga_chip.specs.Chip.{state_of};
 ghost use Rattle.ga_chip.specs.Run.{stands_held};
-ghost use Rattle.ga_waits.specs.Sides.{act_text, doing_text, end_text, joined, side_text, told_end, told_need};
+ghost use Rattle.ga_waits.specs.Sides.{act_text, doing_text, end_text, joined, told_end, told_need};
 
 use ga_chip::Chip;
+use ga_dump::side_name;
 use ga_node::Need;
 use ga_place::{Node, SIDES, Side, Sides, neighbour};
 use std::alloc::AllocError;
@@ -136,16 +137,4 @@ fn push_end(text: &mut String, node: Node, side: Side) -> Result<(), AllocError>
         None => write!(text, "{} of nobody", side_name(side))?,
     }
     Ok(())
-}
-
-/// The side's name in lower case.
-fn side_name(side: Side) -> &'static str
-    ensures { result.now ≡ side_text side }
-{
-    match side {
-        Side::Right => "right",
-        Side::Down => "down",
-        Side::Left => "left",
-        Side::Up => "up",
-    }
 }

@@ -1,4 +1,4 @@
-use Rattle.std.proofs.Common.{◌∙◌, ◌++◌, ℕ, ap, string_bytes, sym}
+use Rattle.std.proofs.Common.{◌∙◌, ◌++◌, ap, string_bytes, sym}
 use Rattle.ga_place.specs.Cell.{name_at}
 use Rattle.ga_dump.proofs.Lines.{next_line}
 use Rattle.ga_transcript.specs.Breaks.{node_breaks}

@@ -1,7 +1,7 @@
 use Rattle.std.proofs.Common.{◌≡◌}
+use Rattle.ga_asm.specs.Image as spec
 use Rattle.ga_asm.specs.Image.{labels_of}
-use Rattle.ga_list.specs.Reading as spec
-use Rattle.ga_list.proofs.reading.label_at.Given as goal
+use Rattle.ga_asm.proofs.image.label_at.Given as goal
 
 -- the label is among those that are left
 abbrev pub invariant-loop-name : goal.invariant-loop-name
