@@ -1,11 +1,11 @@
 -- A text of joined lines has these lines.
-use Rattle.std.proofs.Common.{◌≡◌, ◌∙◌, ℕ, true, false, Bool, List, [], ◌∷◌, ◌++◌, ap, append-nil, arith, length, refl, rules, sym, subst, map}
+use Rattle.std.proofs.Common.{◌≡◌, ◌∙◌, ℕ, true, false, Bool, List, [], ◌∷◌, ◌++◌, ap, append-nil, refl, sym, subst}
 use Rattle.std.specs.Prelude.{◌==◌, filter}
 use Rattle.std.specs.List.{All, onto_first, slice_split, list_all}
 use Rattle.std.proofs.lemmas.List.Elements.{All-cons, All-head, All-nil, All-tail}
 use Rattle.std.proofs.lemmas.List.Splits.{slice_split-cons_no, slice_split-cons_yes, slice_split_at, slice_split_none}
 use Rattle.ga_transcript.specs.Following.{Lines}
-use Rattle.ga_transcript.specs.Record.{behind_ends, joined}
+use Rattle.ga_transcript.specs.Record.{behind_ends, lines_text}
 
 -- no LF is in a line
 abbrev pub IsClean : List ℕ → Type 0
@@ -14,11 +14,11 @@ IsClean line = All (λ c. (c == 10) ≡ false) line
 abbrev pub AreClean : Lines → Type 0
 AreClean lines = All IsClean lines
 
-pub lines_joined : (line : List ℕ) (lines : Lines) → IsClean line → AreClean lines → slice_split (λ c. c == 10) (joined (line ∷ lines)) ≡ line ∷ lines
-lines_joined line [] clean rest = ap (slice_split (λ c. c == 10)) (append-nil line) ∙ slice_split_none (λ c. c == 10) line clean
-lines_joined line (next ∷ lines) clean rest =
+pub lines_of_text : (line : List ℕ) (lines : Lines) → IsClean line → AreClean lines → slice_split (λ c. c == 10) (lines_text (line ∷ lines)) ≡ line ∷ lines
+lines_of_text line [] clean rest = ap (slice_split (λ c. c == 10)) (append-nil line) ∙ slice_split_none (λ c. c == 10) line clean
+lines_of_text line (next ∷ lines) clean rest =
     slice_split_at (λ c. c == 10) line 10 (next ++ behind_ends lines) clean refl
-    ∙ ap (λ ls. line ∷ ls) (lines_joined next lines (All-head IsClean next lines rest) (All-tail IsClean next lines rest))
+    ∙ ap (λ ls. line ∷ ls) (lines_of_text next lines (All-head IsClean next lines rest) (All-tail IsClean next lines rest))
 
 -- the lines of a text have none
 onto_clean : (c : ℕ) (parts : Lines) → (c == 10) ≡ false → AreClean parts → AreClean (onto_first c parts)

@@ -5,3 +5,4 @@ pub mod OneTranscript
 pub mod Recordings
 pub mod Writing
 pub mod Starting
+pub mod Comparing

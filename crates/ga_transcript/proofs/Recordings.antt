@@ -1,22 +1,20 @@
 -- A recording holds, and is recorded again as it is.
-use Rattle.std.proofs.Common.{◌≡◌, ◌∙◌, ℕ, ◌+◌, List, [], ◌∷◌, ◌++◌, Option, Some, None, Result, Ok, Err, ap, append_assoc, arith, length, refl, subst, sym, take}
-use Rattle.std.specs.List.{list_all}
+use Rattle.std.proofs.Common.{◌≡◌, ◌∙◌, ℕ, ◌+◌, List, [], ◌∷◌, ◌++◌, Option, Some, None, Ok, ap, arith, length, refl, subst, sym, take}
 use Rattle.std.proofs.lemmas.List.Elements.{All-append, All-cons, All-head, All-nil, All-tail}
 use Rattle.ga_pack.specs.Model.Text.{lines_of}
 use Rattle.ga_chip.specs.Chip.{Chip}
 use Rattle.ga_path.specs.Stream.{Images}
 use Rattle.ga_debug.specs.Beginning.{IsLoaded, Start}
-use Rattle.ga_debug.specs.Head.{Head}
 use Rattle.ga_debug.specs.Pieces.{pieces}
-use Rattle.ga_transcript.specs.Check.{Fault, IsChecked, checked_by, checked_from, unless_early}
-use Rattle.ga_transcript.specs.Following.{Lines, Step, by_kind, checked, early_reply, is_reply, recorded}
+use Rattle.ga_transcript.specs.Check.{checked_by, checked_from, unless_early}
+use Rattle.ga_transcript.specs.Following.{Lines, Step, checked, early_reply, is_reply, recorded}
 use Rattle.ga_transcript.specs.inner.Counting.{command_count}
 use Rattle.ga_transcript.specs.Line.{Kind, Command, Note, Reply, kind_of}
-use Rattle.ga_transcript.specs.Record.{Holds, IsRecorded, joined, recorded_from, recording_of}
+use Rattle.ga_transcript.specs.Record.{Holds, IsRecorded, lines_text, recorded_from, recording_of}
 use Rattle.ga_transcript.specs.Reply.{reply_text, step_of}
 use Rattle.ga_transcript.proofs.Following.{RepliesOnly, recorded_again, recorded_holds, recorded_not_early}
-use Rattle.ga_transcript.proofs.Fronts.{HeadFront, head_front, with_commands}
-use Rattle.ga_transcript.proofs.Joined.{AreClean, IsClean, filter_clean, filter_passes, lines_joined, split_clean}
+use Rattle.ga_transcript.proofs.Fronts.{head_front, with_commands}
+use Rattle.ga_transcript.proofs.Joined.{AreClean, IsClean, filter_clean, filter_passes, lines_of_text, split_clean}
 
 -- all that a command replies can stand in a reply, and no LF is in it
 replies_only : (images : Images) → RepliesOnly (step_of images)
@@ -81,18 +79,18 @@ recording_leads text recording (start, (head, head_is, images, chip_is, line_is,
     let parts = clean_parts (f.first ∷ f.front) start.commands all_clean in
     let rest_clean : AreClean (f.front ++ rec) =
     All-append IsClean f.front rec (All-tail IsClean f.first f.front parts.0) (recorded_clean step (replies_clean start.images) start.commands parts.1 start.chip) in
-    let whole : recording ≡ joined (f.first ∷ (f.front ++ rec)) =
-    sym made ∙ ap (λ ls. joined (take start.line ls ++ rec)) lines ∙ ap (λ (ls : Lines). joined (ls ++ rec)) (take_front (f.first ∷ f.front) start.commands start.line size) in
+    let whole : recording ≡ lines_text (f.first ∷ (f.front ++ rec)) =
+    sym made ∙ ap (λ ls. lines_text (take start.line ls ++ rec)) lines ∙ ap (λ (ls : Lines). lines_text (ls ++ rec)) (take_front (f.first ∷ f.front) start.commands start.line size) in
     let cut : lines_of recording ≡ f.first ∷ (f.front ++ rec) =
-    ap lines_of whole ∙ lines_joined f.first (f.front ++ rec) (All-head IsClean f.first f.front parts.0) rest_clean in
+    ap lines_of whole ∙ lines_of_text f.first (f.front ++ rec) (All-head IsClean f.first f.front parts.0) rest_clean in
     let again : recorded step start.chip rec ≡ rec = recorded_again step (replies_only start.images) start.commands start.chip in
     record {
       start = record start { commands = rec };
       loaded = (with_commands head rec, f.others recording rec cut, images, chip_is, line_is, refl);
       settled = (start.commands, refl);
-      is = ap (λ ls. joined (take start.line ls ++ recorded step start.chip rec)) cut
-          ∙ ap (λ (ls : Lines). joined (ls ++ recorded step start.chip rec)) (take_front (f.first ∷ f.front) rec start.line size)
-          ∙ ap (λ (ls : Lines). joined ((f.first ∷ f.front) ++ ls)) again
+      is = ap (λ ls. lines_text (take start.line ls ++ recorded step start.chip rec)) cut
+          ∙ ap (λ (ls : Lines). lines_text (ls ++ recorded step start.chip rec)) (take_front (f.first ∷ f.front) rec start.line size)
+          ∙ ap (λ (ls : Lines). lines_text ((f.first ∷ f.front) ++ ls)) again
           ∙ sym whole;
     }
 

@@ -1,12 +1,12 @@
 -- What comes of the lines behind a head is what comes of the text.
-use Rattle.std.proofs.Common.{◌≡◌, ◌∙◌, inr, ℕ, ◌+◌, ◌<◌, List, [], ◌∷◌, ◌++◌, Option, Some, None, Result, Ok, Err, ap, append_assoc, arith, length, sym, take}
+use Rattle.std.proofs.Common.{◌≡◌, ◌∙◌, inr, ℕ, ◌+◌, ◌<◌, List, ◌∷◌, ◌++◌, Some, None, Result, Ok, Err, ap, append_assoc, arith, length, sym, take}
 use Rattle.std.proofs.lemmas.Grind.{flat_map-append}
 use Rattle.ga_pack.specs.Model.Text.{lines_of}
 use Rattle.ga_debug.specs.Beginning.{IsLoaded, Start}
 use Rattle.ga_transcript.specs.declared.error.TranscriptError.{TranscriptError}
 use Rattle.ga_transcript.specs.Check.{Answers, EarlyReply, FailsRightly, Fault, Memory, IsChecked, checked_by, checked_from, fault_of, unless_early}
 use Rattle.ga_transcript.specs.Following.{Lines, checked, early_reply, recorded}
-use Rattle.ga_transcript.specs.Record.{IsRecorded, behind_ends, joined, recorded_from, recording_of}
+use Rattle.ga_transcript.specs.Record.{IsRecorded, behind_ends, lines_text, recorded_from, recording_of}
 use Rattle.ga_transcript.specs.Reply.{step_of}
 use Rattle.ga_transcript.proofs.Fronts.{head_front}
 use Rattle.ga_transcript.proofs.Recordings.{take_front}
@@ -43,11 +43,11 @@ pub go_line : (text : List ℕ) (start : Start) → IsLoaded text (Ok start) →
 go_line text start (head, is, images, chip, line, commands) = let f = head_front text head is in omega (arith, f.size, line)
 
 -- what is recorded of the lines
-joined_append : (line : List ℕ) (lines more : Lines) → joined ((line ∷ lines) ++ more) ≡ joined (line ∷ lines) ++ behind_ends more
-joined_append line lines more = ap (λ t. line ++ t) (flat_map-append (λ (l : List ℕ). 10 ∷ l) lines more) ∙ sym (append_assoc line (behind_ends lines) (behind_ends more))
+lines_text_append : (line : List ℕ) (lines more : Lines) → lines_text ((line ∷ lines) ++ more) ≡ lines_text (line ∷ lines) ++ behind_ends more
+lines_text_append line lines more = ap (λ t. line ++ t) (flat_map-append (λ (l : List ℕ). 10 ∷ l) lines more) ∙ sym (append_assoc line (behind_ends lines) (behind_ends more))
 
 pub recorded_behind : (text : List ℕ) (start : Start) (front new : List ℕ) → IsLoaded text (Ok start) → early_reply (start.line + 1) start.commands ≡ None
-    → front ≡ joined (take start.line (lines_of text)) → new ≡ front ++ behind_ends (recorded (step_of start.images) start.chip start.commands) → IsRecorded text (Ok new)
+    → front ≡ lines_text (take start.line (lines_of text)) → new ≡ front ++ behind_ends (recorded (step_of start.images) start.chip start.commands) → IsRecorded text (Ok new)
 unfolding recorded_from
 recorded_behind text start front new (head, is, images, chip, line, commands) none front_is new_is =
     let f = head_front text head is in
@@ -56,6 +56,6 @@ recorded_behind text start front new (head, is, images, chip, line, commands) no
     let size : length (f.first ∷ f.front) ≡ start.line = omega (arith, f.size, line) in
     let first : take start.line (lines_of text) ≡ f.first ∷ f.front = ap (take start.line) lines ∙ take_front (f.first ∷ f.front) start.commands start.line size in
     let whole : recording_of text start ≡ new =
-    ap (λ (ls : Lines). joined (ls ++ rec)) first ∙ joined_append f.first f.front rec ∙ sym (ap (λ (ls : Lines). joined ls ++ behind_ends rec) first)
+    ap (λ (ls : Lines). lines_text (ls ++ rec)) first ∙ lines_text_append f.first f.front rec ∙ sym (ap (λ (ls : Lines). lines_text ls ++ behind_ends rec) first)
     ∙ sym (new_is ∙ ap (λ t. t ++ behind_ends rec) front_is) in
     (start, (head, is, images, chip, line, commands), ap (λ found. unless_early found (Ok (recording_of text start))) none ∙ ap Ok whole)

@@ -1,6 +1,6 @@
 -- Texts and lines, one step of a loop at a time.
-use Rattle.std.proofs.Common.{◌≡◌, ◌∙◌, ℕ, zero, suc, ◌+◌, ◌-◌, ◌<◌, ◌≤◌, true, false, Bool, List, [], ◌∷◌, ◌++◌, Option, Some, None, ap, append_assoc, arith, length, refl, sym, take}
-use Rattle.std.specs.Prelude.{◌&&◌, if◌then◌else◌}
+use Rattle.std.proofs.Common.{◌≡◌, ◌∙◌, ℕ, zero, suc, ◌+◌, ◌-◌, ◌<◌, true, false, Bool, List, [], ◌∷◌, ◌++◌, Option, ap, append_assoc, arith, length, refl, sym, take}
+use Rattle.std.specs.Prelude.{◌&&◌}
 use Rattle.std.specs.Str.{bytes_eq}
 use Rattle.ga_chip.specs.Chip.{Chip}
 use Rattle.ga_chip.specs.Run.{moves, ran, side_of_turn, turn_of}
@@ -8,7 +8,7 @@ use Rattle.ga_transcript.specs.declared.until.Reached.{Reached}
 use Rattle.ga_transcript.specs.Breaks.{is_held_at}
 use Rattle.ga_transcript.specs.Following.{Lines, same_lines}
 use Rattle.ga_transcript.specs.Record.{behind_ends}
-use Rattle.ga_transcript.specs.Until.{after_turns, until_from}
+use Rattle.ga_transcript.specs.Until.{until_from}
 
 -- lines of which there are not equally many are not the same
 and_false : (b : Bool) → (b && false) ≡ false

@@ -51,7 +51,8 @@ unless_early None result = result
 -- what comes of the lines behind a head
 unfoldable pub checked_from : Start → Result ℕ Fault
 checked_from start =
-    unless_early (early_reply (start.line + 1) start.commands) (checked_by (checked (step_of start.images) (start.line + 1) 0 start.chip start.commands))
+    let first = start.line + 1 in
+    unless_early (early_reply first start.commands) (checked_by (checked (step_of start.images) first 0 start.chip start.commands))
 
 -- the fault is one of the head
 abbrev pub HeadFails : List ℕ → Fault → Type 0

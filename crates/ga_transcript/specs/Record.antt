@@ -1,5 +1,5 @@
 -- A transcript with the replies that come.
-use Rattle.std.specs.Prelude.{ℕ, ◌+◌, List, [], ◌∷◌, ◌++◌, take, Result, Ok, Err}
+use Rattle.std.specs.Prelude.{ℕ, ◌+◌, List, [], ◌∷◌, ◌++◌, take, Result, Ok}
 use Rattle.std.specs.List.{flat_map}
 use Rattle.ga_pack.specs.Model.Text.{lines_of}
 use Rattle.ga_debug.specs.Beginning.{Start}
@@ -11,13 +11,13 @@ abbrev pub behind_ends : Lines → List ℕ
 behind_ends lines = flat_map (λ line. 10 ∷ line) lines
 
 -- lines as a text, with an LF between two
-abbrev pub joined : Lines → List ℕ
-joined [] = []
-joined (line ∷ lines) = line ++ behind_ends lines
+abbrev pub lines_text : Lines → List ℕ
+lines_text [] = []
+lines_text (line ∷ lines) = line ++ behind_ends lines
 
 -- the lines of a text up to `go`, and those behind it with the replies that come
 abbrev pub recording_of : List ℕ → Start → List ℕ
-recording_of text start = joined (take start.line (lines_of text) ++ recorded (step_of start.images) start.chip start.commands)
+recording_of text start = lines_text (take start.line (lines_of text) ++ recorded (step_of start.images) start.chip start.commands)
 
 unfoldable pub recorded_from : List ℕ → Start → Result (List ℕ) Fault
 recorded_from text start = unless_early (early_reply (start.line + 1) start.commands) (Ok (recording_of text start))

@@ -7,7 +7,7 @@ ghost use Rattle.ga_transcript.specs.inner.Difference.{IsDifference};
 
 use crate::error::TranscriptError;
 use crate::line::{Line, line_of};
-use crate::lines::{all_lines, early_reply, reply_lines, same_lines, wanted};
+use crate::lines::{all_lines, early_reply, is_wanted, reply_lines, wanted};
 use crate::reply::reply;
 use ga_asm::Images;
 use ga_chip::Chip;
@@ -62,11 +62,11 @@ fn compare(alloc: Global, line: u64, behind: &[&str], came: &str) -> Result<(), 
     ensures { Answers (λ same. same)
         (IsDifference line (map (λ line. line.now) behind.now) came.now) result }
 {
-    let wanted = wanted(alloc, behind)?;
-    let came = reply_lines(alloc, came)?;
-    if same_lines(&wanted, &came) {
+    if is_wanted(behind, came) {
         return Ok(());
     }
+    let wanted = wanted(alloc, behind)?;
+    let came = reply_lines(alloc, came)?;
     let mut lines = String::new(alloc);
     push_signed(&mut lines, '-', &wanted)?;
     push_signed(&mut lines, '+', &came)?;

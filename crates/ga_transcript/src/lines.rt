@@ -1,5 +1,5 @@
 //! Lines of a transcript behind `go`.
-ghost use Rattle.std.specs.Prelude.{◌≡◌, ◌+◌, ◌<◌, ◌^◌, IfOk, length, map};
+ghost use Rattle.std.specs.Prelude.{◌≡◌, ◌+◌, ◌<◌, ◌^◌, ◌∷◌, [], IfOk, MatchOption, filter, length, map};
 ghost use Rattle.ga_transcript.specs.Following as spec;
 ghost use Rattle.ga_transcript.specs.Reply as reply;
 
@@ -48,20 +48,40 @@ pub(crate) fn wanted<'a>(alloc: Global, lines: &[&'a str]) -> Result<Vec<&'a str
     Ok(wanted)
 }
 
-/// Whether lines are the same.
-pub(crate) fn same_lines(ones: &[&str], others: &[&str]) -> bool
-    ensures { result ≡ spec.same_lines (map (λ line. line.now) ones.now)
-        (map (λ line. line.now) others.now) }
+/// Whether the lines of a reply are those that stand in front of the next command.
+pub(crate) fn is_wanted(behind: &[&str], came: &str) -> bool
+    ensures { result ≡ spec.same_lines (spec.wanted (map (λ line. line.now) behind.now))
+        (reply.reply_lines came.now) }
 {
-    if ones.len() != others.len() {
-        return false;
-    }
-    for index in 0..ones.len() {
-        if ones[index] != others[index] {
-            return false;
+    let mut left = Pieces::new(came, '\n');
+    for line in behind {
+        match line_of(line) {
+            Line::Command(_) => return next_reply(&mut left).is_none(),
+            Line::Note => {}
+            Line::Reply => {
+                let Some(next) = next_reply(&mut left) else {
+                    return false;
+                };
+                if *line != next {
+                    return false;
+                }
+            }
         }
     }
-    true
+    next_reply(&mut left).is_none()
+}
+
+/// The next of the lines that are left which can stand in a reply, if there is one.
+fn next_reply<'a>(left: &mut Pieces<'a>) -> Option<&'a str>
+    ensures { MatchOption result (filter spec.is_reply left.old ≡ [])
+        (λ line. filter spec.is_reply left.old ≡ line.now ∷ filter spec.is_reply left.new) }
+{
+    while let Some(line) = left.next() {
+        if let Line::Reply = line_of(line) {
+            return Some(line);
+        }
+    }
+    None
 }
 
 /// The number of the first line of a reply in front of all commands, where there is one. The first line has this number.

@@ -2,13 +2,13 @@ ghost use Rattle.std.specs.Prelude.{◌≡◌, ◌<◌, ◌++◌, ◌∷◌, IfO
 ghost use Rattle.ga_asm.specs.Text.{AtMostOne};
 ghost use Rattle.ga_pack.specs.Model.Text.{lines_of};
 ghost use Rattle.ga_transcript.specs.Check.{Answers};
-ghost use Rattle.ga_transcript.specs.Record.{Holds, IsRecorded, behind_ends, joined};
+ghost use Rattle.ga_transcript.specs.Record.{Holds, IsRecorded, behind_ends, lines_text};
 ghost use Rattle.ga_transcript.specs.Following.{recorded};
 ghost use Rattle.ga_transcript.specs.Reply as spec;
 
 use crate::error::TranscriptError;
 use crate::line::{Line, line_of};
-use crate::lines::{all_lines, early_reply, reply_lines};
+use crate::lines::{all_lines, early_reply};
 use crate::reply::reply;
 use ga_asm::Images;
 use ga_chip::Chip;
@@ -57,7 +57,7 @@ fn push_recorded(
             Line::Command(command) => {
                 push_line(text, line)?;
                 let came = reply(alloc, &mut chip, images, command)?;
-                push_reply(alloc, text, &came)?;
+                push_reply(text, &came)?;
             }
             Line::Note => push_line(text, line)?,
             Line::Reply => {}
@@ -69,7 +69,7 @@ fn push_recorded(
 /// The first lines of a text, so many, with an LF between two.
 fn front(alloc: Global, text: &str, count: u64) -> Result<String, AllocError>
     requires { 0 < count }
-    ensures { IfOk result (λ front. string_bytes front ≡ joined (take count (lines_of text.now))) }
+    ensures { IfOk result (λ front. string_bytes front ≡ lines_text (take count (lines_of text.now))) }
 {
     let mut lines = Pieces::new(text, '\n');
     let mut front = String::new(alloc);
@@ -88,12 +88,14 @@ fn front(alloc: Global, text: &str, count: u64) -> Result<String, AllocError>
 }
 
 /// Adds the lines of a reply, each behind an LF.
-fn push_reply(alloc: Global, text: &mut String, came: &str) -> Result<(), AllocError>
+fn push_reply(text: &mut String, came: &str) -> Result<(), AllocError>
     ensures { OnOk result (string_bytes text.new
         ≡ string_bytes text.old ++ behind_ends (spec.reply_lines came.now)) }
 {
-    for line in &reply_lines(alloc, came)? {
-        push_line(text, line)?;
+    for line in Pieces::new(came, '\n') {
+        if let Line::Reply = line_of(line) {
+            push_line(text, line)?;
+        }
     }
     Ok(())
 }

@@ -1,9 +1,10 @@
-use Rattle.std.proofs.Common.{◌≡◌, ◌++◌, drop, map, string_bytes}
+use Rattle.std.proofs.Common.{◌≡◌, ◌++◌, string_bytes}
+use Rattle.std.specs.Prelude.{filter}
+use Rattle.ga_transcript.specs.Following.{is_reply}
 use Rattle.ga_transcript.specs.Record.{behind_ends}
+use Rattle.ga_transcript.specs.Reply.{reply_lines}
 use Rattle.ga_transcript.proofs.recording.push_reply.Given as goal
 
--- what is written, and the lines that are left
+-- what is written, and the lines of the reply that are left
 abbrev pub invariant-loop-line : goal.invariant-loop-line
-invariant-loop-line l =
-    string_bytes l.text ++ behind_ends (map (λ line. line.now) (drop l.line-index l.line-items))
-    ≡ string_bytes l.initial.text ++ behind_ends (map (λ line. line.now) l.line-items)
+invariant-loop-line l = string_bytes l.text ++ behind_ends (filter is_reply l.line-iterator) ≡ string_bytes l.initial.text ++ behind_ends (reply_lines l.came)
