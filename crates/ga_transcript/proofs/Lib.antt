@@ -6,3 +6,6 @@ pub mod Recordings
 pub mod Writing
 pub mod Starting
 pub mod Comparing
+pub mod Whole
+pub mod WholeReplies
+mod WorkedTranscripts
