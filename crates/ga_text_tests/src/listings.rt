@@ -38,7 +38,7 @@ fn lists_labels(rt: HostRuntime) -> Result<(), Fail> {
 fn lines_of(alloc: Global, text: &str) -> Result<Vec<usize>, Fail> {
     let program = parse(alloc, text)?;
     let images = assemble(alloc, &program)?;
-    let image = images.images().get(&node(1)?).ok_or("no image")?;
+    let image = images.image_of(node(1)?).ok_or("no image")?;
     let mut lines = Vec::new(alloc);
     for place in &word_places(alloc, &program, 1, image)? {
         lines.push(place.line)?;
