@@ -7,7 +7,7 @@ use Rattle.std.specs.Str.{bytes_eq}
 use Rattle.ga_transcript.specs.Following.{Lines, by_kind, is_reply, same_lines, wanted}
 use Rattle.ga_transcript.specs.Line.{Kind, Note, Reply, kind_of}
 
-not_true : (b : Bool) → not b ≡ true → b ≡ false
+pub not_true : (b : Bool) → not b ≡ true → b ≡ false
 not_true true h = absurd (false≢true h)
 not_true false h = refl
 
@@ -16,7 +16,8 @@ not_false true h = refl
 not_false false h = absurd (false≢true (sym h))
 
 -- what is wanted from a line on, by what the line is
-wanted_from : {X : Type 0} (text : X → List ℕ) (behind : List X) (i : ℕ) (d : X) (kind : Kind) → i < length behind → kind ≡ kind_of (text (get_or behind i d))
+wanted_from : {X : Type 0} (text : X → List ℕ) (behind : List X) (i : ℕ) (d : X) (kind : Kind) → i < length behind
+    → kind ≡ kind_of (text (get_or behind i d))
     → wanted (map text (drop i behind))
     ≡ by_kind kind (λ command. []) (wanted (map text (drop (i + 1) behind))) (text (get_or behind i d) ∷ wanted (map text (drop (i + 1) behind)))
 wanted_from text behind i d kind within is =
@@ -43,8 +44,10 @@ compared text behind i d left more next within is came =
     ap (λ ls. same_lines ls (filter is_reply left)) (wanted_from text behind i d Reply within is)
     ∙ ap (same_lines (text (get_or behind i d) ∷ wanted (map text (drop (i + 1) behind)))) came
 
-pub same_line : {X : Type 0} (text : X → List ℕ) (behind : List X) (i : ℕ) (d : X) (left more : Lines) (next : List ℕ) (all : Bool) → i < length behind
-    → Reply ≡ kind_of (text (get_or behind i d)) → filter is_reply left ≡ next ∷ filter is_reply more → not (bytes_eq (text (get_or behind i d)) next) ≡ false
+pub same_line : {X : Type 0} (text : X → List ℕ) (behind : List X) (i : ℕ) (d : X) (left more : Lines) (next : List ℕ) (all : Bool)
+    → i < length behind
+    → Reply ≡ kind_of (text (get_or behind i d)) → filter is_reply left ≡ next ∷ filter is_reply more
+    → not (bytes_eq (text (get_or behind i d)) next) ≡ false
     → same_lines (wanted (map text (drop i behind))) (filter is_reply left) ≡ all
     → same_lines (wanted (map text (drop (i + 1) behind))) (filter is_reply more) ≡ all
 same_line text behind i d left more next all within is came same so_far =
@@ -52,8 +55,10 @@ same_line text behind i d left more next all within is came same so_far =
     ∙ ap (λ b. b && same_lines (wanted (map text (drop (i + 1) behind))) (filter is_reply more)) (not_false (bytes_eq (text (get_or behind i d)) next) same))
     ∙ so_far
 
-pub other_line : {X : Type 0} (text : X → List ℕ) (behind : List X) (i : ℕ) (d : X) (left more : Lines) (next : List ℕ) (all : Bool) → i < length behind
-    → Reply ≡ kind_of (text (get_or behind i d)) → filter is_reply left ≡ next ∷ filter is_reply more → not (bytes_eq (text (get_or behind i d)) next) ≡ true
+pub other_line : {X : Type 0} (text : X → List ℕ) (behind : List X) (i : ℕ) (d : X) (left more : Lines) (next : List ℕ) (all : Bool)
+    → i < length behind
+    → Reply ≡ kind_of (text (get_or behind i d)) → filter is_reply left ≡ next ∷ filter is_reply more
+    → not (bytes_eq (text (get_or behind i d)) next) ≡ true
     → same_lines (wanted (map text (drop i behind))) (filter is_reply left) ≡ all → false ≡ all
 other_line text behind i d left more next all within is came apart so_far =
     sym (compared text behind i d left more next within is came

@@ -16,6 +16,7 @@ use Rattle.ga_transcript.specs.Following.{Lines, by_kind, is_reply}
 use Rattle.ga_transcript.specs.Line.{Command, Kind, Note, Reply, begins, kind_of}
 use Rattle.ga_transcript.specs.Record.{behind_ends, lines_text}
 use Rattle.ga_transcript.specs.Reply.{reply_lines}
+use Rattle.ga_transcript.proofs.Comparing.{not_true}
 use Rattle.ga_transcript.proofs.Joined.{AreClean, IsClean, lines_of_text}
 
 -- ---- a line that isn't empty, and begins with neither sign, stands in a reply
@@ -47,7 +48,8 @@ is_reply_plain (first ∷ rest) h =
     ∙ ap (λ b. is (if b || begins line (codes "\\ ") then Note else Reply)) (not_empty (length rest))
     ∙ ap (λ b. is (if b then Note else Reply)) no_comment
 
-kept_first : (line : List ℕ) (lines kept : Lines) → is_plain_line line ≡ true → filter is_reply lines ≡ kept → filter is_reply (line ∷ lines) ≡ line ∷ kept
+kept_first : (line : List ℕ) (lines kept : Lines) → is_plain_line line ≡ true → filter is_reply lines ≡ kept
+    → filter is_reply (line ∷ lines) ≡ line ∷ kept
 kept_first line lines kept plain others =
     ap (λ b. cond b (line ∷ filter is_reply lines) (filter is_reply lines)) (is_reply_plain line plain) ∙ ap (λ (ls : Lines). line ∷ ls) others
 
@@ -66,10 +68,6 @@ kept_ended (line ∷ lines) plain =
     kept_first line (lines ++ [] ∷ []) lines parts.0 (kept_ended lines parts.1)
 
 -- ---- texts of such lines have these lines
-
-not_true : (b : Bool) → not b ≡ true → b ≡ false
-not_true true h = absurd (false≢true h)
-not_true false h = refl
 
 clean_text : (text : List ℕ) → IsPlain text → IsClean text
 clean_text [] plain = All-nil (λ c. (c == 10) ≡ false)

@@ -49,7 +49,8 @@ use Rattle.ga_transcript.proofs.Whole.{IsWhole, ended, one_line, shown}
 
 -- ---- texts that are made line by line
 
-of_lines : {X : Type 0} (text : X → List ℕ) (lines : X → Lines) → ((x : X) → text x ≡ text_of (lines x)) → (xs : List X) → flat_map text xs ≡ text_of (flat_map lines xs)
+of_lines : {X : Type 0} (text : X → List ℕ) (lines : X → Lines) → ((x : X) → text x ≡ text_of (lines x)) → (xs : List X)
+    → flat_map text xs ≡ text_of (flat_map lines xs)
 of_lines text lines each [] = refl
 of_lines text lines each (x ∷ xs) =
     ap (λ t. t ++ flat_map text xs) (each x) ∙ ap (λ t. text_of (lines x) ++ t) (of_lines text lines each xs)
@@ -75,12 +76,14 @@ row_words (word ∷ words) = 32 ∷ hex_digits 5 word ++ row_words words
 row_ends : (words : List ℕ) → row_of words ≡ row_words words ++ 10 ∷ []
 unfolding row_words
 row_ends [] = refl
-row_ends (word ∷ words) = ap (λ t. 32 ∷ hex_digits 5 word ++ t) (row_ends words) ∙ sym (append_assoc (32 ∷ hex_digits 5 word) (row_words words) (10 ∷ []))
+row_ends (word ∷ words) =
+    ap (λ t. 32 ∷ hex_digits 5 word ++ t) (row_ends words) ∙ sym (append_assoc (32 ∷ hex_digits 5 word) (row_words words) (10 ∷ []))
 
 plain_row : (words : List ℕ) → IsPlain (row_words words)
 unfolding row_words
 plain_row [] = refl
-plain_row (word ∷ words) = one_more 32 (hex_digits 5 word ++ row_words words) (omega arith) (both (hex_digits 5 word) (row_words words) (plain_hex 5 word) (plain_row words))
+plain_row (word ∷ words) =
+    one_more 32 (hex_digits 5 word ++ row_words words) (omega arith) (both (hex_digits 5 word) (row_words words) (plain_hex 5 word) (plain_row words))
 
 -- the memory of a node
 memory_line : List ℕ → ℕ → List ℕ
@@ -258,7 +261,8 @@ side_plain chip name side row = by (has_side name side)
 pub ports_whole : (chip : Chip) (name : ℕ) → name / 100 < 8 → IsWhole (without_line_end (ledger_dump chip name))
 unfolding ledger_dump
 ports_whole chip name row =
-    shown (ledger_dump chip name) (flat_map (side_lines chip name) SIDES) (of_lines (side_line chip name) (side_lines chip name) (side_made chip name) SIDES)
+    shown (ledger_dump chip name) (flat_map (side_lines chip name) SIDES)
+    (of_lines (side_line chip name) (side_lines chip name) (side_made chip name) SIDES)
     (plain_each (side_lines chip name) (λ side. side_plain chip name side row) SIDES)
 
 -- ---- breakpoints
@@ -267,13 +271,11 @@ break_words : List (ℕ × ImageView) → Chip → ℕ → ℕ → List ℕ
 break_words images chip name address =
     node_text name ++ (codes " " ++ (hex_digits 3 address ++ (behind_space (label_of images name address) ++ (if is_held_at chip name address then codes ", held" else []))))
 
-break_made : (images : List (ℕ × ImageView)) (chip : Chip) (name address : ℕ) → break_line images chip name address ≡ text_of (break_words images chip name address ∷ [])
+break_made : (images : List (ℕ × ImageView)) (chip : Chip) (name address : ℕ)
+    → break_line images chip name address ≡ text_of (break_words images chip name address ∷ [])
 unfolding break_line break_words
 break_made images chip name address = by (is_held_at chip name address)
   where
-    front : List ℕ
-    front = behind_space (label_of images name address)
-
     by : (b : Bool) → node_text name ++ codes " " ++ hex_digits 3 address ++ behind_space (label_of images name address) ++ (if b then codes ", held\n" else codes "\n")
         ≡ text_of ((node_text name ++ (codes " " ++ (hex_digits 3 address ++ (behind_space (label_of images name address) ++ (if b then codes ", held" else []))))) ∷ [])
     by true = simp (append_assoc, append-nil)
@@ -290,7 +292,8 @@ plain_label_of images name address plain = by (image_of images name) (plain_imag
     by None plain = tt
     by (Some image) plain = plain_at image.labels address plain
 
-break_plain : (images : List (ℕ × ImageView)) (chip : Chip) (name address : ℕ) → name / 100 < 8 → are_labels_plain images ≡ true → is_plain_line (break_words images chip name address) ≡ true
+break_plain : (images : List (ℕ × ImageView)) (chip : Chip) (name address : ℕ) → name / 100 < 8 → are_labels_plain images ≡ true
+    → is_plain_line (break_words images chip name address) ≡ true
 unfolding break_words
 break_plain images chip name address row plain =
     let label = behind_space (label_of images name address) in
@@ -306,7 +309,8 @@ break_plain images chip name address row plain =
 break_lines : List (ℕ × ImageView) → Chip → ℕ → ℕ → Lines
 break_lines images chip name address = if has_break chip name address then break_words images chip name address ∷ [] else []
 
-at_made : (images : List (ℕ × ImageView)) (chip : Chip) (name address : ℕ) → break_at images chip name address ≡ text_of (break_lines images chip name address)
+at_made : (images : List (ℕ × ImageView)) (chip : Chip) (name address : ℕ)
+    → break_at images chip name address ≡ text_of (break_lines images chip name address)
 unfolding break_lines
 at_made images chip name address = by (has_break chip name address)
   where
@@ -314,7 +318,8 @@ at_made images chip name address = by (has_break chip name address)
     by true = break_made images chip name address
     by false = refl
 
-at_plain : (images : List (ℕ × ImageView)) (chip : Chip) (name address : ℕ) → name / 100 < 8 → are_labels_plain images ≡ true → ArePlainLines (break_lines images chip name address)
+at_plain : (images : List (ℕ × ImageView)) (chip : Chip) (name address : ℕ) → name / 100 < 8 → are_labels_plain images ≡ true
+    → ArePlainLines (break_lines images chip name address)
 unfolding break_lines
 at_plain images chip name address row plain = by (has_break chip name address)
   where
@@ -330,15 +335,18 @@ name_made : (images : List (ℕ × ImageView)) (chip : Chip) (name : ℕ) → no
 unfolding node_breaks name_lines
 name_made images chip name = of_lines (break_at images chip name) (break_lines images chip name) (at_made images chip name) (range_with_len 0 512)
 
-name_plain : (images : List (ℕ × ImageView)) (chip : Chip) (name : ℕ) → name / 100 < 8 → are_labels_plain images ≡ true → ArePlainLines (name_lines images chip name)
+name_plain : (images : List (ℕ × ImageView)) (chip : Chip) (name : ℕ) → name / 100 < 8 → are_labels_plain images ≡ true
+    → ArePlainLines (name_lines images chip name)
 unfolding name_lines
-name_plain images chip name row plain = plain_each (break_lines images chip name) (λ address. at_plain images chip name address row plain) (range_with_len 0 512)
+name_plain images chip name row plain =
+    plain_each (break_lines images chip name) (λ address. at_plain images chip name address row plain) (range_with_len 0 512)
 
 breaks_whole : (images : List (ℕ × ImageView)) (chip : Chip) → are_labels_plain images ≡ true → IsWhole (breaks_text images chip)
 unfolding breaks_text
 breaks_whole images chip plain =
     let lines = λ (index : ℕ). name_lines images chip (name_at index) in
-    ended (breaks_text images chip) (flat_map lines (range_with_len 0 144)) (of_lines (λ index. node_breaks images chip (name_at index)) lines (λ index. name_made images chip (name_at index)) (range_with_len 0 144))
+    ended (breaks_text images chip) (flat_map lines (range_with_len 0 144))
+    (of_lines (λ index. node_breaks images chip (name_at index)) lines (λ index. name_made images chip (name_at index)) (range_with_len 0 144))
     (plain_all lines 0 144 (λ index below. name_plain images chip (name_at index) (first_digit index (omega (arith, below))) plain))
 
 -- ---- the other replies of transcripts
@@ -394,7 +402,8 @@ command_whole images line command.Where chip plain session =
     ended (waits_text images chip) (lines_of images chip) (lines_are images chip) (waits_lines images chip plain)
 command_whole images line command.Session chip plain session = session
 
-found_whole : (images : List (ℕ × ImageView)) (line : List ℕ) (found : Result TranscriptCommand DebugError) (chip : Chip) → are_labels_plain images ≡ true
+found_whole : (images : List (ℕ × ImageView)) (line : List ℕ) (found : Result TranscriptCommand DebugError) (chip : Chip)
+    → are_labels_plain images ≡ true
     → IsWhole (text_or_refusal (reply_to line chip)) → IsWhole (text_by images line found chip)
 found_whole images line (Ok c) chip plain session = command_whole images line c chip plain session
 found_whole images line (Err fault) chip plain session = refusal_whole fault

@@ -1,25 +1,12 @@
 -- Texts and lines, one step of a loop at a time.
-use Rattle.std.proofs.Common.{◌≡◌, ◌∙◌, ℕ, zero, suc, ◌+◌, ◌-◌, ◌<◌, true, false, Bool, List, [], ◌∷◌, ◌++◌, Option, ap, append_assoc, arith, length, refl, sym, take}
-use Rattle.std.specs.Prelude.{◌&&◌}
-use Rattle.std.specs.Str.{bytes_eq}
+use Rattle.std.proofs.Common.{◌≡◌, ◌∙◌, ℕ, zero, suc, ◌+◌, ◌-◌, ◌<◌, false, List, ◌∷◌, ◌++◌, Option, ap, append_assoc, arith, length, refl, sym, take}
 use Rattle.ga_chip.specs.Chip.{Chip}
 use Rattle.ga_chip.specs.Run.{moves, ran, side_of_turn, turn_of}
 use Rattle.ga_transcript.specs.declared.until.Reached.{Reached}
 use Rattle.ga_transcript.specs.Breaks.{is_held_at}
-use Rattle.ga_transcript.specs.Following.{Lines, same_lines}
+use Rattle.ga_transcript.specs.Following.{Lines}
 use Rattle.ga_transcript.specs.Record.{behind_ends}
 use Rattle.ga_transcript.specs.Until.{until_from}
-
--- lines of which there are not equally many are not the same
-and_false : (b : Bool) → (b && false) ≡ false
-and_false true = refl
-and_false false = refl
-
-pub unequal : (ones others : Lines) → (length ones ≡ length others → ⊥) → same_lines ones others ≡ false
-unequal [] [] h = absurd (h refl)
-unequal [] (other ∷ others) h = refl
-unequal (one ∷ ones) [] h = refl
-unequal (one ∷ ones) (other ∷ others) h = ap (λ b. bytes_eq one other && b) (unequal ones others (λ e. h (ap suc e))) ∙ and_false (bytes_eq one other)
 
 -- one more of the first lines
 pub front_next : (front front' line : List ℕ) (lines rest : Lines) (left : ℕ) (all : List ℕ) → 0 < left → lines ≡ line ∷ rest → front' ≡ front ++ 10 ∷ line
