@@ -24,6 +24,8 @@ BEGAN = time.time()
 PROGRAM = 'ga_bench'
 # What a crate takes before its first function, and for what it stands on, as so many bytes of code.
 PRICE = 13_000
+# Crates whose chain is at least this part of the longest one are proved before all others.
+SHARE_OF_LONGEST = 0.8
 KIT = os.path.dirname(subprocess.run(['rt', 'doc'], capture_output=True, text=True, check=True).stdout.strip())
 LOGIC = ['--antt-project', f'{KIT}/rattle/logic/antt-project.json', '--logic-built', f'{KIT}/logic_built']
 TOOLCHAIN = ['--toolchain', f'{KIT}/toolchain']
@@ -59,7 +61,7 @@ class Crate:
         except OSError:
             return False
 
-    def prove(self, jobs):
+    def prove(self, jobs, yields=False):
         """Proves and builds the crate, where that isn't done. Returns whether it is proved."""
         calls = [] if self.is_proved() else [self.building(jobs)]
         calls += [self.linking()] if self.name == PROGRAM else []
@@ -72,6 +74,7 @@ class Crate:
             os.remove(f'{self.out}/sum')
         with open(f'{self.root}/out/{self.name}.log', 'wb') as log:
             for call in calls:
+                call = ['nice', *call] if yields else call
                 if subprocess.run(call, cwd=self.folder, stdin=subprocess.DEVNULL, stdout=log, stderr=log).returncode:
                     return False
         # a source that was changed meanwhile, and perhaps put back, was read as nobody knows what
@@ -115,19 +118,24 @@ def crates_of(root):
 def prove_all(crates):
     """Proves the crates, each once those below it are proved. Returns the first that is not proved, if one isn't.
 
-    One process more than there are processors works at once, since each loads what a crate stands on. Of the crates that
-    can be proved, the one with the longest chain gets all that are free but one, and each other a single one."""
+    A crate loads alone what it stands on, and then checks some functions at a time, in copies of itself: more of them
+    than processors, where a single crate can be proved, since some always wait for others. Where several can be
+    proved, those whose chain is about the longest get as many jobs as there are processors, and each other crate
+    has one, which yields to these."""
     processors = len(os.sched_getaffinity(0))
     left, proved, running, began = sorted(crates, key=lambda it: -it.chain), set(), {}, time.monotonic()
-    with ThreadPoolExecutor(processors + 1) as pool:
+    with ThreadPoolExecutor(len(crates)) as pool:
         while left or running:
             ready = [it for it in left if proved.issuperset(it.below)]
+            longest = max(it.chain for it in [*left, *[it for it, _ in running.values()]])
+            alone = len(ready) == 1 and not running
             for crate in ready:
-                free = processors + 1 - sum(jobs for _, jobs in running.values())
+                free = 2 * processors - sum(jobs for _, jobs in running.values())
                 if free > 0:
-                    jobs = 1 if crate is not ready[0] else max(1, free - (len(ready) > 1))
+                    is_long = crate.chain >= SHARE_OF_LONGEST * longest
+                    jobs = min(free, (processors + alone if is_long else 1))
                     left.remove(crate)
-                    running[pool.submit(crate.prove, jobs)] = crate, jobs
+                    running[pool.submit(crate.prove, jobs, not is_long)] = crate, jobs
             for ended in wait(running, return_when=FIRST_COMPLETED).done:
                 crate, _ = running.pop(ended)
                 if not ended.result():
