@@ -278,15 +278,26 @@ impl Parser {
             (kind_of kind)) }
     {
         let mut parser = self;
-        match parser.position {
+        parser.end_text()?;
+        Ok(parser.sections)
+    }
+
+    // The text ends where the parser stands.
+    fn end_text(&mut self) -> Result<(), SourceErrorKind>
+        requires consistent { IsConsistent (state_of self.old) }
+        ensures ok { OnOk result (machine.take (state_of self.old) end
+            ≡ Ok (finished (done_of self.new))) }
+        ensures err { IfErr result (λ kind. RefusedAs (machine.take (state_of self.old) end)
+            (kind_of kind)) }
+    {
+        match self.position {
             Position::Nothing => Err(SourceErrorKind::NoNode),
             Position::Naming => Err(SourceErrorKind::BadNode),
             Position::Between => {
-                if !parser.has_word {
+                if !self.has_word {
                     return Err(SourceErrorKind::Empty);
                 }
-                parser.end_section()?;
-                Ok(parser.sections)
+                self.end_section()
             }
             Position::BehindOp(_) | Position::BehindComma => Err(SourceErrorKind::BadToken),
             _ => Err(SourceErrorKind::OpenBracket),
