@@ -1,4 +1,5 @@
-ghost use Rattle.std.specs.Prelude.{◌≡◌, ◌<◌, ℕ};
+ghost use Rattle.std.specs.Prelude.{◌≡◌, ◌<◌, ℕ, IfSome, None, Some, if◌then◌else◌};
+ghost use Rattle.std.specs.Char.{digit_value, is_digit};
 ghost use Rattle.ga_debug.specs.Word.{address_of, count_of, decimal_of, outcome_of, side_of, verb_of, view_of};
 
 use crate::address::Address;
@@ -58,11 +59,19 @@ pub fn address_of(word: &[u8]) -> Option<Address>
     let [a, b, c] = word else {
         return None;
     };
-    let a = char::from(*a).to_digit(16)?;
-    let b = char::from(*b).to_digit(16)?;
-    let c = char::from(*c).to_digit(16)?;
-    let number = (a * 16 + b) * 16 + c;
-    Address::new(number as u16)
+    let a = hex_digit(*a)?;
+    let b = hex_digit(*b)?;
+    let c = hex_digit(*c)?;
+    Address::new((a * 16 + b) * 16 + c)
+}
+
+/// The value of a hex digit of either case.
+fn hex_digit(digit: u8) -> Option<u16>
+    ensures value { result ≡ (if is_digit digit 16 then Some (digit_value digit) else None) }
+    ensures below { IfSome result (λ value. value < 16) }
+{
+    let value = char::from(digit).to_digit(16)?;
+    Some(value as u16)
 }
 
 /// The side whose first letter a word is.
