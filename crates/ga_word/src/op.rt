@@ -1,4 +1,4 @@
-ghost use Rattle.std.specs.Prelude.{◌≡◌, ℕ, ◌<◌, ◌↔◌, IsSome, IfSome, Some, find};
+ghost use Rattle.std.specs.Prelude.{◌≡◌, ℕ, ◌<◌, ◌↔◌, [], ◌∷◌, IsSome, IfSome, Some, find};
 ghost use Rattle.std.specs.Str.{bytes_eq};
 ghost use Rattle.ga_word.specs.Op.{code_of, ends_word, fits_slot3, name_of, opcodes, takes_dest};
 
@@ -178,39 +178,83 @@ impl Op {
     pub fn from_bytes(name: &[u8]) -> Option<Self>
         ensures { result ≡ find (λ op. bytes_eq (name_of op) name.now) opcodes }
     {
-        let op = match name {
-            b";" => Op::Return,
-            b"ex" => Op::Execute,
-            b"jump" => Op::Jump,
-            b"call" => Op::Call,
-            b"unext" => Op::Micronext,
-            b"next" => Op::Next,
-            b"if" => Op::If,
-            b"-if" => Op::MinusIf,
-            b"@p" => Op::FetchP,
-            b"@+" => Op::FetchPlus,
-            b"@b" => Op::FetchB,
-            b"@" => Op::Fetch,
-            b"!p" => Op::StoreP,
-            b"!+" => Op::StorePlus,
-            b"!b" => Op::StoreB,
-            b"!" => Op::Store,
-            b"+*" => Op::MultiplyStep,
-            b"2*" => Op::TwoStar,
-            b"2/" => Op::TwoSlash,
-            b"-" => Op::Not,
-            b"+" => Op::Plus,
-            b"and" => Op::And,
-            b"or" => Op::Or,
-            b"drop" => Op::Drop,
-            b"dup" => Op::Dup,
-            b"pop" => Op::Pop,
-            b"over" => Op::Over,
-            b"a" => Op::A,
-            b"." => Op::Nop,
-            b"push" => Op::Push,
-            b"b!" => Op::BStore,
-            b"a!" => Op::AStore,
+        match *name {
+            [only] => Op::with_one(only),
+            [first, second] => Op::with_two(first, second),
+            [first, second, third] => Op::with_three(first, second, third),
+            [first, second, third, last] => Op::with_four(first, second, third, last),
+            [b'u', b'n', b'e', b'x', b't'] => Some(Op::Micronext),
+            _ => None,
+        }
+    }
+
+    // The opcode whose name is one character.
+    fn with_one(only: u8) -> Option<Self>
+        ensures { result ≡ find (λ op. bytes_eq (name_of op) (only ∷ [])) opcodes }
+    {
+        let op = match only {
+            b';' => Op::Return,
+            b'@' => Op::Fetch,
+            b'!' => Op::Store,
+            b'-' => Op::Not,
+            b'+' => Op::Plus,
+            b'a' => Op::A,
+            b'.' => Op::Nop,
+            _ => return None,
+        };
+        Some(op)
+    }
+
+    // The opcode whose name is two characters.
+    fn with_two(first: u8, second: u8) -> Option<Self>
+        ensures { result ≡ find (λ op. bytes_eq (name_of op) (first ∷ second ∷ [])) opcodes }
+    {
+        let op = match (first, second) {
+            (b'e', b'x') => Op::Execute,
+            (b'i', b'f') => Op::If,
+            (b'@', b'p') => Op::FetchP,
+            (b'@', b'+') => Op::FetchPlus,
+            (b'@', b'b') => Op::FetchB,
+            (b'!', b'p') => Op::StoreP,
+            (b'!', b'+') => Op::StorePlus,
+            (b'!', b'b') => Op::StoreB,
+            (b'+', b'*') => Op::MultiplyStep,
+            (b'2', b'*') => Op::TwoStar,
+            (b'2', b'/') => Op::TwoSlash,
+            (b'o', b'r') => Op::Or,
+            (b'b', b'!') => Op::BStore,
+            (b'a', b'!') => Op::AStore,
+            _ => return None,
+        };
+        Some(op)
+    }
+
+    // The opcode whose name is three characters.
+    fn with_three(first: u8, second: u8, third: u8) -> Option<Self>
+        ensures { result ≡ find (λ op. bytes_eq (name_of op) (first ∷ second ∷ third ∷ []))
+            opcodes }
+    {
+        match (first, second, third) {
+            (b'-', b'i', b'f') => Some(Op::MinusIf),
+            (b'a', b'n', b'd') => Some(Op::And),
+            (b'd', b'u', b'p') => Some(Op::Dup),
+            (b'p', b'o', b'p') => Some(Op::Pop),
+            _ => None,
+        }
+    }
+
+    // The opcode whose name is four characters.
+    fn with_four(first: u8, second: u8, third: u8, last: u8) -> Option<Self>
+        ensures { result ≡ find (λ op. bytes_eq (name_of op)
+            (first ∷ second ∷ third ∷ last ∷ [])) opcodes }
+    {
+        let op = match (first, second, third, last) {
+            (b'j', b'u', b'm', b'p') => Op::Jump,
+            (b'c', b'a', b'l', b'l') => Op::Call,
+            (b'n', b'e', b'x', b't') => Op::Next,
+            (b'd', b'r', b'o', b'p') => Op::Drop,
+            (b'o', b'v', b'e', b'r') => Op::Over,
+            (b'p', b'u', b's', b'h') => Op::Push,
             _ => return None,
         };
         Some(op)
