@@ -10,7 +10,7 @@ mod stream;
 
 pub use error::{BootError, NamesError, RouteError};
 pub use names::read_nodes;
-pub use parts::Boot;
+pub use parts::{Boot, Part};
 pub use route::Route;
 pub use sequence::image_of;
 pub use stream::boot;

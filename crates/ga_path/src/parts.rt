@@ -10,11 +10,11 @@ pub struct Boot {
     pub start: Vec<Word18>,
 }
 
-/// The two parts of a boot stream.
+/// The two parts of a boot stream, by which the definitions of its words are told.
 #[derive(Clone, Copy)]
-pub(crate) enum Part {
-    /// Each node's memory is filled.
+pub enum Part {
+    /// The words that fill each node's memory.
     Load,
-    /// Each node starts.
+    /// The words that start each node.
     Start,
 }
