@@ -6,6 +6,7 @@ use Rattle.std.proofs.lemmas.Bool.{cases_eq}
 use Rattle.std.proofs.lemmas.Option.{same_Some}
 use Rattle.std.proofs.lemmas.List.Concat.{flat_map-append}
 use Rattle.ga_node.specs.Need.{need_of}
+use Rattle.ga_chip.specs.Grow.{StreamsGo}
 use Rattle.ga_chip.specs.declared.outcome.Outcome.{Outcome}
 use Rattle.ga_chip.specs.declared.outcome.Outcome.TheVariants.{Moved, Waits, Held, Stopped}
 use Rattle.ga_chip.specs.declared.outcome.Try.{Try}
@@ -92,6 +93,11 @@ fed_ran chip (event ∷ events) name part now legal there there' =
     ∙ ap (λ l. fed_moves (moves_of name (move_in chip event)) ++ l) (fed_ran (happened chip event) events name next.0 now (legal_kept chip event legal) next.1 there')
     ∙ sym (append_assoc (fed_moves (moves_of name (move_in chip event))) (fed_moves (moves_of name (moves (happened chip event) events))) (words_left now.stream))
     ∙ ap (λ l. l ++ words_left now.stream) (sym (flat_map-append (λ move. input_by move.asked) (moves_of name (move_in chip event)) (moves_of name (moves (happened chip event) events))) ∙ ap fed_moves (sym (moves_of-append name (move_in chip event) (moves (happened chip event) events))))
+
+-- so over every run
+pub streams_go : StreamsGo
+streams_go chip events name part now legal there after =
+    ap (λ opened. words_left part.stream ++ pieces opened name events) (open_there chip name part there) ∙ fed_ran chip events name part now legal there after
 
 -- the word that a move is fed, among the words of the stream
 pub record FedNow (chip : Chip) (events : List Event) (name w : ℕ) : Type 0 where

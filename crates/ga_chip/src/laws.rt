@@ -1,5 +1,5 @@
 //! Laws of the definitions. They do nothing when run.
-ghost use Rattle.ga_chip.specs.Grow.{Growing};
+ghost use Rattle.ga_chip.specs.Grow.{Growing, StreamsGo};
 ghost use Rattle.ga_chip.specs.Laws.{Commuting, Confluence};
 ghost use Rattle.ga_chip.specs.Stuck.{Stuck};
 
@@ -21,7 +21,9 @@ pub fn stuck()
 {}
 
 /// Ledgers are exact over every run of a legal chip, whatever happens to it, pieces of streams among that: each cell's
-/// numbers of words written and read grow by those of the words that its two nodes write and take.
+/// numbers of words written and read grow by those of the words that its two nodes write and take. And the words that a
+/// node's stream had and was fed are those that the node took of it and those that are left.
 pub fn ledgers()
     ensures grow { Growing }
+    ensures streams { StreamsGo }
 {}
