@@ -1,3 +1,4 @@
+pub mod Supplied
 pub mod Cutting
 pub mod Digits
 pub mod Passing

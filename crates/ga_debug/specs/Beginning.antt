@@ -19,11 +19,11 @@ all_placed [] chip = chip
 all_placed (image ∷ images) chip =
     all_placed images (unless_refused (refusal chip image.0) (placed chip image.0 image.1.words image.1.entry) chip)
 
--- a node of a chip after reset is stream_chip a stream
+-- the chip after reset where a node is given a stream
 abbrev pub stream_chip : ℕ → List ℕ → Chip
 stream_chip node words = unless_refused (stream_refusal reset_chip node) (streamed reset_chip node words) reset_chip
 
--- a chip after reset that boots along a route: its first node was stream_chip both parts of the boot stream, as one stream
+-- a chip after reset that boots along a route: its first node was given both parts of the boot stream, as one stream
 abbrev pub booted : Images → List ℕ → Chip
 booted images route = stream_chip (get_or route 0 0) (load_of images route ++ start_of images route)
 

@@ -9,3 +9,4 @@ pub mod Head
 pub mod Beginning
 pub mod Replaying
 pub mod inner
+pub mod Laws

@@ -7,6 +7,7 @@ mod beginning;
 mod command;
 mod error;
 mod head;
+pub mod laws;
 mod pieces;
 mod replay_error;
 mod replaying;

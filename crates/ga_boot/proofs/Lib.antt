@@ -1,0 +1,24 @@
+pub mod Steps
+pub mod Pump
+pub mod Store
+pub mod Idle
+pub mod Bare
+pub mod History
+pub mod Flow
+pub mod Booting
+pub mod Order
+pub mod Keeps
+pub mod Unbegun
+pub mod Node
+pub mod Root
+pub mod Words
+pub mod Places
+pub mod Wires
+pub mod TreePlan
+pub mod Given
+pub mod Sides
+pub mod Supplied
+pub mod Boot
+pub mod Routes
+pub mod Agreeing
+mod WorkedTrees

@@ -1,0 +1,65 @@
+-- Boot in every schedule.
+use Rattle.std.specs.Prelude.{◌≡◌, ◌++◌, ℕ, List, [], ◌∷◌, ◌⊎◌, All, drop, is_some, if◌then◌else◌, Option, Some, None}
+use Rattle.ga_asm.specs.Image.{ImageView}
+use Rattle.ga_path.specs.Route.{route_fault}
+use Rattle.ga_path.specs.Stream.{Images, below, image_of, load_of, start_of}
+use Rattle.ga_place.specs.Node.{IsNodeName}
+use Rattle.ga_path.specs.Sequences.{Grove, start_address}
+use Rattle.ga_place.specs.declared.side.Side.{Side}
+use Rattle.ga_chip.specs.Chip.{Chip, part_of}
+use Rattle.ga_chip.specs.Laws.{Agree}
+use Rattle.ga_chip.specs.Part.{Part}
+use Rattle.ga_chip.specs.Run.{Event, ran, sides_of}
+use Rattle.ga_boot.specs.Boot.{Begun, CameToBe, Holds, IsSupplied, LoadTaken, RootBegun, stream_words, words_from}
+use Rattle.ga_boot.specs.Tree.{Elem, IsLoadable, IsTree, Place, found, places}
+
+-- What holds at the end of a run that boots a tree, whatever the nodes did in it, and so at each of its moments.
+pub record Boots (chip : Chip) (root : ℕ) (image : Option ImageView) (trees : Grove) (events : List Event) : Type 0 where
+  -- once the load part was taken, each node holds its image until it begins
+  pub root_holds : (now : Part) → part_of (ran chip events) root ≡ Some now → LoadTaken chip root image trees events
+      → (RootBegun chip root image trees events → ⊥) → Holds now.state image
+  pub holds : (p : Place) (now : Part) → Elem p (places root 1 trees) → part_of (ran chip events) p.name ≡ Some now
+      → LoadTaken chip root image trees events → (Begun chip p events → ⊥) → Holds now.state p.image
+  -- the root's P is where it starts as it begins, and another node's is so by the step behind it
+  pub root_begins : (now : Part) → part_of (ran chip events) root ≡ Some now
+      → CameToBe chip root (RootBegun chip root image trees) events now 0 → now.state.p ≡ start_address root image
+  pub begins : (p : Place) (now : Part) → Elem p (places root 1 trees) → part_of (ran chip events) p.name ≡ Some now
+      → CameToBe chip p.name (Begun chip p) events now 1 → now.state.p ≡ start_address p.name p.image
+  -- until a node begins it takes words from its parent alone
+  pub parent_alone : (p : Place) (side : Side) → Elem p (places root 1 trees) → (Begun chip p events → ⊥)
+      → (side ≡ p.side → ⊥) → words_from chip events p.name side ≡ []
+  -- until it begins the root makes no take of several sides; the first one of another node names its parent's side, and
+  -- until the node begins there is no other
+  pub root_sides : (RootBegun chip root image trees events → ⊥) → sides_of chip events root ≡ []
+  pub first_side : (p : Place) → Elem p (places root 1 trees)
+      → (sides_of chip events p.name ≡ []) ⊎ ((rest : List Side) × (sides_of chip events p.name ≡ p.side ∷ rest))
+  pub only_side : (p : Place) → Elem p (places root 1 trees) → (Begun chip p events → ⊥)
+      → (sides_of chip events p.name ≡ []) ⊎ (sides_of chip events p.name ≡ p.side ∷ [])
+
+-- A boot of a tree, with whatever else happens on the chip.
+abbrev pub TreeBoots : Type 0
+TreeBoots = (chip : Chip) (root : ℕ) (image : Option ImageView) (trees : Grove) (events : List Event)
+    → IsTree root image trees → IsSupplied chip root (stream_words root image trees) events
+    → Boots chip root image trees events
+
+-- A route is a tree, where its images have room, and the stream that boots the tree is that of the route.
+abbrev pub RouteIsTree : Type 0
+RouteIsTree = (images : Images) (root : ℕ) (names : List ℕ) → IsNodeName root → route_fault (root ∷ names) ≡ None
+    → All (λ entry. IsLoadable entry.1) images
+    → IsTree root (image_of images root) (below images root names)
+    × (stream_words root (image_of images root) (below images root names) ≡ load_of images (root ∷ names) ++ start_of images (root ∷ names))
+
+-- the sides of a node's takes of several sides in a run, without the one by which a node of a tree took its first word
+abbrev pub later_sides : Chip → ℕ → Grove → List Event → ℕ → List Side
+later_sides chip root trees events name =
+    if is_some (found name (places root 1 trees)) then drop 1 (sides_of chip events name) else sides_of chip events name
+
+-- Two runs that boot a tree go alike as far as both go, where besides what boots it each node takes words by takes of
+-- several sides at one side only, the same in both.
+abbrev pub TreeBootsAgree : Type 0
+TreeBootsAgree = (chip : Chip) (root : ℕ) (image : Option ImageView) (trees : Grove) (events others : List Event) (side_of : ℕ → Side)
+    → IsTree root image trees → IsSupplied chip root (stream_words root image trees) events
+    → IsSupplied chip root (stream_words root image trees) others
+    → ((name : ℕ) → All (λ side. side ≡ side_of name) (later_sides chip root trees events name))
+    → ((name : ℕ) → All (λ side. side ≡ side_of name) (later_sides chip root trees others name))
+    → Agree chip chip events others

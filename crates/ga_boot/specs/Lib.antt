@@ -1,0 +1,4 @@
+pub mod Boot
+pub mod Laws
+pub mod Tree
+pub mod inner
