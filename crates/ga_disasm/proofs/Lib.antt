@@ -5,5 +5,5 @@ mod Meanings
 mod SourceItems
 mod Laying
 mod RoundTrip
-mod NamedItems
+pub mod NamedItems
 mod WorkedItems

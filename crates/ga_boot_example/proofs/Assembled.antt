@@ -1,0 +1,80 @@
+-- The text of the firmware has the image that was worked out by hand, and what the law asks of a boot holds for it.
+use Rattle.std.proofs.Common.{◌≡◌, ℕ, List, [], ◌∷◌, None, Ok, refl, subst, le_refl, lit<}
+use Rattle.std.specs.Prelude.{All, codes}
+use Rattle.std.proofs.lemmas.List.Elements.{All-cons, All-nil}
+use native.Mathlib.Bridge.{IsLe, le_by_compare}
+use Rattle.ga_word.specs.Word.{bits}
+use Rattle.ga_word.specs.declared.op.Op.TheVariants.{Nop}
+use Rattle.ga_pack.specs.Model.Layout.{Arrangement, GroupWords, Shared, Words, fits}
+use Rattle.ga_pack.specs.Model.Meaning.{meaning_at, meaning_of, meanings}
+use Rattle.ga_pack.specs.Model.Program.{IsProgram, PlacedSection, placed_items, placed_sections, tokens_of}
+use Rattle.ga_pack.specs.Model.Source.{Code, Instruction, Items, Sections, Source, is_item, part_after}
+use Rattle.ga_pack.specs.Model.Text.{end_of, lexemes, places_of, texts_of}
+use Rattle.ga_pack.specs.Reading.{no_dest, slot_key, stored, stored_upper, xor_bits}
+use Rattle.ga_pack.proofs.OneSource.{one_program}
+use Rattle.ga_place.specs.Node.{IsNodeName}
+use Rattle.ga_asm.specs.Assembling.{HasNoFault, IsAssembled}
+use Rattle.ga_asm.specs.Image.{IsImage}
+use Rattle.ga_asm.specs.Text.{AtMostOne, HasImages, IsImagesOf}
+use Rattle.ga_path.specs.Stream.{Images}
+use Rattle.ga_boot.specs.Tree.{IsLoadable}
+use Rattle.ga_boot_example.specs.Firmware.{dots, firmware}
+
+abbrev text : List ℕ
+text = codes "node 708 . node 709 ."
+
+-- two nodes with one item each, `.`
+abbrev dot_at : ℕ → ℕ → PlacedSection
+dot_at name column = record { name = name; items = record { item = Instruction Nop; place = record { line = 1; column = column }; name_place = None } ∷ [] }
+
+abbrev program : List PlacedSection
+program = dot_at 708 10 ∷ dot_at 709 21 ∷ []
+
+is_program : IsProgram text program
+unfolding IsProgram tokens_of texts_of places_of lexemes end_of meanings meaning_at meaning_of Source Sections Items is_item part_after placed_sections placed_items
+is_program = (
+  record { name = 708; items = Instruction Nop ∷ [] } ∷ record { name = 709; items = Instruction Nop ∷ [] } ∷ [],
+  (refl, (refl, (Code 0, refl, refl, refl, refl), (refl, (Code 0, refl, refl, refl, refl), tt))),
+  refl,
+)
+
+is_dots : IsImage (Instruction Nop ∷ []) dots
+unfolding Words GroupWords Arrangement fits bits stored stored_upper slot_key xor_bits
+is_dots = record {
+  laid = record {
+    groups = Shared (Instruction Nop) [] ∷ [];
+    stand_in = record { in_order = refl; arranged = (refl, refl, tt) };
+    labels_are = refl;
+    all_defined = refl;
+    in_reach = refl;
+    words_are = (0x2_C9B2 ∷ [], [], (0x2_C9B2, record { below = lit< tt; reads = no_dest Nop Nop Nop Nop refl refl refl refl }, refl), refl, refl);
+    code_is = refl;
+  };
+  entry_is = refl;
+  counts_are = refl;
+}
+
+assembled : IsAssembled program firmware
+unfolding IsAssembled
+assembled = (refl, is_dots, (refl, is_dots, tt))
+
+has_firmware : (images : Images) → HasImages text images → HasImages text firmware
+has_firmware images h =
+    let same = one_program text h.program program h.program_is is_program in
+    record { program = program; program_is = is_program; faultless = subst HasNoFault same h.faultless; assembled = assembled }
+
+-- so the text's images are these
+pub is_firmware : (images : Images) → AtMostOne (IsImagesOf text) → HasImages text images → images ≡ firmware
+is_firmware images only h = let same = only (Ok images) (Ok firmware) h (has_firmware images h) in cc
+
+-- what a boot asks for
+pub first_named : IsNodeName 708
+unfolding IsLe
+first_named = (le_by_compare 8 8 tt, le_by_compare 9 18 tt)
+
+dots_loadable : IsLoadable dots
+unfolding IsLe
+dots_loadable = record { some = le_refl 1; most = le_by_compare 1 64 tt; entry_near = le_by_compare 0 64 tt }
+
+pub loadable : All (λ entry. IsLoadable entry.1) firmware
+loadable = All-cons (λ entry. IsLoadable entry.1) (708, dots) ((709, dots) ∷ []) dots_loadable (All-cons (λ entry. IsLoadable entry.1) (709, dots) [] dots_loadable (All-nil (λ entry. IsLoadable entry.1)))

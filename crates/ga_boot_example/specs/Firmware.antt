@@ -1,0 +1,16 @@
+-- The firmware of the example.
+use Rattle.std.specs.Prelude.{ℕ, List, [], ◌∷◌, replicate}
+use Rattle.ga_asm.specs.Image.{ImageView}
+use Rattle.ga_path.specs.Stream.{Images}
+
+-- `.`: one word, `. . . .`, at which the node begins
+abbrev pub dots : ImageView
+dots = record { words = 0x2C9B2 ∷ []; code_len = 1; entry = 0; labels = []; item_counts = 1 ∷ [] }
+
+-- `node 708 . node 709 .`
+abbrev pub firmware : Images
+firmware = (708, dots) ∷ (709, dots) ∷ []
+
+-- the memory of 709 when it is loaded
+abbrev pub memory : List ℕ
+memory = 0x2C9B2 ∷ replicate 63 0

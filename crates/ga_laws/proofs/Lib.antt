@@ -1,0 +1,3 @@
+mod Booting
+mod Instructions
+mod Steps
