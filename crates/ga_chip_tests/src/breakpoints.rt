@@ -2,7 +2,7 @@ use crate::chips::{give, moves, outcome, place};
 use ga_chip::{Chip, ChipError, Outcome};
 use ga_node::Stop;
 use ga_place::{Node, Side};
-use ga_test_values::{node, nodes};
+use ga_test_values::{ONE_HOP, node, nodes};
 use std::test::Fail;
 
 /// Four times round `. unext`, and the same again from the start, by a jump at address 3.
@@ -118,5 +118,30 @@ fn a_pass_stays_until_the_next_fetch(rt: HostRuntime) -> Result<(), Fail> {
     chip.clear_break(node_000, 1);
     assert!(rt; moves(&mut chip, node_000, Side::Right, 100) == 2);
     assert!(rt; outcome(&mut chip, node_000, Side::Right) == Outcome::Held);
+    Ok(())
+}
+
+// A breakpoint at the port of 708 holds 709 at each fetch there: the words that its opcodes read in between go on.
+#[test]
+fn a_boot_is_held_at_a_port(rt: HostRuntime) -> Result<(), Fail> {
+    let [node_708, node_709] = nodes(&[708, 709])?;
+    let mut chip = Chip::reset(rt.alloc())?;
+    give(rt.alloc(), &mut chip, node_708, &ONE_HOP)?;
+    chip.set_break(node_709, 0x1D5);
+    let _moved = chip.turns(4000);
+    for (written, read, is_loaded) in [(2, 1, false), (5, 4, false), (6, 5, false), (8, 7, true)] {
+        assert!(rt; outcome(&mut chip, node_709, Side::Right) == Outcome::Held);
+        let ledger = chip.ledger(node_708, Side::Right);
+        assert!(rt; ledger.written == written && ledger.read == read && ledger.pending == 1);
+        assert!(rt; (chip.state(node_709).ram()[0].get() == 0x2C9B2) == is_loaded);
+        if !is_loaded {
+            chip.pass_break(node_709)?;
+            let _moved = chip.turns(4000);
+        }
+    }
+    chip.clear_break(node_709, 0x1D5);
+    let _moved = chip.turns(4000);
+    let state = chip.state(node_709);
+    assert!(rt; state.stop() == Some(Stop::IoRead) && state.p() == 2);
     Ok(())
 }

@@ -1,4 +1,4 @@
-use crate::chips::{WRITE_12_RIGHT, give, moves, outcome, place};
+use crate::chips::{WRITE_12_RIGHT, chip_with, give, moves, outcome, place};
 use ga_chip::{Chip, ChipError, Ledger, Outcome, Try};
 use ga_node::Stop;
 use ga_place::Side;
@@ -268,5 +268,43 @@ fn streams_refused_by_name(rt: HostRuntime) -> Result<(), Fail> {
     give(alloc, &mut chip, node_017, &[0x000AE])?;
     assert!(rt; moves(&mut chip, node_017, Side::Up, 9) == 1);
     assert!(rt; outcome(&mut chip, node_017, Side::Up) == Outcome::Waits);
+    Ok(())
+}
+
+#[test]
+fn programs_that_write_themselves(rt: HostRuntime) -> Result<(), Fail> {
+    let node_000 = node(0)?;
+    for (numbers, moved, p, at, stored) in [
+        // the jump at 004 is replaced by one to 000 before it is fetched; the word at 003 replaces itself, and goes on
+        // as it was fetched
+        (
+            [0x04A12, 0x00004, 0x10000, 0x0A9B2, 0x10141].as_slice(),
+            12,
+            0x000,
+            4,
+            0x10000,
+        ),
+        (&[0x04A12, 0x00003, 0x10141, 0x0A9B2], 10, 0x004, 3, 0x10141),
+    ] {
+        let mut chip = chip_with(rt.alloc(), node_000, numbers)?;
+        assert!(rt; moves(&mut chip, node_000, Side::Right, moved) == moved);
+        let state = chip.state(node_000);
+        assert!(rt; state.p() == p && state.ram()[at].get() == stored);
+    }
+    // a store to ROM, one to where nothing is, and a jump to where P's bit 9 is set
+    for (numbers, moved, stop) in [
+        (
+            [0x04A12, 0x000A9, 0x00000, 0x0A9B2].as_slice(),
+            6,
+            Stop::Rom,
+        ),
+        (&[0x04A12, 0x00141, 0x00000, 0x0A9B2], 6, Stop::Unmapped),
+        (&[0x10200], 2, Stop::Extended),
+    ] {
+        let mut chip = chip_with(rt.alloc(), node_000, numbers)?;
+        assert!(rt; moves(&mut chip, node_000, Side::Right, 100) == moved);
+        assert!(rt; outcome(&mut chip, node_000, Side::Right) == Outcome::Stopped);
+        assert!(rt; chip.state(node_000).stop() == Some(stop));
+    }
     Ok(())
 }

@@ -4,19 +4,9 @@ use crate::chips::{give, moves, outcome, place};
 use ga_chip::{Chip, ChipError, Outcome};
 use ga_node::{Need, Stop};
 use ga_place::{Node, Side};
-use ga_test_values::{array, nodes, words};
+use ga_test_values::{ONE_HOP, array, nodes, words};
 use std::alloc::Global;
 use std::test::Fail;
-
-/// The load of 709 from 708, with the one word `. . . .`, and its start.
-const LOAD: [u32; 14] = [
-    0x000AE, 0x001D5, 0x00008, 0x101D5, 0x04A12, 0x00000, 0x00000, 0x2E9B2, 0x05872, 0x2C9B2,
-    0x2C9B2, 0x000AE, 0x00000, 0x00000,
-];
-
-const START: [u32; 7] = [
-    0x000AE, 0x001D5, 0x00001, 0x10000, 0x001B5, 0x00000, 0x00000,
-];
 
 /// Feeds a piece to a node's stream. Answers the fault where it is refused, and then the piece has come back.
 fn feed(
@@ -40,15 +30,15 @@ fn boot_one_neighbour_in_pieces(rt: HostRuntime) -> Result<(), Fail> {
     let alloc = rt.alloc();
     let mut chip = Chip::reset(alloc)?;
     assert!(rt; chip.open_stream(node_708).is_ok() && chip.stream_left(node_708) == 0);
-    assert!(rt; feed(alloc, &mut chip, node_708, &LOAD)?.is_none());
+    assert!(rt; feed(alloc, &mut chip, node_708, &ONE_HOP[..14])?.is_none());
     assert!(rt; chip.stream_left(node_708) == 14);
     let _moved = chip.turns(4000);
     assert!(rt; chip.stream_left(node_708) == 0);
     let loaded = chip.state(node_709);
     assert!(rt; loaded.p() == 0x1D5 && matches!(loaded.need(), Need::Take(_)));
     assert!(rt; loaded.ram() == memory.as_slice());
-    assert!(rt; feed(alloc, &mut chip, node_708, &START)?.is_none());
-    assert!(rt; feed(alloc, &mut chip, node_708, &START)? == Some(ChipError::NotTaken));
+    assert!(rt; feed(alloc, &mut chip, node_708, &ONE_HOP[14..])?.is_none());
+    assert!(rt; feed(alloc, &mut chip, node_708, &ONE_HOP[14..])? == Some(ChipError::NotTaken));
     assert!(rt; chip.stream_left(node_708) == 7);
     let _moved = chip.turns(4000);
     let started = chip.state(node_709);
@@ -64,17 +54,17 @@ fn pieces_refused_by_name(rt: HostRuntime) -> Result<(), Fail> {
     assert!(rt; chip.open_stream(node_101) == Err(ChipError::NotEdge));
     assert!(rt; moves(&mut chip, node_709, Side::Right, 1) == 0);
     assert!(rt; chip.stream_left(node_709) == 0);
-    assert!(rt; feed(alloc, &mut chip, node_709, &LOAD)? == Some(ChipError::NotOpen));
+    assert!(rt; feed(alloc, &mut chip, node_709, &ONE_HOP[..14])? == Some(ChipError::NotOpen));
     // a stream that was given is whole, and isn't fed
     give(alloc, &mut chip, node_001, &[0x000AE])?;
-    assert!(rt; feed(alloc, &mut chip, node_001, &LOAD)? == Some(ChipError::NotOpen));
+    assert!(rt; feed(alloc, &mut chip, node_001, &ONE_HOP[..14])? == Some(ChipError::NotOpen));
     assert!(rt; chip.stream_left(node_001) == 1);
     assert!(rt; chip.open_stream(node_001) == Err(ChipError::AlreadyGiven));
     // one that was opened isn't given
     assert!(rt; chip.open_stream(node_708).is_ok());
     assert!(rt; chip.open_stream(node_708) == Err(ChipError::AlreadyGiven));
     assert!(rt; chip.place(node_708, &[], 0) == Err(ChipError::AlreadyGiven));
-    let Err((fault, back)) = chip.give_stream(node_708, words(alloc, &LOAD)?) else {
+    let Err((fault, back)) = chip.give_stream(node_708, words(alloc, &ONE_HOP[..14])?) else {
         return Err("given")?;
     };
     assert!(rt; fault == ChipError::AlreadyGiven && back.len() == 14);

@@ -5,6 +5,8 @@
 #![tactic(auto)]
 
 #[cfg(test)]
+mod boot_law;
+#[cfg(test)]
 mod boots;
 #[cfg(test)]
 mod rings;

@@ -6,6 +6,13 @@ use ga_word::Word18;
 use std::alloc::Global;
 use std::test::Fail;
 
+/// The load of 709, one hop from 708, with the one word `. . . .`, 14 words; and its start.
+pub const ONE_HOP: [u32; 21] = [
+    0x000AE, 0x001D5, 0x00008, 0x101D5, 0x04A12, 0x00000, 0x00000, 0x2E9B2, 0x05872, 0x2C9B2,
+    0x2C9B2, 0x000AE, 0x00000, 0x00000, 0x000AE, 0x001D5, 0x00001, 0x10000, 0x001B5, 0x00000,
+    0x00000,
+];
+
 /// The load and the start of 710 over two hops from 708, with the one word `. . . .`.
 pub const TWO_HOPS: [u32; 34] = [
     0x000AE, 0x001D5, 0x0000F, 0x101D5, 0x04A12, 0x00175, 0x00007, 0x2E9B2, 0x05A72, 0x10175,

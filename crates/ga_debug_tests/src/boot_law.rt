@@ -1,0 +1,315 @@
+//! What the law of booting says at moments of runs of which nobody chose the order, and streams that it refuses.
+use ga_boot::images_fit;
+use ga_boot_example::{assemble_firmware, boot_firmware, run_firmware};
+use ga_chip::{Chip, Try};
+use ga_debug::laws::boot_any_schedule;
+use ga_group::{Open, Plan};
+use ga_law_examples::after_run;
+use ga_laws::laws::headline;
+use ga_place::{Node, Side};
+use ga_test_values::{ONE_HOP, TWO_HOPS, array, node, nodes, words};
+use std::alloc::Global;
+use std::test::Fail;
+use std::thread::Threads;
+
+const SIDES: [Side; 4] = [Side::Right, Side::Down, Side::Left, Side::Up];
+
+/// Numbers by chance: each is made of the one before.
+#[derive(Drop)]
+struct Chance {
+    last: u32,
+}
+
+impl Chance {
+    /// A number below 32.
+    fn next(&mut self) -> u16 {
+        self.last = self
+            .last
+            .wrapping_mul(1_664_525)
+            .wrapping_add(1_013_904_223);
+        (self.last >> 27) as u16
+    }
+}
+
+/// A chip after reset of which a node is given a stream.
+fn given(alloc: Global, name: u16, numbers: &[u32]) -> Result<Chip, Fail> {
+    let mut chip = Chip::reset(alloc)?;
+    match chip.give_stream(node(name)?, words(alloc, numbers)?) {
+        Ok(()) => Ok(chip),
+        Err(_) => Err("not given")?,
+    }
+}
+
+/// Whether the memory of a node begins with these numbers and is 0 behind them.
+fn holds(chip: &Chip, node: Node, numbers: &[u32]) -> Result<bool, Fail> {
+    Ok(chip.state(node).ram() == array::<64>(numbers)?.as_slice())
+}
+
+/// A node behind the first of a route: the node before it, the side to it, how many words it is sent, and its image.
+type Hop = (u16, Side, u16, u64, &'static [u32]);
+
+/// A boot: the stream of its first node, how many of its words start nodes, and the other nodes.
+struct Boot {
+    root: u16,
+    stream: &'static [u32],
+    starts: usize,
+    hops: &'static [Hop],
+}
+
+/// Three routes: two hops to one image, and two recorded routes with two images each.
+const BOOTS: [Boot; 3] = [
+    Boot {
+        root: 708,
+        stream: &TWO_HOPS,
+        starts: 13,
+        hops: &[
+            (708, Side::Right, 709, 28, &[]),
+            (709, Side::Left, 710, 9, &[0x2C9B2]),
+        ],
+    },
+    Boot {
+        root: 4,
+        stream: &[
+            0x000AE, 0x00115, 0x00018, 0x10115, 0x04A12, 0x00175, 0x00007, 0x2E9B2, 0x05A72,
+            0x10175, 0x04A12, 0x00000, 0x00000, 0x2E9B2, 0x05872, 0x23601, 0x2C9B2, 0x04A12,
+            0x00000, 0x00003, 0x2E9B2, 0x05872, 0x0ACB2, 0x049B2, 0x0003F, 0x3F004, 0x2C9B2,
+            0x000AE, 0x00000, 0x00000, 0x000AE, 0x00115, 0x00007, 0x04A12, 0x00175, 0x00000,
+            0x2E9B2, 0x05A72, 0x10001, 0x10001, 0x001B5, 0x00000, 0x00000,
+        ],
+        starts: 13,
+        hops: &[
+            (
+                4,
+                Side::Down,
+                104,
+                31,
+                &[0x0ACB2, 0x049B2, 0x0003F, 0x3F004],
+            ),
+            (104, Side::Left, 103, 9, &[0x23601]),
+        ],
+    },
+    Boot {
+        root: 7,
+        stream: &[
+            0x000AE, 0x001D5, 0x00023, 0x101D5, 0x04A12, 0x00115, 0x0000E, 0x2E9B2, 0x05A72,
+            0x10115, 0x04A12, 0x00145, 0x00001, 0x2E9B2, 0x05A72, 0x10145, 0x2C9B2, 0x04A12,
+            0x00000, 0x00000, 0x2E9B2, 0x05872, 0x1A439, 0x2C9B2, 0x04A12, 0x00000, 0x00007,
+            0x2E9B2, 0x05872, 0x04EBA, 0x0BE2A, 0x1A0FF, 0x3E9B2, 0x289B2, 0x2D603, 0x07AB2,
+            0x00000, 0x2C9B2, 0x000AE, 0x00000, 0x00000, 0x000AE, 0x001D5, 0x0000D, 0x04A12,
+            0x00115, 0x00006, 0x2E9B2, 0x05A72, 0x04A12, 0x00145, 0x00000, 0x2E9B2, 0x05A72,
+            0x101A5, 0x10000, 0x10003, 0x001B5, 0x00000, 0x00000,
+        ],
+        starts: 19,
+        hops: &[
+            (
+                7,
+                Side::Right,
+                6,
+                48,
+                &[
+                    0x04EBA, 0x0BE2A, 0x1A0FF, 0x3E9B2, 0x289B2, 0x2D603, 0x07AB2, 0,
+                ],
+            ),
+            (6, Side::Down, 106, 22, &[0x1A439]),
+            (106, Side::Up, 206, 3, &[]),
+        ],
+    },
+];
+
+/// How many nodes of a boot haven't begun where the load part was taken, and all of them hold their images. There is no
+/// answer where one doesn't.
+fn waiting(chip: &Chip, boot: &Boot) -> Result<Option<u32>, Fail> {
+    let mut count = 0u32;
+    if chip.stream_left(node(boot.root)?) <= boot.starts {
+        for (before, side, name, sent, image) in boot.hops {
+            if chip.ledger(node(*before)?, *side).read < *sent {
+                if !holds(chip, node(*name)?, image)? {
+                    return Ok(None);
+                }
+                count = count.saturating_add(1);
+            }
+        }
+    }
+    Ok(Some(count))
+}
+
+/// A node of a boot, by chance.
+fn some_node(boot: &Boot, chance: &mut Chance) -> Result<Node, Fail> {
+    let at = usize::from(chance.next() % 4);
+    Ok(match boot.hops.get(at) {
+        Some((_, _, name, _, _)) => node(*name)?,
+        None => node(boot.root)?,
+    })
+}
+
+/// A plan of one worker or two for the nodes of a boot, by chance.
+fn plan(alloc: Global, boot: &Boot, chance: &mut Chance) -> Result<Plan, Fail> {
+    let [mut front, mut back] = [Vec::new(alloc), Vec::new(alloc)];
+    front.push(node(boot.root)?)?;
+    for (_, _, name, _, _) in boot.hops {
+        if chance.next() < 16 {
+            front.push(node(*name)?)?;
+        } else {
+            back.push(node(*name)?)?;
+        }
+    }
+    let mut groups = Vec::new(alloc);
+    groups.push(front)?;
+    if !back.is_empty() {
+        groups.push(back)?;
+    }
+    Ok(Plan::new(groups).map_err(|_| "no plan")?)
+}
+
+/// What happens next to a node, by chance: tries, a breakpoint at the port of one side, or none there any more, or a pass.
+fn happen(chip: &mut Chip, node: Node, chance: &mut Chance) {
+    let port = [0x1D5, 0x115, 0x175, 0x145][usize::from(chance.next() % 4)];
+    match chance.next() {
+        0 => chip.set_break(node, port),
+        1..=9 => chip.clear_break(node, port),
+        10..=15 => {
+            let _held = chip.pass_break(node);
+        }
+        _ => {
+            for side in SIDES {
+                let _outcome = chip.attempt(Try { node, side });
+            }
+        }
+    }
+}
+
+/// Boots by chance. How often a node had to hold its image; or nothing, where it didn't.
+fn boots_by_chance<R: Threads + Sync>(
+    rt: &R,
+    alloc: Global,
+    boot: &Boot,
+    seed: u32,
+) -> Result<Option<u32>, Fail> {
+    let mut chance = Chance { last: seed };
+    let mut chip = given(alloc, boot.root, boot.stream)?;
+    let mut moments = 0u32;
+    for _ in 0..400 {
+        let turns = u64::from(chance.next() / 4);
+        chip = after_run(
+            rt,
+            alloc,
+            chip,
+            &plan(alloc, boot, &mut chance)?,
+            turns,
+            &Open,
+        )?;
+        for _ in 0..8 {
+            happen(&mut chip, some_node(boot, &mut chance)?, &mut chance);
+            match waiting(&chip, boot)? {
+                Some(count) => moments = moments.saturating_add(count),
+                None => return Ok(None),
+            }
+        }
+    }
+    Ok(Some(moments))
+}
+
+#[test]
+fn boots_in_schedules_by_chance(rt: HostRuntime) -> Result<(), Fail> {
+    for boot in &BOOTS {
+        for seed in [1, 2] {
+            let moments = boots_by_chance(&rt, rt.alloc(), boot, seed)?;
+            assert!(rt; moments.is_some_and(|count| count > 0));
+        }
+    }
+    Ok(())
+}
+
+// 709 gets the words 04A12 00004 10000 0A9B2 10141, a program that stores 10000 at 004. Where it is sent its start word in
+// the place of `. . . .`, it runs before the start part begins, and doesn't hold its image any more.
+#[test]
+fn boot_starts_each_node_at_once(rt: HostRuntime) -> Result<(), Fail> {
+    let [node_708, node_709] = nodes(&[708, 709])?;
+    let image = [0x04A12, 0x00004, 0x10000, 0x0A9B2, 0x10141];
+    for (last, is_held) in [(0x2C9B2, true), (0x10000, false)] {
+        let stream = [
+            0x000AE, 0x001D5, 12, 0x101D5, 0x04A12, 0x00000, 0x00004, 0x2E9B2, 0x05872, 0x04A12,
+            0x00004, 0x10000, 0x0A9B2, 0x10141, last, 0x000AE, 0x00000, 0x00000, 0x000AE, 0x001D5,
+            1, 0x10000, 0x001B5, 0x00000, 0x00000,
+        ];
+        let mut chip = given(rt.alloc(), 708, &stream)?;
+        // 708 posts the start word, and 709 isn't let take it
+        chip.set_break(node_709, 0x1D5);
+        for _ in 0..400 {
+            let _moved = chip.turns(4);
+            if chip.ledger(node_708, Side::Right).read < 12 {
+                let _held = chip.pass_break(node_709);
+            }
+        }
+        assert!(rt; chip.stream_left(node_708) <= 7);
+        assert!(rt; chip.ledger(node_708, Side::Right).read == 12);
+        assert!(rt; holds(&chip, node_709, &image)? == is_held);
+    }
+    Ok(())
+}
+
+// Where `. . . .` is left out, 708 takes the whole load part while 709 has still to store the last word.
+#[test]
+fn boot_leaves_out_closes(rt: HostRuntime) -> Result<(), Fail> {
+    let [node_708, node_709] = nodes(&[708, 709])?;
+    let open = [
+        0x000AE, 0x001D5, 7, 0x101D5, 0x04A12, 0x00000, 0x00000, 0x2E9B2, 0x05872, 0x2C9B2,
+        0x000AE, 0x00000, 0x00000, 0x000AE, 0x001D5, 1, 0x10000, 0x001B5, 0x00000, 0x00000,
+    ];
+    for (stream, sent, is_held) in [(ONE_HOP.as_slice(), 8, true), (&open, 7, false)] {
+        let mut chip = given(rt.alloc(), 708, stream)?;
+        // 709 is tried until it has taken the last word of its load, and 708 until it has taken the load part
+        for _ in 0..1000 {
+            let _posted = chip.attempt(Try {
+                node: node_708,
+                side: Side::Right,
+            });
+            if chip.ledger(node_708, Side::Right).read < sent {
+                let _taken = chip.attempt(Try {
+                    node: node_709,
+                    side: Side::Right,
+                });
+            }
+        }
+        assert!(rt; chip.stream_left(node_708) <= 7);
+        assert!(rt; chip.ledger(node_708, Side::Right).read == sent);
+        assert!(rt; holds(&chip, node_709, &[0x2C9B2])? == is_held);
+    }
+    Ok(())
+}
+
+/// Tries of 708 and 709 by turns, so many, at the right side, which they share.
+fn tries(alloc: Global, count: u32) -> Result<Vec<Try>, Fail> {
+    let [node_708, node_709] = nodes(&[708, 709])?;
+    let mut tries = Vec::new(alloc);
+    for _ in 0..count {
+        tries.push(Try {
+            node: node_708,
+            side: Side::Right,
+        })?;
+        tries.push(Try {
+            node: node_709,
+            side: Side::Right,
+        })?;
+    }
+    Ok(tries)
+}
+
+#[test]
+fn the_example_meets_its_premises(rt: HostRuntime) -> Result<(), Fail> {
+    headline();
+    boot_any_schedule();
+    let [node_708, node_709] = nodes(&[708, 709])?;
+    images_fit(&assemble_firmware(rt.alloc()).ok_or("no firmware")?);
+    let mut moments = 0u32;
+    for count in 0..60 {
+        let mut chip = boot_firmware(rt.alloc()).ok_or("no chip")?;
+        run_firmware(&mut chip, &tries(rt.alloc(), count)?);
+        if chip.stream_left(node_708) <= 7 && chip.ledger(node_708, Side::Right).read < 9 {
+            assert!(rt; holds(&chip, node_709, &[0x2C9B2])?);
+            moments = moments.saturating_add(1);
+        }
+    }
+    assert!(rt; moments > 0);
+    Ok(())
+}
