@@ -30,6 +30,48 @@ fn multiply_step(rt: HostRuntime) -> Result<(), Fail> {
 }
 
 #[test]
+fn sums_with_a_carry(rt: HostRuntime) -> Result<(), Fail> {
+    // two words and a carry, and the sum with the carry behind it
+    let table = [
+        ([0x3FFFF, 0x00001], false, (0x00000, true)),
+        ([0x00000, 0x00000], true, (0x00001, false)),
+        ([0x00000, 0x3FFFF], true, (0x00000, true)),
+        ([0x3FFFF, 0x3FFFF], true, (0x3FFFF, true)),
+        ([0x20000, 0x1FFFF], false, (0x3FFFF, false)),
+    ];
+    for (words, carry, wanted) in table {
+        let [first, second] = array::<2>(&words)?;
+        let (sum, behind) = first.add_carry(second, carry);
+        assert!(rt; (sum.get(), behind) == wanted, "{first} and {second}");
+    }
+    Ok(())
+}
+
+#[test]
+fn multiply_step_with_a_carry(rt: HostRuntime) -> Result<(), Fail> {
+    // T, S and A and a carry, and T and A with the carry behind them
+    let table = [
+        ([0x3FFFF, 1, 1], false, (0x00000, 0x00000, true)),
+        ([0, 0, 1], true, (0x00000, 0x20000, false)),
+        // bit 17 of the sum stays, and the carry isn't shifted in
+        ([0x20000, 0, 1], true, (0x30000, 0x20000, false)),
+        ([0x20000, 0x20000, 1], false, (0x00000, 0x00000, true)),
+        // with bit 0 of A at 0 nothing is added
+        ([5, 7, 2], true, (0x00002, 0x20001, true)),
+        ([5, 7, 2], false, (0x00002, 0x20001, false)),
+    ];
+    for (words, carry, wanted) in table {
+        let [t, s, a] = array::<3>(&words)?;
+        let (sum, low, behind) = Word18::mul_step_carry(t, s, a, carry);
+        assert!(rt;
+            (sum.get(), low.get(), behind) == wanted,
+            "{t} and {s} by {a}"
+        );
+    }
+    Ok(())
+}
+
+#[test]
 fn opcodes(rt: HostRuntime) -> Result<(), Fail> {
     let table = [
         (0x00, ";", Op::Return),

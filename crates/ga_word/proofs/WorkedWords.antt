@@ -1,7 +1,7 @@
 -- The definitions at worked values.
-use Rattle.std.proofs.Common.{◌≡◌, ℕ, zero, suc, ◌∷◌, [], Ok, Err, refl}
+use Rattle.std.proofs.Common.{◌≡◌, ℕ, true, false, zero, suc, ◌∷◌, [], Ok, Err, refl}
 use Rattle.std.specs.Prelude.{codes}
-use Rattle.ga_word.specs.Word.{bits, multiply_step, word_half, word_not, word_sum, word_twice}
+use Rattle.ga_word.specs.Word.{bits, carry_sum, multiply_step, multiply_step_carry, word_half, word_not, word_sum, word_twice}
 use Rattle.ga_word.specs.Hex.{hex_digits, is_word_text}
 use Rattle.ga_word.specs.Text.{text_of_words, tokens, words_of_text}
 
@@ -27,6 +27,20 @@ first_step = refl
 -- eighteen steps multiply 3 by 5
 eighteen_steps : steps 18 3 (0, 5) ≡ (0x00000, 0x0000F)
 eighteen_steps = refl
+
+-- a sum has no carry at 3FFFF, and one from 40000 on; the carry that comes in is added
+carries : (carry_sum 0x3FFFF 0 false ≡ (0x3FFFF, false))
+    × (carry_sum 0x3FFFF 1 false ≡ (0, true))
+    × (carry_sum 0x3FFFF 0 true ≡ (0, true))
+    × (carry_sum 0x3FFFF 0x3FFFF true ≡ (0x3FFFF, true))
+carries = (refl, refl, refl, refl)
+
+-- a multiply step keeps the carry where it adds nothing, and else makes it anew
+steps_with_carry : (multiply_step_carry 0x3FFFF 1 1 false ≡ (0, 0, true))
+    × (multiply_step_carry 0 0 1 true ≡ (0, 0x20000, false))
+    × (multiply_step_carry 5 7 2 true ≡ (2, 0x20001, true))
+    × (multiply_step_carry 5 7 2 false ≡ (2, 0x20001, false))
+steps_with_carry = (refl, refl, refl, refl)
 
 text_of_one : text_of_words (0x2C9B2 ∷ []) ≡ codes "2C9B2\n"
 unfolding hex_digits

@@ -1,6 +1,6 @@
 -- The arithmetic of words of 18 bits, each as its number below 2 ^ 18.
-use Rattle.std.specs.Prelude.{◌==◌, ℕ, zero, suc, ◌+◌, ◌-◌, ◌*◌, ◌/◌, ◌%◌, ◌^◌, List, [], ◌∷◌, if◌then◌else◌}
-use Rattle.std.specs.Int.{bit_at}
+use Rattle.std.specs.Prelude.{◌==◌, ℕ, zero, suc, ◌+◌, ◌-◌, ◌*◌, ◌/◌, ◌%◌, ◌^◌, List, [], ◌∷◌, Bool, nat_le, if◌then◌else◌}
+use Rattle.std.specs.Int.{bit_at, from_bool}
 
 -- the low bits of a number, as many as `width`, the highest first: a word is `bits 18` of its number
 unfoldable pub bits : ℕ → ℕ → List ℕ
@@ -10,6 +10,10 @@ bits (suc width) n = bit_at n width ∷ bits width n
 -- the sum of two words; a carry out of bit 17 is lost
 abbrev pub word_sum : ℕ → ℕ → ℕ
 word_sum a b = (a + b) % 2 ^ 18
+
+-- the sum of two words and a carry, and the carry out of bit 17
+abbrev pub carry_sum : ℕ → ℕ → Bool → ℕ × Bool
+carry_sum a b carry = let sum = a + b + from_bool carry in (sum % 2 ^ 18, nat_le (2 ^ 18) sum)
 
 -- each bit turned over
 abbrev pub word_not : ℕ → ℕ
@@ -31,3 +35,12 @@ partial_sum t s a = if a % 2 == 1 then word_sum t s else t
 -- and bit 17 of the sum is kept.
 abbrev pub multiply_step : ℕ → ℕ → ℕ → ℕ × ℕ
 multiply_step t s a = let sum = partial_sum t s a in (word_half sum, a / 2 + sum % 2 * 2 ^ 17)
+
+-- what a multiply step with a carry adds to T, and the carry behind it: S and the carry where the lowest bit of
+-- A is 1, else nothing, and the carry stays
+abbrev pub partial_carry_sum : ℕ → ℕ → ℕ → Bool → ℕ × Bool
+partial_carry_sum t s a carry = if a % 2 == 1 then carry_sum t s carry else (t, carry)
+
+-- A multiply step with a carry gives T, A and the carry; the shift is that of the step without.
+abbrev pub multiply_step_carry : ℕ → ℕ → ℕ → Bool → ℕ × ℕ × Bool
+multiply_step_carry t s a carry = let sum = partial_carry_sum t s a carry in (word_half sum.0, a / 2 + sum.0 % 2 * 2 ^ 17, sum.1)

@@ -1,7 +1,7 @@
 ghost use Rattle.std.specs.Prelude.{◌≡◌, ℕ, ◌+◌, ◌-◌, ◌*◌, ◌^◌, ◌<◌, bit_and, bit_xor, Some};
 ghost use Rattle.std.specs.Option.{SomeIff};
 ghost use Rattle.ga_word.specs.Hex.{hex_digits};
-ghost use Rattle.ga_word.specs.Word.{multiply_step, word_half, word_not, word_sum, word_twice};
+ghost use Rattle.ga_word.specs.Word.{carry_sum, multiply_step, multiply_step_carry, word_half, word_not, word_sum, word_twice};
 
 use std::fmt;
 use std::marker::Model;
@@ -49,6 +49,20 @@ impl Word18 {
         Word18 {
             number: (self.number + other.number) & 0x3_FFFF,
         }
+    }
+
+    /// The sum of two words and a carry modulo 2^18, and the carry out of bit 17, as `+` makes them of T and
+    /// S in extended mode. (The carry is this project's profile.)
+    pub fn add_carry(self, other: Self, carry: bool) -> (Self, bool)
+        ensures { result ≡ carry_sum self other carry }
+    {
+        let sum = self.number + other.number + u32::from(carry);
+        (
+            Word18 {
+                number: sum & 0x3_FFFF,
+            },
+            sum >= 0x4_0000,
+        )
     }
 
     /// Each bit is 1 where both words have a 1, as by the opcode `and`.
@@ -108,6 +122,24 @@ impl Word18 {
             number: a.number >> 1 | (sum.number & 1) << 17,
         };
         (sum.half(), low)
+    }
+
+    /// One step of a multiplication in extended mode: T, A and the carry after it, from T, S, A and the carry.
+    ///
+    /// Where bit 0 of A is 1, S and the carry are first added to T, and the carry is that out of bit 17;
+    /// else it stays. Then T and A shift as in `mul_step`. (The carry is this project's profile.)
+    pub fn mul_step_carry(t: Self, s: Self, a: Self, carry: bool) -> (Self, Self, bool)
+        ensures { result ≡ multiply_step_carry t s a carry }
+    {
+        let (sum, carry) = if a.number & 1 == 1 {
+            t.add_carry(s, carry)
+        } else {
+            (t, carry)
+        };
+        let low = Word18 {
+            number: a.number >> 1 | (sum.number & 1) << 17,
+        };
+        (sum.half(), low, carry)
     }
 }
 
