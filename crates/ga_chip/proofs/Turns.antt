@@ -11,7 +11,7 @@ use Rattle.ga_chip.specs.declared.outcome.Outcome.TheVariants.{Moved, Waits, Hel
 use Rattle.ga_chip.specs.Part.{Part, asks, after}
 use Rattle.ga_chip.specs.Chip.{Chip, part_of, found_by, tried}
 use Rattle.ga_chip.specs.Run.{Event, Try, Move, happened, if_moved, move_at, move_in, moves, ran, tries_of, turn_of}
-use Rattle.ga_chip.specs.inner.Outcome.{moved_by}
+use Rattle.ga_chip.specs.Outcome.{moved_by}
 use Rattle.ga_chip.proofs.Tries.{tried_none, tried_still, tried_there}
 
 -- one try of each node from a place on

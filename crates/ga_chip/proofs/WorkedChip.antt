@@ -1,5 +1,5 @@
 -- Worked values of the definitions.
-use Rattle.std.proofs.Common.{◌≡◌, Some, None, refl, true, false, replicate, [], ◌∷◌}
+use Rattle.std.proofs.Common.{◌≡◌, ◌-◌, ◌^◌, Some, None, refl, true, false, replicate, [], ◌∷◌}
 use Rattle.ga_place.specs.declared.side.Side.TheVariants.{Right, Down, Up}
 use Rattle.ga_word.specs.Op.{op_with}
 use Rattle.ga_pack.specs.Decoded.{reading_of}
@@ -72,10 +72,15 @@ in_word = refl
 cleared : is_held (break_cleared 3 at_3) ≡ false
 cleared = refl
 
--- a stop comes first
-stopped_at_203 : asks (record at_3 { state = record at_3.state { p = 0x203 } }) Right ≡ Nothing Stopped
+-- so also in extended mode
+held_at_203 : asks (record at_3 { state = record at_3.state { p = 0x203 } }) Right ≡ Nothing Held
 unfolding asks need_of
-stopped_at_203 = refl
+held_at_203 = refl
+
+-- a stop comes first
+stopped_at_3 : asks (record at_3 { state = record at_3.state { steps = 2 ^ 64 - 1 } }) Right ≡ Nothing Stopped
+unfolding asks need_of
+stopped_at_3 = refl
 
 -- a pass is given to a node that is held, and to no other; the fetch ends it, and a slot leaves it
 gives : (break_passed at_3).pass ≡ true

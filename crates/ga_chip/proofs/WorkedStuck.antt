@@ -1,5 +1,5 @@
 -- Worked values of closed sets.
-use Rattle.std.proofs.Common.{◌≡◌, ◌==◌, ℕ, Bool, Some, refl, true, false, set, [], ◌∷◌}
+use Rattle.std.proofs.Common.{◌≡◌, ◌==◌, ◌-◌, ◌^◌, ℕ, Bool, Some, refl, true, false, set, [], ◌∷◌}
 use Rattle.ga_place.specs.Cell.{all_cells, cell_of, name_at}
 use Rattle.std.specs.List.{list_all, range_with_len}
 use Rattle.ga_place.specs.Node.{is_node_name}
@@ -85,6 +85,6 @@ held_goes_on : is_stuck all_nodes reset_chip.cells at_3 ≡ false
 unfolding is_stuck need_of
 held_goes_on = refl
 
-stopped : is_stuck nobody [] (record at_3 { state = record at_3.state { p = 0x203 } }) ≡ true
+stopped : is_stuck nobody [] (record at_3 { state = record at_3.state { steps = 2 ^ 64 - 1 } }) ≡ true
 unfolding is_stuck need_of
 stopped = refl

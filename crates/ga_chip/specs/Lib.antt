@@ -1,3 +1,4 @@
+pub mod Outcome
 pub mod Part
 pub mod Asks
 pub mod Chip

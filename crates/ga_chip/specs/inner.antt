@@ -4,4 +4,3 @@ pub mod Watch
 pub mod Within
 pub mod Port
 pub mod Awake
-pub mod Outcome

@@ -10,7 +10,7 @@ ghost use Rattle.ga_chip.specs.Legal.{IsLegal};
 ghost use Rattle.ga_chip.specs.Stream.{feed_refusal, left_of};
 ghost use Rattle.ga_chip.specs.Stuck.{HoldsEachClosed, IsClosed, has_node};
 ghost use Rattle.ga_chip.specs.Run.{ClearBreak, PassBreak, Piece, SetBreak, happened, has_break, moves, ran, stands_held, tries_of, turn_of, turns_of};
-ghost use Rattle.ga_chip.specs.inner.Outcome.{moved_by};
+ghost use Rattle.ga_chip.specs.Outcome.{moved_by};
 
 use crate::error::ChipError;
 use crate::ledger::Ledger;

@@ -1,6 +1,6 @@
 ghost use Rattle.std.specs.Prelude.{◌≡◌};
 ghost use Rattle.ga_chip.specs.Run.{side_of_turn};
-ghost use Rattle.ga_chip.specs.inner.Outcome.{moved_by};
+ghost use Rattle.ga_chip.specs.Outcome.{moved_by};
 
 use ga_place::{Node, SIDES, Side};
 
@@ -27,7 +27,7 @@ pub enum Outcome {
 
 impl Outcome {
     /// How many steps the try made: one where it was `Moved`, and else none.
-    pub(crate) fn moves(self) -> u8
+    pub fn moves(self) -> u8
         ensures { result ≡ moved_by self }
     {
         match self {

@@ -23,6 +23,7 @@ fn break_and_pass(rt: HostRuntime) -> Result<(), Fail> {
     for side in [Side::Right, Side::Down, Side::Left, Side::Up] {
         assert!(rt; outcome(&mut chip, node_000, side) == Outcome::Held);
     }
+    assert!(rt; Outcome::Held.moves() == 0 && Outcome::Moved.moves() == 1);
     assert!(rt; refuses_pass(&mut chip, node_001));
     chip.pass_break(node_000)?;
     assert!(rt; refuses_pass(&mut chip, node_000));
@@ -59,18 +60,14 @@ fn a_breakpoint_and_a_pass_outlive_what_a_node_is_given(rt: HostRuntime) -> Resu
 #[test]
 fn breakpoints_are_addresses(rt: HostRuntime) -> Result<(), Fail> {
     let node_000 = node(0)?;
-    // to 043, the same word of memory as 003; to 003; and to 203, which stops the node
-    for (jump, held, stop) in [
-        (0x10043, false, None),
-        (0x10003, true, None),
-        (0x10203, false, Some(Stop::Extended)),
-    ] {
+    // to 043, the same word of memory as 003; to 003; and to 203, which is 003 in extended mode
+    for (jump, held) in [(0x10043, false), (0x10003, true), (0x10203, true)] {
         let mut chip = Chip::reset(rt.alloc())?;
         place(&mut chip, node_000, &[jump, 0x2C9B2, 0x2C9B2, 0x2C9B2])?;
         chip.set_break(node_000, 3);
         assert!(rt; moves(&mut chip, node_000, Side::Right, 2) == 2);
         let is_held = outcome(&mut chip, node_000, Side::Right) == Outcome::Held;
-        assert!(rt; is_held == held && chip.state(node_000).stop() == stop);
+        assert!(rt; is_held == held && chip.state(node_000).stop().is_none());
         assert!(rt; refuses_pass(&mut chip, node_000) == !held);
     }
     Ok(())

@@ -291,7 +291,7 @@ fn programs_that_write_themselves(rt: HostRuntime) -> Result<(), Fail> {
         let state = chip.state(node_000);
         assert!(rt; state.p() == p && state.ram()[at].get() == stored);
     }
-    // a store to ROM, one to where nothing is, and a jump to where P's bit 9 is set
+    // a store to ROM, and one to where nothing is
     for (numbers, moved, stop) in [
         (
             [0x04A12, 0x000A9, 0x00000, 0x0A9B2].as_slice(),
@@ -299,12 +299,26 @@ fn programs_that_write_themselves(rt: HostRuntime) -> Result<(), Fail> {
             Stop::Rom,
         ),
         (&[0x04A12, 0x00141, 0x00000, 0x0A9B2], 6, Stop::Unmapped),
-        (&[0x10200], 2, Stop::Extended),
     ] {
         let mut chip = chip_with(rt.alloc(), node_000, numbers)?;
         assert!(rt; moves(&mut chip, node_000, Side::Right, 100) == moved);
         assert!(rt; outcome(&mut chip, node_000, Side::Right) == Outcome::Stopped);
         assert!(rt; chip.state(node_000).stop() == Some(stop));
     }
+    Ok(())
+}
+
+#[test]
+fn extended_mode_runs_on(rt: HostRuntime) -> Result<(), Fail> {
+    let node_000 = node(0)?;
+    // `jump 200`, which comes back to itself
+    let mut chip = chip_with(rt.alloc(), node_000, &[0x10200])?;
+    assert!(rt; moves(&mut chip, node_000, Side::Right, 100) == 100);
+    assert!(rt; chip.state(node_000).p() == 0x200 && chip.state(node_000).stop().is_none());
+    // `jump 201`, and `@p @p + .` of 3FFFF and 1
+    let numbers = [0x10201, 0x05DF2, 0x3FFFF, 0x00001];
+    let mut chip = chip_with(rt.alloc(), node_000, &numbers)?;
+    assert!(rt; moves(&mut chip, node_000, Side::Right, 6) == 6);
+    assert!(rt; chip.state(node_000).t().get() == 0 && chip.state(node_000).carry());
     Ok(())
 }

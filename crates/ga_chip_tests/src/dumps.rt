@@ -41,7 +41,7 @@ fn stacks_of_a_node(rt: HostRuntime) -> Result<(), Fail> {
     }
     let text = node_text(rt.alloc(), &state)?;
     let wanted = "\
-node 000 P 006 A 00000 B 15D R 00003 S 00001 T 00002 io 00000 at slot2 steps 8 need own
+node 000 P 006 A 00000 B 15D R 00003 S 00001 T 00002 C 0 io 00000 at slot2 steps 8 need own
 ds 00000 00000 00000 00000 00000 00000 00002 00001
 rs 00004 00000 00000 00000 00000 00000 00000 00000
 ";

@@ -97,7 +97,7 @@ fn stops(rt: HostRuntime) -> Result<(), Fail> {
 #[test]
 fn lines(rt: HostRuntime) -> Result<(), Fail> {
     let line =
-        "node 000 P 195 A 00000 B 15D R 00000 S 00000 T 00000 io 00000 at count steps 2 need input\n";
+        "node 000 P 195 A 00000 B 15D R 00000 S 00000 T 00000 C 0 io 00000 at count steps 2 need input\n";
     assert!(rt; given(&[0x000AE, 0])?.line(rt.alloc())?.as_str() == line);
     for (place, text) in [
         (Place::Completion, "completion"),

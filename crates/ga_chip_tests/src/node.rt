@@ -6,7 +6,12 @@ use std::test::Fail;
 
 /// Node 000 with these words at the front of its memory, after as many tries.
 fn run(numbers: &[u32], tries: u32) -> Result<NodeState, Fail> {
-    let mut state = NodeState::loaded(node(0)?, &array::<64>(numbers)?, 0);
+    run_from(0, numbers, tries)
+}
+
+/// The same from an entry.
+fn run_from(entry: u16, numbers: &[u32], tries: u32) -> Result<NodeState, Fail> {
+    let mut state = NodeState::loaded(node(0)?, &array::<64>(numbers)?, entry % 0x400);
     for _ in 0..tries {
         let _moved = state.try_own();
     }
@@ -19,22 +24,27 @@ fn one_line(rt: HostRuntime) -> Result<(), Fail> {
         (
             [0x04A12, 0x00005, 0x00003, 0x2C9B2].as_slice(),
             5,
-            "node 000 P 003 A 00005 B 15D R 00000 S 00000 T 00003 io 00000 at fetch steps 5 need own\n",
+            "node 000 P 003 A 00005 B 15D R 00000 S 00000 T 00003 C 0 io 00000 at fetch steps 5 need own\n",
         ),
         (
             &[0x2C9B2],
             0,
-            "node 000 P 000 A 00000 B 15D R 00000 S 00000 T 00000 io 00000 at fetch steps 0 need own\n",
+            "node 000 P 000 A 00000 B 15D R 00000 S 00000 T 00000 C 0 io 00000 at fetch steps 0 need own\n",
         ),
         (
             &[0x101D5],
             9,
-            "node 000 P 1D5 A 00000 B 15D R 00000 S 00000 T 00000 io 00000 at fetch steps 2 need take\n",
+            "node 000 P 1D5 A 00000 B 15D R 00000 S 00000 T 00000 C 0 io 00000 at fetch steps 2 need take\n",
         ),
         (
             &[0x100AA],
             9,
-            "node 000 P 0AA A 00000 B 15D R 00000 S 00000 T 00000 io 00000 at fetch steps 2 need stopped Rom\n",
+            "node 000 P 0AA A 00000 B 15D R 00000 S 00000 T 00000 C 0 io 00000 at fetch steps 2 need stopped Rom\n",
+        ),
+        (
+            &[0x10200],
+            4,
+            "node 000 P 200 A 00000 B 15D R 00000 S 00000 T 00000 C 0 io 00000 at fetch steps 4 need own\n",
         ),
     ];
     for (numbers, tries, line) in table {
@@ -276,6 +286,89 @@ fn opcodes(rt: HostRuntime) -> Result<(), Fail> {
     Ok(())
 }
 
+/// A step of an opcode in each row: its name; P, the carry, T, S and A before the step; and the same after it. Bit 9 of P
+/// chooses extended mode. All numbers are hexadecimal.
+const CARRIES: &str = "\
++   20B 0 1     3FFFF 5   20B 1 0     0     5
++   20B 1 1     3FFFF 5   20B 1 1     0     5
++   20B 1 0     3FFFF 5   20B 1 0     0     5
++   20B 1 1     2     5   20B 0 4     0     5
++   20B 0 1FFFF 20000 5   20B 0 3FFFF 0     5
++   00B 0 1     3FFFF 5   00B 0 0     0     5
++   00B 1 1     2     5   00B 1 3     0     5
++*  20B 0 3FFFF 1     1   20B 1 0     1     0
++*  20B 1 0     0     1   20B 0 0     0     20000
++*  20B 0 20000 20000 1   20B 1 0     20000 0
++*  20B 1 5     7     2   20B 1 2     7     20001
++*  20B 0 5     7     2   20B 0 2     7     20001
++*  00B 0 3FFFF 1     1   00B 0 0     1     0
++*  00B 1 0     0     1   00B 1 0     0     0
+and 20B 1 FFFF  2AAAA 5   20B 1 AAAA  0     5
+2*  20B 1 20001 2     5   20B 1 2     2     5
+";
+
+/// P, the carry, T, S and A.
+fn carries(state: &NodeState) -> Registers {
+    [
+        u32::from(state.p()),
+        u32::from(state.carry()),
+        state.t().get(),
+        state.s().get(),
+        state.a().get(),
+    ]
+}
+
+/// Node 000 about to run an opcode in slot 0, with P, the carry, T, S and A as these. It has made a sum in extended mode
+/// that gives the carry and leaves 0 in T, a jump to 005 or 205, and has taken literals for A, S and T.
+fn carrying(op: Op, wanted: Registers) -> Result<NodeState, Fail> {
+    let [p, carry, t, s, a] = wanted;
+    let first = if carry == 1 { 0x3FFFF } else { 0 };
+    let jump = 0x10005 | p & 0x200;
+    let word_with = packed(op, Place::Slot0, 0)?.get();
+    let numbers = [
+        0x10201, 0x05DF2, first, carry, jump, 0x04A12, a, s, 0x049B2, t, word_with,
+    ];
+    let state = run(&numbers, 20)?;
+    if carries(&state) != wanted {
+        return Err("it was not brought there".into());
+    }
+    Ok(state)
+}
+
+#[test]
+fn extended_mode(rt: HostRuntime) -> Result<(), Fail> {
+    for row in CARRIES.lines() {
+        let op = Op::from_name(field(row, 0)?).ok_or("no opcode")?;
+        let mut state = carrying(op, five(row, 1)?)?;
+        assert!(rt; state.try_own(), "{row}");
+        assert!(rt; carries(&state) == five(row, 6)?, "{row}");
+    }
+    Ok(())
+}
+
+#[test]
+fn a_carry_from_sum_to_sum(rt: HostRuntime) -> Result<(), Fail> {
+    // `@p @p + .` with 3FFFF and 1, and with two zeros, from 200 and from 000
+    let numbers = [0x05DF2, 0x3FFFF, 1, 0x05DF2, 0, 0];
+    let once = run_from(0x200, &numbers, 4)?;
+    assert!(rt; once.t().get() == 0 && once.carry() && once.is_extended());
+    assert!(rt; !run_from(0x000, &numbers, 4)?.is_extended());
+    for (entry, line) in [
+        (
+            0x200,
+            "node 000 P 206 A 00000 B 15D R 00000 S 00000 T 00001 C 0 io 00000 at fetch steps 10 need own\n",
+        ),
+        (
+            0x000,
+            "node 000 P 006 A 00000 B 15D R 00000 S 00000 T 00000 C 0 io 00000 at fetch steps 10 need own\n",
+        ),
+    ] {
+        let twice = run_from(entry, &numbers, 10)?;
+        assert!(rt; twice.line(rt.alloc())?.as_str() == line, "{line}");
+    }
+    Ok(())
+}
+
 /// A read in each row: the opcode, P and A before it, the word that it finds, P and A after it.
 const READS: &str = "\
 @p 03F 0      10A3F  040 0
@@ -351,7 +444,7 @@ fn stops(rt: HostRuntime) -> Result<(), Fail> {
         ([0x100AA, 0, 0, 0].as_slice(), 2, Stop::Rom),
         (&[0x10141], 2, Stop::Unmapped),
         (&[0x1015D], 2, Stop::IoRead),
-        (&[0x10200], 2, Stop::Extended),
+        (&[0x1035D], 2, Stop::IoRead),
         // `@b` at io
         (&[0x009B2], 1, Stop::IoRead),
         // `@p @p b! .`, a word, an address, and `!b`: at all four ports, at ROM, where nothing is
@@ -443,7 +536,7 @@ fn posts_what_the_caller_names(rt: HostRuntime) -> Result<(), Fail> {
 fn readers(rt: HostRuntime) -> Result<(), Fail> {
     let reset = NodeState::reset(node(0)?);
     assert!(rt; reset.node().name() == 0);
-    assert!(rt; reset.p() == 0x195 && reset.b() == 0x15D && reset.steps() == 0);
+    assert!(rt; reset.p() == 0x195 && reset.b() == 0x15D && reset.steps() == 0 && !reset.carry());
     // `@p @p a! .` with literals 7 and 9
     let state = run(&[0x05DAA, 7, 9], 4)?;
     assert!(rt; state.word().get() == 0x05DAA && state.a().get() == 9);

@@ -22,7 +22,7 @@ unfolding hex_digits
 last_row = refl
 
 -- a node with words on both stacks: the word pushed last is in T and R, and not in the lines below
-two_stacks : node_dump (push_return 9 (push_return 8 (push_data 3 (push_data 2 (push_data 1 (reset_state 0)))))) ≡ codes "node 000 P 195 A 00000 B 15D R 00009 S 00002 T 00003 io 00000 at fetch steps 0 need take\nds 00001 00000 00000 00000 00000 00000 00000 00000\nrs 00008 00000 00000 00000 00000 00000 00000 00000\n"
+two_stacks : node_dump (push_return 9 (push_return 8 (push_data 3 (push_data 2 (push_data 1 (reset_state 0)))))) ≡ codes "node 000 P 195 A 00000 B 15D R 00009 S 00002 T 00003 C 0 io 00000 at fetch steps 0 need take\nds 00001 00000 00000 00000 00000 00000 00000 00000\nrs 00008 00000 00000 00000 00000 00000 00000 00000\n"
 unfolding node_dump line_of need_of hex_digits digits
 two_stacks = refl
 

@@ -89,8 +89,8 @@ fn try_node(
     try_other(cells, seat, part, looks, side)
 }
 
-/// The same of a node that does no work of its own. (It is cold so that the code of a node's own work is one piece.)
-#[cold]
+/// The same of a node that does no work of its own. (It is apart so that the code of a node's own work is one piece.)
+#[inline(never)]
 fn try_other(
     cells: &Cells,
     seat: &mut PortSeat,

@@ -1,5 +1,5 @@
 -- A node as one line of text.
-use Rattle.std.specs.Prelude.{ℕ, List, [], ◌∷◌, ◌++◌, codes}
+use Rattle.std.specs.Prelude.{ℕ, Bool, true, false, List, [], ◌∷◌, ◌++◌, codes}
 use Rattle.std.specs.List.{concat}
 use Rattle.std.specs.Fmt.{decimal}
 use Rattle.ga_word.specs.Hex.{hex_digits}
@@ -9,7 +9,7 @@ use Rattle.ga_node.specs.Need.{need_of}
 use Rattle.ga_node.specs.declared.need.Need.{Need}
 use Rattle.ga_node.specs.declared.need.Need.TheVariants.{Own, Take, Post, Check, Input, Stopped}
 use Rattle.ga_node.specs.declared.need.Stop.{Stop}
-use Rattle.ga_node.specs.declared.need.Stop.TheVariants.{MultiWrite, IoRead, Unmapped, Rom, Extended, Counted}
+use Rattle.ga_node.specs.declared.need.Stop.TheVariants.{MultiWrite, IoRead, Unmapped, Rom, Counted}
 use Rattle.ga_node.specs.declared.place.Place.{Place}
 use Rattle.ga_node.specs.declared.place.Place.TheVariants.{Fetch, Slot0, Slot1, Slot2, Slot3, Completion, Transfer, Count, Body}
 
@@ -29,7 +29,6 @@ stop_text MultiWrite = codes "MultiWrite"
 stop_text IoRead = codes "IoRead"
 stop_text Unmapped = codes "Unmapped"
 stop_text Rom = codes "Rom"
-stop_text Extended = codes "Extended"
 stop_text Counted = codes "Counted"
 
 abbrev pub need_text : Need → List ℕ
@@ -39,6 +38,10 @@ need_text (Post side word) = codes "post"
 need_text (Check side) = codes "check"
 need_text Input = codes "input"
 need_text (Stopped stop) = codes "stopped " ++ stop_text stop
+
+abbrev pub carry_text : Bool → List ℕ
+carry_text false = codes "0"
+carry_text true = codes "1"
 
 -- the registers, the place, the steps and the need of a node, ended by LF
 unfoldable pub line_of : State → List ℕ
@@ -50,6 +53,7 @@ line_of state =
     ∷ codes " R " ∷ hex_digits 5 state.r
     ∷ codes " S " ∷ hex_digits 5 state.s
     ∷ codes " T " ∷ hex_digits 5 state.t
+    ∷ codes " C " ∷ carry_text state.carry
     ∷ codes " io " ∷ hex_digits 5 state.io
     ∷ codes " at " ∷ place_text state.place
     ∷ codes " steps " ∷ decimal state.steps

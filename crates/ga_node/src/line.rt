@@ -16,9 +16,10 @@ impl NodeState {
     {
         let p = Hex3::new(self.p);
         let b = Hex3::new(self.b);
+        let carry = if self.carry { "1" } else { "0" };
         let mut line = String::new(alloc);
         write!(line, "node {} P {p} A {} B {b}", self.node, self.a)?;
-        write!(line, " R {} S {} T {}", self.r, self.s, self.t)?;
+        write!(line, " R {} S {} T {} C {carry}", self.r, self.s, self.t)?;
         write!(line, " io {} at {}", self.io, self.place)?;
         writeln!(line, " steps {} need {}", self.steps, self.need())?;
         Ok(line)

@@ -22,8 +22,6 @@ pub enum Stop {
     Unmapped,
     /// A read or a fetch in ROM but at the warm word, or a write to ROM (profile).
     Rom,
-    /// A fetch with bit 9 of P set, as for extended arithmetic (profile).
-    Extended,
     /// The steps have reached the largest number that is counted, 2^64 - 1 (profile).
     Counted,
 }
@@ -37,7 +35,6 @@ impl fmt::Display for Stop {
             Stop::IoRead => "IoRead",
             Stop::Unmapped => "Unmapped",
             Stop::Rom => "Rom",
-            Stop::Extended => "Extended",
             Stop::Counted => "Counted",
         })
     }
@@ -81,8 +78,7 @@ const WARM: u8 = 0x29;
 impl NodeState {
     /// What the node needs for its next step, by its state alone (F18A reference DB001).
     ///
-    /// The stops, which are this project's profile, come in the order `Counted`, then `Extended`, then
-    /// the others.
+    /// Of the stops, which are this project's profile, `Counted` comes before the others.
     #[inline(always)]
     #[tactic(auto, using(crate::proofs::Works::posted_wants, crate::proofs::Works::unposted_wants), unfolding(crate::specs::Need::need_of))]
     pub fn need(&self) -> Need
@@ -147,11 +143,7 @@ impl NodeState {
 pub(crate) fn fetch_need(p: u16) -> Need
     ensures { result ≡ fetch_need p }
 {
-    if p < 0x200 {
-        read_need(locate(p))
-    } else {
-        Need::Stopped(Stop::Extended)
-    }
+    read_need(locate(p))
 }
 
 /// A word as an address: what it reaches depends on its low nine bits.

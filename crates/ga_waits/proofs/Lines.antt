@@ -142,7 +142,6 @@ plain_stop stop.MultiWrite = refl
 plain_stop stop.IoRead = refl
 plain_stop stop.Unmapped = refl
 plain_stop stop.Rom = refl
-plain_stop stop.Extended = refl
 plain_stop stop.Counted = refl
 
 plain_need : (chip : Chip) (name : ℕ) (n : Need) → IsPlain (told_need chip name n)
