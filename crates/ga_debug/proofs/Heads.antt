@@ -1,19 +1,27 @@
 -- The head of a text, line by line.
-use Rattle.std.proofs.Common.{◌≡◌, ℕ, true, List, ◌∷◌, Option, Some, None, Result, Ok, Err, refl, subst, sym}
-use Rattle.std.specs.Prelude.{codes, ok_or}
+use Rattle.std.proofs.Common.{◌≡◌, ℕ, true, List, ◌∷◌, length, Option, Some, None, Result, Ok, Err, refl, subst, sym}
+use Rattle.std.specs.Prelude.{ok_or}
 use Rattle.std.specs.Result.{IsErrAnd}
 use Rattle.std.specs.Str.{bytes_eq}
+use Rattle.ga_debug.specs.declared.profile.Profile.{Profile}
+use Rattle.ga_debug.specs.declared.profile.Profile.TheVariants.{One, Two}
 use Rattle.ga_debug.specs.declared.replay_error.ReplayError.{ReplayError}
 use Rattle.ga_debug.specs.declared.replay_error.ReplayError.TheVariants.{BadRoute, Memory}
 use Rattle.ga_debug.specs.ReplayError.{FailsRightly}
 use Rattle.ga_debug.specs.inner.ReplayError.{Gives}
 use Rattle.ga_debug.specs.Head.{Loading, head_in, loaded_by, loading_in}
 use Rattle.ga_debug.specs.Pieces.{pieces}
+use Rattle.ga_debug.specs.Profile.{profile_line}
+
+-- the line of each profile has nine characters
+pub nine : (profile : Profile) → length (profile_line profile) ≡ 9
+nine One = refl
+nine Two = refl
 
 -- behind the profile stands the line that says how the chip is loaded
-pub behind_two_lines : (text first line : List ℕ) (rest : List (List ℕ)) → pieces 10 text ≡ first ∷ line ∷ rest → bytes_eq first (codes "profile 1") ≡ true → head_in text ≡ loaded_by (loading_in line) rest
+pub behind_two_lines : (profile : Profile) (text first line : List ℕ) (rest : List (List ℕ)) → pieces 10 text ≡ first ∷ line ∷ rest → bytes_eq first (profile_line profile) ≡ true → head_in profile text ≡ loaded_by (loading_in line) rest
 unfolding head_in
-behind_two_lines text first line rest cut profile = rw (cut, profile) refl
+behind_two_lines profile text first line rest cut is = rw (cut, is) refl
 
 -- a fault of one is a fault of the other
 pub fails_as : {A B : Type 0} (one : Result A ReplayError) (other : Result B ReplayError) (fault : ReplayError) → ((e : ReplayError) → one ≡ Err e → other ≡ Err e) → FailsRightly (λ right. one ≡ right) fault → FailsRightly (λ right. other ≡ right) fault

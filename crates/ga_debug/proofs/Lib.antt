@@ -1,6 +1,7 @@
 pub mod Supplied
 pub mod Cutting
 pub mod Digits
+pub mod ProfileTurns
 pub mod Passing
 pub mod Room
 pub mod Sources

@@ -3,20 +3,21 @@ use Rattle.std.proofs.Common.{◌≡◌, inr, ℕ, List, Result, Ok, Err, subst,
 use Rattle.std.specs.Result.{IsErrAnd}
 use Rattle.ga_asm.specs.Text.{HasImages}
 use Rattle.ga_debug.specs.declared.beginning.Loaded.{Loaded}
+use Rattle.ga_debug.specs.declared.profile.Profile.TheVariants.{Two}
 use Rattle.ga_debug.specs.declared.replay_error.ReplayError.{ReplayError}
 use Rattle.ga_debug.specs.declared.replay_error.ReplayError.TheVariants.{Memory}
-use Rattle.ga_debug.specs.Beginning.{IsLoaded, Start, chip_of, start_view}
+use Rattle.ga_debug.specs.Beginning.{IsLoaded, chip_of, start_view}
 use Rattle.ga_debug.specs.Head.{Head, head_in}
 use Rattle.ga_debug.specs.ReplayError.{Answers, FailsRightly}
 use Rattle.ga_path.specs.Stream.{Images}
 
 -- the fault of a route, or of a boot along it
-route_fails : (text : List ℕ) (head : Head) (images : Images) (fault : ReplayError) → head_in text ≡ Ok head → HasImages head.source images
+route_fails : (text : List ℕ) (head : Head) (images : Images) (fault : ReplayError) → head_in Two text ≡ Ok head → HasImages head.source images
     → FailsRightly (λ right. chip_of head.loading images ≡ right) fault → FailsRightly (IsLoaded text) fault
 route_fails text head images Memory is has made = tt
 route_fails text head images fault is has made = inr (head, is, inr (images, has, made))
 
-pub fails_to_load : (text : List ℕ) (head : Head) (images : Images) (result : Result Loaded ReplayError) (fault : ReplayError) → head_in text ≡ Ok head → HasImages head.source images
+pub fails_to_load : (text : List ℕ) (head : Head) (images : Images) (result : Result Loaded ReplayError) (fault : ReplayError) → head_in Two text ≡ Ok head → HasImages head.source images
     → FailsRightly (λ right. chip_of head.loading images ≡ right) fault → IsErrAnd result (λ error. error ≡ fault) → Answers start_view (IsLoaded text) result
 fails_to_load text head images (Ok loaded) fault is has made same = absurd same
 fails_to_load text head images (Err error) fault is has made same = subst (FailsRightly (IsLoaded text)) (sym same) (route_fails text head images fault is has made)

@@ -1,9 +1,9 @@
 -- What `booted` gives the first node of a route.
-use Rattle.std.proofs.Common.{◌≡◌, ◌∙◌, ◌++◌, inl, ℕ, Bool, true, false, List, [], ◌∷◌, Option, Some, None, ap, append-nil, refl, sym}
+use Rattle.std.proofs.Common.{◌≡◌, ◌∙◌, ◌++◌, inl, ℕ, Bool, true, false, [], ◌∷◌, Option, Some, None, ap, append-nil, refl, sym}
 use Rattle.std.specs.Prelude.{if◌then◌else◌}
 use Rattle.std.specs.Option.{option_and_then}
 use Rattle.ga_place.specs.Node.{IsNodeName, is_edge}
-use Rattle.ga_path.specs.Route.{hops_fault, route_fault}
+use Rattle.ga_path.specs.Route.{hops_fault}
 use Rattle.ga_path.specs.Stream.{load_of, start_of}
 use Rattle.ga_path.specs.declared.error.RouteError.{RouteError}
 use Rattle.ga_path.specs.declared.error.RouteError.TheVariants.{NotEdge}

@@ -3,19 +3,21 @@ use Rattle.std.proofs.Common.{◌≡◌, ℕ, List, [], ◌∷◌, Option, Some,
 use Rattle.std.specs.Prelude.{codes, option_map}
 use Rattle.std.specs.Option.{option_map_or}
 use Rattle.ga_place.specs.Cell.{all_cells, cell_of}
-use Rattle.ga_place.specs.declared.side.Side.TheVariants.{Down}
+use Rattle.ga_place.specs.declared.side.Side.TheVariants.{Down, Right}
 use Rattle.ga_node.specs.Need.{need_of}
 use Rattle.ga_asm.specs.Image.{ImageView}
 use Rattle.ga_path.specs.declared.error.BootError.TheVariants.{Unreached}
 use Rattle.ga_path.specs.declared.error.RouteError.TheVariants.{NotNeighbour}
 use Rattle.ga_chip.specs.Chip.{Chip, part_of, placed, reset_chip, state_of, streamed, tried}
 use Rattle.ga_chip.specs.Part.{after, asks}
-use Rattle.ga_chip.specs.Run.{happened}
-use Rattle.ga_chip.specs.declared.outcome.Outcome.TheVariants.{Held}
-use Rattle.ga_debug.specs.declared.action.Action.TheVariants.{Break, Try, Turn}
-use Rattle.ga_debug.specs.declared.action.Answer.TheVariants.{Moved, Tried}
+use Rattle.ga_chip.specs.Run.{SetBreak, happened}
+use Rattle.ga_chip.specs.declared.outcome.Outcome.TheVariants.{Held, Stopped}
+use Rattle.ga_chip.specs.declared.outcome.Outcome.TheVariants as outcome
+use Rattle.ga_debug.specs.declared.action.Action.TheVariants.{Break, Pass, Try, Turn}
+use Rattle.ga_debug.specs.declared.action.Answer.TheVariants.{Done, Moved, Tried}
 use Rattle.ga_debug.specs.declared.command.Command.TheVariants.{Act, Show}
 use Rattle.ga_debug.specs.declared.error.DebugError.TheVariants.{BadAddress, BadCommand, BadCount, BadNode, BadSide, NotHeld}
+use Rattle.ga_debug.specs.declared.profile.Profile.TheVariants.{One, Two}
 use Rattle.ga_debug.specs.declared.replay_error.ReplayError.{ReplayError}
 use Rattle.ga_debug.specs.declared.replay_error.ReplayError.TheVariants.{BadProfile, BadRoute, Boot, NoGo, Route}
 use Rattle.ga_debug.specs.Beginning.{chip_of}
@@ -23,19 +25,29 @@ use Rattle.ga_debug.specs.declared.replaying.LineError.TheVariants.{Bad, Differs
 use Rattle.ga_debug.specs.declared.word.View.TheVariants.{Mem}
 use Rattle.ga_debug.specs.Command.{action_first, arguments, command_first, command_in}
 use Rattle.ga_debug.specs.Head.{head_in}
+use Rattle.ga_debug.specs.Profile.{after_as, answer_as, is_left_out, profile_in}
 use Rattle.ga_debug.specs.Replaying.{line_on, lines_on, stated_answer, statement_in}
 use Rattle.ga_debug.specs.Session.{reply_to}
 use Rattle.ga_debug.specs.Word.{decimal_of}
 
 -- ---- heads
 
-heads : (head_in (codes "profile 1\nroute 708,709\nnode 709 .\n\ngo\ntry 709 r = waits") ≡ Ok (record { loading = Some (708 ∷ 709 ∷ []); source = codes "node 709 .\n\n"; line = 5; commands = codes "try 709 r = waits" ∷ [] }))
-    × (head_in [] ≡ Err BadProfile)
-    × (head_in (codes "profile 1\nroute 708 709\ngo") ≡ Err BadRoute)
+heads : (head_in Two (codes "profile 2\nroute 708,709\nnode 709 .\n\ngo\ntry 709 r = waits") ≡ Ok (record { loading = Some (708 ∷ 709 ∷ []); source = codes "node 709 .\n\n"; line = 5; commands = codes "try 709 r = waits" ∷ [] }))
+    × (head_in Two [] ≡ Err BadProfile)
+    × (head_in Two (codes "profile 2\nroute 708 709\ngo") ≡ Err BadRoute)
     -- a blank behind it, and the line is no `go`
-    × (head_in (codes "profile 1\nplace\nnode 000 .\ngo ") ≡ Err NoGo)
+    × (head_in Two (codes "profile 2\nplace\nnode 000 .\ngo ") ≡ Err NoGo)
+    -- a head of one profile is none of the other
+    × (head_in Two (codes "profile 1\nplace\ngo") ≡ Err BadProfile)
+    × (head_in One (codes "profile 1\nplace\ngo") ≡ Ok (record { loading = None; source = []; line = 3; commands = [] }))
 unfolding head_in
-heads = (refl, refl, refl, refl)
+heads = (refl, refl, refl, refl, refl, refl)
+
+profiles : (profile_in (codes "profile 1\nplace") ≡ One)
+    × (profile_in (codes "profile 1 ") ≡ Two)
+    × (profile_in [] ≡ Two)
+unfolding profile_in
+profiles = (refl, refl, refl)
 
 -- ---- what a head loads
 
@@ -93,8 +105,22 @@ statements : (statement_in (codes "try 709 d = held") ≡ Ok (Try 709 Down, Trie
 unfolding statement_in action_first arguments stated_answer decimal_of
 statements = (refl, refl, refl)
 
-replays : (lines_on 5 0 reset_chip (codes "break 709 003" ∷ [] ∷ codes "try 709 r = waits" ∷ []) ≡ Ok 1)
-    × (lines_on 5 0 reset_chip ([] ∷ codes "try 709 r = moved" ∷ codes "no command" ∷ []) ≡ Err (Differs 6))
-    × (lines_on 5 0 reset_chip (codes "try 709 r" ∷ []) ≡ Err (Bad 5 BadCommand))
-unfolding line_on statement_in action_first arguments stated_answer happened tried after asks need_of reset_chip cell_of all_cells
+replays : (lines_on Two 5 0 reset_chip (codes "break 709 003" ∷ [] ∷ codes "try 709 r = waits" ∷ []) ≡ Ok 1)
+    × (lines_on Two 5 0 reset_chip ([] ∷ codes "try 709 r = moved" ∷ codes "no command" ∷ []) ≡ Err (Differs 6))
+    × (lines_on Two 5 0 reset_chip (codes "try 709 r" ∷ []) ≡ Err (Bad 5 BadCommand))
+unfolding line_on answer_as after_as statement_in action_first arguments stated_answer happened tried after asks need_of reset_chip cell_of all_cells
 replays = (refl, refl, refl)
+
+-- ---- what profile 1 means
+
+-- 000 is about to fetch in extended mode
+extended_000 : Chip
+extended_000 = placed reset_chip 0 (0x2C9B2 ∷ []) 0x200
+
+-- a try of it is stopped, where the chip would move it, and a pass is refused
+stopped_000 : (answer_as One (Try 0 Right) extended_000 ≡ Ok (Tried Stopped))
+    × (answer_as Two (Try 0 Right) extended_000 ≡ Ok (Tried outcome.Moved))
+    × (answer_as One (Pass 0) (happened extended_000 (SetBreak 0 0)) ≡ Err NotHeld)
+    × (answer_as Two (Pass 0) (happened extended_000 (SetBreak 0 0)) ≡ Ok Done)
+unfolding answer_as is_left_out extended_000 placed happened tried after asks need_of reset_chip cell_of all_cells
+stopped_000 = (refl, refl, refl, refl)

@@ -8,10 +8,12 @@ use Rattle.ga_path.specs.Stream.{Images, load_of, start_of, unreached}
 use Rattle.ga_path.specs.declared.error.BootError.TheVariants.{Unreached}
 use Rattle.ga_path.specs.declared.error.RouteError.{RouteError}
 use Rattle.ga_debug.specs.declared.beginning.Loaded.{Loaded}
+use Rattle.ga_debug.specs.declared.profile.Profile.{Profile}
 use Rattle.ga_debug.specs.declared.replay_error.ReplayError.{ReplayError}
 use Rattle.ga_debug.specs.declared.replay_error.ReplayError.TheVariants.{Boot}
 use Rattle.ga_debug.specs.ReplayError.{fault_of_route, fault_of_text}
 use Rattle.ga_debug.specs.Head.{Head, Loading, head_in}
+use Rattle.ga_debug.specs.Profile.{SESSION_PROFILE}
 
 -- each image is placed in its node, with its entry
 abbrev pub all_placed : Images → Chip → Chip
@@ -48,10 +50,11 @@ IsChipOf head (Err fault) =
     ((error : TextError) × IsTextFault head.source error × (fault_of_text error ≡ fault))
     ⊎ ((images : Images) × HasImages head.source images × (chip_of head.loading images ≡ Err fault))
 
--- The chip after the head of a text, with the head; or the first fault.
-abbrev pub IsBegun : List ℕ → Result (Chip × Head) ReplayError → Type 0
-IsBegun text (Ok (chip, head)) = (head_in text ≡ Ok head) × IsChipOf head (Ok chip)
-IsBegun text (Err fault) = (head_in text ≡ Err fault) ⊎ ((head : Head) × (head_in text ≡ Ok head) × IsChipOf head (Err fault))
+-- The chip after the head of a text of a profile, with the head; or the first fault.
+abbrev pub IsBegun : Profile → List ℕ → Result (Chip × Head) ReplayError → Type 0
+IsBegun profile text (Ok (chip, head)) = (head_in profile text ≡ Ok head) × IsChipOf head (Ok chip)
+IsBegun profile text (Err fault) =
+    (head_in profile text ≡ Err fault) ⊎ ((head : Head) × (head_in profile text ≡ Ok head) × IsChipOf head (Err fault))
 
 -- What a text begins with: a chip, the images that are loaded into it, the number of the line `go`, and the lines behind
 -- it.
@@ -64,14 +67,14 @@ pub record Start : Type 0 where
 abbrev pub start_view : Loaded → Start
 start_view loaded = record { chip = loaded.chip; images = loaded.images; line = loaded.line; commands = loaded.lines }
 
--- the chip after the head of a text, with its images; or the first fault
+-- the chip after the head of a text of profile 2, with its images; or the first fault
 abbrev pub IsLoaded : List ℕ → Result Start ReplayError → Type 0
 IsLoaded text (Ok start) =
-    (head : Head) × (head_in text ≡ Ok head) × HasImages head.source start.images × (chip_of head.loading start.images ≡ Ok start.chip)
+    (head : Head) × (head_in SESSION_PROFILE text ≡ Ok head) × HasImages head.source start.images × (chip_of head.loading start.images ≡ Ok start.chip)
     × (head.line ≡ start.line) × (head.commands ≡ start.commands)
-IsLoaded text (Err fault) = IsBegun text (Err fault)
+IsLoaded text (Err fault) = IsBegun SESSION_PROFILE text (Err fault)
 
--- The chip after the head of a text, and the number of its line `go`; or the first fault.
+-- The chip after the head of a text of profile 2, and the number of its line `go`; or the first fault.
 abbrev pub IsBeginning : List ℕ → Result (Chip × ℕ) ReplayError → Type 0
-IsBeginning text (Ok (chip, line)) = (head : Head) × IsBegun text (Ok (chip, head)) × (head.line ≡ line)
-IsBeginning text (Err fault) = IsBegun text (Err fault)
+IsBeginning text (Ok (chip, line)) = (head : Head) × IsBegun SESSION_PROFILE text (Ok (chip, head)) × (head.line ≡ line)
+IsBeginning text (Err fault) = IsBegun SESSION_PROFILE text (Err fault)

@@ -5,7 +5,9 @@ use Rattle.ga_pack.specs.Model.Text.{lines_of}
 use Rattle.ga_path.specs.Names.{nodes_in}
 use Rattle.ga_debug.specs.declared.replay_error.ReplayError.{ReplayError}
 use Rattle.ga_debug.specs.declared.replay_error.ReplayError.TheVariants.{BadProfile, BadRoute, NoGo}
+use Rattle.ga_debug.specs.declared.profile.Profile.{Profile}
 use Rattle.ga_debug.specs.Command.{words_of}
+use Rattle.ga_debug.specs.Profile.{profile_line}
 
 -- how the chip is loaded: None where each image is placed, or the nodes along which a stream goes
 abbrev pub Loading : Type 0
@@ -48,10 +50,11 @@ abbrev pub behind_profile : List (List ℕ) → Result Head ReplayError
 behind_profile [] = Err BadRoute
 behind_profile (line ∷ lines) = loaded_by (loading_in line) lines
 
-abbrev pub head_by : List (List ℕ) → Result Head ReplayError
-head_by [] = Err BadProfile
-head_by (line ∷ lines) = if bytes_eq line (codes "profile 1") then behind_profile lines else Err BadProfile
+abbrev pub head_by : Profile → List (List ℕ) → Result Head ReplayError
+head_by profile [] = Err BadProfile
+head_by profile (line ∷ lines) = if bytes_eq line (profile_line profile) then behind_profile lines else Err BadProfile
 
--- The head of a text, or its first fault: the line `profile 1`, how the chip is loaded, source lines, and `go`.
-unfoldable pub head_in : List ℕ → Result Head ReplayError
-head_in text = head_by (lines_of text)
+-- The head of a text of a profile, or its first fault: the line of the profile, how the chip is loaded, source lines,
+-- and `go`.
+unfoldable pub head_in : Profile → List ℕ → Result Head ReplayError
+head_in profile text = head_by profile (lines_of text)

@@ -2,6 +2,7 @@ pub mod Pieces
 pub mod Word
 pub mod Command
 pub mod Action
+pub mod Profile
 pub mod Session
 pub mod Error
 pub mod ReplayError

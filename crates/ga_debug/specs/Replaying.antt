@@ -10,14 +10,15 @@ use Rattle.ga_debug.specs.declared.action.Answer.{Answer}
 use Rattle.ga_debug.specs.declared.action.Answer.TheVariants.{Done, Tried, Moved}
 use Rattle.ga_debug.specs.declared.error.DebugError.{DebugError}
 use Rattle.ga_debug.specs.declared.error.DebugError.TheVariants.{BadCommand}
+use Rattle.ga_debug.specs.declared.profile.Profile.{Profile}
 use Rattle.ga_debug.specs.declared.replay_error.ReplayError.{ReplayError}
 use Rattle.ga_debug.specs.declared.replay_error.ReplayError.TheVariants as text
 use Rattle.ga_debug.specs.declared.replaying.LineError.{LineError}
 use Rattle.ga_debug.specs.declared.replaying.LineError.TheVariants.{Bad, Differs}
-use Rattle.ga_debug.specs.Action.{after_action, answer_to}
 use Rattle.ga_debug.specs.Beginning.{IsBegun}
 use Rattle.ga_debug.specs.Command.{Words, action_first, whole, then_with, words_of}
 use Rattle.ga_debug.specs.Head.{Head}
+use Rattle.ga_debug.specs.Profile.{after_as, answer_as, profile_in}
 use Rattle.ga_debug.specs.Word.{decimal_of, outcome_of}
 
 -- the fault of a line, as a fault of the text
@@ -80,35 +81,42 @@ abbrev pub compared_with : ℕ → Result Answer DebugError → Answer → Chip 
 compared_with line (Ok answer) stated next = if is_same answer stated then Ok (comparisons answer, next) else Err (Differs line)
 compared_with line (Err fault) stated next = Err (Bad line fault)
 
-abbrev pub line_result : ℕ → Chip → Result (Action × Answer) DebugError → Result (ℕ × Chip) LineError
-line_result line chip (Ok (action, stated)) = compared_with line (answer_to action chip) stated (after_action action chip)
-line_result line chip (Err fault) = Err (Bad line fault)
+abbrev pub line_result : Profile → ℕ → Chip → Result (Action × Answer) DebugError → Result (ℕ × Chip) LineError
+line_result profile line chip (Ok (action, stated)) =
+    compared_with line (answer_as profile action chip) stated (after_as profile action chip)
+line_result profile line chip (Err fault) = Err (Bad line fault)
 
 -- One line, with its number: how many outcomes were comparisons, and the chip afterwards; or what is wrong. A line
 -- without any character is skipped.
-unfoldable pub line_on : ℕ → Chip → List ℕ → Result (ℕ × Chip) LineError
-line_on line chip [] = Ok (0, chip)
-line_on line chip (c ∷ text) = line_result line chip (statement_in (c ∷ text))
+unfoldable pub line_on : Profile → ℕ → Chip → List ℕ → Result (ℕ × Chip) LineError
+line_on profile line chip [] = Ok (0, chip)
+line_on profile line chip (c ∷ text) = line_result profile line chip (statement_in (c ∷ text))
 
 abbrev pub and_on : Result (ℕ × Chip) LineError → (ℕ → Chip → Result ℕ LineError) → Result ℕ LineError
 and_on (Ok (more, chip)) next = next more chip
 and_on (Err fault) next = Err fault
 
 -- lines from a number on, behind so many outcomes that were comparisons
-abbrev pub lines_on : ℕ → ℕ → Chip → List (List ℕ) → Result ℕ LineError
-lines_on line count chip [] = Ok count
-lines_on line count chip (text ∷ lines) = and_on (line_on line chip text) (λ more next. lines_on (line + 1) (count + more) next lines)
+abbrev pub lines_on : Profile → ℕ → ℕ → Chip → List (List ℕ) → Result ℕ LineError
+lines_on profile line count chip [] = Ok count
+lines_on profile line count chip (text ∷ lines) =
+    and_on (line_on profile line chip text) (λ more next. lines_on profile (line + 1) (count + more) next lines)
 
 abbrev pub replay_result : Result ℕ LineError → Result ℕ ReplayError
 replay_result (Ok count) = Ok count
 replay_result (Err error) = Err (fault_of_line error)
 
--- what comes of the lines behind a head
-abbrev pub IsReplayedFrom : List ℕ → Result ℕ ReplayError → Type 0
-IsReplayedFrom text answer = (chip : Chip) × (head : Head) × IsBegun text (Ok (chip, head)) × (replay_result (lines_on (head.line + 1) 0 chip head.commands) ≡ answer)
+-- what comes of the lines behind a head, in a profile
+abbrev pub IsReplayedFrom : Profile → List ℕ → Result ℕ ReplayError → Type 0
+IsReplayedFrom profile text answer =
+    (chip : Chip) × (head : Head) × IsBegun profile text (Ok (chip, head))
+    × (replay_result (lines_on profile (head.line + 1) 0 chip head.commands) ≡ answer)
 
--- How many stated outcomes of a text were comparisons, where all hold; or the first fault: of its head, or else of its
--- commands.
+abbrev pub IsReplayedAs : Profile → List ℕ → Result ℕ ReplayError → Type 0
+IsReplayedAs profile text (Ok count) = IsReplayedFrom profile text (Ok count)
+IsReplayedAs profile text (Err fault) = IsBegun profile text (Err fault) ⊎ IsReplayedFrom profile text (Err fault)
+
+-- How many stated outcomes of a text were comparisons, where all hold in the text's profile; or the first fault: of its
+-- head, or else of its commands.
 abbrev pub IsReplayed : List ℕ → Result ℕ ReplayError → Type 0
-IsReplayed text (Ok count) = IsReplayedFrom text (Ok count)
-IsReplayed text (Err fault) = IsBegun text (Err fault) ⊎ IsReplayedFrom text (Err fault)
+IsReplayed text answer = IsReplayedAs (profile_in text) text answer

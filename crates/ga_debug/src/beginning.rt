@@ -8,6 +8,7 @@ ghost use Rattle.ga_debug.specs.inner.HeadView.{head_view};
 
 use crate::head::{Head, head_of};
 use crate::pieces::Pieces;
+use crate::profile::Profile;
 use crate::replay_error::ReplayError;
 use crate::session::Session;
 use ga_asm::{Images, assemble_text};
@@ -29,8 +30,9 @@ pub struct Loaded<'a> {
     pub lines: Pieces<'a>,
 }
 
-/// What the head of a replay text leads to, or the first fault. What stands behind the line `go` isn't looked at. It
-/// fails as [`ReplayError::Memory`] only where memory is refused. (The texts are this project's own: profile.)
+/// What the head of a replay text of profile 2 leads to, or the first fault. What stands behind the line `go` isn't
+/// looked at. It fails as [`ReplayError::Memory`] only where memory is refused. (The texts are this project's own:
+/// profile.)
 #[tactic(auto, using(crate::proofs::OneReplay::one_loaded))]
 pub fn load<'a>(alloc: Global, text: &'a str) -> Result<Loaded<'a>, ReplayError>
     ensures loaded { Answers start_view (IsLoaded text.now) result }
@@ -39,7 +41,7 @@ pub fn load<'a>(alloc: Global, text: &'a str) -> Result<Loaded<'a>, ReplayError>
     // a text leads to one chip, or to one first fault
     ensures only { AtMostOne (IsLoaded text.now) }
 {
-    let head = head_of(alloc, text)?;
+    let head = head_of(alloc, Profile::Two, text)?;
     let images = assemble_text(alloc, head.source.as_str())?;
     let chip = loaded_chip(alloc, head.nodes.as_deref(), &images)?;
     Ok(Loaded {
@@ -50,8 +52,8 @@ pub fn load<'a>(alloc: Global, text: &'a str) -> Result<Loaded<'a>, ReplayError>
     })
 }
 
-/// A session over the chip that the head of a replay text leads to, and the number of its line `go`, counted
-/// from 1; or the first fault. What stands behind the line `go` isn't looked at. It fails as
+/// A session over the chip that the head of a replay text of profile 2 leads to, and the number of its line `go`,
+/// counted from 1; or the first fault. What stands behind the line `go` isn't looked at. It fails as
 /// [`ReplayError::Memory`] only where memory is refused. (The texts are this project's own: profile.)
 #[tactic(auto, using(crate::proofs::OneReplay::one_beginning))]
 pub fn begin(alloc: Global, text: &str) -> Result<(Session, u64), ReplayError>
@@ -59,7 +61,7 @@ pub fn begin(alloc: Global, text: &str) -> Result<(Session, u64), ReplayError>
     // a text has one beginning, or one first fault
     ensures only { AtMostOne (IsBeginning text.now) }
 {
-    let head = head_of(alloc, text)?;
+    let head = head_of(alloc, Profile::Two, text)?;
     let chip = chip_after(alloc, &head)?;
     Ok((Session::new(chip), head.line))
 }

@@ -5,6 +5,7 @@ ghost use Rattle.ga_debug.specs.inner.HeadView.{head_view, head_with};
 ghost use Rattle.ga_debug.specs.declared.replay_error.ReplayError.TheVariants.{BadRoute};
 
 use crate::pieces::Pieces;
+use crate::profile::Profile;
 use crate::replay_error::ReplayError;
 use ga_path::read_nodes;
 use ga_place::Node;
@@ -23,19 +24,23 @@ pub(crate) struct Head<'a> {
     pub(crate) lines: Pieces<'a>,
 }
 
-/// The head of a text, or its first fault.
+/// The head of a text of a profile, or its first fault.
 #[tactic(auto, unfolding(crate::specs::Head::head_in))]
-pub(crate) fn head_of<'a>(alloc: Global, text: &'a str) -> Result<Head<'a>, ReplayError>
-    ensures head { Gives head_view result (head_in text.now) }
+pub(crate) fn head_of<'a>(
+    alloc: Global,
+    profile: Profile,
+    text: &'a str,
+) -> Result<Head<'a>, ReplayError>
+    ensures head { Gives head_view result (head_in profile text.now) }
     ensures room { IfOk result (λ head. head.line + 1 + length head.lines < 2 ^ 64) }
 {
     // From the text's length the proof has that its lines can be counted.
     let _length = text.len();
     let mut lines = Pieces::new(text, '\n');
-    let Some(profile) = lines.next() else {
+    let Some(first) = lines.next() else {
         return Err(ReplayError::BadProfile);
     };
-    if profile != "profile 1" {
+    if first != profile.line() {
         return Err(ReplayError::BadProfile);
     }
     let Some(line) = lines.next() else {

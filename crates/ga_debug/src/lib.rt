@@ -9,6 +9,7 @@ mod error;
 mod head;
 pub mod laws;
 mod pieces;
+mod profile;
 mod replay_error;
 mod replaying;
 mod session;

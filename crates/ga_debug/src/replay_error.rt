@@ -13,7 +13,7 @@ use thiserror::Error;
 /// from the first source line. (The texts are this project's own: profile.)
 #[derive(Clone, Copy, Debug, PartialEq, Eq, Error)]
 pub enum ReplayError {
-    /// The first line isn't `profile 1`.
+    /// The first line isn't `profile 2`; of `replay`, it is neither that nor `profile 1`.
     #[error("BadProfile")]
     BadProfile,
     /// The second line is missing, or is neither `place` nor `route` and node names.

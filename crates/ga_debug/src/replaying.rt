@@ -3,12 +3,13 @@ ghost use Rattle.ga_asm.specs.Text.{AtMostOne};
 ghost use Rattle.ga_debug.specs.ReplayError.{Answers};
 ghost use Rattle.ga_debug.specs.Replaying.{IsReplayed, comparisons, fault_of_line, is_same, line_on, lines_on, same_outcome, stated_answer, word_behind_sign};
 
-use crate::action::{Action, Answer, perform};
+use crate::action::{Action, Answer};
 use crate::beginning::chip_after;
 use crate::command::action_first;
 use crate::error::DebugError;
 use crate::head::head_of;
 use crate::pieces::Pieces;
+use crate::profile::{Profile, perform_as, profile_of};
 use crate::replay_error::ReplayError;
 use crate::word::{decimal_of, outcome_of};
 use ga_chip::{Chip, Outcome};
@@ -38,28 +39,32 @@ impl From<LineError> for ReplayError {
 /// what its line states. Answers how many stated outcomes were compared, or the first fault: of the head, or
 /// line by line [`ReplayError::Bad`] where the command is refused and [`ReplayError::Differs`] where something
 /// else came of it. It fails as [`ReplayError::Memory`] only where memory is refused, and takes time in
-/// proportion to the text, the tries and the turns. (The texts are this project's own: profile.)
+/// proportion to the text, the tries and the turns.
+///
+/// A text whose first line is `profile 1` speaks of the chip without extended mode: a node that is about to fetch with
+/// bit 9 of P set counts as stopped. Each other text is one of profile 2. (The texts are this project's own: profile.)
 #[tactic(auto, using(crate::proofs::OneReplay::one_replayed))]
 pub fn replay(alloc: Global, text: &str) -> Result<u64, ReplayError>
     ensures replayed { Answers (λ count. count) (IsReplayed text.now) result }
     // a text has one count, or one first fault
     ensures only { AtMostOne (IsReplayed text.now) }
 {
-    let head = head_of(alloc, text)?;
+    let profile = profile_of(text);
+    let head = head_of(alloc, profile, text)?;
     let chip = chip_after(alloc, &head)?;
-    let count = follow(chip, head.line + 1, head.lines)?;
+    let count = follow(chip, profile, head.line + 1, head.lines)?;
     Ok(count)
 }
 
 /// Goes along lines, of which the first has a number.
-fn follow(mut chip: Chip, first: u64, lines: Pieces<'_>) -> Result<u64, LineError>
+fn follow(mut chip: Chip, profile: Profile, first: u64, lines: Pieces<'_>) -> Result<u64, LineError>
     requires { first + length lines < 2 ^ 64 }
-    ensures { result ≡ lines_on first 0 chip lines.entry }
+    ensures { result ≡ lines_on profile first 0 chip lines.entry }
 {
     let mut line = first;
     let mut count = 0;
     for text in lines {
-        count += line_on(&mut chip, line, text)?;
+        count += line_on(&mut chip, profile, line, text)?;
         line += 1;
     }
     Ok(count)
@@ -67,10 +72,10 @@ fn follow(mut chip: Chip, first: u64, lines: Pieces<'_>) -> Result<u64, LineErro
 
 /// One line, with its number. Answers how many outcomes were compared, one at most.
 #[tactic(auto, unfolding(crate::specs::Replaying::line_on, crate::specs::Replaying::statement_in))]
-fn line_on(chip: &mut Chip, line: u64, text: &str) -> Result<u64, LineError>
-    ensures holds { IfOk result (λ more. line_on line chip.old text.now ≡ Ok (more, chip.new)) }
+fn line_on(chip: &mut Chip, profile: Profile, line: u64, text: &str) -> Result<u64, LineError>
+    ensures holds { IfOk result (λ more. line_on profile line chip.old text.now ≡ Ok (more, chip.new)) }
     ensures one { IfOk result (λ more. more ≤ 1) }
-    ensures fault { IfErr result (λ fault. line_on line chip.old text.now ≡ Err fault) }
+    ensures fault { IfErr result (λ fault. line_on profile line chip.old text.now ≡ Err fault) }
 {
     if text.is_empty() {
         return Ok(0);
@@ -84,7 +89,7 @@ fn line_on(chip: &mut Chip, line: u64, text: &str) -> Result<u64, LineError>
         Ok(stated) => stated,
         Err(fault) => return Err(LineError::Bad(line, fault)),
     };
-    match perform(chip, action) {
+    match perform_as(chip, profile, action) {
         Ok(answer) => {
             if !is_same(answer, stated) {
                 return Err(LineError::Differs(line));

@@ -52,7 +52,7 @@ fn break_and_pass(rt: HostRuntime) -> Result<(), Fail> {
         ("turn 0000004", "moved 4"),
         (
             "regs 000",
-            "node 000 P 002 A 00000 B 15D R 00000 S 00000 T 00000 io 00000 at fetch steps 10 need own",
+            "node 000 P 002 A 00000 B 15D R 00000 S 00000 T 00000 C 0 io 00000 at fetch steps 10 need own",
         ),
         (
             "ports 000",
@@ -101,9 +101,8 @@ fn first_bad_words(rt: HostRuntime) -> Result<(), Fail> {
     Ok(())
 }
 
-/// A replay text of node 000: its words, and commands with what they give.
-const HEAD: &str = "\
-profile 1
+/// The head of a replay text of node 000 behind its first line: its words.
+const WORDS: &str = "\
 place
 node 000
 main: $3 push align . unext
@@ -111,22 +110,50 @@ after: jump main
 go
 ";
 
-fn text(alloc: Global, head: &str, commands: &str) -> Result<String, Fail> {
-    let mut text = String::from_str(alloc, head)?;
-    text.push_str(commands)?;
+/// A text, and lines behind it.
+fn text(alloc: Global, first: &str, behind: &str) -> Result<String, Fail> {
+    let mut text = String::from_str(alloc, first)?;
+    text.push_str(behind)?;
     Ok(text)
+}
+
+/// What comes of a replay text with this first line.
+fn replayed(alloc: Global, profile: &str, lines: &str) -> Result<Result<u64, ReplayError>, Fail> {
+    let whole = text(alloc, profile, lines)?;
+    Ok(replay(alloc, whole.as_str()))
 }
 
 #[test]
 fn begin_at_go(rt: HostRuntime) -> Result<(), Fail> {
-    let (mut session, line) = begin(rt.alloc(), HEAD)?;
+    let head = text(rt.alloc(), "profile 2\n", WORDS)?;
+    let (mut session, line) = begin(rt.alloc(), head.as_str())?;
     assert!(rt; line == 6);
     let regs =
-        "node 000 P 000 A 00000 B 15D R 00000 S 00000 T 00000 io 00000 at fetch steps 0 need own";
+        "node 000 P 000 A 00000 B 15D R 00000 S 00000 T 00000 C 0 io 00000 at fetch steps 0 need own";
     assert!(rt; replies(&mut session, rt.alloc(), "regs 000", regs));
-    let (mut session, line) = begin(rt.alloc(), "profile 1\nroute 708,709\nnode 709 .\ngo")?;
+    let (mut session, line) = begin(rt.alloc(), "profile 2\nroute 708,709\nnode 709 .\ngo")?;
     assert!(rt; line == 4);
     assert!(rt; replies(&mut session, rt.alloc(), "try 708 r", "moved"));
+    Ok(())
+}
+
+#[test]
+fn sessions_are_of_profile_2(rt: HostRuntime) -> Result<(), Fail> {
+    let table = [
+        (
+            "profile 1\nplace\nnode 000 .\ngo\n",
+            ReplayError::BadProfile,
+        ),
+        ("profile 1", ReplayError::BadProfile),
+        (
+            "profile 2 \nplace\nnode 000 .\ngo\n",
+            ReplayError::BadProfile,
+        ),
+        ("profile 2", ReplayError::BadRoute),
+    ];
+    for (text, fault) in table {
+        assert!(rt; begin(rt.alloc(), text).err() == Some(fault), "at {text}");
+    }
     Ok(())
 }
 
@@ -140,9 +167,88 @@ try 000 r = held
 pass 000
 try 000 r = moved
 ";
-    assert!(rt; replay(alloc, text(alloc, HEAD, commands)?.as_str()) == Ok(3));
+    let right = text(alloc, WORDS, commands)?;
     let wrong = "break 000 003\nturn 20 = 16\ntry 000 r = waits\npass 000\n";
-    assert!(rt; replay(alloc, text(alloc, HEAD, wrong)?.as_str()) == Err(ReplayError::Differs(9)));
+    let wrong = text(alloc, WORDS, wrong)?;
+    for profile in ["profile 1\n", "profile 2\n"] {
+        assert!(rt; replayed(alloc, profile, right.as_str())? == Ok(3));
+        let differs = replayed(alloc, profile, wrong.as_str())?;
+        assert!(rt; differs == Err(ReplayError::Differs(9)));
+    }
+    Ok(())
+}
+
+/// Node 000, which comes to 200: extended mode, which profile 1 doesn't have.
+const JUMP: &str = "\
+place
+node 000
+main: jump $200
+go
+";
+
+#[test]
+fn profiles_of_replay_texts(rt: HostRuntime) -> Result<(), Fail> {
+    let alloc = rt.alloc();
+    // commands, and what comes of them under profile 1 and under profile 2
+    let table = [
+        (
+            "try 000 r = moved\ntry 000 r = moved\ntry 000 r = stopped\n",
+            Ok(3),
+            Err(ReplayError::Differs(8)),
+        ),
+        // under profile 2 the breakpoint at 000 holds the node at 200 too
+        (
+            "break 000 000\npass 000\nturn 2 = 2\ntry 000 r = stopped\n",
+            Ok(2),
+            Err(ReplayError::Differs(9)),
+        ),
+        (
+            "break 000 000\npass 000\nturn 2 = 2\ntry 000 r = held\n",
+            Err(ReplayError::Differs(9)),
+            Ok(2),
+        ),
+        (
+            "break 000 000\npass 000\nturn 2 = 2\npass 000\n",
+            Err(ReplayError::Bad(9, DebugError::NotHeld)),
+            Ok(1),
+        ),
+        (
+            "turn 2 = 2\nturn 4 = 0\n",
+            Ok(2),
+            Err(ReplayError::Differs(7)),
+        ),
+        (
+            "turn 2 = 2\nturn 4 = 4\n",
+            Err(ReplayError::Differs(7)),
+            Ok(2),
+        ),
+    ];
+    for (commands, first, second) in table {
+        let lines = text(alloc, JUMP, commands)?;
+        let of_first = replayed(alloc, "profile 1\n", lines.as_str())?;
+        assert!(rt; of_first == first, "profile 1: {commands}");
+        let of_second = replayed(alloc, "profile 2\n", lines.as_str())?;
+        assert!(rt; of_second == second, "profile 2: {commands}");
+    }
+    Ok(())
+}
+
+#[test]
+fn a_turn_of_profile_1_leaves_a_stopped_node_out(rt: HostRuntime) -> Result<(), Fail> {
+    let alloc = rt.alloc();
+    // 000 stops behind its jump, and 001 goes round
+    let lines = "\
+place
+node 000
+main: jump $200
+node 001
+main: jump main
+go
+turn 2 = 4
+turn 3 = 3
+";
+    assert!(rt; replayed(alloc, "profile 1\n", lines)? == Ok(2));
+    assert!(rt; replayed(alloc, "profile 2\n", lines)? == Err(ReplayError::Differs(9)));
     Ok(())
 }
 
@@ -150,25 +256,28 @@ try 000 r = moved
 fn faults_of_heads(rt: HostRuntime) -> Result<(), Fail> {
     let table = [
         ("", ReplayError::BadProfile),
-        ("profile 2\nplace\ngo\n", ReplayError::BadProfile),
+        ("profile 3\nplace\ngo\n", ReplayError::BadProfile),
+        ("profile 1 \nplace\ngo\n", ReplayError::BadProfile),
+        ("profile 2\r\nplace\ngo\n", ReplayError::BadProfile),
         ("profile 1", ReplayError::BadRoute),
-        ("profile 1\nplace \ngo\n", ReplayError::BadRoute),
+        ("profile 2", ReplayError::BadRoute),
+        ("profile 2\nplace \ngo\n", ReplayError::BadRoute),
         ("profile 1\nroute \ngo\n", ReplayError::BadRoute),
-        ("profile 1\nroute 708,999\ngo\n", ReplayError::BadRoute),
-        ("profile 1\nplace\nnode 000 .\ngo \n", ReplayError::NoGo),
+        ("profile 2\nroute 708,999\ngo\n", ReplayError::BadRoute),
+        ("profile 2\nplace\nnode 000 .\ngo \n", ReplayError::NoGo),
         (
-            "profile 1\nroute 708,710\nnode 709 .\ngo\n",
+            "profile 2\nroute 708,710\nnode 709 .\ngo\n",
             ReplayError::Route(RouteError::NotNeighbour(1)),
         ),
     ];
     for (text, fault) in table {
         assert!(rt; replay(rt.alloc(), text) == Err(fault), "at {text}");
     }
-    let source = "profile 1\nroute 710\nnode 000 # .\ngo\n";
+    let source = "profile 2\nroute 710\nnode 000 # .\ngo\n";
     assert!(rt; matches!(replay(rt.alloc(), source), Err(ReplayError::Source(_))));
-    let assembly = "profile 1\nplace\nnode 000 jump x\ngo\n";
+    let assembly = "profile 2\nplace\nnode 000 jump x\ngo\n";
     assert!(rt; matches!(replay(rt.alloc(), assembly), Err(ReplayError::Asm(_))));
-    let boot = "profile 1\nroute 708\nnode 709 .\ngo\n";
+    let boot = "profile 2\nroute 708\nnode 709 .\ngo\n";
     assert!(rt; matches!(replay(rt.alloc(), boot), Err(ReplayError::Boot(_))));
     Ok(())
 }
@@ -190,11 +299,9 @@ fn faults_of_lines(rt: HostRuntime) -> Result<(), Fail> {
     ];
     for (line, fault) in table {
         let commands = text(alloc, "\nturn 1 = 000000001\n\n", line)?;
-        let whole = text(alloc, HEAD, commands.as_str())?;
-        assert!(rt;
-            replay(alloc, whole.as_str()) == Err(ReplayError::Bad(10, fault)),
-            "at {line}"
-        );
+        let lines = text(alloc, WORDS, commands.as_str())?;
+        let found = replayed(alloc, "profile 2\n", lines.as_str())?;
+        assert!(rt; found == Err(ReplayError::Bad(10, fault)), "at {line}");
     }
     Ok(())
 }

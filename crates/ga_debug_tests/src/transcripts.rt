@@ -1,6 +1,6 @@
 //! Tests of transcripts, and of the calls that they make.
 use ga_asm::label_at;
-use ga_debug::{DebugError, Pieces, address_of, count_of, load, reply_to};
+use ga_debug::{DebugError, Pieces, ReplayError, address_of, count_of, load, reply_to};
 use ga_path::image_of;
 use ga_test_values::node;
 use ga_transcript::{TranscriptError, check, record};
@@ -8,7 +8,7 @@ use std::test::Fail;
 
 /// A node with two labels, and what is asked of it.
 const ASKED: &str = "\
-profile 1
+profile 2
 place
 node 000 . align x: jump x
 go
@@ -21,7 +21,7 @@ go
 
 /// The same with the replies.
 const REPLIED: &str = "\
-profile 1
+profile 2
 place
 node 000 . align x: jump x
 go
@@ -53,6 +53,17 @@ fn tells_what_differs(rt: HostRuntime) -> Result<(), Fail> {
         }
         _ => assert!(rt; false),
     }
+    Ok(())
+}
+
+#[test]
+fn transcripts_are_of_profile_2(rt: HostRuntime) -> Result<(), Fail> {
+    let older = "profile 1\nplace\nnode 000 .\ngo\n> turn 4\nmoved 4\n";
+    let checked = check(rt.alloc(), older).err();
+    assert!(rt; checked == Some(TranscriptError::Head(ReplayError::BadProfile)));
+    let recorded = record(rt.alloc(), older).err();
+    assert!(rt; recorded == Some(TranscriptError::Head(ReplayError::BadProfile)));
+    assert!(rt; load(rt.alloc(), older).err() == Some(ReplayError::BadProfile));
     Ok(())
 }
 

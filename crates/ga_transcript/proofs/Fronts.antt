@@ -6,6 +6,7 @@ use Rattle.ga_pack.specs.Model.Text.{lines_of}
 use Rattle.ga_debug.specs.declared.replay_error.ReplayError.{ReplayError}
 use Rattle.ga_debug.specs.declared.replay_error.ReplayError.TheVariants.{BadProfile}
 use Rattle.ga_debug.specs.Head.{Head, Loading, behind_profile, head_by, head_in, loaded_by, loading_in, up_to_go, with_line}
+use Rattle.ga_debug.specs.Profile.{SESSION_PROFILE, profile_line}
 use Rattle.ga_transcript.specs.Following.{Lines}
 
 -- a head with other lines behind it
@@ -67,10 +68,10 @@ pub record HeadFront (text : List ℕ) (head : Head) : Type 0 where
   pub front : Lines
   pub is : lines_of text ≡ first ∷ (front ++ head.commands)
   pub size : 1 + length front ≡ head.line
-  pub others : (other : List ℕ) (commands : Lines) → lines_of other ≡ first ∷ (front ++ commands) → head_in other ≡ Ok (with_commands head commands)
+  pub others : (other : List ℕ) (commands : Lines) → lines_of other ≡ first ∷ (front ++ commands) → head_in SESSION_PROFILE other ≡ Ok (with_commands head commands)
 
-profile_by : (first : List ℕ) (lines : Lines) (is_profile : Bool) → bytes_eq first (codes "profile 1") ≡ is_profile → (head : Head) → head_by (first ∷ lines) ≡ Ok head
-    → (bytes_eq first (codes "profile 1") ≡ true) × (behind_profile lines ≡ Ok head)
+profile_by : (first : List ℕ) (lines : Lines) (is_profile : Bool) → bytes_eq first (profile_line SESSION_PROFILE) ≡ is_profile → (head : Head) → head_by SESSION_PROFILE (first ∷ lines) ≡ Ok head
+    → (bytes_eq first (profile_line SESSION_PROFILE) ≡ true) × (behind_profile lines ≡ Ok head)
 profile_by first lines true e head made = (e, sym (ap (λ b. if b then behind_profile lines else Err BadProfile) e) ∙ made)
 profile_by first lines false e head made = absurd (cc (sym (ap (λ b. if b then behind_profile lines else Err BadProfile) e) ∙ made))
 
@@ -79,12 +80,12 @@ loaded_front : (line : List ℕ) (lines : Lines) (head : Head) (loading : Option
 loaded_front line lines head None is made = absurd (cc made)
 loaded_front line lines head (Some loading) is made = (loading, is, front_of loading 3 lines head made)
 
-behind_first : (first : List ℕ) (lines : Lines) (head : Head) → head_by (first ∷ lines) ≡ Ok head
+behind_first : (first : List ℕ) (lines : Lines) (head : Head) → head_by SESSION_PROFILE (first ∷ lines) ≡ Ok head
     → (front : Lines) × (lines ≡ front ++ head.commands) × (1 + length front ≡ head.line)
-    × ((commands : Lines) → head_by (first ∷ (front ++ commands)) ≡ Ok (with_commands head commands))
-behind_first first [] head made = absurd (cc (profile_by first [] (bytes_eq first (codes "profile 1")) refl head made).1)
+    × ((commands : Lines) → head_by SESSION_PROFILE (first ∷ (front ++ commands)) ≡ Ok (with_commands head commands))
+behind_first first [] head made = absurd (cc (profile_by first [] (bytes_eq first (profile_line SESSION_PROFILE)) refl head made).1)
 behind_first first (line ∷ lines) head made =
-    let p = profile_by first (line ∷ lines) (bytes_eq first (codes "profile 1")) refl head made in
+    let p = profile_by first (line ∷ lines) (bytes_eq first (profile_line SESSION_PROFILE)) refl head made in
     let (loading, is, f) = loaded_front line lines head (loading_in line) refl p.1 in (
       line ∷ f.front,
       ap (λ (ls : Lines). line ∷ ls) f.is,
@@ -92,7 +93,7 @@ behind_first first (line ∷ lines) head made =
       λ commands. ap (λ b. if b then behind_profile (line ∷ (f.front ++ commands)) else Err BadProfile) p.0 ∙ ap (λ o. loaded_by o (f.front ++ commands)) is ∙ f.others commands,
     )
 
-front_by_lines : (text : List ℕ) (lines : Lines) (head : Head) → lines_of text ≡ lines → head_by lines ≡ Ok head → HeadFront text head
+front_by_lines : (text : List ℕ) (lines : Lines) (head : Head) → lines_of text ≡ lines → head_by SESSION_PROFILE lines ≡ Ok head → HeadFront text head
 unfolding head_in
 front_by_lines text [] head cut made = absurd (cc made)
 front_by_lines text (first ∷ lines) head cut made =
@@ -102,9 +103,9 @@ front_by_lines text (first ∷ lines) head cut made =
       front = front;
       is = cut ∙ ap (λ (ls : Lines). first ∷ ls) is;
       size = size;
-      others = λ other commands cut. ap head_by cut ∙ others commands;
+      others = λ other commands cut. ap (head_by SESSION_PROFILE) cut ∙ others commands;
     }
 
-pub head_front : (text : List ℕ) (head : Head) → head_in text ≡ Ok head → HeadFront text head
+pub head_front : (text : List ℕ) (head : Head) → head_in SESSION_PROFILE text ≡ Ok head → HeadFront text head
 unfolding head_in
 head_front text head made = front_by_lines text (lines_of text) head refl made

@@ -12,7 +12,7 @@ use Rattle.ga_place.specs.Cell.{name_at}
 use Rattle.ga_place.specs.Node.{node_text}
 use Rattle.ga_place.specs.Side.{SIDES, has_side}
 use Rattle.ga_place.specs.declared.side.Side.{Side}
-use Rattle.ga_node.specs.Line.{line_of, need_text, place_text}
+use Rattle.ga_node.specs.Line.{carry_text, line_of, need_text, place_text}
 use Rattle.ga_node.specs.Need.{need_of}
 use Rattle.ga_node.specs.State.{State}
 use Rattle.ga_node.specs.declared.need.Need.{Need}
@@ -135,8 +135,11 @@ plain_need (need.Stopped stop.MultiWrite) = refl
 plain_need (need.Stopped stop.IoRead) = refl
 plain_need (need.Stopped stop.Unmapped) = refl
 plain_need (need.Stopped stop.Rom) = refl
-plain_need (need.Stopped stop.Extended) = refl
 plain_need (need.Stopped stop.Counted) = refl
+
+plain_carry : (carry : Bool) → IsPlain (carry_text carry)
+plain_carry true = refl
+plain_carry false = refl
 
 node_parts : State → List (List ℕ)
 node_parts state =
@@ -147,6 +150,7 @@ node_parts state =
     ∷ codes " R " ∷ hex_digits 5 state.r
     ∷ codes " S " ∷ hex_digits 5 state.s
     ∷ codes " T " ∷ hex_digits 5 state.t
+    ∷ codes " C " ∷ carry_text state.carry
     ∷ codes " io " ∷ hex_digits 5 state.io
     ∷ codes " at " ∷ place_text state.place
     ∷ codes " steps " ∷ decimal state.steps
@@ -170,10 +174,11 @@ plain_parts state =
     (and_from _ _ (plain_hex 5 state.r)
     (and_from _ _ (plain_hex 5 state.s)
     (and_from _ _ (plain_hex 5 state.t)
+    (and_from _ _ (plain_carry state.carry)
     (and_from _ _ (plain_hex 5 state.io)
     (and_from _ _ (plain_place state.place)
     (and_from _ _ (plain_decimal state.steps)
-    (and_from _ _ (plain_need (need_of state)) refl))))))))))
+    (and_from _ _ (plain_need (need_of state)) refl)))))))))))
 
 plain_node_line : (state : State) → is_plain_line (concat (node_parts state)) ≡ true
 unfolding node_parts

@@ -12,6 +12,7 @@ use Rattle.ga_debug.specs.declared.replay_error.ReplayError.{ReplayError}
 use Rattle.ga_debug.specs.Beginning.{Start}
 use Rattle.ga_debug.specs.Command as session
 use Rattle.ga_debug.specs.Head.{Head, head_in}
+use Rattle.ga_debug.specs.Profile.{SESSION_PROFILE}
 use Rattle.ga_debug.specs.Word.{decimal_of}
 use Rattle.ga_transcript.specs.declared.command.TranscriptCommand.TheVariants as command
 use Rattle.ga_transcript.specs.Check.{Differs, EarlyReply, Fault, Head as BadHead, checked_from}
@@ -65,27 +66,27 @@ record_by text (Ok head) = recorded_from text (start_of head)
 record_by text (Err error) = Err (BadHead error)
 
 -- each reply is right, and a comment and an empty line stand in between
-right : check_by (head_in (codes "profile 1\nplace\ngo\n> try 709 r\n\\ it waits\nwaits\n\n> pass 709\nrefused NotHeld\n")) ≡ Ok 2
+right : check_by (head_in SESSION_PROFILE (codes "profile 2\nplace\ngo\n> try 709 r\n\\ it waits\nwaits\n\n> pass 709\nrefused NotHeld\n")) ≡ Ok 2
 unfolding check_by start_of checked_from kind_of reply_text chip_behind command_in arguments session.command_in session.command_first session.arguments head_in tried after asks need_of reset_chip cell_of all_cells
 right = refl
 
 -- the second command replies something else
-differs : check_by (head_in (codes "profile 1\nplace\ngo\n> try 709 r\nwaits\n> try 709 r\nmoved\n> pass 709\nok")) ≡ Err (Differs 6 (codes "-moved\n+waits"))
+differs : check_by (head_in SESSION_PROFILE (codes "profile 2\nplace\ngo\n> try 709 r\nwaits\n> try 709 r\nmoved\n> pass 709\nok")) ≡ Err (Differs 6 (codes "-moved\n+waits"))
 unfolding check_by start_of checked_from kind_of reply_text chip_behind command_in arguments session.command_in session.command_first session.arguments head_in tried after asks need_of reset_chip cell_of all_cells
 differs = refl
 
 -- a reply that is missing differs too
-missing : check_by (head_in (codes "profile 1\nplace\ngo\n> halt")) ≡ Err (Differs 4 (codes "+refused BadCommand"))
+missing : check_by (head_in SESSION_PROFILE (codes "profile 2\nplace\ngo\n> halt")) ≡ Err (Differs 4 (codes "+refused BadCommand"))
 unfolding check_by start_of checked_from kind_of reply_text chip_behind command_in arguments session.command_in session.command_first session.arguments head_in reset_chip
 missing = refl
 
 -- a reply in front of all commands
-early : check_by (head_in (codes "profile 1\nplace\ngo\n\\ a comment\nwaits\n> try 709 r\nwaits")) ≡ Err (EarlyReply 5)
+early : check_by (head_in SESSION_PROFILE (codes "profile 2\nplace\ngo\n\\ a comment\nwaits\n> try 709 r\nwaits")) ≡ Err (EarlyReply 5)
 unfolding check_by start_of checked_from kind_of head_in
 early = refl
 
 -- the replies that stood there are left out
-recorded_once : record_by (codes "profile 1\nplace\ngo\n> try 709 r\nmoved\nmoved\n\n> break 709 003\n") (head_in (codes "profile 1\nplace\ngo\n> try 709 r\nmoved\nmoved\n\n> break 709 003\n"))
-    ≡ Ok (codes "profile 1\nplace\ngo\n> try 709 r\nwaits\n\n> break 709 003\nok\n")
+recorded_once : record_by (codes "profile 2\nplace\ngo\n> try 709 r\nmoved\nmoved\n\n> break 709 003\n") (head_in SESSION_PROFILE (codes "profile 2\nplace\ngo\n> try 709 r\nmoved\nmoved\n\n> break 709 003\n"))
+    ≡ Ok (codes "profile 2\nplace\ngo\n> try 709 r\nwaits\n\n> break 709 003\nok\n")
 unfolding record_by start_of recorded_from kind_of reply_text chip_behind command_in arguments session.command_in session.command_first session.arguments head_in happened tried after asks need_of reset_chip cell_of all_cells
 recorded_once = refl
