@@ -19,7 +19,7 @@ The commands are those of debug, and:
   where           the nodes that have begun: where each stands, for whom it waits, and which are stuck
 An address is three hex digits, or a label of its node.
 
-Example: printf 'profile 1\\nplace\\nnode 000 .\\ngo\\n> turn 4\\nmoved 4\\n' | ga-bench check
+Example: printf 'profile 2\\nplace\\nnode 000 .\\ngo\\n> turn 4\\nmoved 4\\n' | ga-bench check
 More: Transcripts in docs/FORMATS.md";
 
 /// The subcommand `check [FILE]`.

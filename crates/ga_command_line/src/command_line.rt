@@ -165,7 +165,8 @@ fn link<'a>(
 
 const STATUS_HELP: &str = "\
 Each command but explain reads standard input to its end, or a file where it takes one, and then writes
-standard output. explain tells what a fault, a need, a stop or an outcome means that a command names.
+standard output. explain tells what a name means: that of a fault, a need, a stop, an outcome or the
+carry.
 
 Exit status: 0 where all was written, 1 where the input was refused or a read or a write failed,
 2 where the command line is wrong, 3 where memory ran out. What failed is told on standard error.";

@@ -6,7 +6,7 @@ use clap::Command;
 use std::alloc::{AllocError, Global};
 
 const HELP: &str = "\
-Reads from standard input a replay text whose commands state nothing: the line 'profile 1', the line
+Reads from standard input a replay text whose commands state nothing: the line 'profile 2', the line
 'place' or 'route' and node names with commas between them, source text, the line 'go', and commands.
 Writes the reply to each command, or 'refused' and why, and goes on.
 
@@ -20,7 +20,7 @@ Writes the reply to each command, or 'refused' and why, and goes on.
   regs NNN        the node's registers; mem NNN its memory, ports NNN how many words went through
                   each of its ports
 
-Example: printf 'profile 1\\nplace\\nnode 000 .\\ngo\\nturn 4\\nregs 000\\n' | ga-bench debug
+Example: printf 'profile 2\\nplace\\nnode 000 .\\ngo\\nturn 4\\nregs 000\\n' | ga-bench debug
 More: docs/GUIDE.md, and Sessions in docs/FORMATS.md";
 
 /// The subcommand `debug`.

@@ -11,8 +11,8 @@ use std::alloc::{AllocError, Global};
 
 const HELP: &str = "\
 Writes what a name means that the program writes, with an example that has it and the mended one; without
-NAME the names, one on a line: faults, what a node needs, why it stopped, and what comes of a try.
-Reads no input.
+NAME the names, one on a line: faults, what a node needs, why it stopped, its carry, and what comes of
+a try. Reads no input.
 
 Example: ga-bench explain BadToken
 More: docs/FORMATS.md and docs/CHIP.md";
@@ -22,9 +22,9 @@ More: docs/FORMATS.md and docs/CHIP.md";
 pub fn command<'a>(alloc: Global) -> Result<Command<'a>, AllocError>
     ensures { IfOk result (IsCommandOf explain_command) }
 {
-    let name = Arg::new(alloc, "NAME").help("The name, as the program writes it");
+    let name = Arg::new(alloc, "NAME").help("The name, as the program writes it, or carry");
     Command::new(alloc, "explain")
-        .about("Tells what the name of a fault, a need, a stop or an outcome means")
+        .about("Tells what the name of a fault, a need, a stop, an outcome or the carry means")
         .after_help(HELP)
         .arg(name)
 }

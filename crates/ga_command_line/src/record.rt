@@ -9,7 +9,7 @@ const HELP: &str = "\
 Reads a transcript, as check does, and writes it with the replies that come in the place of those that
 it has. So write commands, each behind '> ', record them, read what came, and keep it for check.
 
-Example: printf 'profile 1\\nplace\\nnode 000 .\\ngo\\n> turn 4\\n' | ga-bench record
+Example: printf 'profile 2\\nplace\\nnode 000 .\\ngo\\n> turn 4\\n' | ga-bench record
 More: Transcripts in docs/FORMATS.md";
 
 /// The subcommand `record [FILE]`.

@@ -6,8 +6,9 @@ use clap::Command;
 use std::alloc::{AllocError, Global};
 
 const HELP: &str = "\
-Reads from standard input a replay text: the line 'profile 1', the line 'place' or 'route' and node
-names with commas between them, source text, the line 'go', and commands with what comes of them.
+Reads from standard input a replay text: the line 'profile 2' or 'profile 1', the line 'place' or
+'route' and node names with commas between them, source text, the line 'go', and commands with what
+comes of them. With 'profile 1' a node that is about to fetch with bit 9 of P set counts as stopped.
 Does the commands, and writes 'same' and how many stated outcomes were compared, where all of them hold.
 
   break NNN HHH, clear NNN HHH, pass NNN   as debug has them
@@ -16,7 +17,7 @@ Does the commands, and writes 'same' and how many stated outcomes were compared,
 
 Steps, outcomes and breakpoints are compared, and no data: a session of debug shows data.
 
-Example: printf 'profile 1\\nplace\\nnode 000 .\\ngo\\nturn 4 = 4\\n' | ga-bench replay
+Example: printf 'profile 2\\nplace\\nnode 000 .\\ngo\\nturn 4 = 4\\n' | ga-bench replay
 More: docs/GUIDE.md, and Replay texts in docs/FORMATS.md";
 
 /// The subcommand `replay`.

@@ -7,7 +7,8 @@ use Rattle.ga_explain.specs.declared.routes.TheConstants.{BAD_ROUTE, NOT_EDGE, N
 use Rattle.ga_explain.specs.declared.sessions.TheConstants.{BAD_COMMAND, BAD_ADDRESS, BAD_SIDE, BAD_COUNT, NOT_HELD, BAD_PROFILE, NO_GO, SOURCE, ASM, ROUTE, BOOT, EARLY_REPLY, DIFFERS}
 use Rattle.ga_explain.specs.declared.input.TheConstants.{READ, NO_FILE, FOLDER, BAD_TEXT, BAD_CODE, WRITE, MEMORY}
 use Rattle.ga_explain.specs.declared.needs.TheConstants.{OWN, TAKE, POST, CHECK, INPUT, STOPPED}
-use Rattle.ga_explain.specs.declared.stops.TheConstants.{COUNTED, EXTENDED, IO_READ, ROM, UNMAPPED, MULTI_WRITE}
+use Rattle.ga_explain.specs.declared.stops.TheConstants.{COUNTED, IO_READ, ROM, UNMAPPED, MULTI_WRITE}
+use Rattle.ga_explain.specs.declared.carry.TheConstants.{CARRY}
 use Rattle.ga_explain.specs.declared.outcomes.TheConstants.{MOVED, WAITS, HELD}
 
 -- the faults of source text
@@ -89,11 +90,16 @@ needs_entries =
 unfoldable pub stops_entries : List Entry
 stops_entries =
     (codes "Counted", COUNTED.now) ∷
-    (codes "Extended", EXTENDED.now) ∷
     (codes "IoRead", IO_READ.now) ∷
     (codes "Rom", ROM.now) ∷
     (codes "Unmapped", UNMAPPED.now) ∷
     (codes "MultiWrite", MULTI_WRITE.now) ∷
+    []
+
+-- the carry of a node
+unfoldable pub carry_entries : List Entry
+carry_entries =
+    (codes "carry", CARRY.now) ∷
     []
 
 -- the outcomes of a try
@@ -106,4 +112,4 @@ outcomes_entries =
 
 -- all of them, in this order
 abbrev pub entries : List Entry
-entries = fold (λ all group. all ++ group) [] (source_entries ∷ layout_entries ∷ routes_entries ∷ sessions_entries ∷ input_entries ∷ needs_entries ∷ stops_entries ∷ outcomes_entries ∷ [])
+entries = fold (λ all group. all ++ group) [] (source_entries ∷ layout_entries ∷ routes_entries ∷ sessions_entries ∷ input_entries ∷ needs_entries ∷ stops_entries ∷ carry_entries ∷ outcomes_entries ∷ [])

@@ -78,6 +78,6 @@ TooLong: an item of a node would need its 65th word (asm); there are more than
 Mended: a node has 64 words, so a longer program is cut into several nodes.
 
   $ printf '2C9B2 %.0s' $(seq 64) | ga-bench one 0
-  node 000 P 000 A 00000 B 15D R 00000 S 00000 T 00000 io 00000 at fetch steps 0
-   need own
+  node 000 P 000 A 00000 B 15D R 00000 S 00000 T 00000 C 0 io 00000 at fetch
+   steps 0 need own
 ";

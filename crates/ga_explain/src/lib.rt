@@ -1,6 +1,7 @@
-//! What the names mean that the program writes: faults, needs, stops and outcomes.
+//! What the names mean that the program writes: faults, needs, stops, the carry and outcomes.
 #![tactic(auto)]
 
+mod carry;
 mod input;
 mod layout;
 mod needs;

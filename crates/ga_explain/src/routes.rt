@@ -25,12 +25,12 @@ missing, or is neither 'place' nor 'route' and such names.
 
   $ echo 'node 709 .' | ga-bench boot '708, 709'
   ga-bench: route BadRoute
-  $ printf 'profile 1\\nroute 708-709\\nnode 709 .\\ngo\\n' | ga-bench replay
+  $ printf 'profile 2\\nroute 708-709\\nnode 709 .\\ngo\\n' | ga-bench replay
   ga-bench: replay BadRoute
 
 Mended:
 
-  $ printf 'profile 1\\nroute 708,709\\nnode 709 .\\ngo\\n' | ga-bench replay
+  $ printf 'profile 2\\nroute 708,709\\nnode 709 .\\ngo\\n' | ga-bench replay
   same 0
 ";
 
@@ -60,7 +60,7 @@ column, as 708 and 608. A node twice in a row, as 708,708, is told so too.
 
 Mended, as a replay text with that route and no commands:
 
-  $ printf 'profile 1\\nroute 708,709,710\\nnode 710 .\\ngo\\n' | ga-bench replay
+  $ printf 'profile 2\\nroute 708,709,710\\nnode 710 .\\ngo\\n' | ga-bench replay
   same 0
 ";
 

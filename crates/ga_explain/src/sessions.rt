@@ -33,16 +33,16 @@ blanks in between make an empty word, with the fault of what belongs there. In
 a replay text also 'regs', 'mem', 'ports', and a statement that 'try' or 'turn'
 lacks, that can't be read, or that stands behind another command.
 
-  $ printf 'profile 1\\nplace\\nnode 000 .\\ngo\\nTry 000 r\\n' | ga-bench debug
+  $ printf 'profile 2\\nplace\\nnode 000 .\\ngo\\nTry 000 r\\n' | ga-bench debug
   refused BadCommand
-  $ printf 'profile 1\\nplace\\nnode 000 .\\ngo\\ntry 000 r\\n' | ga-bench replay
+  $ printf 'profile 2\\nplace\\nnode 000 .\\ngo\\ntry 000 r\\n' | ga-bench replay
   ga-bench: replay line 5 BadCommand
 
 Mended:
 
-  $ printf 'profile 1\\nplace\\nnode 000 .\\ngo\\ntry 000 r\\n' | ga-bench debug
+  $ printf 'profile 2\\nplace\\nnode 000 .\\ngo\\ntry 000 r\\n' | ga-bench debug
   moved
-  $ printf 'profile 1\\nplace\\nnode 000 .\\ngo\\ntry 000 r = moved\\n' |
+  $ printf 'profile 2\\nplace\\nnode 000 .\\ngo\\ntry 000 r = moved\\n' |
     ga-bench replay
   same 1
 ";
@@ -51,12 +51,12 @@ const BAD_ADDRESS: &str = "\
 BadAddress: the address of a breakpoint isn't three hex digits up to 1FF. A $
 isn't written there. In a transcript it isn't a label of the node either.
 
-  $ printf 'profile 1\\nplace\\nnode 000 .\\ngo\\nbreak 000 3\\n' | ga-bench debug
+  $ printf 'profile 2\\nplace\\nnode 000 .\\ngo\\nbreak 000 3\\n' | ga-bench debug
   refused BadAddress
 
 Mended:
 
-  $ printf 'profile 1\\nplace\\nnode 000 .\\ngo\\nbreak 000 003\\n' | ga-bench debug
+  $ printf 'profile 2\\nplace\\nnode 000 .\\ngo\\nbreak 000 003\\n' | ga-bench debug
   ok
 ";
 
@@ -64,12 +64,12 @@ const BAD_SIDE: &str = "\
 BadSide: the side of a try isn't r, d, l or u, for right, down, left and up. It
 counts where the node reads at several ports, and has to stand there always.
 
-  $ printf 'profile 1\\nplace\\nnode 000 .\\ngo\\ntry 000 right\\n' | ga-bench debug
+  $ printf 'profile 2\\nplace\\nnode 000 .\\ngo\\ntry 000 right\\n' | ga-bench debug
   refused BadSide
 
 Mended:
 
-  $ printf 'profile 1\\nplace\\nnode 000 .\\ngo\\ntry 000 r\\n' | ga-bench debug
+  $ printf 'profile 2\\nplace\\nnode 000 .\\ngo\\ntry 000 r\\n' | ga-bench debug
   moved
 ";
 
@@ -77,12 +77,12 @@ const BAD_COUNT: &str = "\
 BadCount: the number of turns isn't a decimal number up to 1000000, of one to
 seven digits and without a sign.
 
-  $ printf 'profile 1\\nplace\\nnode 000 .\\ngo\\nturn +1\\n' | ga-bench debug
+  $ printf 'profile 2\\nplace\\nnode 000 .\\ngo\\nturn +1\\n' | ga-bench debug
   refused BadCount
 
 Mended:
 
-  $ printf 'profile 1\\nplace\\nnode 000 .\\ngo\\nturn 1\\n' | ga-bench debug
+  $ printf 'profile 2\\nplace\\nnode 000 .\\ngo\\nturn 1\\n' | ga-bench debug
   moved 1
 ";
 
@@ -90,27 +90,29 @@ const NOT_HELD: &str = "\
 NotHeld: a pass is for a node that is held: one that is about to fetch at a
 breakpoint, hasn't stopped, and has no pass yet. It needn't have been tried.
 
-  $ printf 'profile 1\\nplace\\nnode 000 .\\ngo\\npass 000\\n' | ga-bench debug
+  $ printf 'profile 2\\nplace\\nnode 000 .\\ngo\\npass 000\\n' | ga-bench debug
   refused NotHeld
 
 Mended:
 
-  $ printf 'profile 1\\nplace\\nnode 000 .\\ngo\\nbreak 000 000\\npass 000\\n' |
+  $ printf 'profile 2\\nplace\\nnode 000 .\\ngo\\nbreak 000 000\\npass 000\\n' |
     ga-bench debug
   ok
   ok
 ";
 
 const BAD_PROFILE: &str = "\
-BadProfile: the first line of a session or of a replay text isn't 'profile 1',
-to the character: no blank and no CR stands behind it.
+BadProfile: the first line of a session or of a replay text isn't 'profile 2',
+to the character: no blank and no CR stands behind it. For 'replay' it may also
+be 'profile 1', of older texts: there a node that is about to fetch with bit 9
+of P set counts as stopped.
 
   $ printf 'place\\nnode 000 .\\ngo\\nturn 1\\n' | ga-bench debug
   ga-bench: replay BadProfile
 
 Mended:
 
-  $ printf 'profile 1\\nplace\\nnode 000 .\\ngo\\nturn 1\\n' | ga-bench debug
+  $ printf 'profile 2\\nplace\\nnode 000 .\\ngo\\nturn 1\\n' | ga-bench debug
   moved 1
 ";
 
@@ -118,12 +120,12 @@ const NO_GO: &str = "\
 NoGo: no line of a session or of a replay text is 'go' alone. It stands between
 the source text and the commands; a blank or CR behind it makes it source text.
 
-  $ printf 'profile 1\\nplace\\nnode 000 .\\nturn 1\\n' | ga-bench debug
+  $ printf 'profile 2\\nplace\\nnode 000 .\\nturn 1\\n' | ga-bench debug
   ga-bench: replay NoGo
 
 Mended:
 
-  $ printf 'profile 1\\nplace\\nnode 000 .\\ngo\\nturn 1\\n' | ga-bench debug
+  $ printf 'profile 2\\nplace\\nnode 000 .\\ngo\\nturn 1\\n' | ga-bench debug
   moved 1
 ";
 
@@ -131,14 +133,14 @@ const SOURCE: &str = "\
 Source: the source text of a session or of a replay text has a fault. 'asm'
 tells which, of the lines from the third one up to 'go'.
 
-  $ printf 'profile 1\\nplace\\nnode 000 xor\\ngo\\n' | ga-bench replay
+  $ printf 'profile 2\\nplace\\nnode 000 xor\\ngo\\n' | ga-bench replay
   ga-bench: replay Source
   $ printf 'node 000 xor\\n' | ga-bench asm
   ga-bench: source 1:10 BadToken
 
 Mended:
 
-  $ printf 'profile 1\\nplace\\nnode 000 or\\ngo\\n' | ga-bench replay
+  $ printf 'profile 2\\nplace\\nnode 000 or\\ngo\\n' | ga-bench replay
   same 0
 ";
 
@@ -146,14 +148,14 @@ const ASM: &str = "\
 Asm: the source text of a session or of a replay text can't be laid as words.
 'asm' tells why, of the lines from the third one up to 'go'.
 
-  $ printf 'profile 1\\nplace\\nnode 000 jump x\\ngo\\n' | ga-bench replay
+  $ printf 'profile 2\\nplace\\nnode 000 jump x\\ngo\\n' | ga-bench replay
   ga-bench: replay Asm
   $ printf 'node 000 jump x\\n' | ga-bench asm
   ga-bench: asm 000 1:15 UndefinedLabel
 
 Mended:
 
-  $ printf 'profile 1\\nplace\\nnode 000 x: jump x\\ngo\\n' | ga-bench replay
+  $ printf 'profile 2\\nplace\\nnode 000 x: jump x\\ngo\\n' | ga-bench replay
   same 0
 ";
 
@@ -161,14 +163,14 @@ const ROUTE: &str = "\
 Route: the nodes of the line 'route' of a session or of a replay text are no
 route. 'boot' tells why, of the same nodes and the source text.
 
-  $ printf 'profile 1\\nroute 408\\nnode 408 .\\ngo\\n' | ga-bench replay
+  $ printf 'profile 2\\nroute 408\\nnode 408 .\\ngo\\n' | ga-bench replay
   ga-bench: replay Route
   $ echo 'node 408 .' | ga-bench boot 408
   ga-bench: route NotEdge
 
 Mended: a route from the edge, or 'place' in its stead.
 
-  $ printf 'profile 1\\nplace\\nnode 408 .\\ngo\\n' | ga-bench replay
+  $ printf 'profile 2\\nplace\\nnode 408 .\\ngo\\n' | ga-bench replay
   same 0
 ";
 
@@ -176,14 +178,14 @@ const BOOT: &str = "\
 Boot: a node of the source text of a session or of a replay text isn't on its
 route. 'boot' tells which, of the same nodes and the source text.
 
-  $ printf 'profile 1\\nroute 708\\nnode 709 .\\ngo\\n' | ga-bench replay
+  $ printf 'profile 2\\nroute 708\\nnode 709 .\\ngo\\n' | ga-bench replay
   ga-bench: replay Boot
   $ echo 'node 709 .' | ga-bench boot 708
   ga-bench: boot Unreached 709
 
 Mended:
 
-  $ printf 'profile 1\\nroute 708,709\\nnode 709 .\\ngo\\n' | ga-bench replay
+  $ printf 'profile 2\\nroute 708,709\\nnode 709 .\\ngo\\n' | ga-bench replay
   same 0
 ";
 
@@ -192,14 +194,14 @@ EarlyReply: this line of a transcript, counted from 1, stands behind 'go' and is
 no command, no comment and not empty, so it is one of a reply; and there is no
 command in front of it. A command begins with '> ', a comment with '\\ '.
 
-  $ printf 'profile 1\\nplace\\nnode 000 .\\ngo\\nturn 4\\n' | ga-bench check
+  $ printf 'profile 2\\nplace\\nnode 000 .\\ngo\\nturn 4\\n' | ga-bench check
   ga-bench: transcript line 5 EarlyReply
     turn 4
   a line that is no command or comment, with no command before it
 
 Mended:
 
-  $ printf 'profile 1\\nplace\\nnode 000 .\\ngo\\n> breaks\\n' | ga-bench check
+  $ printf 'profile 2\\nplace\\nnode 000 .\\ngo\\n> breaks\\n' | ga-bench check
   same 1
 ";
 
@@ -209,13 +211,13 @@ the line of the replay text states. 'debug' tells what comes, where the
 statements are left out. Of 'check': the command of this line of a transcript
 has another reply than the lines behind it; 'record' writes the one that came.
 
-  $ printf 'profile 1\\nplace\\nnode 000 .\\ngo\\nturn 4 = 5\\n' | ga-bench replay
+  $ printf 'profile 2\\nplace\\nnode 000 .\\ngo\\nturn 4 = 5\\n' | ga-bench replay
   ga-bench: replay differs 5
-  $ printf 'profile 1\\nplace\\nnode 000 .\\ngo\\nturn 4\\n' | ga-bench debug
+  $ printf 'profile 2\\nplace\\nnode 000 .\\ngo\\nturn 4\\n' | ga-bench debug
   moved 4
 
 Mended, if the program is right and not the statement:
 
-  $ printf 'profile 1\\nplace\\nnode 000 .\\ngo\\nturn 4 = 4\\n' | ga-bench replay
+  $ printf 'profile 2\\nplace\\nnode 000 .\\ngo\\nturn 4 = 4\\n' | ga-bench replay
   same 1
 ";

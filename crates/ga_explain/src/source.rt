@@ -85,7 +85,7 @@ behind 'node', and of commands of a session of the word for the node.
 
   $ echo 'node 8 dup' | ga-bench asm
   ga-bench: source 1:6 BadNode
-  $ printf 'profile 1\\nplace\\nnode 008 .\\ngo\\nregs 8\\n' | ga-bench debug
+  $ printf 'profile 2\\nplace\\nnode 008 .\\ngo\\nregs 8\\n' | ga-bench debug
   refused BadNode
 
 Mended:
@@ -172,8 +172,8 @@ Of words it is the first token, counted from 0, that isn't five hex digits up to
   $ echo '04A12 5' | ga-bench one 5
   ga-bench: words 1 BadWord
   $ echo '04A12 00005' | ga-bench one 2
-  node 000 P 002 A 00000 B 15D R 00000 S 00000 T 00005 io 00000 at slot1 steps 2
-   need own
+  node 000 P 002 A 00000 B 15D R 00000 S 00000 T 00005 C 0 io 00000 at slot1
+   steps 2 need own
 ";
 
 const NO_NODE: &str = "\

@@ -3,7 +3,7 @@ ghost use Rattle.ga_explain.specs.Output.{entry_in};
 ghost use Rattle.ga_explain.specs.Table.{entries};
 ghost use Rattle.ga_explain.specs.Topic.{entry_of};
 
-use crate::{input, layout, needs, outcomes, routes, sessions, source, stops};
+use crate::{carry, input, layout, needs, outcomes, routes, sessions, source, stops};
 use std::alloc::{AllocError, Global};
 
 /// A name that the program writes, and what is told of it, lines of at most 80 characters.
@@ -44,6 +44,7 @@ pub fn topics(alloc: Global) -> Result<Vec<Topic>, AllocError>
     append(&mut topics, &input::topics())?;
     append(&mut topics, &needs::topics())?;
     append(&mut topics, &stops::topics())?;
+    append(&mut topics, &carry::topics())?;
     append(&mut topics, &outcomes::topics())?;
     Ok(topics)
 }

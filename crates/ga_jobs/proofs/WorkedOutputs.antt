@@ -34,7 +34,7 @@ use Rattle.ga_jobs.specs.One.{one_output, one_text}
 use Rattle.ga_jobs.specs.Route.{route_in}
 use Rattle.ga_jobs.specs.Text.{words_in}
 
-a_line : one_output 5 (codes "04A12 00005 00003 2C9B2\n") ≡ Ok (codes "node 000 P 003 A 00005 B 15D R 00000 S 00000 T 00003 io 00000 at fetch steps 5 need own\n")
+a_line : one_output 5 (codes "04A12 00005 00003 2C9B2\n") ≡ Ok (codes "node 000 P 003 A 00005 B 15D R 00000 S 00000 T 00003 C 0 io 00000 at fetch steps 5 need own\n")
 unfolding one_text words_in line_of need_of step row reading_of op_with hex_digits is_word_text digits tokens is_utf8 chars lib.Utf8.encode
 a_line = refl
 

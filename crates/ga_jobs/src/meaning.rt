@@ -57,7 +57,7 @@ pub fn head_meaning(error: &ReplayError) -> &'static str
 /// What it means that a line of a reply stands in front of all commands.
 pub const EARLY_REPLY: &str = "a line that is no command or comment, with no command before it";
 
-const BAD_PROFILE: &str = "the first line isn't 'profile 1'";
+const BAD_PROFILE: &str = "the first line isn't 'profile 2'";
 
 const BAD_ROUTE: &str = "the second line is neither 'place' nor 'route' and names of nodes";
 

@@ -16,12 +16,12 @@ fn answers_lines(rt: HostRuntime) -> Result<(), Fail> {
         (
             Job::One { tries: 0 },
             "\t2c9b2\r\n",
-            "node 000 P 000 A 00000 B 15D R 00000 S 00000 T 00000 io 00000 at fetch steps 0 need own\n",
+            "node 000 P 000 A 00000 B 15D R 00000 S 00000 T 00000 C 0 io 00000 at fetch steps 0 need own\n",
         ),
         (
             Job::One { tries: 9 },
             "101D5",
-            "node 000 P 1D5 A 00000 B 15D R 00000 S 00000 T 00000 io 00000 at fetch steps 2 need take\n",
+            "node 000 P 1D5 A 00000 B 15D R 00000 S 00000 T 00000 C 0 io 00000 at fetch steps 2 need take\n",
         ),
         (
             Job::Asm,
@@ -43,13 +43,13 @@ fn answers_lines(rt: HostRuntime) -> Result<(), Fail> {
         ),
         (
             Job::Check { file: None },
-            "profile 1\nplace\nnode 000 .\ngo\n> turn 4\nmoved 4\n",
+            "profile 2\nplace\nnode 000 .\ngo\n> turn 4\nmoved 4\n",
             "same 1\n",
         ),
         (
             Job::Record { file: None },
-            "profile 1\nplace\nnode 000 .\ngo\n> turn 4\n",
-            "profile 1\nplace\nnode 000 .\ngo\n> turn 4\nmoved 4\n",
+            "profile 2\nplace\nnode 000 .\ngo\n> turn 4\n",
+            "profile 2\nplace\nnode 000 .\ngo\n> turn 4\nmoved 4\n",
         ),
         (
             Job::Dis { code: None },
@@ -92,13 +92,13 @@ const TWO_NODES: &str = "node 709 main: $5 $7 + @b";
 
 /// What becomes of the two nodes, worked out from the rules of the chip.
 const TWO_NODES_RUN: &str = "\
-node 708 P 1B5 A 00000 B 15D R 00000 S 00000 T 00000 io 00000 at fetch steps 48 need take
+node 708 P 1B5 A 00000 B 15D R 00000 S 00000 T 00000 C 0 io 00000 at fetch steps 48 need take
 ds 00000 00000 00000 00000 00000 00000 00000 00000
 rs 00000 00000 00000 00000 00000 00000 00000 00000
 708 right written 12 read 12 pending 0
 708 down written 0 read 0 pending 0
 708 left written 0 read 0 pending 0
-node 709 P 004 A 00004 B 15D R 00000 S 00000 T 0000C io 00000 at slot0 steps 39 need stopped IoRead
+node 709 P 004 A 00004 B 15D R 00000 S 00000 T 0000C C 0 io 00000 at slot0 steps 39 need stopped IoRead
 ds 00000 00000 00000 00000 00000 00000 00000 00000
 rs 00000 00000 00000 00000 00000 00000 00000 00000
 709 right written 0 read 0 pending 0

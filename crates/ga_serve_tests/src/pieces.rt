@@ -13,15 +13,15 @@ const SOURCE: &str = "node 709 main: $5 $7 + @b";
 
 /// A session of a node that is held, and a view of it.
 const SESSION: &str =
-    "profile 1\nplace\nnode 000 . align . x: jump x\ngo\nbreak 000 001\nturn 9\nregs 000\n";
+    "profile 2\nplace\nnode 000 . align . x: jump x\ngo\nbreak 000 001\nturn 9\nregs 000\n";
 
 /// Steps of the same node, and what comes of them.
 const STEPS: &str =
-    "profile 1\nplace\nnode 000 . align . x: jump x\ngo\nbreak 000 001\nturn 9 = 5\n";
+    "profile 2\nplace\nnode 000 . align . x: jump x\ngo\nbreak 000 001\nturn 9 = 5\n";
 
 /// A transcript of the same node.
 const TRANSCRIPT: &str =
-    "profile 1\nplace\nnode 000 . align . x: jump x\ngo\n> break 000 x\nok\n> breaks\n000 002 x\n";
+    "profile 2\nplace\nnode 000 . align . x: jump x\ngo\n> break 000 x\nok\n> breaks\n000 002 x\n";
 
 /// How many bytes are read and written at a call.
 const PIECE: usize = 16;

@@ -106,4 +106,4 @@ pub const WORDS: &str = "04A12 00005 00003 2C9B2";
 
 /// What `one 5` writes of them.
 pub const LINE: &str =
-    "node 000 P 003 A 00005 B 15D R 00000 S 00000 T 00003 io 00000 at fetch steps 5 need own\n";
+    "node 000 P 003 A 00005 B 15D R 00000 S 00000 T 00003 C 0 io 00000 at fetch steps 5 need own\n";

@@ -8,15 +8,15 @@ use std::io::ErrorKind;
 #[test]
 fn fails_at_each_write(rt: HostRuntime) {
     let alloc = rt.alloc();
-    // 88 bytes, 40 at a call: three writes, and a flush.
+    // 92 bytes, 40 at a call: three writes, and a flush.
     for (call, kind, taken, is_served) in [
         (0, ErrorKind::Other, 0, false),
         (1, ErrorKind::Other, 40, false),
         (2, ErrorKind::Other, 80, false),
-        (3, ErrorKind::Other, 88, false),
-        (0, ErrorKind::Interrupted, 88, true),
-        (1, ErrorKind::Interrupted, 88, true),
-        (2, ErrorKind::Interrupted, 88, true),
+        (3, ErrorKind::Other, 92, false),
+        (0, ErrorKind::Interrupted, 92, true),
+        (1, ErrorKind::Interrupted, 92, true),
+        (2, ErrorKind::Interrupted, 92, true),
     ] {
         let mut writer = sink_of(alloc, 40);
         writer.fails_at = Some(call);
