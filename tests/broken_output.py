@@ -17,7 +17,7 @@ ROOT = os.path.dirname(os.path.dirname(os.path.abspath(__file__)))
 SECONDS = 60
 FAULT = (1, b"ga-bench: write\n")
 # A pipe holds 65,536 bytes, so this output doesn't fit. Of it so many bytes are read.
-LONG = (["debug"], b"profile 1\nplace\nnode 000 .\ngo\n" + b"mem 000\n" * 2000)
+LONG = (["debug"], b"profile 2\nplace\nnode 000 .\ngo\n" + b"mem 000\n" * 2000)
 PARTS = [1, 100, 5000, 70000]
 
 

@@ -17,14 +17,13 @@ TEXTS = [
     ("examples/ring/ring.transcript", [["debug"], ["check"], ["record"]]),
     ("examples/ring/ring.replay", [["replay"]]),
 ]
-# The recorded case whose text is read by these command lines too.
-CASE = "replay-of-three"
-CASE_LINES = [["replay"], ["debug"]]
+# Recorded cases whose texts are read too: the one of profile 1, the other of profile 2.
+CASES = {"replay-of-three", "debug-of-three"}
 
 
-def recorded_text():
+def recorded_texts():
     with open(f"{fuzz.ROOT}/tests/cases/worked.jsonl", encoding="utf-8") as lines:
-        return next(case["stdin"].encode() for case in map(json.loads, lines) if case["name"] == CASE)
+        return [(case["args"], case["stdin"].encode()) for case in map(json.loads, lines) if case["name"] in CASES]
 
 
 def run_fronts(program, args, data):
@@ -38,7 +37,7 @@ def run_fronts(program, args, data):
 
 
 def main(program):
-    runs = [(args, recorded_text()) for args in CASE_LINES]
+    runs = recorded_texts()
     for name, lines in TEXTS:
         with open(f"{fuzz.ROOT}/{name}", "rb") as file:
             data = file.read()

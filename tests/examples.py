@@ -66,7 +66,7 @@ class Bench:
 
     def session(self, head, source, commands):
         """Returns the replies to the commands, on a chip with this source."""
-        return self.run("debug", "\n".join(["profile 1", head, source + "go", *commands, ""]))
+        return self.run("debug", "\n".join(["profile 2", head, source + "go", *commands, ""]))
 
     def memories(self, head, source, commands, nodes):
         """Returns the memory of each of these nodes behind the commands, which have one line of reply each."""
@@ -171,6 +171,23 @@ def division(bench, source, chance):
         bench.same(f"{high:05X} {low:05X} by {divisor:05X}", data[:5], wanted)
     for (high, low, divisor), data in on_all_nodes(bench, source, [(0, 0, 0x20001)], 2000, place):
         bench.same("the divisor 20001 is out of range", data[3:5] == [0, 0], False)
+
+
+def long_sum(bench, source, chance):
+    """Sums of 36 bits, all pairs at the edges and others, also of a program that goes round with the carry of the last sum."""
+    edges = [0, 1, 0x1FFFF, 0x20000, 0x3FFFE, 0x3FFFF, 0x40000, 0x40001, 0x7FFFFFFFF, 0x800000000, 0xFFFFC0000, 0xFFFFFFFFE, 0xFFFFFFFFF]
+    pairs = [(first, second) for first in edges for second in edges]
+    pairs += [(chance.randrange(WORDS ** 2), chance.randrange(WORDS ** 2)) for _ in range(263)]
+    split = lambda pair: [[number % WORDS for number in pair], [number >> 18 for number in pair]]
+    place = lambda text, pair: with_words(with_words(text, "low", split(pair)[0]), "high", split(pair)[1])
+    for text, what in ((source, ""), (source.replace("jump warm", "jump main"), ", again and again")):
+        for pair, data in on_all_nodes(bench, text, pairs, 1000, place):
+            low, high = split(pair)
+            wanted = sum(pair) % WORDS ** 2
+            bench.same(f"{pair[0]:09X} and {pair[1]:09X}{what}", data[:6], [*low, *high, wanted >> 18, wanted % WORDS])
+    for pair in pairs[:len(edges) ** 2:5]:
+        line = registers(bench, "place", place(source, pair), 1000, ["000"])[0]
+        bench.same(f"{pair[0]:09X} and {pair[1]:09X}, the carry", field(line, "C"), int(sum(pair) >= WORDS ** 2))
 
 
 def port_worker(bench, source, chance):
@@ -407,7 +424,7 @@ def ring(bench, source, chance):
         lines = bench.run("run 708,709,609,608 1 1000", source.replace("$1 !", f"{number} !"))
         bench.same(f"{number:05X} round the ring", field(lines[0], "T"), (number + 3) % WORDS)
     for turns, are_stuck in ((200, False), (1000, True)):
-        text = f"profile 1\nroute 708,709,609,608\n{source}go\n> turn {turns}\n> where\n"
+        text = f"profile 2\nroute 708,709,609,608\n{source}go\n> turn {turns}\n> where\n"
         told = bench.run("record", text)
         told = told[told.index("> where") + 1:]
         stuck = [line.endswith(", stuck") for line in told]
@@ -415,7 +432,7 @@ def ring(bench, source, chance):
 
 
 DATA = [blinker, multiply, echo, fill, two_nodes, send, sum_, ring]
-DATA += [pulse, crc, product, division, port_worker, moving_sum, sort, queue, token, token_ring]
+DATA += [pulse, crc, product, division, long_sum, port_worker, moving_sum, sort, queue, token, token_ring]
 
 
 def transcripts(bench, name):
@@ -437,7 +454,7 @@ def kept(bench, name):
     for kind, text in (("transcript", transcript), ("replay", replay)):
         first, _, head = text.split("\ngo\n")[0].split("\n", 2)
         kept_source = head[:len(source)] if name in MORE else head + "\n"
-        bench.same(f"{name}, the source in {name}.{kind}", first == "profile 1" and kept_source, source)
+        bench.same(f"{name}, the source in {name}.{kind}", first == "profile 2" and kept_source, source)
     images = bench.images(source)
     steps = sum(map(int, re.findall(r"^turn \d+ = (\d+)$", replay, re.M))) + len(re.findall(r"^try .* = moved$", replay, re.M))
     with open(f"{ROOT}/docs/EXAMPLES.md", encoding="utf-8") as page:

@@ -1,11 +1,11 @@
 #!/usr/bin/env python3
 """Compares what `explain` tells with the pages and with the recorded cases: tests/explain.py PROGRAM
 
-- Its names are those of the tables of faults, needs, stops and outcomes in docs/FORMATS.md and docs/CHIP.md, but for
-  what comes up in the library alone. The pages have no name that it lacks.
+- Its names are those of the tables of faults, needs, stops, outcomes and the carry in docs/FORMATS.md and docs/CHIP.md,
+  but for what comes up in the library alone. The pages have no name that it lacks.
 - A text is 24 lines of 80 columns at most, that of BadToken longer, and begins with its name.
-- A text has an example that shows its name, and a mended one that doesn't, but for the names of which no example can
-  be recorded (UNRECORDED) and those that need no mending (HARMLESS).
+- A text has an example that shows its name, or what stands for it (SHOWN), and a mended one that doesn't, but for the
+  names of which no example can be recorded (UNRECORDED) and those that need no mending (HARMLESS).
 - Each example in a text is a recorded case in tests/cases/explain.jsonl, with the same input, arguments and output, and
   each case but those of `explain` itself is an example. tests/run_cases.py runs the cases.
 
@@ -32,6 +32,8 @@ LIBRARY_ALONE = {"NoWorker", "CutHeader", "CutBody", "AfterEnd"}
 # No recorded case can make a read, a write or an allocation fail, or a node step 2^64 times.
 UNRECORDED = {"read", "write", "memory", "Counted"}
 HARMLESS = {"own", "moved"}
+# What an output has in place of a name.
+SHOWN = {"carry": "C 1"}
 
 
 def rows(page, heading):
@@ -44,7 +46,7 @@ def rows(page, heading):
 
 
 def names_of_pages():
-    """Returns the names that the pages have in their tables of faults, needs, stops and outcomes."""
+    """Returns the names that the pages have in their tables of faults, needs, stops, outcomes and the carry."""
     names = set()
     for heading in ["Faults of source text", "Faults of layout", "Frames", "Routes", "Plans", "Sessions", "Replay texts"]:
         for cell in rows("FORMATS.md", heading):
@@ -53,8 +55,8 @@ def names_of_pages():
     for cell in rows("FORMATS.md", "Faults"):
         names.update(re.findall(r"^`ga-bench: (?:\w+ )*?([A-Z][a-z]\w*)(?: [A-Z]+)?`", cell))
         names.update(re.findall(r"^`ga-bench: (\w+)`$", cell))
-    heads = {"Need", "Outcome", "Stop"}
-    for heading in ["Needs", "Tries", "Stops"]:
+    heads = {"Need", "Outcome", "Stop", "Bit"}
+    for heading in ["Needs", "Tries", "Stops", "Extended arithmetic"]:
         for cell in rows("CHIP.md", heading):
             if cell not in heads and not cell.startswith("--"):
                 names.add(re.match(r"\w+", cell)[0] if heading == "Stops" else re.match(r"\w+", cell)[0].lower())
@@ -110,7 +112,7 @@ def faults_of_text(name, text, recorded, shown):
         wrong.append("doesn't begin with its name")
     has_name = set()
     for command, printed in examples(text):
-        has_name.add(re.search(rf"\b{name}\b", printed) is not None)
+        has_name.add(re.search(rf"\b{SHOWN.get(name, name)}\b", printed) is not None)
         try:
             it = key_of_example(command, printed)
         except (AttributeError, subprocess.TimeoutExpired) as error:

@@ -15,8 +15,8 @@ from functools import partial
 
 FOLDER = os.path.dirname(os.path.abspath(__file__))
 WORDS = b"04A12 00005 00003 2C9B2"
-HEAD = b"profile 1\nplace\nnode 000 . align 5 x: jump x\ngo\n"
-ROUTE = b"profile 1\nroute 708,709\nnode 709 5 .\ngo\n"
+HEAD = b"profile 2\nplace\nnode 000 . align 5 x: jump x\ngo\n"
+ROUTE = b"profile 2\nroute 708,709\nnode 709 5 .\ngo\n"
 RUNS = [
     (["one", "5"], WORDS),
     (["one", "5"], b"3FFFF " * 64),
@@ -39,24 +39,25 @@ RUNS = [
     (["dis", "--code", "4"], b"05872 2C9B2 00001"),
     (["debug"], HEAD + b"break 000 001\nturn 9\nregs 000\nmem 000\nports 000\npass 000\npass 000\nstep\n"),
     (["debug"], ROUTE + b"turn 40\ntry 709 r\n"),
-    (["debug"], b"profile 1\nplace\n"),
+    (["debug"], b"profile 2\nplace\n"),
     (["replay"], HEAD + b"break 000 001\nturn 9 = 5\ntry 000 r = held\n"),
     (["replay"], ROUTE + b"turn 1 = 1\n"),
+    (["replay"], b"profile 1\nplace\nnode 000 jump $200\ngo\nturn 4 = 2\ntry 000 r = stopped\n"),
     (["replay"], HEAD + b"turn 1 = 2\n"),
     (["replay"], HEAD + b"regs 000\n"),
-    (["replay"], b"profile 1\nroute 708\nnode 709 .\ngo\n"),
-    (["replay"], b"profile 1\nroute 710,708\nnode 709 .\ngo\n"),
-    (["replay"], b"profile 1\nplace\nnode 000 jump x\ngo\n"),
+    (["replay"], b"profile 2\nroute 708\nnode 709 .\ngo\n"),
+    (["replay"], b"profile 2\nroute 710,708\nnode 709 .\ngo\n"),
+    (["replay"], b"profile 2\nplace\nnode 000 jump x\ngo\n"),
     (["list"], b"node 709 main: $5 $7 + @b\ndata x: , main"),
     (["list", "--labels", "-"], b"node 709 main: $5 $7 + @b\ndata x: , main"),
     (["list"], b"node 709 jump x"),
     (["check"], HEAD + b"> break 000 x\nok\n> until 000 x 9\nturns 5 moved 5\n> breaks\n000 001 x, held\n> node x\n"),
     (["check"], HEAD + b"> where\n> node 000\n> mem 000\n> step\nrefused BadCommand\n"),
     (["check"], HEAD + b"turn 4\n"),
-    (["check"], b"profile 1\nplace\nnode 000 jump x\ngo\n"),
+    (["check"], b"profile 2\nplace\nnode 000 jump x\ngo\n"),
     (["record"], HEAD + b"> break 000 002\n> until 000 x 9\n> breaks\n> where\n> pass 000\n> regs 000\nold\n\\ end\n"),
     (["record"], ROUTE + b"> turn 40\n> until 709 1D5\n> where\n> try 709 r\n"),
-    (["record"], b"profile 1\nplace\n"),
+    (["record"], b"profile 2\nplace\n"),
     (["explain"], b""),
     (["explain", "NotHeld"], b""),
 ]

@@ -119,7 +119,7 @@ def moments(case, program):
     images, taken = images_of(run(program, ['asm'], case['stdin'])), feeds(words)
     counts = sent(route, images)
     commands = session(case, route, images, words, chance)
-    head = f"profile 1\nroute {case['args'][1]}\n{case['stdin']}\ngo\n"
+    head = f"profile 2\nroute {case['args'][1]}\n{case['stdin']}\ngo\n"
     told = run(program, ['debug'], head + ''.join(f'{command}\n' for command, _ in commands))
     held, fed, read = 0, 0, {}
     for asks, name, lines in answers(commands, told):
