@@ -60,7 +60,7 @@ leads None other e = absurd cc
 leads (Some there) other e = ap Some (eqb-true there other e)
 
 -- a neighbour of a node is a node
-near_node : (last name : ℕ) → IsNodeName last → (side : Option Side) → side_to last name ≡ side → IsSome side → IsNodeName name
+pub near_node : (last name : ℕ) → IsNodeName last → (side : Option Side) → side_to last name ≡ side → IsSome side → IsNodeName name
 near_node last name named None e some = absurd (true≢false (sym some))
 near_node last name named (Some side) e some =
     neighbour_of-IsNodeName last name side named (leads (neighbour_of last side) name (found (λ s. is_the_node name (neighbour_of last s)) SIDES side e))

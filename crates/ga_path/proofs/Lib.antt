@@ -1,5 +1,7 @@
 pub mod Hops
 mod NamedNodes
-mod OneTree
+mod NamedRoutes
+pub mod Patched
+pub mod Trees
 mod Walk
 mod WorkedBoots

@@ -2,4 +2,5 @@ pub mod Names
 pub mod Route
 pub mod Sequences
 pub mod Stream
+pub mod Tree
 pub mod inner

@@ -29,3 +29,13 @@ route_fault (first ∷ names) = if is_edge first then hops_fault (first ∷ []) 
 abbrev pub IsRouteFault : List ℕ → RouteError → Type 0
 IsRouteFault nodes Memory = Unit
 IsRouteFault nodes fault = route_fault nodes ≡ Some fault
+
+-- what is wrong with the first of some lists of nodes that are no route
+abbrev pub routes_fault : List (List ℕ) → Option RouteError
+routes_fault [] = None
+routes_fault (nodes ∷ lists) = option_or (route_fault nodes) (routes_fault lists)
+
+-- The fault of lists of nodes as routes. Want of memory is none.
+abbrev pub IsRoutesFault : List (List ℕ) → RouteError → Type 0
+IsRoutesFault lists Memory = Unit
+IsRoutesFault lists fault = routes_fault lists ≡ Some fault

@@ -1,4 +1,4 @@
--- The boot stream of a route.
+-- The boot stream of a tree, and of a route.
 use Rattle.std.specs.Prelude.{◌≡◌, ℕ, ◌==◌, not, List, [], ◌∷◌, Option, Some, option_map, unwrap_or}
 use Rattle.std.specs.List.{find}
 use Rattle.std.specs.Map.{lookup}
@@ -7,6 +7,7 @@ use Rattle.ga_place.specs.declared.side.Side.TheVariants.{Right}
 use Rattle.ga_asm.specs.Image.{ImageView}
 use Rattle.ga_place.specs.Node.{is_among}
 use Rattle.ga_path.specs.Sequences.{Grove, Bare, Tree, part_words}
+use Rattle.ga_path.specs.Tree.{NoMore, Subtree, Subtrees, TreeView, chain}
 use Rattle.ga_path.specs.declared.error.BootError.{BootError}
 use Rattle.ga_path.specs.declared.error.BootError.TheVariants.{Memory, Unreached}
 use Rattle.ga_path.specs.declared.parts.Part.{Part}
@@ -20,10 +21,26 @@ Images = List (ℕ × ImageView)
 abbrev pub image_of : Images → ℕ → Option ImageView
 image_of images name = lookup (λ other. name == other) images
 
+-- the subtrees of a node with the sides at which they are reached, and the images of their nodes
+abbrev pub grove : Images → ℕ → Subtrees → Grove
+grove images from NoMore = Bare
+grove images from (Subtree name inner beside) =
+    Tree name (unwrap_or (side_to from name) Right) (image_of images name) (grove images name inner) (grove images from beside)
+
+-- a part of the stream that boots a tree
+abbrev pub tree_words : Part → Images → TreeView → List ℕ
+tree_words part images tree = part_words part tree.root (image_of images tree.root) (grove images tree.root tree.subtrees)
+
+-- all of it that loads the nodes of a tree, and all that starts them
+abbrev pub tree_load : Images → TreeView → List ℕ
+tree_load images tree = tree_words Load images tree
+
+abbrev pub tree_start : Images → TreeView → List ℕ
+tree_start images tree = tree_words Start images tree
+
 -- the subtree of a node from which a route goes on along these nodes
 abbrev pub below : Images → ℕ → List ℕ → Grove
-below images from [] = Bare
-below images from (name ∷ names) = Tree name (unwrap_or (side_to from name) Right) (image_of images name) (below images name names) Bare
+below images from names = grove images from (chain names)
 
 -- a part of the stream that boots a route
 abbrev pub route_words : Part → Images → List ℕ → List ℕ
@@ -37,11 +54,11 @@ load_of images route = route_words Load images route
 abbrev pub start_of : Images → List ℕ → List ℕ
 start_of images route = route_words Start images route
 
--- the first node in the images' order that isn't on the route
+-- the first node in the images' order that isn't among the nodes of a route or of a tree
 abbrev pub unreached : Images → List ℕ → Option ℕ
-unreached images route = option_map (λ entry. entry.0) (find (λ entry. not (is_among entry.0 route)) images)
+unreached images nodes = option_map (λ entry. entry.0) (find (λ entry. not (is_among entry.0 nodes)) images)
 
--- The fault of images for a route. Want of memory is none.
+-- The fault of images for the nodes of a route or of a tree. Want of memory is none.
 abbrev pub IsBootFault : Images → List ℕ → BootError → Type 0
-IsBootFault images route Memory = Unit
-IsBootFault images route (Unreached node) = unreached images route ≡ Some node
+IsBootFault images nodes Memory = Unit
+IsBootFault images nodes (Unreached node) = unreached images nodes ≡ Some node

@@ -1,6 +1,6 @@
 ghost use Rattle.std.specs.Prelude.{◌≡◌, ◌⊎◌, IfErr, IfOk, None, Some};
 ghost use Rattle.ga_place.specs.Node.{node_named};
-ghost use Rattle.ga_path.specs.Names.{nodes_in};
+ghost use Rattle.ga_path.specs.Names.{lists_in, nodes_in, routes_in};
 ghost use Rattle.ga_path.specs.declared.error.NamesError.TheVariants.{Memory};
 
 use crate::error::NamesError;
@@ -30,6 +30,20 @@ pub fn read_nodes(alloc: Global, text: &str) -> Result<Vec<Node>, NamesError>
             _ => return Err(NamesError::BadNames),
         }
     }
+}
+
+/// The nodes of each route that a text names: a route as [`read_nodes`] reads it, with `/` between routes. (The form is
+/// this project's own: profile.) Any other text is refused as [`NamesError::BadNames`], and one with nothing before,
+/// between or behind a `/`. It fails as [`NamesError::Memory`] only where memory is refused.
+pub fn read_routes(alloc: Global, text: &str) -> Result<Vec<Vec<Node>>, NamesError>
+    ensures routes { IfOk result (λ routes. routes_in text.now ≡ Some (lists_in routes.items)) }
+    ensures bad { IfErr result (λ error. (error ≡ Memory) ⊎ (routes_in text.now ≡ None)) }
+{
+    let mut routes = Vec::new(alloc);
+    for route in text.split('/') {
+        routes.push(read_nodes(alloc, route)?)?;
+    }
+    Ok(routes)
 }
 
 /// The node that a text names.

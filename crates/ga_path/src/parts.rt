@@ -1,12 +1,11 @@
 use ga_word::Word18;
 
-/// A boot stream, in its two parts, for the first node of a route: all loads come before all
-/// starts.
+/// A boot stream, in its two parts, for the first node of a route or of a tree: all loads come before all starts.
 #[derive(Debug, PartialEq, Eq, Drop)]
 pub struct Boot {
     /// Frames that load the memory of each node.
     pub load: Vec<Word18>,
-    /// Frames that start the nodes, from the far end inward.
+    /// Frames that start the nodes, each node before the one above it.
     pub start: Vec<Word18>,
 }
 

@@ -1,5 +1,6 @@
 ghost use Rattle.std.specs.Prelude.{◌≡◌, ◌≤◌, ◌<◌, IfErr, IfOk, None, length};
-ghost use Rattle.ga_path.specs.Route.{IsRouteFault, route_fault};
+ghost use Rattle.ga_path.specs.Names.{lists_in};
+ghost use Rattle.ga_path.specs.Route.{IsRouteFault, IsRoutesFault, route_fault, routes_fault};
 
 use crate::error::RouteError;
 use ga_place::{Node, side_to};
@@ -50,6 +51,20 @@ impl Route {
     {
         &self.nodes
     }
+}
+
+/// A route along each of these lists of nodes, in their order, or what is wrong with the first that is no route, as
+/// [`Route::new`] tells it. It fails as [`RouteError::Memory`] only where memory is refused.
+pub fn routes_along(alloc: Global, lists: &[Vec<Node>]) -> Result<Vec<Route>, RouteError>
+    ensures routes { IfOk result (λ routes. routes.items ≡ lists_in lists.now) }
+    ensures faultless { IfOk result (λ _. routes_fault (lists_in lists.now) ≡ None) }
+    ensures fault { IfErr result (λ error. IsRoutesFault (lists_in lists.now) error) }
+{
+    let mut routes = Vec::new(alloc);
+    for nodes in lists {
+        routes.push(Route::new(alloc, nodes)?)?;
+    }
+    Ok(routes)
 }
 
 /// What is wrong with nodes as a route, if something is.

@@ -1,13 +1,14 @@
-//! The words that nodes are sent, from the far end of a route inward.
-ghost use Rattle.std.specs.Prelude.{◌≡◌, ◌+◌, ◌*◌, ◌<◌, ◌≤◌, ◌^◌, ◌++◌, [], IfErr, IfOk, None, OnOk, Some, length};
+//! The words that the nodes of a tree are sent.
+ghost use Rattle.std.specs.Prelude.{◌≡◌, ◌+◌, ◌*◌, ◌<◌, ◌≤◌, ◌^◌, ◌++◌, IfErr, IfOk, OnOk, length};
 ghost use Rattle.std.specs.Option.{option_copied};
 ghost use Rattle.ga_place.specs.Address.{port_address_of};
-ghost use Rattle.ga_path.specs.Stream.{below, image_of, route_words};
-ghost use Rattle.ga_path.specs.Route.{route_fault};
-ghost use Rattle.ga_path.specs.inner.Route.{AreHops};
-ghost use Rattle.ga_path.specs.Sequences.{frames, jump_to, load, own_frame, pumps, sent, start_address};
+ghost use Rattle.ga_path.specs.Stream.{grove, image_of};
+ghost use Rattle.ga_path.specs.Tree.{AreNear};
+ghost use Rattle.ga_path.specs.inner.Branches.{count_in, subtrees_of};
+ghost use Rattle.ga_path.specs.Sequences.{frames, jump_to, load, own_frame, part_words, pumps, sent, start_address};
 ghost use Rattle.ga_path.specs.declared.error.BootError.TheVariants.{Memory};
 
+use crate::branches::Branches;
 use crate::error::BootError;
 use crate::parts::Part;
 use ga_asm::{Image, Images};
@@ -15,7 +16,6 @@ use ga_frame::MORE;
 use ga_place::{Node, Side, idle_address, port_address, side_to};
 use ga_word::Word18;
 use std::alloc::Global;
-use std::collections::VecDeque;
 
 /// `@p a! @p .`: the next word goes to A, and the one behind it to T.
 const SET_A: u32 = 0x04A12;
@@ -28,124 +28,140 @@ const STORE: u32 = 0x05872;
 /// `. . . .`
 const NOPS: u32 = 0x2C9B2;
 
-/// A part of the boot stream of a route along these nodes.
+/// A part of the boot stream of a tree, by its root and the subtrees of the root.
 pub(crate) fn part_words(
     alloc: Global,
     part: Part,
-    nodes: &[Node],
+    root: Node,
+    branches: &Branches,
     images: &Images,
 ) -> Result<Vec<Word18>, BootError>
-    requires route { route_fault nodes.now ≡ None }
-    requires most { length nodes.now ≤ 144 }
-    ensures words { IfOk result (λ words. words.items ≡ route_words part images.now nodes.now) }
+    requires near { AreNear root (subtrees_of branches.now) }
+    requires few { count_in (subtrees_of branches.now) < 144 }
+    ensures words { IfOk result (λ words. words.items
+        ≡ part_words part root (image_of images.now root) (grove images.now root (subtrees_of branches.now))) }
     ensures memory { IfErr result (λ error. error ≡ Memory) }
 {
-    let Some((root, rest)) = nodes.split_first() else {
-        return Ok(Vec::new(alloc));
-    };
-    let mut words = VecDeque::new(alloc);
-    add_frame(&mut words, part, *root, rest, images)?;
-    add_own_frame(&mut words, part, *root, image_of(images, *root))?;
-    Ok(Vec::from(words))
+    let mut words = Vec::new(alloc);
+    add_frames(&mut words, part, root, branches, images)?;
+    add_own_frame(&mut words, part, root, image_of(images, root))?;
+    Ok(words)
 }
 
-/// Adds the frame with what the root's loader sends to the next node, where the route goes on.
-fn add_frame(
-    words: &mut VecDeque<Word18>,
+/// Adds what the root's loader sends to the subtrees: a frame for each.
+fn add_frames(
+    words: &mut Vec<Word18>,
     part: Part,
     root: Node,
-    nodes: &[Node],
+    branches: &Branches,
     images: &Images,
 ) -> Result<(), BootError>
-    requires empty { words.old.items ≡ [] }
-    requires hops { AreHops root nodes.now }
-    requires few { length nodes.now < 144 }
-    ensures words { OnOk result (words.new.items ≡ frames part (below images.now root nodes.now)) }
+    requires near { AreNear root (subtrees_of branches.now) }
+    requires few { count_in (subtrees_of branches.now) < 144 }
+    ensures words { OnOk result (words.new.items
+        ≡ words.old.items ++ frames part (grove images.now root (subtrees_of branches.now))) }
     ensures memory { IfErr result (λ error. error ≡ Memory) }
 {
-    let Some((next, rest)) = nodes.split_first() else {
+    let Branches::Branch(node, inner, beside) = branches else {
         return Ok(());
     };
-    let side = side_to(root, *next).unwrap();
-    add_pump(words, part, *next, rest, images)?;
-    add_sent(words, part, *next, side, image_of(images, *next))?;
-    let count = word(words.len() as u32);
-    put_in_front(words, &[word(MORE), port(side), count])?;
+    let side = side_to(root, *node).unwrap();
+    words.extend_from_slice(&[word(MORE), port(side), word(0)])?;
+    let start = words.len();
+    add_sent(words, part, *node, side, inner, images)?;
+    // how many words the frame has is known behind them
+    words[start - 1] = word((words.len() - start) as u32);
+    add_frames(words, part, root, beside, images)?;
     Ok(())
 }
 
-/// Adds the pump with what a node sends to the next one, where the route goes on.
-fn add_pump(
-    words: &mut VecDeque<Word18>,
+/// Adds what a node sends to its subtrees: a pump for each.
+#[cycle(subtrees)]
+fn add_pumps(
+    words: &mut Vec<Word18>,
     part: Part,
-    from: Node,
-    nodes: &[Node],
+    parent: Node,
+    branches: &Branches,
     images: &Images,
 ) -> Result<(), BootError>
-    requires empty { words.old.items ≡ [] }
-    requires hops { AreHops from nodes.now }
-    requires few { length nodes.now < 144 }
-    ensures words { OnOk result (words.new.items ≡ pumps part (below images.now from nodes.now)) }
-    ensures short { OnOk result (length words.new.items ≤ 76 * length nodes.now) }
+    requires near { AreNear parent (subtrees_of branches.now) }
+    requires few { count_in (subtrees_of branches.now) < 144 }
+    ensures words { OnOk result (words.new.items
+        ≡ words.old.items ++ pumps part (grove images.now parent (subtrees_of branches.now))) }
+    ensures grows { OnOk result (length words.old.items ≤ length words.new.items) }
+    ensures short { OnOk result (length words.new.items
+        ≤ length words.old.items + 76 * count_in (subtrees_of branches.now)) }
     ensures memory { IfErr result (λ error. error ≡ Memory) }
 {
-    let Some((next, rest)) = nodes.split_first() else {
+    let Branches::Branch(node, inner, beside) = branches else {
         return Ok(());
     };
-    let side = side_to(from, *next).unwrap();
-    add_pump(words, part, *next, rest, images)?;
-    add_sent(words, part, *next, side, image_of(images, *next))?;
-    let count = word(words.len() as u32 - 1);
-    let pump = [word(SET_A), port(side), count, word(PUSH), word(SEND)];
-    put_in_front(words, &pump)?;
+    let side = side_to(parent, *node).unwrap();
+    words.extend_from_slice(&[word(SET_A), port(side), word(0), word(PUSH), word(SEND)])?;
+    let start = words.len();
+    add_sent(words, part, *node, side, inner, images)?;
+    // how many words the loop hands on is known behind them
+    words[start - 3] = word((words.len() - start - 1) as u32);
+    add_pumps(words, part, parent, beside, images)?;
     Ok(())
 }
 
-/// Adds, around the words that go on to the next node, what a node is sent at a side.
+/// Adds what a node is sent at a side.
+#[cycle(subtrees)]
 fn add_sent(
-    words: &mut VecDeque<Word18>,
+    words: &mut Vec<Word18>,
     part: Part,
     node: Node,
     side: Side,
-    image: Option<&Image>,
+    inner: &Branches,
+    images: &Images,
 ) -> Result<(), BootError>
-    ensures words { OnOk result (words.new.items ≡ sent part node side (option_copied image.entry)
-        words.old.items) }
-    ensures some { OnOk result (0 < length words.new.items) }
-    ensures short { OnOk result (length words.new.items ≤ length words.old.items + 71) }
+    requires near { AreNear node (subtrees_of inner.now) }
+    requires few { count_in (subtrees_of inner.now) < 144 }
+    ensures words { OnOk result (words.new.items ≡ words.old.items ++ sent part node side
+        (image_of images.now node) (pumps part (grove images.now node (subtrees_of inner.now)))) }
+    ensures some { OnOk result (length words.old.items < length words.new.items) }
+    ensures short { OnOk result (length words.new.items
+        ≤ length words.old.items + 71 + 76 * count_in (subtrees_of inner.now)) }
     ensures memory { IfErr result (λ error. error ≡ Memory) }
 {
+    let image = image_of(images, node);
     match part {
         Part::Load => {
-            words.push_front(jump_to(port_address(side)))?;
-            if let Some(image) = image {
-                add_load(words, image)?;
-            }
-            words.push_back(word(NOPS))?;
+            words.push(jump_to(port_address(side)))?;
+            add_pumps(words, part, node, inner, images)?;
+            add_load(words, image)?;
+            words.push(word(NOPS))?;
+            Ok(())
         }
-        Part::Start => words.push_back(jump_to(start_address(node, image)))?,
+        Part::Start => {
+            add_pumps(words, part, node, inner, images)?;
+            words.push(jump_to(start_address(node, image)))?;
+            Ok(())
+        }
     }
-    Ok(())
 }
 
-/// Adds the words that fill a node's memory.
-fn add_load(words: &mut VecDeque<Word18>, image: &Image) -> Result<(), BootError>
-    ensures words { OnOk result (words.new.items ≡ words.old.items ++ load (Some image.now)) }
+/// Adds the words that fill a node's memory, where it has an image.
+fn add_load(words: &mut Vec<Word18>, image: Option<&Image>) -> Result<(), BootError>
+    ensures words { OnOk result (words.new.items ≡ words.old.items ++ load (option_copied image.entry)) }
+    ensures grows { OnOk result (length words.old.items ≤ length words.new.items) }
     ensures short { OnOk result (length words.new.items ≤ length words.old.items + 69) }
     ensures memory { IfErr result (λ error. error ≡ Memory) }
 {
+    let Some(image) = image else {
+        return Ok(());
+    };
     let own = image.words();
     let count = word(own.len() as u32 - 1);
-    put_behind(
-        words,
-        &[word(SET_A), word(0), count, word(PUSH), word(STORE)],
-    )?;
-    put_behind(words, own)
+    words.extend_from_slice(&[word(SET_A), word(0), count, word(PUSH), word(STORE)])?;
+    words.extend_from_slice(own)?;
+    Ok(())
 }
 
 /// Adds the root's own frame: its memory; or none, and the root starts.
 fn add_own_frame(
-    words: &mut VecDeque<Word18>,
+    words: &mut Vec<Word18>,
     part: Part,
     root: Node,
     image: Option<&Image>,
@@ -157,13 +173,18 @@ fn add_own_frame(
     match (part, image) {
         (Part::Load, Some(image)) => {
             let own = image.words();
-            put_behind(words, &[word(MORE), word(0), word(own.len() as u32)])?;
-            put_behind(words, own)
+            words.extend_from_slice(&[word(MORE), word(0), word(own.len() as u32)])?;
+            words.extend_from_slice(own)?;
+            Ok(())
         }
-        (Part::Load, None) => put_behind(words, &[word(MORE), word(0), word(0)]),
+        (Part::Load, None) => {
+            words.extend_from_slice(&[word(MORE), word(0), word(0)])?;
+            Ok(())
+        }
         (Part::Start, _) => {
             let start = word(u32::from(start_address(root, image)));
-            put_behind(words, &[start, word(0), word(0)])
+            words.extend_from_slice(&[start, word(0), word(0)])?;
+            Ok(())
         }
     }
 }
@@ -207,26 +228,4 @@ fn word(number: u32) -> Word18
     ensures { result ≡ number }
 {
     Word18::new(number).unwrap()
-}
-
-/// Puts words in front, the first of them first.
-fn put_in_front(words: &mut VecDeque<Word18>, more: &[Word18]) -> Result<(), BootError>
-    ensures words { OnOk result (words.new.items ≡ more.now ++ words.old.items) }
-    ensures memory { IfErr result (λ error. error ≡ Memory) }
-{
-    for word in more.iter().rev() {
-        words.push_front(*word)?;
-    }
-    Ok(())
-}
-
-/// Puts words behind.
-fn put_behind(words: &mut VecDeque<Word18>, more: &[Word18]) -> Result<(), BootError>
-    ensures words { OnOk result (words.new.items ≡ words.old.items ++ more.now) }
-    ensures memory { IfErr result (λ error. error ≡ Memory) }
-{
-    for word in more {
-        words.push_back(*word)?;
-    }
-    Ok(())
 }

@@ -1,17 +1,40 @@
-ghost use Rattle.std.specs.Prelude.{◌≡◌, IfErr, IfOk, None};
-ghost use Rattle.ga_path.specs.Stream.{IsBootFault, load_of, start_of, unreached};
+ghost use Rattle.std.specs.Prelude.{◌≡◌, [], ◌∷◌, IfErr, IfOk, None, Ok};
+ghost use Rattle.ga_path.specs.Stream.{IsBootFault, load_of, start_of, tree_load, tree_start, unreached};
+ghost use Rattle.ga_path.specs.Tree.{IsSound, TreeView, tree_of};
 
-use crate::error::BootError;
+use crate::error::{BootError, TreeError};
 use crate::parts::{Boot, Part};
 use crate::route::Route;
 use crate::sequence::part_words;
+use crate::tree::Tree;
 use ga_asm::Images;
 use ga_place::Node;
 use std::alloc::Global;
+use std::slice;
 
-/// The boot stream of a route: what its first node is to be given, so that each node with an image
-/// has the image's words in memory, and then each node starts, one with an image at the image's
-/// entry and one without at its idle address. (The words are this project's own: profile.)
+/// The boot stream of a tree: what its root is to be given, so that each node with an image has the image's words in
+/// memory, and then each node starts, one with an image at the image's entry and one without at its idle address. (The
+/// words are this project's own: profile.)
+///
+/// A node that has an image and isn't in the tree is refused as [`BootError::Unreached`], the first in the images'
+/// order. It fails as [`BootError::Memory`] only where memory is refused.
+pub fn boot_tree(alloc: Global, tree: &Tree, images: &Images) -> Result<Boot, BootError>
+    ensures load { IfOk result (λ boot. boot.load.items ≡ tree_load images.now tree.now) }
+    ensures start { IfOk result (λ boot. boot.start.items ≡ tree_start images.now tree.now) }
+    ensures reached { IfOk result (λ _. unreached images.now tree.now.nodes ≡ None) }
+    ensures fault { IfErr result (λ error. IsBootFault images.now tree.now.nodes error) }
+{
+    if let Some(node) = unreached(tree.nodes(), images) {
+        return Err(BootError::Unreached(node));
+    }
+    let (root, branches) = (tree.root(), tree.branches());
+    Ok(Boot {
+        load: part_words(alloc, Part::Load, root, branches, images)?,
+        start: part_words(alloc, Part::Start, root, branches, images)?,
+    })
+}
+
+/// The boot stream of a route, which is that of the tree of this one route.
 ///
 /// A node that has an image and isn't on the route is refused as [`BootError::Unreached`], the
 /// first in the images' order. It fails as [`BootError::Memory`] only where memory is refused.
@@ -20,22 +43,30 @@ pub fn boot(alloc: Global, route: &Route, images: &Images) -> Result<Boot, BootE
     ensures start { IfOk result (λ boot. boot.start.items ≡ start_of images.now route.now) }
     ensures reached { IfOk result (λ _. unreached images.now route.now ≡ None) }
     ensures fault { IfErr result (λ error. IsBootFault images.now route.now error) }
+    // what is made of the tree of this one route, whose nodes are those of the route
+    ensures tree { IfOk result (λ boot. (tree : TreeView) × (tree_of (route.now ∷ []) ≡ Ok tree)
+        × IsSound tree × (tree.nodes ≡ route.now)
+        × (boot.load.items ≡ tree_load images.now tree)
+        × (boot.start.items ≡ tree_start images.now tree)) }
 {
-    if let Some(node) = unreached(route, images) {
-        return Err(BootError::Unreached(node));
+    // the clause of this call tells that the route has no fault
+    let _nodes = route.nodes();
+    match Tree::new(alloc, slice::from_ref(route)) {
+        Ok(tree) => boot_tree(alloc, &tree, images),
+        Err(fault) => {
+            // one route is a tree
+            prove!(fault == TreeError::Memory);
+            Err(BootError::Memory)
+        }
     }
-    Ok(Boot {
-        load: part_words(alloc, Part::Load, route.nodes(), images)?,
-        start: part_words(alloc, Part::Start, route.nodes(), images)?,
-    })
 }
 
-/// The first node with an image that isn't on the route.
-fn unreached(route: &Route, images: &Images) -> Option<Node>
-    ensures { result ≡ unreached images.now route.now }
+/// The first node with an image that isn't among these nodes.
+fn unreached(nodes: &[Node], images: &Images) -> Option<Node>
+    ensures { result ≡ unreached images.now nodes.now }
 {
     for (node, _) in images.images() {
-        if !route.nodes().contains(node) {
+        if !nodes.contains(node) {
             return Some(*node);
         }
     }

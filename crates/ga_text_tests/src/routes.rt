@@ -1,6 +1,9 @@
 use crate::shared::assembled;
 use ga_frame::read_frames;
-use ga_path::{Boot, BootError, NamesError, Route, RouteError, boot, read_nodes};
+use ga_path::{
+    Boot, BootError, NamesError, Route, RouteError, Tree, TreeError, boot, boot_tree, read_nodes,
+    read_routes, routes_along,
+};
 use ga_test_values::node;
 use ga_word::Word18;
 use std::alloc::Global;
@@ -26,6 +29,23 @@ fn booted(alloc: Global, names: &[u16], text: &str) -> Result<Boot, Fail> {
     let route = route(alloc, names)?.ok().ok_or("no route")?;
     Ok(
         boot(alloc, &route, &assembled(alloc, text)?)
+            .ok()
+            .ok_or("no boot")?,
+    )
+}
+
+fn tree(alloc: Global, routes: &[&[u16]]) -> Result<Result<Tree, TreeError>, Fail> {
+    let mut all = Vec::new(alloc);
+    for names in routes {
+        all.push(route(alloc, names)?.ok().ok_or("no route")?)?;
+    }
+    Ok(Tree::new(alloc, &all))
+}
+
+fn booted_tree(alloc: Global, routes: &[&[u16]], text: &str) -> Result<Boot, Fail> {
+    let tree = tree(alloc, routes)?.ok().ok_or("no tree")?;
+    Ok(
+        boot_tree(alloc, &tree, &assembled(alloc, text)?)
             .ok()
             .ok_or("no boot")?,
     )
@@ -59,6 +79,41 @@ fn boot_two_hops(rt: HostRuntime) -> Result<(), Fail> {
         0x001B5, 0x00000, 0x00000,
     ];
     assert!(rt; numbers(&boot.load, &load));
+    assert!(rt; numbers(&boot.start, &start));
+    Ok(())
+}
+
+#[test]
+fn boot_two_neighbours(rt: HostRuntime) -> Result<(), Fail> {
+    let boot = booted_tree(
+        rt.alloc(),
+        &[&[708, 709], &[708, 608]],
+        "node 709 . node 608 .",
+    )?;
+    let load = [
+        0x000AE, 0x001D5, 0x00008, 0x101D5, 0x04A12, 0x00000, 0x00000, 0x2E9B2, 0x05872, 0x2C9B2,
+        0x2C9B2, 0x000AE, 0x00115, 0x00008, 0x10115, 0x04A12, 0x00000, 0x00000, 0x2E9B2, 0x05872,
+        0x2C9B2, 0x2C9B2, 0x000AE, 0x00000, 0x00000,
+    ];
+    let start = [
+        0x000AE, 0x001D5, 0x00001, 0x10000, 0x000AE, 0x00115, 0x00001, 0x10000, 0x001B5, 0x00000,
+        0x00000,
+    ];
+    assert!(rt; numbers(&boot.load, &load));
+    assert!(rt; numbers(&boot.start, &start));
+    Ok(())
+}
+
+#[test]
+fn boot_two_behind_one(rt: HostRuntime) -> Result<(), Fail> {
+    let routes: [&[u16]; 2] = [&[708, 709, 710], &[708, 709, 609]];
+    let boot = booted_tree(rt.alloc(), &routes, "node 710 . node 609 .")?;
+    let start = [
+        0x000AE, 0x001D5, 0x0000D, 0x04A12, 0x00175, 0x00000, 0x2E9B2, 0x05A72, 0x10000, 0x04A12,
+        0x00115, 0x00000, 0x2E9B2, 0x05A72, 0x10000, 0x101B5, 0x001B5, 0x00000, 0x00000,
+    ];
+    assert!(rt; boot.load.len() == 34);
+    assert!(rt; numbers(&boot.load[..3], &[0x000AE, 0x001D5, 0x0001C]));
     assert!(rt; numbers(&boot.start, &start));
     Ok(())
 }
@@ -118,6 +173,28 @@ fn names_of_nodes(rt: HostRuntime) -> Result<(), Fail> {
 }
 
 #[test]
+fn names_of_routes(rt: HostRuntime) -> Result<(), Fail> {
+    let alloc = rt.alloc();
+    let lists = read_routes(alloc, "708,709/708,608/708,610")?;
+    assert!(rt; lists.len() == 3);
+    assert!(rt; lists[1].as_slice() == [node(708)?, node(608)?].as_slice());
+    // the last one is no route, and of its own nodes the second is wrong
+    assert!(rt; routes_along(alloc, &lists).err() == Some(RouteError::NotNeighbour(1)));
+    let routes = routes_along(alloc, &lists[..2]).ok().ok_or("no routes")?;
+    assert!(rt; routes.len() == 2);
+    assert!(rt; read_routes(alloc, "708")?.len() == 1);
+    for text in [
+        "", "/", "/708", "708/", "708//709", "708/709,", "708 /709", "708/999",
+    ] {
+        assert!(rt;
+            read_routes(alloc, text).err() == Some(NamesError::BadNames),
+            "{text}"
+        );
+    }
+    Ok(())
+}
+
+#[test]
 fn refusals_by_name(rt: HostRuntime) -> Result<(), Fail> {
     let alloc = rt.alloc();
     for (names, fault) in [
@@ -157,5 +234,66 @@ fn longest_route(rt: HostRuntime) -> Result<(), Fail> {
     // jump, a pump and the close; then both frames' headers
     assert!(rt; boot.load.len() == 8 + 142 * 7 + 6);
     assert!(rt; boot.start.len() == 1 + 142 * 6 + 6);
+    Ok(())
+}
+
+#[test]
+fn trees_refused_by_name(rt: HostRuntime) -> Result<(), Fail> {
+    let alloc = rt.alloc();
+    assert!(rt; tree(alloc, &[])?.err() == Some(TreeError::Empty));
+    let other: [&[u16]; 2] = [&[708, 709], &[0, 1]];
+    assert!(rt; tree(alloc, &other)?.err() == Some(TreeError::OtherRoot(1)));
+    let joined: [&[u16]; 2] = [&[708, 709, 609], &[708, 608, 609]];
+    assert!(rt; tree(alloc, &joined)?.err() == Some(TreeError::Repeated(1)));
+    // of two faults the first one is told
+    let both: [&[u16]; 3] = [&[708, 709, 609], &[708, 608, 609], &[0, 1]];
+    assert!(rt; tree(alloc, &both)?.err() == Some(TreeError::Repeated(1)));
+    let fork: [&[u16]; 2] = [&[708, 709], &[708, 608]];
+    let fork = tree(alloc, &fork)?.ok().ok_or("no tree")?;
+    let images = assembled(alloc, "node 709 . node 710 . node 711 .")?;
+    let unreached = BootError::Unreached(node(710)?);
+    assert!(rt; boot_tree(alloc, &fork, &images).err() == Some(unreached));
+    Ok(())
+}
+
+#[test]
+fn nodes_as_routes_name_them(rt: HostRuntime) -> Result<(), Fail> {
+    let alloc = rt.alloc();
+    // the second route turns off behind the first one, the third comes back to it, and the last adds nothing
+    let routes: [&[u16]; 4] = [&[708, 709, 710], &[708, 608], &[708, 709, 609], &[708, 709]];
+    let tree = tree(alloc, &routes)?.ok().ok_or("no tree")?;
+    assert!(rt; tree.root() == node(708)?);
+    let mut names = Vec::new(alloc);
+    for node in tree.nodes() {
+        names.push(node.name())?;
+    }
+    assert!(rt; names.as_slice() == [708, 709, 710, 608, 609].as_slice());
+    Ok(())
+}
+
+#[test]
+fn tree_of_columns(rt: HostRuntime) -> Result<(), Fail> {
+    // all 144 nodes: along row 0, and from there up each column
+    let alloc = rt.alloc();
+    let mut routes = Vec::new(alloc);
+    for column in 0..18 {
+        let mut names = Vec::new(alloc);
+        for before in 0..column {
+            names.push(before)?;
+        }
+        for row in 0..8 {
+            names.push(row * 100 + column)?;
+        }
+        routes.push(route(alloc, &names)?.ok().ok_or("no route")?)?;
+    }
+    let tree = Tree::new(alloc, &routes).ok().ok_or("no tree")?;
+    assert!(rt; tree.nodes().len() == 144);
+    let boot = boot_tree(alloc, &tree, &assembled(alloc, "node 717 .")?)
+        .ok()
+        .ok_or("no boot")?;
+    // each of 143 nodes: a jump and the close; each of those but two that the root has itself: a pump; six words that
+    // fill a memory, and three frames' headers
+    assert!(rt; boot.load.len() == 143 * 2 + 141 * 5 + 6 + 9);
+    assert!(rt; boot.start.len() == 143 + 141 * 5 + 9);
     Ok(())
 }
