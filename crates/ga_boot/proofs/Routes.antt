@@ -1,19 +1,23 @@
--- A route is a tree.
-use Rattle.std.proofs.Common.{◌≡◌, ◌∙◌, inl, inr, ◌==◌, ℕ, suc, Bool, true, false, List, [], ◌∷◌, ◌++◌, Option, Some, None, IsSome, is_some, refl, sym, ap, subst, append-nil}
+-- A tree of routes is a tree.
+use Rattle.std.proofs.Common.{◌≡◌, ◌∙◌, ◌⊎◌, inl, inr, ◌==◌, ℕ, suc, Bool, true, false, List, [], ◌∷◌, ◌++◌, map, Option, Some, None, IsSome, is_some, refl, sym, ap, ap₂, subst}
 use Rattle.std.specs.Prelude.{if◌then◌else◌, All, IfSome, ◌||◌, unwrap_or}
+use Rattle.std.specs.List.{AllByRecursion, IsDistinct}
 use Rattle.std.proofs.lemmas.Bool.{eq-eqb, eqb-true, false≢true, true≢false}
+use Rattle.std.proofs.lemmas.List.{map-append}
+use Rattle.std.proofs.lemmas.List.Sorted.{list_any-IsPermutation}
 use Rattle.std.proofs.lemmas.Map.Entries.{All-lookup}
 use Rattle.ga_word.proofs.Find.{find_passes}
 use Rattle.ga_asm.specs.Image.{ImageView}
-use Rattle.ga_path.specs.Route.{hops_fault, route_fault}
-use Rattle.ga_path.specs.Stream.{Images, below, image_of}
-use Rattle.ga_path.proofs.Hops.{IsHop, behind, hop, route_hops}
+use Rattle.ga_path.specs.Stream.{Images, grove, image_of}
+use Rattle.ga_path.specs.Tree.{AreNear, IsSound, NoMore, Subtree, Subtrees, TreeView, names_in}
+use Rattle.ga_path.proofs.Trees.{all_once}
 use Rattle.ga_place.specs.Node.{is_among}
 use Rattle.ga_place.specs.Side.{SIDES, is_the_node, neighbour_of, side_to}
 use Rattle.ga_place.specs.declared.side.Side.{Side}
 use Rattle.ga_place.specs.declared.side.Side.TheVariants.{Right}
-use Rattle.ga_boot.specs.Laws.{RouteIsTree}
+use Rattle.ga_boot.specs.Laws.{RoutesAreTree}
 use Rattle.ga_boot.specs.Tree.{Elem, HasRoom, IsLoadable, Once, Place, found, places}
+use Rattle.ga_boot.proofs.Places.{elem_cut}
 
 -- the image that a node has is one of the images
 image_there : (images : Images) (name : ℕ) → All (λ entry. IsLoadable entry.1) images → HasRoom (image_of images name)
@@ -27,7 +31,7 @@ leads : (there : Option ℕ) (other : ℕ) → is_the_node other there ≡ true 
 leads None other e = absurd (false≢true e)
 leads (Some there) other e = ap Some (eqb-true there other e)
 
--- the next node of a route is the neighbour at the side to it
+-- a node is the neighbour of another at the side to it
 next_there : (from name : ℕ) → IsSome (side_to from name) → neighbour_of from (unwrap_or (side_to from name) Right) ≡ Some name
 next_there from name near = by (side_to from name) (find_passes (λ side. is_the_node name (neighbour_of from side)) SIDES) near
   where
@@ -35,78 +39,94 @@ next_there from name near = by (side_to from name) (find_passes (λ side. is_the
     by None h some = absurd (true≢false (sym some))
     by (Some side) h some = leads (neighbour_of from side) name h
 
--- a name that doesn't stand among others isn't the first of them, nor among the rest
-not_first : (name other : ℕ) (names : List ℕ) → is_among name (other ∷ names) ≡ false → (name ≡ other → ⊥) × (is_among name names ≡ false)
-not_first name other names e = by (other == name) refl e
+-- ---- the places of subtrees
+
+abbrev places_of : Images → ℕ → ℕ → Subtrees → List Place
+places_of images parent depth subtrees = places parent depth (grove images parent subtrees)
+
+names_of : List Place → List ℕ
+names_of ps = map (λ (p : Place). p.name) ps
+
+names_are : (images : Images) (parent depth : ℕ) (subtrees : Subtrees) → names_of (places_of images parent depth subtrees) ≡ names_in subtrees
+unfolding names_of
+names_are images parent depth NoMore = refl
+names_are images parent depth (Subtree name inner beside) =
+    ap (λ l. name ∷ l) (map-append (λ (p : Place). p.name) (places_of images name (suc depth) inner) (places_of images parent depth beside)
+    ∙ ap₂ (λ a b. a ++ b) (names_are images name (suc depth) inner) (names_are images parent depth beside))
+
+there : (images : Images) (parent depth : ℕ) (subtrees : Subtrees) → AreNear parent subtrees → (p : Place) → Elem p (places_of images parent depth subtrees) → neighbour_of p.parent p.side ≡ Some p.name
+there images parent depth NoMore near p e = absurd e
+there images parent depth (Subtree name inner beside) near p (inl same) = subst (λ q. neighbour_of q.parent q.side ≡ Some q.name) (sym same) (next_there parent name near.0)
+there images parent depth (Subtree name inner beside) near p (inr e) =
+    by (elem_cut p (places_of images name (suc depth) inner) (places_of images parent depth beside) e) (there images name (suc depth) inner near.1 p) (there images parent depth beside near.2 p)
   where
-    by : (b : Bool) → (other == name) ≡ b → (b || is_among name names) ≡ false → (name ≡ other → ⊥) × (is_among name names ≡ false)
-    by true f e = absurd (true≢false e)
-    by false f e = (λ same. absurd (false≢true (sym f ∙ eq-eqb other name (sym same))), e)
+    by : Elem p (places_of images name (suc depth) inner) ⊎ Elem p (places_of images parent depth beside)
+        → (Elem p (places_of images name (suc depth) inner) → neighbour_of p.parent p.side ≡ Some p.name)
+        → (Elem p (places_of images parent depth beside) → neighbour_of p.parent p.side ≡ Some p.name) → neighbour_of p.parent p.side ≡ Some p.name
+    by (inl f) inside other = inside f
+    by (inr f) inside other = other f
 
--- what is known of the nodes behind one of a route
-record Behind (images : Images) (last depth : ℕ) (before names : List ℕ) : Type 0 where
-  there : (p : Place) → Elem p (places last depth (below images last names)) → neighbour_of p.parent p.side ≡ Some p.name
-  image : (p : Place) → Elem p (places last depth (below images last names)) → p.image ≡ image_of images p.name
-  new : (p : Place) → Elem p (places last depth (below images last names)) → is_among p.name (last ∷ before) ≡ false
-  once : Once (places last depth (below images last names))
-
--- the place of the first one, and its own places
-abbrev first_place : Images → ℕ → ℕ → ℕ → List ℕ → Place
-first_place images last depth name names = record { name = name; parent = last; side = unwrap_or (side_to last name) Right; image = image_of images name; inner = below images name names; depth = depth }
-
-abbrev places_below : Images → ℕ → ℕ → List ℕ → List Place
-places_below images name depth names = places name (suc depth) (below images name names)
-
-one_more : (images : Images) (last depth name : ℕ) (before names : List ℕ) → IsHop last before name → Behind images name (suc depth) (last ∷ before) names → Behind images last depth before (name ∷ names)
-one_more images last depth name before names is rest = record {
-  there = λ p f. here p f (neighbour_of p.parent p.side ≡ Some p.name) (λ same. subst (λ q. neighbour_of q.parent q.side ≡ Some q.name) (sym same) (next_there last name is.near)) (rest.there p);
-  image = λ p f. here p f (p.image ≡ image_of images p.name) (λ same. subst (λ q. q.image ≡ image_of images q.name) (sym same) refl) (rest.image p);
-  new = λ p f. here p f (is_among p.name (last ∷ before) ≡ false) (λ same. ap (λ q. is_among q.name (last ∷ before)) same ∙ is.new) (λ g. (not_first p.name name (last ∷ before) (rest.new p g)).1);
-  once = (λ q f. (not_first q.name name (last ∷ before) (rest.new q (inside q f))).0, subst Once (sym (append-nil (places_below images name depth names))) rest.once);
-}
+-- the image of a place is that of its node
+pub image_is : (images : Images) (parent depth : ℕ) (subtrees : Subtrees) (p : Place) → Elem p (places parent depth (grove images parent subtrees)) → p.image ≡ image_of images p.name
+image_is images parent depth NoMore p e = absurd e
+image_is images parent depth (Subtree name inner beside) p (inl same) = subst (λ q. q.image ≡ image_of images q.name) (sym same) refl
+image_is images parent depth (Subtree name inner beside) p (inr e) =
+    by (elem_cut p (places_of images name (suc depth) inner) (places_of images parent depth beside) e) (image_is images name (suc depth) inner p) (image_is images parent depth beside p)
   where
-    inside : (p : Place) → Elem p (places_below images name depth names ++ []) → Elem p (places_below images name depth names)
-    inside p f = subst (Elem p) (append-nil (places_below images name depth names)) f
+    by : Elem p (places_of images name (suc depth) inner) ⊎ Elem p (places_of images parent depth beside)
+        → (Elem p (places_of images name (suc depth) inner) → p.image ≡ image_of images p.name)
+        → (Elem p (places_of images parent depth beside) → p.image ≡ image_of images p.name) → p.image ≡ image_of images p.name
+    by (inl f) inside other = inside f
+    by (inr f) inside other = other f
 
-    here : (p : Place) → Elem p (first_place images last depth name names ∷ (places_below images name depth names ++ [])) → (C : Type 0) → (p ≡ first_place images last depth name names → C) → (Elem p (places_below images name depth names) → C) → C
-    here p (inl same) C one other = one same
-    here p (inr f) C one other = other (inside p f)
+-- a name that differs from all of some places is none of theirs
+differs : (name : ℕ) (ps : List Place) → AllByRecursion (λ other. (name == other) ≡ false) (names_of ps) → (q : Place) → Elem q ps → q.name ≡ name → ⊥
+unfolding names_of
+differs name [] all q e same = e
+differs name (p ∷ ps) all q (inl e) same = false≢true (sym all.0 ∙ eq-eqb name p.name (sym same ∙ ap (λ (z : Place). z.name) e))
+differs name (p ∷ ps) all q (inr e) same = differs name ps all.1 q e same
 
-along : (images : Images) (last depth : ℕ) (before names : List ℕ) → hops_fault (last ∷ before) names ≡ None → Behind images last depth before names
-along images last depth before [] e = record { there = λ p f. absurd f; image = λ p f. absurd f; new = λ p f. absurd f; once = tt }
-along images last depth before (name ∷ names) e = one_more images last depth name before names (hop last before name names e) (along images name (suc depth) (last ∷ before) names (behind last before name names e))
+once : (ps : List Place) → IsDistinct ◌==◌ (names_of ps) → Once ps
+unfolding IsDistinct names_of
+once [] distinct = tt
+once (p ∷ ps) distinct = (differs p.name ps distinct.0, once ps distinct.1)
 
-pub route_is_tree : RouteIsTree
-route_is_tree images root names named faultless all =
-    let b = along images root 1 [] names (route_hops root names faultless) in (
+pub routes_are_tree : RoutesAreTree
+unfolding IsDistinct
+routes_are_tree images tree named sound all =
+    let distinct = all_once tree sound in
+    let names = names_are images tree.root 1 tree.subtrees in (
       record {
         named = named;
-        loads = image_there images root all;
-        images = λ p e. subst HasRoom (sym (b.image p e)) (image_there images p.name all);
-        there = b.there;
-        once = b.once;
-        apart = λ p e same. (not_first p.name root [] (b.new p e)).0 same;
+        loads = image_there images tree.root all;
+        images = λ p e. subst HasRoom (sym (image_is images tree.root 1 tree.subtrees p e)) (image_there images p.name all);
+        there = there images tree.root 1 tree.subtrees sound.near;
+        once = once (places_of images tree.root 1 tree.subtrees) (subst (IsDistinct ◌==◌) (sym names) distinct.1);
+        apart = differs tree.root (places_of images tree.root 1 tree.subtrees) (subst (AllByRecursion (λ other. (tree.root == other) ≡ false)) (sym names) distinct.0);
       },
       refl,
     )
 
--- the image of a place is that of its node
-pub image_is : (images : Images) (root : ℕ) (names : List ℕ) → route_fault (root ∷ names) ≡ None → (p : Place) → Elem p (places root 1 (below images root names)) → p.image ≡ image_of images p.name
-image_is images root names faultless = (along images root 1 [] names (route_hops root names faultless)).image
+-- ---- the place of a node
 
--- each node of a route but the first has a place
-found_among : (images : Images) (last depth : ℕ) (names : List ℕ) (name : ℕ) → is_some (found name (places last depth (below images last names))) ≡ is_among name names
-found_among images last depth [] name = refl
-found_among images last depth (next ∷ names) name = by (next == name) (ap (λ l. is_some (found name l)) (append-nil (places_below images next depth names)) ∙ found_among images next (suc depth) names name)
+-- each of these names has a place
+found_among : (ps : List Place) (name : ℕ) → is_some (found name ps) ≡ is_among name (names_of ps)
+unfolding names_of
+found_among [] name = refl
+found_among (p ∷ ps) name = by (p.name == name) (found_among ps name)
   where
-    by : (b : Bool) → is_some (found name (places_below images next depth names ++ [])) ≡ is_among name names
-        → is_some (if b then Some (first_place images last depth next names) else found name (places_below images next depth names ++ [])) ≡ (b || is_among name names)
+    by : (b : Bool) → is_some (found name ps) ≡ is_among name (map (λ (q : Place). q.name) ps)
+        → is_some (if b then Some p else found name ps) ≡ (b || is_among name (map (λ (q : Place). q.name) ps))
     by true rest = refl
     by false rest = rest
 
-pub stands_there : (images : Images) (root : ℕ) (names : List ℕ) (name : ℕ) → is_among name (root ∷ names) ≡ true → found name (places root 1 (below images root names)) ≡ None → name ≡ root
-stands_there images root names name among none = by (root == name) refl (ap is_some none) among
+-- a node of a tree that has no place is the root
+pub stands_there : (images : Images) (tree : TreeView) (name : ℕ) → IsSound tree → is_among name tree.nodes ≡ true → found name (places tree.root 1 (grove images tree.root tree.subtrees)) ≡ None → name ≡ tree.root
+stands_there images tree name sound among none =
+    by (tree.root == name) refl
+    (sym (ap is_some none) ∙ found_among (places_of images tree.root 1 tree.subtrees) name ∙ ap (is_among name) (names_are images tree.root 1 tree.subtrees))
+    (sym (list_any-IsPermutation (λ other. other == name) tree.nodes (tree.root ∷ names_in tree.subtrees) sound.nodes) ∙ among)
   where
-    by : (b : Bool) → (root == name) ≡ b → is_some (found name (places root 1 (below images root names))) ≡ false → (b || is_among name names) ≡ true → name ≡ root
-    by true e f g = sym (eqb-true root name e)
-    by false e f g = absurd (false≢true (sym f ∙ found_among images root 1 names name ∙ g))
+    by : (b : Bool) → (tree.root == name) ≡ b → false ≡ is_among name (names_in tree.subtrees) → (b || is_among name (names_in tree.subtrees)) ≡ true → name ≡ tree.root
+    by true e f g = sym (eqb-true tree.root name e)
+    by false e f g = absurd (false≢true (f ∙ g))

@@ -1,8 +1,8 @@
 -- Boot in every schedule.
-use Rattle.std.specs.Prelude.{◌≡◌, ◌++◌, ℕ, List, [], ◌∷◌, ◌⊎◌, All, drop, is_some, if◌then◌else◌, Option, Some, None}
+use Rattle.std.specs.Prelude.{◌≡◌, ◌++◌, ℕ, List, [], ◌∷◌, ◌⊎◌, All, drop, is_some, if◌then◌else◌, Option, Some}
 use Rattle.ga_asm.specs.Image.{ImageView}
-use Rattle.ga_path.specs.Route.{route_fault}
-use Rattle.ga_path.specs.Stream.{Images, below, image_of, load_of, start_of}
+use Rattle.ga_path.specs.Stream.{Images, grove, image_of, tree_load, tree_start}
+use Rattle.ga_path.specs.Tree.{IsSound, TreeView}
 use Rattle.ga_place.specs.Node.{IsNodeName}
 use Rattle.ga_path.specs.Sequences.{Grove, start_address}
 use Rattle.ga_place.specs.declared.side.Side.{Side}
@@ -42,12 +42,12 @@ TreeBoots = (chip : Chip) (root : ℕ) (image : Option ImageView) (trees : Grove
     → IsTree root image trees → IsSupplied chip root (stream_words root image trees) events
     → Boots chip root image trees events
 
--- A route is a tree, where its images have room, and the stream that boots the tree is that of the route.
-abbrev pub RouteIsTree : Type 0
-RouteIsTree = (images : Images) (root : ℕ) (names : List ℕ) → IsNodeName root → route_fault (root ∷ names) ≡ None
+-- A tree of routes is a tree, where its images have room, and its boot stream is the stream that boots that tree.
+abbrev pub RoutesAreTree : Type 0
+RoutesAreTree = (images : Images) (tree : TreeView) → IsNodeName tree.root → IsSound tree
     → All (λ entry. IsLoadable entry.1) images
-    → IsTree root (image_of images root) (below images root names)
-    × (stream_words root (image_of images root) (below images root names) ≡ load_of images (root ∷ names) ++ start_of images (root ∷ names))
+    → IsTree tree.root (image_of images tree.root) (grove images tree.root tree.subtrees)
+    × (stream_words tree.root (image_of images tree.root) (grove images tree.root tree.subtrees) ≡ tree_load images tree ++ tree_start images tree)
 
 -- the sides of a node's takes of several sides in a run, without the one by which a node of a tree took its first word
 abbrev pub later_sides : Chip → ℕ → Grove → List Event → ℕ → List Side
