@@ -1,7 +1,9 @@
 -- The text of the firmware has the image that was worked out by hand, and what the law asks of a boot holds for it.
 use Rattle.std.proofs.Common.{◌≡◌, ℕ, List, [], ◌∷◌, None, Ok, refl, subst, le_refl, lit<}
+use Rattle.std.specs.List.{IsDistinct}
 use Rattle.std.specs.Prelude.{All, codes}
-use Rattle.std.proofs.lemmas.List.Elements.{All-cons, All-nil}
+use Rattle.std.proofs.lemmas.List.Sorted.{IsPermutation-refl}
+use Rattle.std.proofs.lemmas.List.Elements.{All-from_recursion}
 use native.Mathlib.Bridge.{IsLe, le_by_compare}
 use Rattle.ga_word.specs.Word.{bits}
 use Rattle.ga_word.specs.declared.op.Op.TheVariants.{Nop}
@@ -17,24 +19,28 @@ use Rattle.ga_asm.specs.Assembling.{HasNoFault, IsAssembled}
 use Rattle.ga_asm.specs.Image.{IsImage}
 use Rattle.ga_asm.specs.Text.{AtMostOne, HasImages, IsImagesOf}
 use Rattle.ga_path.specs.Stream.{Images}
+use Rattle.ga_path.specs.Tree.{IsSound}
 use Rattle.ga_boot.specs.Tree.{IsLoadable}
-use Rattle.ga_boot_example.specs.Firmware.{dots, firmware}
+use Rattle.ga_boot_example.specs.Firmware.{dots, firmware, fork}
 
 abbrev text : List ℕ
-text = codes "node 708 . node 709 ."
+text = codes "node 708 . node 709 . node 608 ."
 
--- two nodes with one item each, `.`
+-- three nodes with one item each, `.`
 abbrev dot_at : ℕ → ℕ → PlacedSection
 dot_at name column = record { name = name; items = record { item = Instruction Nop; place = record { line = 1; column = column }; name_place = None } ∷ [] }
 
 abbrev program : List PlacedSection
-program = dot_at 708 10 ∷ dot_at 709 21 ∷ []
+program = dot_at 708 10 ∷ dot_at 709 21 ∷ dot_at 608 32 ∷ []
 
 is_program : IsProgram text program
 unfolding IsProgram tokens_of texts_of places_of lexemes end_of meanings meaning_at meaning_of Source Sections Items is_item part_after placed_sections placed_items
 is_program = (
-  record { name = 708; items = Instruction Nop ∷ [] } ∷ record { name = 709; items = Instruction Nop ∷ [] } ∷ [],
-  (refl, (refl, (Code 0, refl, refl, refl, refl), (refl, (Code 0, refl, refl, refl, refl), tt))),
+  record { name = 708; items = Instruction Nop ∷ [] }
+      ∷ record { name = 709; items = Instruction Nop ∷ [] }
+      ∷ record { name = 608; items = Instruction Nop ∷ [] }
+      ∷ [],
+  (refl, (refl, (Code 0, refl, refl, refl, refl), (refl, (Code 0, refl, refl, refl, refl), (refl, (Code 0, refl, refl, refl, refl), tt)))),
   refl,
 )
 
@@ -56,7 +62,7 @@ is_dots = record {
 
 assembled : IsAssembled program firmware
 unfolding IsAssembled
-assembled = (refl, is_dots, (refl, is_dots, tt))
+assembled = (refl, is_dots, (refl, is_dots, (refl, is_dots, tt)))
 
 has_firmware : (images : Images) → HasImages text images → HasImages text firmware
 has_firmware images h =
@@ -77,4 +83,13 @@ unfolding IsLe
 dots_loadable = record { some = le_refl 1; most = le_by_compare 1 64 tt; entry_near = le_by_compare 0 64 tt }
 
 pub loadable : All (λ entry. IsLoadable entry.1) firmware
-loadable = All-cons (λ entry. IsLoadable entry.1) (708, dots) ((709, dots) ∷ []) dots_loadable (All-cons (λ entry. IsLoadable entry.1) (709, dots) [] dots_loadable (All-nil (λ entry. IsLoadable entry.1)))
+loadable = All-from_recursion (λ entry. IsLoadable entry.1) firmware (dots_loadable, (dots_loadable, (dots_loadable, tt)))
+
+pub fork_sound : IsSound fork
+unfolding IsDistinct
+fork_sound = record {
+  edge = refl;
+  near = (refl, tt, (refl, tt, tt));
+  once = ((refl, (refl, tt)), ((refl, tt), (tt, tt)));
+  nodes = IsPermutation-refl fork.nodes;
+}

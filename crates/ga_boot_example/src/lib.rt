@@ -1,4 +1,4 @@
-//! An example of how the law of booting is used: a firmware of two nodes, which is booted along a route.
+//! An example of how the law of booting is used: a firmware of three nodes, which is booted as a tree.
 #![tactic(auto)]
 
 mod firmware;

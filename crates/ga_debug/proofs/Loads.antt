@@ -6,9 +6,11 @@ use Rattle.ga_debug.specs.declared.beginning.Loaded.{Loaded}
 use Rattle.ga_debug.specs.declared.profile.Profile.TheVariants.{Two}
 use Rattle.ga_debug.specs.declared.replay_error.ReplayError.{ReplayError}
 use Rattle.ga_debug.specs.declared.replay_error.ReplayError.TheVariants.{Memory}
-use Rattle.ga_debug.specs.Beginning.{IsLoaded, chip_of, start_view}
+use Rattle.ga_debug.specs.Beginning.{IsChipOf, IsLoaded, chip_of, start_view}
 use Rattle.ga_debug.specs.Head.{Head, head_in}
 use Rattle.ga_debug.specs.ReplayError.{Answers, FailsRightly}
+use Rattle.ga_debug.specs.inner.ReplayError.{Gives}
+use Rattle.ga_chip.specs.Chip.{Chip}
 use Rattle.ga_path.specs.Stream.{Images}
 
 -- the fault of a route, or of a boot along it
@@ -21,3 +23,13 @@ pub fails_to_load : (text : List ℕ) (head : Head) (images : Images) (result : 
     → FailsRightly (λ right. chip_of head.loading images ≡ right) fault → IsErrAnd result (λ error. error ≡ fault) → Answers start_view (IsLoaded text) result
 fails_to_load text head images (Ok loaded) fault is has made same = absurd same
 fails_to_load text head images (Err error) fault is has made same = subst (FailsRightly (IsLoaded text)) (sym same) (route_fails text head images fault is has made)
+
+chip_fails : (head : Head) (images : Images) (fault : ReplayError) → HasImages head.source images → FailsRightly (λ right. chip_of head.loading images ≡ right) fault → FailsRightly (IsChipOf head) fault
+chip_fails head images Memory has made = tt
+chip_fails head images fault has made = inr (images, has, made)
+
+-- the chip of the images of a head's source, or what is wrong with its routes, is that of the head
+pub chip_answers : (head : Head) (images : Images) (result : Result Chip ReplayError) → HasImages head.source images → Gives (λ chip. chip) result (chip_of head.loading images)
+    → Answers (λ chip. chip) (IsChipOf head) result
+chip_answers head images (Ok chip) has made = (images, has, made)
+chip_answers head images (Err fault) has made = chip_fails head images fault has made

@@ -8,6 +8,7 @@ use Rattle.ga_node.specs.Need.{need_of}
 use Rattle.ga_asm.specs.Image.{ImageView}
 use Rattle.ga_path.specs.declared.error.BootError.TheVariants.{Unreached}
 use Rattle.ga_path.specs.declared.error.RouteError.TheVariants.{NotNeighbour}
+use Rattle.ga_path.specs.declared.error.TreeError.TheVariants.{OtherRoot, Repeated}
 use Rattle.ga_chip.specs.Chip.{Chip, part_of, placed, reset_chip, state_of, streamed, tried}
 use Rattle.ga_chip.specs.Part.{after, asks}
 use Rattle.ga_chip.specs.Run.{SetBreak, happened}
@@ -19,7 +20,7 @@ use Rattle.ga_debug.specs.declared.command.Command.TheVariants.{Act, Show}
 use Rattle.ga_debug.specs.declared.error.DebugError.TheVariants.{BadAddress, BadCommand, BadCount, BadNode, BadSide, NotHeld}
 use Rattle.ga_debug.specs.declared.profile.Profile.TheVariants.{One, Two}
 use Rattle.ga_debug.specs.declared.replay_error.ReplayError.{ReplayError}
-use Rattle.ga_debug.specs.declared.replay_error.ReplayError.TheVariants.{BadProfile, BadRoute, Boot, NoGo, Route}
+use Rattle.ga_debug.specs.declared.replay_error.ReplayError.TheVariants.{BadProfile, BadRoute, Boot, NoGo, Route, Tree}
 use Rattle.ga_debug.specs.Beginning.{chip_of}
 use Rattle.ga_debug.specs.declared.replaying.LineError.TheVariants.{Bad, Differs}
 use Rattle.ga_debug.specs.declared.word.View.TheVariants.{Mem}
@@ -32,7 +33,7 @@ use Rattle.ga_debug.specs.Word.{decimal_of}
 
 -- ---- heads
 
-heads : (head_in Two (codes "profile 2\nroute 708,709\nnode 709 .\n\ngo\ntry 709 r = waits") ≡ Ok (record { loading = Some (708 ∷ 709 ∷ []); source = codes "node 709 .\n\n"; line = 5; commands = codes "try 709 r = waits" ∷ [] }))
+heads : (head_in Two (codes "profile 2\nroute 708,709\nnode 709 .\n\ngo\ntry 709 r = waits") ≡ Ok (record { loading = Some ((708 ∷ 709 ∷ []) ∷ []); source = codes "node 709 .\n\n"; line = 5; commands = codes "try 709 r = waits" ∷ [] }))
     × (head_in Two [] ≡ Err BadProfile)
     × (head_in Two (codes "profile 2\nroute 708 709\ngo") ≡ Err BadRoute)
     -- a blank behind it, and the line is no `go`
@@ -68,12 +69,22 @@ stream_of : Result Chip ReplayError → ℕ → Option ℕ
 stream_of (Ok chip) name = option_map (λ part. option_map_or length part.stream 0) (part_of chip name)
 stream_of (Err fault) name = None
 
-booted_708 : stream_of (chip_of (Some (708 ∷ 709 ∷ [])) ((709, one_word) ∷ [])) 708 ≡ Some 21
+booted_708 : stream_of (chip_of (Some ((708 ∷ 709 ∷ []) ∷ [])) ((709, one_word) ∷ [])) 708 ≡ Some 21
 unfolding stream_of one_word streamed reset_chip
 booted_708 = refl
 
-refused_routes : (chip_of (Some (708 ∷ 710 ∷ [])) [] ≡ Err (Route (NotNeighbour 1)))
-    × (chip_of (Some (708 ∷ 709 ∷ [])) ((710, one_word) ∷ []) ≡ Err (Boot (Unreached 710)))
+-- a tree of two routes: 25 words that load and 11 that start; its faults come behind those of routes
+booted_fork : stream_of (chip_of (Some ((708 ∷ 709 ∷ []) ∷ (708 ∷ 608 ∷ []) ∷ [])) ((709, one_word) ∷ (608, one_word) ∷ [])) 708 ≡ Some 36
+unfolding stream_of one_word streamed reset_chip
+booted_fork = refl
+
+refused_trees : (chip_of (Some ((708 ∷ 709 ∷ 609 ∷ []) ∷ (708 ∷ 608 ∷ 609 ∷ []) ∷ [])) [] ≡ Err (Tree (Repeated 1)))
+    × (chip_of (Some ((708 ∷ 709 ∷ []) ∷ (0 ∷ 1 ∷ []) ∷ [])) [] ≡ Err (Tree (OtherRoot 1)))
+    × (chip_of (Some ((708 ∷ 709 ∷ []) ∷ (708 ∷ 710 ∷ []) ∷ (0 ∷ 1 ∷ []) ∷ [])) [] ≡ Err (Route (NotNeighbour 1)))
+refused_trees = (refl, refl, refl)
+
+refused_routes : (chip_of (Some ((708 ∷ 710 ∷ []) ∷ [])) [] ≡ Err (Route (NotNeighbour 1)))
+    × (chip_of (Some ((708 ∷ 709 ∷ []) ∷ [])) ((710, one_word) ∷ []) ≡ Err (Boot (Unreached 710)))
 refused_routes = (refl, refl)
 
 -- ---- commands

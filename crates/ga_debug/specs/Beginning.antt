@@ -1,17 +1,19 @@
 -- The chip after the head of a replay text.
-use Rattle.std.specs.Prelude.{◌≡◌, ◌⊎◌, ℕ, List, [], ◌∷◌, ◌++◌, get_or, Option, Some, None, Result, Ok, Err}
+use Rattle.std.specs.Prelude.{◌≡◌, ◌⊎◌, ℕ, List, [], ◌∷◌, ◌++◌, Option, Some, None, Result, Ok, Err}
 use Rattle.ga_asm.specs.Text.{HasImages, IsTextFault}
 use Rattle.ga_asm.specs.declared.text.TextError.{TextError}
 use Rattle.ga_chip.specs.Chip.{Chip, placed, refusal, reset_chip, stream_refusal, streamed, unless_refused}
-use Rattle.ga_path.specs.Route.{route_fault}
-use Rattle.ga_path.specs.Stream.{Images, load_of, start_of, unreached}
+use Rattle.ga_path.specs.Route.{routes_fault}
+use Rattle.ga_path.specs.Stream.{Images, tree_load, tree_start, unreached}
+use Rattle.ga_path.specs.Tree.{TreeView, tree_of}
 use Rattle.ga_path.specs.declared.error.BootError.TheVariants.{Unreached}
 use Rattle.ga_path.specs.declared.error.RouteError.{RouteError}
+use Rattle.ga_path.specs.declared.error.TreeError.{TreeError}
 use Rattle.ga_debug.specs.declared.beginning.Loaded.{Loaded}
 use Rattle.ga_debug.specs.declared.profile.Profile.{Profile}
 use Rattle.ga_debug.specs.declared.replay_error.ReplayError.{ReplayError}
 use Rattle.ga_debug.specs.declared.replay_error.ReplayError.TheVariants.{Boot}
-use Rattle.ga_debug.specs.ReplayError.{fault_of_route, fault_of_text}
+use Rattle.ga_debug.specs.ReplayError.{fault_of_route, fault_of_text, fault_of_tree}
 use Rattle.ga_debug.specs.Head.{Head, Loading, head_in}
 use Rattle.ga_debug.specs.Profile.{SESSION_PROFILE}
 
@@ -25,25 +27,30 @@ all_placed (image ∷ images) chip =
 abbrev pub stream_chip : ℕ → List ℕ → Chip
 stream_chip node words = unless_refused (stream_refusal reset_chip node) (streamed reset_chip node words) reset_chip
 
--- a chip after reset that boots along a route: its first node was given both parts of the boot stream, as one stream
-abbrev pub booted : Images → List ℕ → Chip
-booted images route = stream_chip (get_or route 0 0) (load_of images route ++ start_of images route)
+-- a chip after reset that boots a tree: its root was given both parts of the boot stream, as one stream
+abbrev pub booted_tree : Images → TreeView → Chip
+booted_tree images tree = stream_chip tree.root (tree_load images tree ++ tree_start images tree)
 
--- where each node with an image is on the route
-abbrev pub booted_if : Option ℕ → List ℕ → Images → Result Chip ReplayError
-booted_if None route images = Ok (booted images route)
-booted_if (Some node) route images = Err (Boot (Unreached node))
+-- where each node with an image is in the tree
+abbrev pub booted_if : Option ℕ → TreeView → Images → Result Chip ReplayError
+booted_if None tree images = Ok (booted_tree images tree)
+booted_if (Some node) tree images = Err (Boot (Unreached node))
 
-abbrev pub routed_chip : Option RouteError → List ℕ → Images → Result Chip ReplayError
-routed_chip None route images = booted_if (unreached images route) route images
-routed_chip (Some fault) route images = Err (fault_of_route fault)
+-- where the routes are a tree
+abbrev pub tree_chip : Result TreeView TreeError → Images → Result Chip ReplayError
+tree_chip (Ok tree) images = booted_if (unreached images tree.nodes) tree images
+tree_chip (Err fault) images = Err (fault_of_tree fault)
 
--- the chip that images are loaded into, or what is wrong with the route
+abbrev pub routed_chip : Option RouteError → List (List ℕ) → Images → Result Chip ReplayError
+routed_chip None lists images = tree_chip (tree_of lists) images
+routed_chip (Some fault) lists images = Err (fault_of_route fault)
+
+-- the chip that images are loaded into, or what is wrong with the routes
 abbrev pub chip_of : Loading → Images → Result Chip ReplayError
 chip_of None images = Ok (all_placed images reset_chip)
-chip_of (Some nodes) images = routed_chip (route_fault nodes) nodes images
+chip_of (Some lists) images = routed_chip (routes_fault lists) lists images
 
--- the chip that a head leads to, or its first fault: of the source, of the assembly, of the route, of the boot
+-- the chip that a head leads to, or its first fault: of the source, of the assembly, of the routes, of the tree, of the boot
 abbrev pub IsChipOf : Head → Result Chip ReplayError → Type 0
 IsChipOf head (Ok chip) = (images : Images) × HasImages head.source images × (chip_of head.loading images ≡ Ok chip)
 IsChipOf head (Err fault) =

@@ -2,21 +2,21 @@
 use Rattle.std.specs.Prelude.{ℕ, ◌+◌, List, [], ◌∷◌, ◌++◌, codes, Option, Some, None, option_map, Result, Ok, Err, if◌then◌else◌}
 use Rattle.std.specs.Str.{bytes_eq}
 use Rattle.ga_pack.specs.Model.Text.{lines_of}
-use Rattle.ga_path.specs.Names.{nodes_in}
+use Rattle.ga_path.specs.Names.{routes_in}
 use Rattle.ga_debug.specs.declared.replay_error.ReplayError.{ReplayError}
 use Rattle.ga_debug.specs.declared.replay_error.ReplayError.TheVariants.{BadProfile, BadRoute, NoGo}
 use Rattle.ga_debug.specs.declared.profile.Profile.{Profile}
 use Rattle.ga_debug.specs.Command.{words_of}
 use Rattle.ga_debug.specs.Profile.{profile_line}
 
--- how the chip is loaded: None where each image is placed, or the nodes along which a stream goes
+-- how the chip is loaded: None where each image is placed, or the nodes of each route along which a stream goes
 abbrev pub Loading : Type 0
-Loading = Option (List ℕ)
+Loading = Option (List (List ℕ))
 
--- `place` alone, or `route` and node names with commas between them
+-- `place` alone, or `route` and routes with `/` between them, of each the names of its nodes with commas between them
 abbrev pub loading_by : List (List ℕ) → Option Loading
 loading_by (word ∷ []) = if bytes_eq word (codes "place") then Some None else None
-loading_by (word ∷ names ∷ []) = if bytes_eq word (codes "route") then option_map Some (nodes_in names) else None
+loading_by (word ∷ names ∷ []) = if bytes_eq word (codes "route") then option_map Some (routes_in names) else None
 loading_by words = None
 
 abbrev pub loading_in : List ℕ → Option Loading

@@ -8,8 +8,10 @@ use Rattle.ga_path.specs.declared.error.NamesError.{NamesError}
 use Rattle.ga_path.specs.declared.error.NamesError.TheVariants as names
 use Rattle.ga_path.specs.declared.error.RouteError.{RouteError}
 use Rattle.ga_path.specs.declared.error.RouteError.TheVariants as route
+use Rattle.ga_path.specs.declared.error.TreeError.{TreeError}
+use Rattle.ga_path.specs.declared.error.TreeError.TheVariants as tree
 use Rattle.ga_debug.specs.declared.replay_error.ReplayError.{ReplayError}
-use Rattle.ga_debug.specs.declared.replay_error.ReplayError.TheVariants.{Asm, BadRoute, Boot, Memory, Route, Source}
+use Rattle.ga_debug.specs.declared.replay_error.ReplayError.TheVariants.{Asm, BadRoute, Boot, Memory, Route, Source, Tree}
 
 abbrev pub fault_of_text : TextError → ReplayError
 fault_of_text (text.Source error) = Source error
@@ -23,6 +25,10 @@ fault_of_names names.Memory = Memory
 abbrev pub fault_of_route : RouteError → ReplayError
 fault_of_route route.Memory = Memory
 fault_of_route error = Route error
+
+abbrev pub fault_of_tree : TreeError → ReplayError
+fault_of_tree tree.Memory = Memory
+fault_of_tree error = Tree error
 
 abbrev pub fault_of_boot : BootError → ReplayError
 fault_of_boot boot.Memory = Memory

@@ -1,7 +1,9 @@
-ghost use Rattle.std.specs.Prelude.{◌≡◌, ◌+◌, ◌<◌, ◌^◌, ℕ, IfErr, IfOk, None, Some, length, option_map};
+ghost use Rattle.std.specs.Prelude.{◌≡◌, ◌++◌, ◌+◌, ◌<◌, ◌^◌, ℕ, IfErr, IfOk, None, Some, length, option_map};
 ghost use Rattle.ga_asm.specs.Text.{AtMostOne};
+ghost use Rattle.ga_path.specs.Names.{lists_in};
 ghost use Rattle.ga_path.specs.Stream.{IsBootFault, unreached};
-ghost use Rattle.ga_debug.specs.Beginning.{IsBeginning, IsChipOf, IsLoaded, booted, chip_of, start_view};
+ghost use Rattle.ga_debug.specs.Beginning.{IsBeginning, IsChipOf, IsLoaded, booted_tree, chip_of, start_view, stream_chip};
+ghost use Rattle.ga_path.specs.declared.error.BootError.TheVariants.{Memory};
 ghost use Rattle.ga_debug.specs.ReplayError.{Answers};
 ghost use Rattle.ga_debug.specs.inner.ReplayError.{Gives};
 ghost use Rattle.ga_debug.specs.inner.HeadView.{head_view};
@@ -13,7 +15,7 @@ use crate::replay_error::ReplayError;
 use crate::session::Session;
 use ga_asm::{Images, assemble_text};
 use ga_chip::Chip;
-use ga_path::{BootError, Route, boot};
+use ga_path::{Boot, BootError, Tree, boot_tree, routes_along};
 use ga_place::Node;
 use std::alloc::Global;
 
@@ -43,7 +45,7 @@ pub fn load<'a>(alloc: Global, text: &'a str) -> Result<Loaded<'a>, ReplayError>
 {
     let head = head_of(alloc, Profile::Two, text)?;
     let images = assemble_text(alloc, head.source.as_str())?;
-    let chip = loaded_chip(alloc, head.nodes.as_deref(), &images)?;
+    let chip = loaded_chip(alloc, head.routes.as_deref(), &images)?;
     Ok(Loaded {
         chip,
         images,
@@ -71,16 +73,21 @@ pub(crate) fn chip_after(alloc: Global, head: &Head<'_>) -> Result<Chip, ReplayE
     ensures { Answers (λ chip. chip) (IsChipOf (head_view head.now)) result }
 {
     let images = assemble_text(alloc, head.source.as_str())?;
-    loaded_chip(alloc, head.nodes.as_deref(), &images)
+    loaded_chip(alloc, head.routes.as_deref(), &images)
 }
 
-/// A chip into which images are loaded: along a route of these nodes, or else each in its node.
-fn loaded_chip(alloc: Global, nodes: Option<&[Node]>, images: &Images) -> Result<Chip, ReplayError>
-    ensures { Gives (λ chip. chip) result (chip_of (option_map (λ list. list.now) nodes.entry) images.now) }
+/// A chip into which images are loaded: along routes of these nodes, or else each in its node.
+fn loaded_chip(
+    alloc: Global,
+    routes: Option<&[Vec<Node>]>,
+    images: &Images,
+) -> Result<Chip, ReplayError>
+    ensures { Gives (λ chip. chip) result
+        (chip_of (option_map (λ lists. lists_in lists.now) routes.entry) images.now) }
 {
-    match nodes {
+    match routes {
         None => all_placed(alloc, images),
-        Some(nodes) => routed_chip(alloc, nodes, images),
+        Some(lists) => routed_chip(alloc, lists, images),
     }
 }
 
@@ -95,29 +102,37 @@ fn all_placed(alloc: Global, images: &Images) -> Result<Chip, ReplayError>
     Ok(chip)
 }
 
-/// A chip that boots along a route.
-fn routed_chip(alloc: Global, nodes: &[Node], images: &Images) -> Result<Chip, ReplayError>
-    ensures { Gives (λ chip. chip) result (chip_of (Some nodes.now) images.now) }
+/// A chip that boots a tree of routes along these nodes.
+fn routed_chip(alloc: Global, lists: &[Vec<Node>], images: &Images) -> Result<Chip, ReplayError>
+    ensures { Gives (λ chip. chip) result (chip_of (Some (lists_in lists.now)) images.now) }
 {
-    let route = Route::new(alloc, nodes)?;
-    let chip = booted(alloc, &route, images)?;
+    let routes = routes_along(alloc, lists)?;
+    let tree = Tree::new(alloc, &routes)?;
+    let chip = booted_tree(alloc, &tree, images)?;
     Ok(chip)
 }
 
-/// A chip after reset that boots along a route: its first node was given both parts of the boot stream, load and
-/// start, as one stream. A node that has an image and isn't on the route is refused as [`BootError::Unreached`], the
-/// first in the images' order. It fails as [`BootError::Memory`] only where memory is refused.
-pub fn booted(alloc: Global, route: &Route, images: &Images) -> Result<Chip, BootError>
-    ensures chip { IfOk result (λ chip. chip ≡ booted images.now route.now) }
-    ensures reached { IfOk result (λ _. unreached images.now route.now ≡ None) }
-    ensures fault { IfErr result (λ error. IsBootFault images.now route.now error) }
+/// A chip after reset that boots a tree: its root was given both parts of the boot stream, load and start, as one
+/// stream. A node that has an image and isn't in the tree is refused as [`BootError::Unreached`], the first in the
+/// images' order. It fails as [`BootError::Memory`] only where memory is refused.
+pub fn booted_tree(alloc: Global, tree: &Tree, images: &Images) -> Result<Chip, BootError>
+    ensures chip { IfOk result (λ chip. chip ≡ booted_tree images.now tree.now) }
+    ensures reached { IfOk result (λ _. unreached images.now tree.now.nodes ≡ None) }
+    ensures fault { IfErr result (λ error. IsBootFault images.now tree.now.nodes error) }
 {
-    let parts = boot(alloc, route, images)?;
+    let parts = boot_tree(alloc, tree, images)?;
+    streamed_chip(alloc, tree.root(), parts)
+}
+
+/// A chip after reset where a node was given both parts of a boot stream, load and start, as one stream.
+fn streamed_chip(alloc: Global, root: Node, parts: Boot) -> Result<Chip, BootError>
+    ensures chip { IfOk result (λ chip. chip
+        ≡ stream_chip root (parts.load.items ++ parts.start.items)) }
+    ensures memory { IfErr result (λ error. error ≡ Memory) }
+{
     let mut stream = parts.load;
     stream.extend_from_slice(&parts.start)?;
     let mut chip = Chip::reset(alloc)?;
-    if let Some(first) = route.nodes().first() {
-        let _given = chip.give_stream(*first, stream);
-    }
+    let _given = chip.give_stream(root, stream);
     Ok(chip)
 }

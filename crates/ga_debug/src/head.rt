@@ -1,4 +1,5 @@
 ghost use Rattle.std.specs.Prelude.{◌≡◌, ◌+◌, ◌<◌, ◌^◌, IfOk, length, ok_or, option_map};
+ghost use Rattle.ga_path.specs.Names.{lists_in};
 ghost use Rattle.ga_debug.specs.inner.ReplayError.{Gives};
 ghost use Rattle.ga_debug.specs.Head.{Loading, head_in, loading_in, up_to_go};
 ghost use Rattle.ga_debug.specs.inner.HeadView.{head_view, head_with};
@@ -7,15 +8,15 @@ ghost use Rattle.ga_debug.specs.declared.replay_error.ReplayError.TheVariants.{B
 use crate::pieces::Pieces;
 use crate::profile::Profile;
 use crate::replay_error::ReplayError;
-use ga_path::read_nodes;
+use ga_path::read_routes;
 use ga_place::Node;
 use std::alloc::Global;
 
 /// What stands in front of the commands of a replay text.
 #[derive(Drop)]
 pub(crate) struct Head<'a> {
-    /// The nodes along which the chip boots, or `None` where each image is placed.
-    pub(crate) nodes: Option<Vec<Node>>,
+    /// The nodes of each route along which the chip boots, or `None` where each image is placed.
+    pub(crate) routes: Option<Vec<Vec<Node>>>,
     /// The source lines, each ended by LF.
     pub(crate) source: String,
     /// The number of the line `go`, counted from 1.
@@ -46,10 +47,10 @@ pub(crate) fn head_of<'a>(
     let Some(line) = lines.next() else {
         return Err(ReplayError::BadRoute);
     };
-    let nodes = loading_of(alloc, line)?;
+    let routes = loading_of(alloc, line)?;
     let (source, line) = source_of(alloc, &mut lines)?;
     Ok(Head {
-        nodes,
+        routes,
         source,
         line,
         lines,
@@ -78,14 +79,14 @@ fn source_of(alloc: Global, lines: &mut Pieces<'_>) -> Result<(String, u64), Rep
 }
 
 /// How the chip is loaded, by the words of the second line.
-fn loading_of(alloc: Global, line: &str) -> Result<Option<Vec<Node>>, ReplayError>
-    ensures { Gives (λ nodes. option_map (λ list. list.items) nodes) result
+fn loading_of(alloc: Global, line: &str) -> Result<Option<Vec<Vec<Node>>>, ReplayError>
+    ensures { Gives (λ routes. option_map (λ list. lists_in list.items) routes) result
         (ok_or (loading_in line.now) BadRoute) }
 {
     let mut words = Pieces::new(line, ' ');
     match (words.next(), words.next(), words.next()) {
         (Some(word), None, None) if word == "place" => Ok(None),
-        (Some(word), Some(names), None) if word == "route" => Ok(Some(read_nodes(alloc, names)?)),
+        (Some(word), Some(names), None) if word == "route" => Ok(Some(read_routes(alloc, names)?)),
         _ => Err(ReplayError::BadRoute),
     }
 }

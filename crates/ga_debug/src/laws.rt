@@ -1,5 +1,5 @@
 //! Laws of the definitions. They do nothing when run.
-ghost use Rattle.ga_boot.specs.Laws.{RouteIsTree, TreeBoots, TreeBootsAgree};
+ghost use Rattle.ga_boot.specs.Laws.{RoutesAreTree, TreeBoots, TreeBootsAgree};
 ghost use Rattle.ga_debug.specs.Laws.{BootedIsSupplied};
 
 /// Boot in every schedule. The first node of a tree, its root, is given the words that boot the tree as a stream of a
@@ -10,10 +10,10 @@ ghost use Rattle.ga_debug.specs.Laws.{BootedIsSupplied};
 /// takes words from its parent alone, and its reads of several ports that are `Moved` name its parent's side.
 ///
 /// Two such runs go alike as far as both go, where after it began each node takes words by reads of several ports at
-/// one side alone, the same in both. A route is a tree, and `booted` answers such a chip.
+/// one side alone, the same in both. A tree of routes is such a tree, and `booted_tree` answers such a chip.
 pub fn boot_any_schedule()
     ensures trees { TreeBoots }
     ensures agree { TreeBootsAgree }
-    ensures routes { RouteIsTree }
+    ensures routes { RoutesAreTree }
     ensures supplied { BootedIsSupplied }
 {}

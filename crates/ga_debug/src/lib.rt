@@ -16,7 +16,7 @@ mod session;
 mod word;
 
 pub use address::Address;
-pub use beginning::{Loaded, begin, booted, load};
+pub use beginning::{Loaded, begin, booted_tree, load};
 pub use error::DebugError;
 pub use pieces::Pieces;
 pub use replay_error::ReplayError;

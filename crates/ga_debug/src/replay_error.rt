@@ -1,10 +1,10 @@
 ghost use Rattle.std.specs.Prelude.{◌≡◌};
-ghost use Rattle.ga_debug.specs.ReplayError.{fault_of_boot, fault_of_names, fault_of_route, fault_of_text};
+ghost use Rattle.ga_debug.specs.ReplayError.{fault_of_boot, fault_of_names, fault_of_route, fault_of_text, fault_of_tree};
 ghost use Rattle.ga_debug.specs.declared.replay_error.ReplayError.TheVariants.{Memory};
 
 use crate::error::DebugError;
 use ga_asm::{AsmError, TextError};
-use ga_path::{BootError, NamesError, RouteError};
+use ga_path::{BootError, NamesError, RouteError, TreeError};
 use ga_source::SourceError;
 use std::alloc::{AllocError, AllocFailed};
 use thiserror::Error;
@@ -16,7 +16,7 @@ pub enum ReplayError {
     /// The first line isn't `profile 2`; of `replay`, it is neither that nor `profile 1`.
     #[error("BadProfile")]
     BadProfile,
-    /// The second line is missing, or is neither `place` nor `route` and node names.
+    /// The second line is missing, or is neither `place` nor `route` and routes.
     #[error("BadRoute")]
     BadRoute,
     /// No line is `go`.
@@ -28,10 +28,13 @@ pub enum ReplayError {
     /// The program of the source lines has a fault.
     #[error("Asm")]
     Asm(AsmError),
-    /// The nodes are no route.
+    /// Nodes are no route.
     #[error("Route")]
     Route(RouteError),
-    /// A node of the program isn't on the route.
+    /// The routes are no tree.
+    #[error("Tree")]
+    Tree(TreeError),
+    /// A node of the program isn't on a route.
     #[error("Boot")]
     Boot(BootError),
     /// The command of this line is refused.
@@ -75,6 +78,17 @@ impl From<RouteError> for ReplayError {
         match error {
             RouteError::Memory => ReplayError::Memory,
             _ => ReplayError::Route(error),
+        }
+    }
+}
+
+impl From<TreeError> for ReplayError {
+    ghost from_gives = { λ error fault. fault ≡ fault_of_tree error };
+
+    fn from(error: TreeError) -> ReplayError {
+        match error {
+            TreeError::Memory => ReplayError::Memory,
+            _ => ReplayError::Tree(error),
         }
     }
 }

@@ -45,7 +45,7 @@ fn holds(chip: &Chip, node: Node, numbers: &[u32]) -> Result<bool, Fail> {
     Ok(chip.state(node).ram() == array::<64>(numbers)?.as_slice())
 }
 
-/// A node behind the first of a route: the node before it, the side to it, how many words it is sent, and its image.
+/// A node behind the first: the node above it, the side to it, how many words it is sent, and its image.
 type Hop = (u16, Side, u16, u64, &'static [u32]);
 
 /// A boot: the stream of its first node, how many of its words start nodes, and the other nodes.
@@ -56,8 +56,17 @@ struct Boot {
     hops: &'static [Hop],
 }
 
-/// Three routes: two hops to one image, and two recorded routes with two images each.
-const BOOTS: [Boot; 3] = [
+/// The routes 708, 709 and 708, 608 boot 709 and 608 with the word `. . . .`.
+const FORK: [u32; 36] = [
+    0x000AE, 0x001D5, 0x00008, 0x101D5, 0x04A12, 0x00000, 0x00000, 0x2E9B2, 0x05872, 0x2C9B2,
+    0x2C9B2, 0x000AE, 0x00115, 0x00008, 0x10115, 0x04A12, 0x00000, 0x00000, 0x2E9B2, 0x05872,
+    0x2C9B2, 0x2C9B2, 0x000AE, 0x00000, 0x00000, 0x000AE, 0x001D5, 0x00001, 0x10000, 0x000AE,
+    0x00115, 0x00001, 0x10000, 0x001B5, 0x00000, 0x00000,
+];
+
+/// Three routes: two hops to one image, and two recorded routes with two images each. Two trees: a fork at the first node,
+/// and one behind a hop.
+const BOOTS: [Boot; 5] = [
     Boot {
         root: 708,
         stream: &TWO_HOPS,
@@ -112,6 +121,32 @@ const BOOTS: [Boot; 3] = [
             ),
             (6, Side::Down, 106, 22, &[0x1A439]),
             (106, Side::Up, 206, 3, &[]),
+        ],
+    },
+    Boot {
+        root: 708,
+        stream: &FORK,
+        starts: 11,
+        hops: &[
+            (708, Side::Right, 709, 9, &[0x2C9B2]),
+            (708, Side::Down, 608, 9, &[0x2C9B2]),
+        ],
+    },
+    Boot {
+        root: 708,
+        stream: &[
+            0x000AE, 0x001D5, 0x0001C, 0x101D5, 0x04A12, 0x00175, 0x00007, 0x2E9B2, 0x05A72,
+            0x10175, 0x04A12, 0x00000, 0x00000, 0x2E9B2, 0x05872, 0x2C9B2, 0x2C9B2, 0x04A12,
+            0x00115, 0x00007, 0x2E9B2, 0x05A72, 0x10115, 0x04A12, 0x00000, 0x00000, 0x2E9B2,
+            0x05872, 0x2C9B2, 0x2C9B2, 0x2C9B2, 0x000AE, 0x00000, 0x00000, 0x000AE, 0x001D5,
+            0x0000D, 0x04A12, 0x00175, 0x00000, 0x2E9B2, 0x05A72, 0x10000, 0x04A12, 0x00115,
+            0x00000, 0x2E9B2, 0x05A72, 0x10000, 0x101B5, 0x001B5, 0x00000, 0x00000,
+        ],
+        starts: 19,
+        hops: &[
+            (708, Side::Right, 709, 41, &[]),
+            (709, Side::Left, 710, 9, &[0x2C9B2]),
+            (709, Side::Down, 609, 9, &[0x2C9B2]),
         ],
     },
 ];
@@ -278,19 +313,82 @@ fn boot_leaves_out_closes(rt: HostRuntime) -> Result<(), Fail> {
     Ok(())
 }
 
-/// Tries of 708 and 709 by turns, so many, at the right side, which they share.
+// A fork: 709 gets the same program, and 608 the word `. . . .`. Where 709 is sent its start word in the place of its own
+// `. . . .`, it runs while 608 is loaded, and doesn't hold its image any more as the start part begins.
+#[test]
+fn boot_starts_each_node_of_a_tree_at_once(rt: HostRuntime) -> Result<(), Fail> {
+    let [node_708, node_709, node_608] = nodes(&[708, 709, 608])?;
+    let image = [0x04A12, 0x00004, 0x10000, 0x0A9B2, 0x10141];
+    for (last, is_held) in [(0x2C9B2, true), (0x10000, false)] {
+        let stream = [
+            0x000AE, 0x001D5, 12, 0x101D5, 0x04A12, 0x00000, 0x00004, 0x2E9B2, 0x05872, 0x04A12,
+            0x00004, 0x10000, 0x0A9B2, 0x10141, last, 0x000AE, 0x00115, 8, 0x10115, 0x04A12,
+            0x00000, 0x00000, 0x2E9B2, 0x05872, 0x2C9B2, 0x2C9B2, 0x000AE, 0x00000, 0x00000,
+            0x000AE, 0x001D5, 1, 0x10000, 0x000AE, 0x00115, 1, 0x10000, 0x001B5, 0x00000, 0x00000,
+        ];
+        let mut chip = given(rt.alloc(), 708, &stream)?;
+        // 708 posts the start word, and 709 isn't let take it
+        chip.set_break(node_709, 0x1D5);
+        for _ in 0..400 {
+            let _moved = chip.turns(4);
+            if chip.ledger(node_708, Side::Right).read < 12 {
+                let _held = chip.pass_break(node_709);
+            }
+        }
+        assert!(rt; chip.stream_left(node_708) <= 11);
+        assert!(rt; chip.ledger(node_708, Side::Right).read == 12);
+        assert!(rt; holds(&chip, node_608, &[0x2C9B2])?);
+        assert!(rt; holds(&chip, node_709, &image)? == is_held);
+    }
+    Ok(())
+}
+
+// A fork where `. . . .` is left out of the words for both nodes: 708 takes the whole load part while each of them has
+// still to store its last word.
+#[test]
+fn boot_of_a_tree_leaves_out_closes(rt: HostRuntime) -> Result<(), Fail> {
+    let [node_708, node_709, node_608] = nodes(&[708, 709, 608])?;
+    let open = [
+        0x000AE, 0x001D5, 7, 0x101D5, 0x04A12, 0x00000, 0x00000, 0x2E9B2, 0x05872, 0x2C9B2,
+        0x000AE, 0x00115, 7, 0x10115, 0x04A12, 0x00000, 0x00000, 0x2E9B2, 0x05872, 0x2C9B2,
+        0x000AE, 0x00000, 0x00000, 0x000AE, 0x001D5, 1, 0x10000, 0x000AE, 0x00115, 1, 0x10000,
+        0x001B5, 0x00000, 0x00000,
+    ];
+    for (stream, sent, is_held) in [(FORK.as_slice(), 8, true), (&open, 7, false)] {
+        let mut chip = given(rt.alloc(), 708, stream)?;
+        // both are tried until they have taken the last word of their load, and 708 until it has taken the load part
+        for _ in 0..1000 {
+            for (node, side) in [(node_709, Side::Right), (node_608, Side::Down)] {
+                let _posted = chip.attempt(Try {
+                    node: node_708,
+                    side,
+                });
+                if chip.ledger(node_708, side).read < sent {
+                    let _taken = chip.attempt(Try { node, side });
+                }
+            }
+        }
+        assert!(rt; chip.stream_left(node_708) <= 11);
+        for (node, side) in [(node_709, Side::Right), (node_608, Side::Down)] {
+            assert!(rt; chip.ledger(node_708, side).read == sent);
+            assert!(rt; holds(&chip, node, &[0x2C9B2])? == is_held);
+        }
+    }
+    Ok(())
+}
+
+/// Tries of 708, 709 and 608 by turns, so many of each: 708 shares its right side with 709, and the lower one with 608.
 fn tries(alloc: Global, count: u32) -> Result<Vec<Try>, Fail> {
-    let [node_708, node_709] = nodes(&[708, 709])?;
+    let [node_708, node_709, node_608] = nodes(&[708, 709, 608])?;
     let mut tries = Vec::new(alloc);
     for _ in 0..count {
-        tries.push(Try {
-            node: node_708,
-            side: Side::Right,
-        })?;
-        tries.push(Try {
-            node: node_709,
-            side: Side::Right,
-        })?;
+        for (node, side) in [
+            (node_708, Side::Right),
+            (node_709, Side::Right),
+            (node_608, Side::Down),
+        ] {
+            tries.push(Try { node, side })?;
+        }
     }
     Ok(tries)
 }
@@ -299,14 +397,14 @@ fn tries(alloc: Global, count: u32) -> Result<Vec<Try>, Fail> {
 fn the_example_meets_its_premises(rt: HostRuntime) -> Result<(), Fail> {
     headline();
     boot_any_schedule();
-    let [node_708, node_709] = nodes(&[708, 709])?;
+    let [node_708, node_608] = nodes(&[708, 608])?;
     images_fit(&assemble_firmware(rt.alloc()).ok_or("no firmware")?);
     let mut moments = 0u32;
-    for count in 0..60 {
+    for count in 0..120 {
         let mut chip = boot_firmware(rt.alloc()).ok_or("no chip")?;
         run_firmware(&mut chip, &tries(rt.alloc(), count)?);
-        if chip.stream_left(node_708) <= 7 && chip.ledger(node_708, Side::Right).read < 9 {
-            assert!(rt; holds(&chip, node_709, &[0x2C9B2])?);
+        if chip.stream_left(node_708) <= 11 && chip.ledger(node_708, Side::Down).read < 9 {
+            assert!(rt; holds(&chip, node_608, &[0x2C9B2])?);
             moments = moments.saturating_add(1);
         }
     }

@@ -1,9 +1,9 @@
 //! Routes boot on the chip: of each node the memory is its image, and it has started.
 use ga_asm::{Images, assemble};
 use ga_chip::Chip;
-use ga_debug::booted;
+use ga_debug::booted_tree;
 use ga_node::Stop;
-use ga_path::Route;
+use ga_path::{Route, Tree};
 use ga_place::{Node, Side};
 use ga_source::parse;
 use std::alloc::Global;
@@ -64,7 +64,8 @@ fn boots(alloc: Global, count: u16) -> Result<Option<u64>, Fail> {
     let nodes = snake(alloc, count)?;
     let text = full_text(alloc, &nodes)?;
     let images = assemble(alloc, &parse(alloc, &text)?)?;
-    let mut chip = booted(alloc, &Route::new(alloc, &nodes)?, &images)?;
+    let tree = Tree::new(alloc, &[Route::new(alloc, &nodes)?])?;
+    let mut chip = booted_tree(alloc, &tree, &images)?;
     let moved = run(&mut chip);
     Ok(if are_booted(&chip, &images) {
         Some(moved)

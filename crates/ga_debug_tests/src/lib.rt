@@ -1,4 +1,4 @@
-//! The tests of what takes both images and a chip: boots, rings, waits, sessions and transcripts, in one file for each.
+//! The tests of what takes both images and a chip: boots, trees, rings, waits, sessions and transcripts, in one file for each.
 //!
 //! A crate that has no test of its own is proved once by the gate, and one with tests twice. So the tests stand here,
 //! and this crate has nothing else.
@@ -14,5 +14,7 @@ mod rings;
 mod sessions;
 #[cfg(test)]
 mod transcripts;
+#[cfg(test)]
+mod trees;
 #[cfg(test)]
 mod waits;

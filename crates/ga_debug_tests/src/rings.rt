@@ -1,12 +1,12 @@
 //! Workers in threads: a ring of four nodes ends alike with one worker, with two and with four.
 use ga_asm::assemble;
 use ga_chip::Chip;
-use ga_debug::booted;
+use ga_debug::booted_tree;
 use ga_dump::node_text;
 use ga_group::{Gate, Open, Plan};
 use ga_law_examples::after_run;
 use ga_node::NodeState;
-use ga_path::Route;
+use ga_path::{Route, Tree};
 use ga_place::Node;
 use ga_source::parse;
 use ga_test_values::nodes;
@@ -27,8 +27,8 @@ node 608 right a! down b! @ $1 + !b jump warm
 /// The ring on a chip that is about to boot.
 fn ring(alloc: Global, nodes: &[Node; 4]) -> Result<Chip, Fail> {
     let images = assemble(alloc, &parse(alloc, RING)?)?;
-    let route = Route::new(alloc, nodes)?;
-    Ok(booted(alloc, &route, &images)?)
+    let tree = Tree::new(alloc, &[Route::new(alloc, nodes)?])?;
+    Ok(booted_tree(alloc, &tree, &images)?)
 }
 
 /// A plan of workers, each of which has so many of the nodes.

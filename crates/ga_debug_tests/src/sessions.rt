@@ -1,6 +1,6 @@
 use ga_chip::Chip;
 use ga_debug::{DebugError, ReplayError, Session, begin, replay};
-use ga_path::RouteError;
+use ga_path::{BootError, RouteError, TreeError};
 use ga_test_values::{array, node};
 use std::alloc::Global;
 use std::test::Fail;
@@ -279,6 +279,49 @@ fn faults_of_heads(rt: HostRuntime) -> Result<(), Fail> {
     assert!(rt; matches!(replay(rt.alloc(), assembly), Err(ReplayError::Asm(_))));
     let boot = "profile 2\nroute 708\nnode 709 .\ngo\n";
     assert!(rt; matches!(replay(rt.alloc(), boot), Err(ReplayError::Boot(_))));
+    Ok(())
+}
+
+// Of a route in a head, and of the tree that several are; in this order, and before the boot's.
+#[test]
+fn faults_of_routes_in_heads(rt: HostRuntime) -> Result<(), Fail> {
+    let table = [
+        ("708,709/", ReplayError::BadRoute),
+        ("/708,709", ReplayError::BadRoute),
+        ("708//709", ReplayError::BadRoute),
+        (
+            "708,709/708,710",
+            ReplayError::Route(RouteError::NotNeighbour(1)),
+        ),
+        (
+            "708,709/000,001",
+            ReplayError::Tree(TreeError::OtherRoot(1)),
+        ),
+        (
+            "708,709,609/708,608,609",
+            ReplayError::Tree(TreeError::Repeated(1)),
+        ),
+        (
+            "708,709/000,001/708,710",
+            ReplayError::Route(RouteError::NotNeighbour(1)),
+        ),
+        (
+            "708,709/708,709",
+            ReplayError::Boot(BootError::Unreached(node(608)?)),
+        ),
+    ];
+    for (routes, fault) in table {
+        for profile in ["profile 1\nroute ", "profile 2\nroute "] {
+            let head = text(rt.alloc(), profile, routes)?;
+            let whole = text(rt.alloc(), head.as_str(), "\nnode 608 .\ngo\n")?;
+            assert!(rt;
+                replay(rt.alloc(), whole.as_str()) == Err(fault),
+                "at {whole}"
+            );
+        }
+    }
+    let fork = "profile 1\nroute 708,709/708,608\nnode 608 .\ngo\nturn 1 = 1\n";
+    assert!(rt; replay(rt.alloc(), fork) == Ok(1));
     Ok(())
 }
 

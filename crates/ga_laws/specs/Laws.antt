@@ -9,8 +9,8 @@ use Rattle.ga_asm.specs.Image.{ImageView}
 use Rattle.ga_asm.specs.Text.{HasImages}
 use Rattle.ga_disasm.specs.Disassembling.{items_of}
 use Rattle.ga_disasm.specs.Instructions.{named_items}
-use Rattle.ga_path.specs.Route.{route_fault}
-use Rattle.ga_path.specs.Stream.{Images, below, image_of, load_of, start_of, unreached}
+use Rattle.ga_path.specs.Stream.{Images, grove, image_of, tree_load, tree_start, unreached}
+use Rattle.ga_path.specs.Tree.{IsSound, TreeView}
 use Rattle.ga_node.specs.Slot.{step}
 use Rattle.ga_chip.specs.Chip.{Chip, found_by, part_of, state_of, tried}
 use Rattle.ga_chip.specs.Legal.{IsLegal}
@@ -55,21 +55,21 @@ abbrev pub WordsGiveBack : Type 0
 WordsGiveBack = (text : List ℕ) (images : Images) (assembled : HasImages text images)
     → GiveBack assembled.program images
 
--- a node of a route has begun: the first one, or another by its place in the tree that the route is
-abbrev pub begun_by : Option Place → Chip → Images → ℕ → List ℕ → List Event → Type 0
-begun_by (Some p) chip images root names events = Begun chip p events
-begun_by None chip images root names events = RootBegun chip root (image_of images root) (below images root names) events
+-- a node of a tree has begun: the root, or another by its place in the tree
+abbrev pub begun_by : Option Place → Chip → Images → TreeView → List Event → Type 0
+begun_by (Some p) chip images tree events = Begun chip p events
+begun_by None chip images tree events = RootBegun chip tree.root (image_of images tree.root) (grove images tree.root tree.subtrees) events
 
-abbrev pub HasBegun : Chip → Images → ℕ → List ℕ → List Event → ℕ → Type 0
-HasBegun chip images root names events name =
-    begun_by (found name (places root 1 (below images root names))) chip images root names events
+abbrev pub HasBegun : Chip → Images → TreeView → List Event → ℕ → Type 0
+HasBegun chip images tree events name =
+    begun_by (found name (places tree.root 1 (grove images tree.root tree.subtrees))) chip images tree events
 
--- In every run of a chip that boots along a route: once the load part was taken whole, each node with an image holds it
--- until it begins.
+-- In every run of a chip that boots a tree of routes: once the load part was taken whole, each node with an image holds
+-- it until it begins.
 abbrev pub BootsHold : Type 0
-BootsHold = (images : Images) (root : ℕ) (names : List ℕ) (chip : Chip) (events : List Event) → IsNodeName root
-    → route_fault (root ∷ names) ≡ None → All (λ entry. IsLoadable entry.1) images → unreached images (root ∷ names) ≡ None
-    → IsSupplied chip root (load_of images (root ∷ names) ++ start_of images (root ∷ names)) events
+BootsHold = (images : Images) (tree : TreeView) (chip : Chip) (events : List Event) → IsNodeName tree.root → IsSound tree
+    → All (λ entry. IsLoadable entry.1) images → unreached images tree.nodes ≡ None
+    → IsSupplied chip tree.root (tree_load images tree ++ tree_start images tree) events
     → (name : ℕ) (image : ImageView) (now : Part) → image_of images name ≡ Some image → part_of (ran chip events) name ≡ Some now
-    → LoadTaken chip root (image_of images root) (below images root names) events
-    → (HasBegun chip images root names events name → ⊥) → Holds now.state (Some image)
+    → LoadTaken chip tree.root (image_of images tree.root) (grove images tree.root tree.subtrees) events
+    → (HasBegun chip images tree events name → ⊥) → Holds now.state (Some image)
