@@ -5,7 +5,7 @@ use Rattle.ga_jobs.specs.declared.fault.ServeError.TheVariants.{Read, Write, Mem
 use Rattle.ga_path.specs.Stream.{Images}
 use Rattle.ga_jobs.specs.Boot.{IsBootOutput, text_by}
 use Rattle.ga_jobs.specs.Fault.{Answers, FailsRightly}
-use Rattle.ga_jobs.specs.Route.{route_in}
+use Rattle.ga_jobs.specs.Tree.{tree_in}
 use Rattle.ga_jobs.specs.Run.{IsRunOf, IsRunOutput}
 use Rattle.ga_jobs.specs.Source.{IsImagesIn}
 
@@ -20,10 +20,10 @@ answers view IsRight IsAlso (Ok value) also is = also (Ok (view value)) is
 answers view IsRight IsAlso (Err fault) also is = fails IsRight IsAlso fault (λ error. also (Err error)) is
 
 -- what comes of the images of an input comes of the input
-pub booted_from : (images : Images) (route : List ℕ) (input : List ℕ) → IsImagesIn input (Ok images) → (answer : Result (List ℕ) ServeError) → text_by images (route_in route) ≡ answer → IsBootOutput route input answer
-booted_from images route input made (Ok text) is = (images, made, is)
-booted_from images route input made (Err fault) is = inr (images, made, is)
+pub booted_from : (images : Images) (routes : List ℕ) (input : List ℕ) → IsImagesIn input (Ok images) → (answer : Result (List ℕ) ServeError) → text_by images (tree_in routes) ≡ answer → IsBootOutput routes input answer
+booted_from images routes input made (Ok text) is = (images, made, is)
+booted_from images routes input made (Err fault) is = inr (images, made, is)
 
-pub ran_from : (images : Images) (route : List ℕ) (workers turns : ℕ) (input : List ℕ) → IsImagesIn input (Ok images) → (answer : Result (List ℕ) ServeError) → IsRunOf images workers turns (route_in route) answer → IsRunOutput route workers turns input answer
-ran_from images route workers turns input made (Ok text) is = (images, made, is)
-ran_from images route workers turns input made (Err fault) is = inr (images, made, is)
+pub ran_from : (images : Images) (routes : List ℕ) (workers turns : ℕ) (input : List ℕ) → IsImagesIn input (Ok images) → (answer : Result (List ℕ) ServeError) → IsRunOf images workers turns (tree_in routes) answer → IsRunOutput routes workers turns input answer
+ran_from images routes workers turns input made (Ok text) is = (images, made, is)
+ran_from images routes workers turns input made (Err fault) is = inr (images, made, is)

@@ -15,6 +15,7 @@ use Rattle.ga_node.specs.Slot.{row, step}
 use Rattle.ga_asm.specs.Image.{ImageView, image_line}
 use Rattle.ga_path.specs.declared.error.BootError.TheVariants.{Unreached}
 use Rattle.ga_path.specs.declared.error.RouteError.TheVariants.{NotNeighbour}
+use Rattle.ga_path.specs.declared.error.TreeError.TheVariants.{OtherRoot, Repeated}
 use Rattle.ga_place.specs.Cell.{all_cells, cell_of}
 use Rattle.ga_chip.specs.Chip.{reset_chip, tried}
 use Rattle.ga_chip.specs.Part.{after, asks}
@@ -25,13 +26,13 @@ use Rattle.ga_jobs.specs.Asm.{images_text}
 use Rattle.ga_jobs.specs.Debug.{replies_to}
 use Rattle.ga_jobs.specs.Run.{dealt, plan_by}
 use Rattle.ga_jobs.specs.declared.fault.RouteFault.TheVariants.{BadRoute, Nodes}
-use Rattle.ga_jobs.specs.declared.fault.ServeError.TheVariants.{Boot, Input, Plan, Route, Words}
+use Rattle.ga_jobs.specs.declared.fault.ServeError.TheVariants.{Boot, Input, Plan, Route, Tree, Words}
 use Rattle.ga_jobs.specs.declared.fault.InputFault.TheVariants.{BadText}
 use Rattle.ga_jobs.specs.declared.fault.WordsFault.TheVariants as words
 use Rattle.ga_jobs.specs.Boot.{part_text, text_by}
 use Rattle.ga_jobs.specs.Dis.{dis_output, dis_text}
 use Rattle.ga_jobs.specs.One.{one_output, one_text}
-use Rattle.ga_jobs.specs.Route.{route_in}
+use Rattle.ga_jobs.specs.Tree.{tree_in}
 use Rattle.ga_jobs.specs.Text.{words_in}
 
 a_line : one_output 5 (codes "04A12 00005 00003 2C9B2\n") ≡ Ok (codes "node 000 P 003 A 00005 B 15D R 00000 S 00000 T 00003 C 0 io 00000 at fetch steps 5 need own\n")
@@ -71,17 +72,28 @@ bad_word_first = refl
 one_word : ImageView
 one_word = record { words = 0x2C9B2 ∷ []; code_len = 1; entry = 0; labels = []; item_counts = 1 ∷ [] }
 
-boot_of_a_neighbour : text_by ((709, one_word) ∷ []) (route_in (codes "708,709")) ≡ Ok (codes "load 14\n000AE 001D5 00008 101D5 04A12 00000 00000 2E9B2\n05872 2C9B2 2C9B2 000AE 00000 00000\nstart 7\n000AE 001D5 00001 10000 001B5 00000 00000\n")
+boot_of_a_neighbour : text_by ((709, one_word) ∷ []) (tree_in (codes "708,709")) ≡ Ok (codes "load 14\n000AE 001D5 00008 101D5 04A12 00000 00000 2E9B2\n05872 2C9B2 2C9B2 000AE 00000 00000\nstart 7\n000AE 001D5 00001 10000 001B5 00000 00000\n")
 unfolding part_text one_word hex_digits digits
 boot_of_a_neighbour = refl
 
-no_names : text_by [] (route_in []) ≡ Err (Route BadRoute)
+boot_of_a_fork : text_by ((709, one_word) ∷ (608, one_word) ∷ []) (tree_in (codes "708,709/708,608")) ≡ Ok (codes "load 25\n000AE 001D5 00008 101D5 04A12 00000 00000 2E9B2\n05872 2C9B2 2C9B2 000AE 00115 00008 10115 04A12\n00000 00000 2E9B2 05872 2C9B2 2C9B2 000AE 00000\n00000\nstart 11\n000AE 001D5 00001 10000 000AE 00115 00001 10000\n001B5 00000 00000\n")
+unfolding part_text one_word hex_digits digits
+boot_of_a_fork = refl
+
+-- the faults of routes come before that of the tree
+no_trees : (text_by [] (tree_in (codes "708,709,609/708,608,609")) ≡ Err (Tree (Repeated 1)))
+    × (text_by [] (tree_in (codes "708,709/000,001")) ≡ Err (Tree (OtherRoot 1)))
+    × (text_by [] (tree_in (codes "708,709/708,710/000,001")) ≡ Err (Route (Nodes (NotNeighbour 1))))
+    × (text_by [] (tree_in (codes "708//709")) ≡ Err (Route BadRoute))
+no_trees = (refl, refl, refl, refl)
+
+no_names : text_by [] (tree_in []) ≡ Err (Route BadRoute)
 no_names = refl
 
-no_route : text_by [] (route_in (codes "708,710")) ≡ Err (Route (Nodes (NotNeighbour 1)))
+no_route : text_by [] (tree_in (codes "708,710")) ≡ Err (Route (Nodes (NotNeighbour 1)))
 no_route = refl
 
-not_reached : text_by ((710, one_word) ∷ []) (route_in (codes "708,709")) ≡ Err (Boot (Unreached 710))
+not_reached : text_by ((710, one_word) ∷ []) (tree_in (codes "708,709")) ≡ Err (Boot (Unreached 710))
 not_reached = refl
 
 -- two images, one with its entry and the code in front of its data

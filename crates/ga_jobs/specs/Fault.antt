@@ -12,8 +12,10 @@ use Rattle.ga_path.specs.declared.error.NamesError.{NamesError}
 use Rattle.ga_path.specs.declared.error.NamesError.TheVariants as names
 use Rattle.ga_path.specs.declared.error.RouteError.{RouteError}
 use Rattle.ga_path.specs.declared.error.RouteError.TheVariants as route
+use Rattle.ga_path.specs.declared.error.TreeError.{TreeError}
+use Rattle.ga_path.specs.declared.error.TreeError.TheVariants as tree
 use Rattle.ga_jobs.specs.declared.fault.ServeError.{ServeError}
-use Rattle.ga_jobs.specs.declared.fault.ServeError.TheVariants.{Words, Source, Asm, Route, Boot, Replay, Read, Write, Memory}
+use Rattle.ga_jobs.specs.declared.fault.ServeError.TheVariants.{Words, Source, Asm, Route, Tree, Boot, Replay, Read, Write, Memory}
 use Rattle.ga_jobs.specs.declared.fault.RouteFault.TheVariants.{BadRoute, Nodes}
 use Rattle.ga_jobs.specs.declared.fault.WordsFault.TheVariants.{BadWord}
 
@@ -28,7 +30,8 @@ fault_of_text (text.Source error) = Source error
 fault_of_text (text.Asm error) = Asm error
 fault_of_text text.Memory = Memory
 
--- the fault of a text that doesn't name nodes, of nodes that are no route, and of a node that isn't on the route
+-- the fault of a text that doesn't name nodes, of nodes that are no route, of routes that are no tree, and of a node that
+-- isn't in the tree
 abbrev pub fault_of_names : NamesError → ServeError
 fault_of_names names.BadNames = Route BadRoute
 fault_of_names names.Memory = Memory
@@ -36,6 +39,10 @@ fault_of_names names.Memory = Memory
 abbrev pub fault_of_route : RouteError → ServeError
 fault_of_route route.Memory = Memory
 fault_of_route error = Route (Nodes error)
+
+abbrev pub fault_of_tree : TreeError → ServeError
+fault_of_tree tree.Memory = Memory
+fault_of_tree error = Tree error
 
 abbrev pub fault_of_boot : BootError → ServeError
 fault_of_boot boot.Memory = Memory

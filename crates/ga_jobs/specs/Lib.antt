@@ -10,7 +10,7 @@ pub mod One
 pub mod Source
 pub mod Asm
 pub mod Dis
-pub mod Route
+pub mod Tree
 pub mod Boot
 pub mod Run
 pub mod Replay

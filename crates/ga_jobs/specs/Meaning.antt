@@ -6,7 +6,7 @@ use Rattle.ga_asm.specs.declared.error.AsmErrorKind.{AsmErrorKind}
 use Rattle.ga_asm.specs.declared.error.AsmErrorKind.TheVariants as asm
 use Rattle.ga_debug.specs.declared.replay_error.ReplayError.{ReplayError}
 use Rattle.ga_debug.specs.declared.replay_error.ReplayError.TheVariants as replay
-use Rattle.ga_jobs.specs.declared.meaning.TheConstants.{BAD_PROFILE, BAD_ROUTE, NO_GO, NO_ROUTE, UNREACHED, BAD_TOKEN, NUMBER_RANGE, BAD_NODE, DUPLICATE_NODE, DUPLICATE_LABEL, RESERVED_LABEL, OPEN_BRACKET, BAD_WORD, NO_NODE, EMPTY, UNDEFINED_LABEL, OUT_OF_REACH, UNEXT_ALONE, TOO_LONG, MEMORY}
+use Rattle.ga_jobs.specs.declared.meaning.TheConstants.{BAD_PROFILE, BAD_ROUTE, NO_GO, NO_ROUTE, NO_TREE, UNREACHED, BAD_TOKEN, NUMBER_RANGE, BAD_NODE, DUPLICATE_NODE, DUPLICATE_LABEL, RESERVED_LABEL, OPEN_BRACKET, BAD_WORD, NO_NODE, EMPTY, UNDEFINED_LABEL, OUT_OF_REACH, UNEXT_ALONE, TOO_LONG, MEMORY}
 
 -- of source text
 unfoldable pub source_meaning : SourceErrorKind → List ℕ
@@ -36,5 +36,6 @@ head_meaning replay.BadProfile = BAD_PROFILE.now
 head_meaning replay.BadRoute = BAD_ROUTE.now
 head_meaning replay.NoGo = NO_GO.now
 head_meaning (replay.Route error) = NO_ROUTE.now
+head_meaning (replay.Tree error) = NO_TREE.now
 head_meaning (replay.Boot error) = UNREACHED.now
 head_meaning error = []

@@ -9,12 +9,13 @@ use Rattle.ga_group.specs.Plan.{Groups, plan_fault}
 use Rattle.ga_group.specs.Workers.{IsWorkersRun}
 use Rattle.ga_group.specs.declared.error.PlanError.{PlanError}
 use Rattle.ga_path.specs.Stream.{Images, unreached}
+use Rattle.ga_path.specs.Tree.{TreeView}
 use Rattle.ga_path.specs.declared.error.BootError.TheVariants.{Unreached}
-use Rattle.ga_debug.specs.Beginning.{booted}
+use Rattle.ga_debug.specs.Beginning.{booted_tree}
 use Rattle.ga_jobs.specs.declared.fault.ServeError.{ServeError}
 use Rattle.ga_jobs.specs.declared.fault.ServeError.TheVariants.{Boot, Plan}
-use Rattle.ga_jobs.specs.Route.{route_in}
 use Rattle.ga_jobs.specs.Source.{IsImagesIn}
+use Rattle.ga_jobs.specs.Tree.{tree_in}
 
 -- the nodes of a worker, of so many: the i-th node goes to worker i modulo their number; the first node here is the
 -- one with this i
@@ -42,33 +43,32 @@ node_report chip name = option_map_or node_dump (state_of chip name) [] ++ ledge
 abbrev pub node_reports : Chip → List ℕ → List ℕ
 node_reports chip names = flat_map (node_report chip) names
 
--- The text tells the nodes of a route at the end of a run of a chip, in which so many workers share the nodes and make
--- so many turns.
-pub record IsRunText (chip : Chip) (route : List ℕ) (workers turns : ℕ) (text : List ℕ) : Type 0 where
+-- The text tells nodes at the end of a run of a chip, in which so many workers share the nodes and make so many turns.
+pub record IsRunText (chip : Chip) (nodes : List ℕ) (workers turns : ℕ) (text : List ℕ) : Type 0 where
   pub next : Chip
-  pub ran : IsWorkersRun chip (dealt workers route) turns next
-  pub text_is : text ≡ node_reports next route
+  pub ran : IsWorkersRun chip (dealt workers nodes) turns next
+  pub text_is : text ≡ node_reports next nodes
 
--- what comes of a chip and the nodes of a route, or what is wrong with these as a plan
+-- what comes of a chip and nodes, or what is wrong with these as a plan
 abbrev pub IsRunFrom : Chip → List ℕ → ℕ → ℕ → Result (List ℕ) ServeError → Type 0
-IsRunFrom chip route workers turns (Ok text) = (plan_fault (dealt workers route) ≡ None) × IsRunText chip route workers turns text
-IsRunFrom chip route workers turns (Err fault) = plan_by (dealt workers route) ≡ Err fault
+IsRunFrom chip nodes workers turns (Ok text) = (plan_fault (dealt workers nodes) ≡ None) × IsRunText chip nodes workers turns text
+IsRunFrom chip nodes workers turns (Err fault) = plan_by (dealt workers nodes) ≡ Err fault
 
--- what comes of images on a route: the chip boots along it, where each node with an image is on it
-abbrev pub IsRunAlong : Option ℕ → Images → List ℕ → ℕ → ℕ → Result (List ℕ) ServeError → Type 0
-IsRunAlong None images route workers turns answer = IsRunFrom (booted images route) route workers turns answer
-IsRunAlong (Some node) images route workers turns answer = Err (Boot (Unreached node)) ≡ answer
+-- what comes of images in a tree: the chip boots it, where each node with an image is in it
+abbrev pub IsRunIn : Option ℕ → Images → TreeView → ℕ → ℕ → Result (List ℕ) ServeError → Type 0
+IsRunIn None images tree workers turns answer = IsRunFrom (booted_tree images tree) tree.nodes workers turns answer
+IsRunIn (Some node) images tree workers turns answer = Err (Boot (Unreached node)) ≡ answer
 
--- what comes of images and a route, or of what is wrong with the route
-abbrev pub IsRunOf : Images → ℕ → ℕ → Result (List ℕ) ServeError → Result (List ℕ) ServeError → Type 0
-IsRunOf images workers turns (Ok route) answer = IsRunAlong (unreached images route) images route workers turns answer
+-- what comes of images and a tree, or of what is wrong with the routes
+abbrev pub IsRunOf : Images → ℕ → ℕ → Result TreeView ServeError → Result (List ℕ) ServeError → Type 0
+IsRunOf images workers turns (Ok tree) answer = IsRunIn (unreached images tree.nodes) images tree workers turns answer
 IsRunOf images workers turns (Err fault) answer = Err fault ≡ answer
 
--- what `run` may write for an input, or its first fault: of the source, of the assembly, of the route, of the boot, of
--- the plan
+-- what `run` may write for an input, or its first fault: of the source, of the assembly, of the routes, of the tree,
+-- of the boot, of the plan
 abbrev pub IsRunOutput : List ℕ → ℕ → ℕ → List ℕ → Result (List ℕ) ServeError → Type 0
-IsRunOutput route workers turns input (Ok text) =
-    (images : Images) × IsImagesIn input (Ok images) × IsRunOf images workers turns (route_in route) (Ok text)
-IsRunOutput route workers turns input (Err fault) =
+IsRunOutput routes workers turns input (Ok text) =
+    (images : Images) × IsImagesIn input (Ok images) × IsRunOf images workers turns (tree_in routes) (Ok text)
+IsRunOutput routes workers turns input (Err fault) =
     IsImagesIn input (Err fault)
-    ⊎ ((images : Images) × IsImagesIn input (Ok images) × IsRunOf images workers turns (route_in route) (Err fault))
+    ⊎ ((images : Images) × IsImagesIn input (Ok images) × IsRunOf images workers turns (tree_in routes) (Err fault))

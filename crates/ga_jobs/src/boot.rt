@@ -2,33 +2,34 @@ ghost use Rattle.std.specs.Prelude.{◌≡◌, ◌++◌, IfOk, string_bytes};
 ghost use Rattle.ga_asm.specs.Text.{AtMostOne};
 ghost use Rattle.ga_jobs.specs.Boot.{IsBootOutput, part_text, text_by};
 ghost use Rattle.ga_jobs.specs.Fault.{Answers, Gives};
-ghost use Rattle.ga_jobs.specs.Route.{route_in};
+ghost use Rattle.ga_jobs.specs.Tree.{tree_in};
 
 use crate::fault::ServeError;
-use crate::route::route_of;
 use crate::source::images_of;
+use crate::tree::tree_of;
 use ga_asm::Images;
+use ga_path::boot_tree;
 use ga_word::{Word18, push_words};
 use std::alloc::{AllocError, Global};
 use std::fmt::Write;
 
-/// Both parts of the boot stream of a route and of the input, which is source text, as text.
+/// Both parts of the boot stream of the tree of routes and of the input, which is source text, as text.
 #[tactic(auto, using(crate::proofs::OneOutput::one_boot_output))]
-pub fn output(alloc: Global, route: &str, input: &[u8]) -> Result<String, ServeError>
-    ensures output { Answers string_bytes (IsBootOutput route.now input.now) result }
+pub fn output(alloc: Global, routes: &str, input: &[u8]) -> Result<String, ServeError>
+    ensures output { Answers string_bytes (IsBootOutput routes.now input.now) result }
     // an input has one output, or one first fault
-    ensures only { AtMostOne (IsBootOutput route.now input.now) }
+    ensures only { AtMostOne (IsBootOutput routes.now input.now) }
 {
     let images = images_of(alloc, input)?;
-    boot_text(alloc, route, &images)
+    boot_text(alloc, routes, &images)
 }
 
-/// Both parts of the boot stream of a route and of images, as text.
-fn boot_text(alloc: Global, route: &str, images: &Images) -> Result<String, ServeError>
-    ensures { Gives string_bytes result (text_by images.now (route_in route.now)) }
+/// Both parts of the boot stream of the tree of routes and of images, as text.
+fn boot_text(alloc: Global, routes: &str, images: &Images) -> Result<String, ServeError>
+    ensures { Gives string_bytes result (text_by images.now (tree_in routes.now)) }
 {
-    let route = route_of(alloc, route)?;
-    let boot = ga_path::boot(alloc, &route, images)?;
+    let tree = tree_of(alloc, routes)?;
+    let boot = boot_tree(alloc, &tree, images)?;
     let mut text = String::new(alloc);
     push_part(&mut text, "load", &boot.load)?;
     push_part(&mut text, "start", &boot.start)?;

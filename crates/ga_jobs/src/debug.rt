@@ -44,6 +44,7 @@ fn replies_to(alloc: Global, session: Session, text: &str, line: u64) -> Result<
 }
 
 /// Adds the reply to a command, or why it is refused.
+#[inline(never)]
 fn push_reply(
     alloc: Global,
     replies: &mut String,

@@ -1,12 +1,12 @@
 ghost use Rattle.std.specs.Prelude.{◌≡◌};
-ghost use Rattle.ga_jobs.specs.Fault.{fault_of_boot, fault_of_names, fault_of_replay, fault_of_route, fault_of_text, fault_of_words};
+ghost use Rattle.ga_jobs.specs.Fault.{fault_of_boot, fault_of_names, fault_of_replay, fault_of_route, fault_of_text, fault_of_tree, fault_of_words};
 ghost use Rattle.ga_jobs.specs.declared.fault.ServeError.TheVariants.{Memory, Plan};
 
 use crate::shown::ShownText;
 use ga_asm::{AsmError, TextError};
 use ga_debug::ReplayError;
 use ga_group::PlanError;
-use ga_path::{BootError, NamesError, RouteError};
+use ga_path::{BootError, NamesError, RouteError, TreeError};
 use ga_place::Node;
 use ga_source::SourceError;
 use ga_word::WordsError;
@@ -50,7 +50,7 @@ pub enum WordsFault {
 /// Why a ROUTE was refused.
 #[derive(Debug, PartialEq, Eq, Drop, Error)]
 pub enum RouteFault {
-    /// It isn't names of nodes with commas between them.
+    /// It isn't routes with `/` between them, of each the names of its nodes with commas between them.
     #[error("BadRoute")]
     BadRoute,
     /// The nodes are no route.
@@ -88,6 +88,8 @@ pub enum ServeError {
     Asm(AsmError),
     #[error("route {0}")]
     Route(RouteFault),
+    #[error("tree {0}")]
+    Tree(TreeError),
     #[error("boot {0}")]
     Boot(BootError),
     #[error("plan {0}")]
@@ -148,6 +150,18 @@ impl From<RouteError> for ServeError {
         match error {
             RouteError::Memory => ServeError::Memory,
             _ => ServeError::Route(RouteFault::Nodes(error)),
+        }
+    }
+}
+
+impl From<TreeError> for ServeError {
+    ghost from_gives = { λ error fault. fault ≡ fault_of_tree error };
+
+    #[inline(never)]
+    fn from(error: TreeError) -> ServeError {
+        match error {
+            TreeError::Memory => ServeError::Memory,
+            _ => ServeError::Tree(error),
         }
     }
 }

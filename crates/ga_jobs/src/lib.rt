@@ -12,13 +12,13 @@ mod meaning;
 pub mod one;
 pub mod record;
 pub mod replay;
-mod route;
 pub mod run;
 mod shown;
 mod source;
 mod text;
 mod text_fault;
 mod transcript_fault;
+mod tree;
 
 pub use crate::fault::{InputFault, RouteFault, ServeError, TextFault, WordsFault};
 pub use crate::shown::ShownText;

@@ -49,6 +49,7 @@ pub fn head_meaning(error: &ReplayError) -> &'static str
         ReplayError::BadRoute => BAD_ROUTE,
         ReplayError::NoGo => NO_GO,
         ReplayError::Route(_) => NO_ROUTE,
+        ReplayError::Tree(_) => NO_TREE,
         ReplayError::Boot(_) => UNREACHED,
         _ => "",
     }
@@ -64,6 +65,8 @@ const BAD_ROUTE: &str = "the second line is neither 'place' nor 'route' and name
 const NO_GO: &str = "no line is 'go'";
 
 const NO_ROUTE: &str = "nodes that are no route: from an edge on, from neighbour to new neighbour";
+
+const NO_TREE: &str = "routes that are no tree: from one first node, and no node by two ways";
 
 const UNREACHED: &str = "a route without a node that the source text has";
 

@@ -3,50 +3,50 @@ ghost use Rattle.ga_jobs.specs.declared.fault.ServeError.TheVariants.{Memory};
 ghost use Rattle.ga_group.specs.Plan.{groups_of};
 ghost use Rattle.ga_group.specs.Workers.{IsWorkersRun};
 ghost use Rattle.ga_jobs.specs.Fault.{Answers, Gives};
-ghost use Rattle.ga_jobs.specs.Route.{route_in};
+ghost use Rattle.ga_jobs.specs.Tree.{tree_in};
 ghost use Rattle.ga_jobs.specs.Run.{IsRunFrom, IsRunOf, IsRunOutput, dealt, nodes_for, node_reports, plan_by};
 
 use crate::fault::ServeError;
-use crate::route::route_of;
 use crate::source::images_of;
+use crate::tree::tree_of;
 use ga_asm::Images;
 use ga_chip::Chip;
-use ga_debug::booted;
+use ga_debug::booted_tree;
 use ga_dump::{ledger_text, node_text};
 use ga_group::{Open, Plan, RunError, run_workers};
 use ga_place::Node;
 use std::alloc::{AllocError, Global};
 use std::thread::Threads;
 
-/// The nodes of a route after a run, as text: they boot from the input, which is source text, and so many workers
+/// The nodes of a tree of routes after a run, as text: they boot from the input, which is source text, and so many workers
 /// make so many turns.
 pub fn output<Rt: AllocGlobal + Threads + Sync>(
     rt: &Rt,
-    route: &str,
+    routes: &str,
     workers: u32,
     turns: u32,
     input: &[u8],
 ) -> Result<String, ServeError>
-    ensures { Answers string_bytes (IsRunOutput route.now workers turns input.now) result }
+    ensures { Answers string_bytes (IsRunOutput routes.now workers turns input.now) result }
 {
     let images = images_of(rt.alloc(), input)?;
-    run_text(rt, route, workers, turns, &images)
+    run_text(rt, routes, workers, turns, &images)
 }
 
 /// The same of images.
 fn run_text<Rt: AllocGlobal + Threads + Sync>(
     rt: &Rt,
-    route: &str,
+    routes: &str,
     workers: u32,
     turns: u32,
     images: &Images,
 ) -> Result<String, ServeError>
-    ensures { Answers string_bytes (IsRunOf images.now workers turns (route_in route.now)) result }
+    ensures { Answers string_bytes (IsRunOf images.now workers turns (tree_in routes.now)) result }
 {
     let alloc = rt.alloc();
-    let route = route_of(alloc, route)?;
-    let chip = booted(alloc, &route, images)?;
-    run_chip(rt, chip, route.nodes(), workers, turns)
+    let tree = tree_of(alloc, routes)?;
+    let chip = booted_tree(alloc, &tree, images)?;
+    run_chip(rt, chip, tree.nodes(), workers, turns)
 }
 
 /// Nodes of a chip as text, after so many workers, who share them, have made so many turns.
@@ -75,6 +75,7 @@ fn plan_of(alloc: Global, nodes: &[Node], workers: u32) -> Result<Plan, ServeErr
 }
 
 /// The nodes of each of so many workers.
+#[inline(never)]
 fn dealt(alloc: Global, nodes: &[Node], workers: usize) -> Result<Vec<Vec<Node>>, AllocError>
     ensures { IfOk result (λ groups. groups_of groups ≡ dealt workers nodes.now) }
 {

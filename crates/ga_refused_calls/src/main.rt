@@ -5,6 +5,7 @@
 //! no call of this name.
 #![tactic(auto)]
 
+mod boots;
 mod chips;
 mod frames;
 mod runs;
@@ -13,6 +14,7 @@ mod sessions;
 mod told;
 mod words;
 
+use crate::boots::boot_told;
 use crate::frames::{feed_told, read_frames_told, write_frame_told};
 use crate::runs::{chip_text_told, run_workers_told};
 use crate::serving::serve_told;
@@ -70,6 +72,7 @@ fn told_of<Rt: AllocGlobal + Threads + Sync, R: Read>(
         ["write_frame"] => write_frame_told(alloc)?,
         ["read_frames"] => read_frames_told(alloc)?,
         ["feed"] => feed_told(alloc)?,
+        ["boot"] => boot_told(alloc)?,
         ["chip_text"] => chip_text_told(alloc)?,
         ["run_workers"] => run_workers_told(rt, alloc)?,
         ["command", line] => command_told(alloc, line)?,

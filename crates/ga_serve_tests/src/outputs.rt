@@ -72,18 +72,43 @@ fn answers_lines(rt: HostRuntime) -> Result<(), Fail> {
     Ok(())
 }
 
+/// The boot of 709 along 708, 709.
+const ROUTE_BOOT: &str = "\
+load 14
+000AE 001D5 00008 101D5 04A12 00000 00000 2E9B2
+05872 2C9B2 2C9B2 000AE 00000 00000
+start 7
+000AE 001D5 00001 10000 001B5 00000 00000
+";
+
+/// The boot of 709 and 608, both neighbours of 708.
+const TREE_BOOT: &str = "\
+load 25
+000AE 001D5 00008 101D5 04A12 00000 00000 2E9B2
+05872 2C9B2 2C9B2 000AE 00115 00008 10115 04A12
+00000 00000 2E9B2 05872 2C9B2 2C9B2 000AE 00000
+00000
+start 11
+000AE 001D5 00001 10000 000AE 00115 00001 10000
+001B5 00000 00000
+";
+
 #[test]
-fn boots_a_route(rt: HostRuntime) -> Result<(), Fail> {
+fn boots_routes(rt: HostRuntime) -> Result<(), Fail> {
     let alloc = rt.alloc();
-    let text =
-        "load 14\n000AE 001D5 00008 101D5 04A12 00000 00000 2E9B2\n05872 2C9B2 2C9B2 000AE 00000 00000\n\
-        start 7\n000AE 001D5 00001 10000 001B5 00000 00000\n";
-    let route = String::from_str(alloc, "708,709")?;
-    let mut writer = sink_of(alloc, 8192);
-    let mut reader = source_of(b"node 709 .", 8192);
-    let outcome = serve(&rt, &mut reader, &mut writer, &Job::Boot { route });
-    assert!(rt; status(&outcome) == 0);
-    assert!(rt; writer.taken.as_slice() == text.as_bytes());
+    let table = [
+        ("708,709", "node 709 .", ROUTE_BOOT),
+        ("708,709/708", "node 709 .", ROUTE_BOOT),
+        ("708,709/708,608", "node 709 . node 608 .", TREE_BOOT),
+    ];
+    for (route, input, text) in table {
+        let route = String::from_str(alloc, route)?;
+        let mut writer = sink_of(alloc, 8192);
+        let mut reader = source_of(input.as_bytes(), 8192);
+        let outcome = serve(&rt, &mut reader, &mut writer, &Job::Boot { route });
+        assert!(rt; status(&outcome) == 0);
+        assert!(rt; writer.taken.as_slice() == text.as_bytes());
+    }
     Ok(())
 }
 
@@ -109,9 +134,10 @@ rs 00000 00000 00000 00000 00000 00000 00000 00000
 #[test]
 fn run_two_nodes(rt: HostRuntime) -> Result<(), Fail> {
     let alloc = rt.alloc();
-    for workers in [1, 2] {
+    // the second is the tree of the first, and a front of it
+    for (route, workers) in [("708,709", 1), ("708,709/708", 1), ("708,709", 2)] {
         let job = Job::Run {
-            route: String::from_str(alloc, "708,709")?,
+            route: String::from_str(alloc, route)?,
             workers,
             turns: 200,
         };

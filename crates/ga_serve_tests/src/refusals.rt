@@ -82,13 +82,26 @@ fn refuses_too_much_code(rt: HostRuntime) -> Result<(), Fail> {
 
 #[test]
 fn refuses_routes(rt: HostRuntime) -> Result<(), Fail> {
-    // faults of the source and of the assembly come before those of the route, and these before the boot's
+    // faults of the source and of the assembly come before those of a route, these before the tree's, and these before
+    // the boot's
     let table = [
         (b"node 709 .".as_slice(), "", "route BadRoute"),
         (b"node 709 .", "999", "route BadRoute"),
         (b"node 709 .", "101,102", "route NotEdge"),
         (b"node 709 .", "708,710", "route NotNeighbour 1"),
         (b"node 709 .", "708,709,708", "route Repeated 2"),
+        (b"node 709 .", "708//709", "route BadRoute"),
+        (b"node 709 .", "708,709/", "route BadRoute"),
+        (b"node 709 .", "708,709/708,709,708", "route Repeated 2"),
+        (b"node 709 .", "708,709/000,001", "tree OtherRoot 1"),
+        (b"node 709 .", "708,709,609/708,608,609", "tree Repeated 1"),
+        (
+            b"node 709 .",
+            "708,608/000,001/708,710",
+            "route NotNeighbour 1",
+        ),
+        (b"node 709 .", "708,608/000,001", "tree OtherRoot 1"),
+        (b"node 709 .", "708,608/708,707", "boot Unreached 709"),
         (b"node 709 .", "708,707", "boot Unreached 709"),
         (b"node 709 . #", "", "source 1:12 BadToken"),
         (b"node 709 jump x", "", "asm 709 1:15 UndefinedLabel"),
@@ -153,6 +166,7 @@ fn refuses_runs(rt: HostRuntime) -> Result<(), Fail> {
         (two_nodes, "708,709", 3, "plan Empty 2"),
         (two_nodes, "708,707", 3, "boot Unreached 709"),
         (two_nodes, "708,710", 3, "route NotNeighbour 1"),
+        (two_nodes, "708,709/000,001", 3, "tree OtherRoot 1"),
         (two_nodes, "", 1, "route BadRoute"),
         (b"node 709 jump x", "", 1, "asm 709 1:15 UndefinedLabel"),
         (b"node 709 #", "", 1, "source 1:10 BadToken"),
