@@ -7,9 +7,10 @@ use std::alloc::{AllocError, Global};
 
 const HELP: &str = "\
 Reads source text from standard input, as asm does. Writes a line 'load' with a number and so many
-words, eight on a line, and 'start' in the same way: what the loader of the route's first node is to
-be given, so that each node of the route has its words in memory, and then starts. These are words for
-the loader of this bench's chip, and no bytes for a serial line.
+words, eight on a line, and 'start' in the same way: what the loader of the first node is to be given,
+so that each node has its words in memory, and then starts. These are words for the loader of this
+bench's chip, and no bytes for a serial line. Several routes that begin at one node, with '/' between
+them, are a tree.
 
 Example: echo 'node 709 .' | ga-bench boot 708,709
 More: Boot streams in docs/FORMATS.md";
@@ -20,10 +21,10 @@ pub fn command<'a>(alloc: Global) -> Result<Command<'a>, AllocError>
     ensures { IfOk result (IsCommandOf boot_command) }
 {
     let route = Arg::new(alloc, "ROUTE").required(true).help(
-        "Node names with commas between them: an edge node, and each next one its neighbour",
+        "Node names with commas between them, from an edge node on; or several such routes with / between them",
     );
     Command::new(alloc, "boot")
-        .about("Assembles source text, and prints the words that boot a route")
+        .about("Assembles source text, and prints the words that boot a route or a tree")
         .after_help(HELP)
         .arg(route)
 }

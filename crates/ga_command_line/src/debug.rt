@@ -7,7 +7,7 @@ use std::alloc::{AllocError, Global};
 
 const HELP: &str = "\
 Reads from standard input a replay text whose commands state nothing: the line 'profile 2', the line
-'place' or 'route' and node names with commas between them, source text, the line 'go', and commands.
+'place' or 'route' and a ROUTE as of boot, source text, the line 'go', and commands.
 Writes the reply to each command, or 'refused' and why, and goes on.
 
   break NNN HHH   node NNN, three digits, is held before it fetches at address HHH, three hex digits

@@ -7,9 +7,9 @@ use std::alloc::{AllocError, Global};
 
 const HELP: &str = "\
 Reads from standard input a replay text: the line 'profile 2' or 'profile 1', the line 'place' or
-'route' and node names with commas between them, source text, the line 'go', and commands with what
-comes of them. With 'profile 1' a node that is about to fetch with bit 9 of P set counts as stopped.
-Does the commands, and writes 'same' and how many stated outcomes were compared, where all of them hold.
+'route' and a ROUTE as of boot, source text, the line 'go', and commands with what comes of them. Does
+the commands, and writes 'same' and how many stated outcomes were compared, where all of them hold. With
+'profile 1' a node that is about to fetch with bit 9 of P set counts as stopped.
 
   break NNN HHH, clear NNN HHH, pass NNN   as debug has them
   try NNN SIDE = OUTCOME                   OUTCOME is moved, waits, held or stopped

@@ -16,11 +16,11 @@ pub enum Job {
     Dis {
         code: Option<u32>,
     },
-    /// The boot stream of a route through the nodes of a source text.
+    /// The boot stream of one route or more through the nodes of a source text.
     Boot {
         route: String,
     },
-    /// The nodes of a route after so many turns of so many workers, where the route boots from a source text.
+    /// The nodes of one route or more after so many turns of so many workers, booted from a source text.
     Run {
         route: String,
         workers: u32,

@@ -18,13 +18,13 @@ const WORKERS_LIMIT: u32 = 144;
 const TURNS_LIMIT: u32 = 1_000_000;
 
 const HELP: &str = "\
-Reads source text from standard input, as asm does. On a chip after reset, the first node of the route
-is given the boot stream that boot prints, and the nodes of the route are tried by workers: the first
-node by worker 0, the next by worker 1, and so on, and behind the last worker by worker 0 again. In each
-turn each worker tries each of its nodes once, with the side right, down, left, up, and again. Nodes off
-the route are never tried.
+Reads source text from standard input, as asm does. On a chip after reset, the first node is given the
+boot stream that boot prints, and the nodes of the routes, as ROUTE first names them, are tried by
+workers: the first node by worker 0, the next by worker 1, and so on, and behind the last worker by
+worker 0 again. In each turn each worker tries each of its nodes once, with the side right, down, left,
+up, and again. Nodes off the routes are never tried.
 
-Writes for each node of the route its registers and stacks, and how many words it has written at each
+Writes for each of these nodes its registers and stacks, and how many words it has written at each
 side, those of the boot too.
 
 Example: echo 'node 709 main: $5 $7 + @b' | ga-bench run 708,709 1 200
@@ -62,10 +62,10 @@ fn routed_command<'a>(alloc: Global) -> Result<Command<'a>, AllocError>
     ensures { IfOk result (IsCommandOf routed_command) }
 {
     let route = Arg::new(alloc, "ROUTE").required(true).help(
-        "Node names with commas between them: an edge node, and each next one its neighbour",
+        "Node names with commas between them, from an edge node on; or several such routes with / between them",
     );
     Command::new(alloc, "run")
-        .about("Boots a route, runs its nodes by workers, and prints them")
+        .about("Boots a route or a tree, runs its nodes by workers, and prints them")
         .after_help(HELP)
         .arg(route)
 }

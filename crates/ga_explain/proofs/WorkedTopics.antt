@@ -16,6 +16,6 @@ no_such_name : entry_in entries (codes "badtoken") ≡ None
 unfolding source_entries layout_entries routes_entries sessions_entries input_entries needs_entries stops_entries carry_entries outcomes_entries
 no_such_name = refl
 
-each_name_once : map (λ entry. count_by (λ other. bytes_eq other.0 entry.0) entries) entries ≡ replicate 54 1
+each_name_once : map (λ entry. count_by (λ other. bytes_eq other.0 entry.0) entries) entries ≡ replicate 56 1
 unfolding source_entries layout_entries routes_entries sessions_entries input_entries needs_entries stops_entries carry_entries outcomes_entries
 each_name_once = refl

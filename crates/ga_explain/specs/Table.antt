@@ -3,8 +3,8 @@ use Rattle.std.specs.Prelude.{◌∷◌, ◌++◌, [], List, codes, fold}
 use Rattle.ga_explain.specs.Topic.{Entry}
 use Rattle.ga_explain.specs.declared.source.TheConstants.{BAD_TOKEN, NUMBER_RANGE, BAD_NODE, DUPLICATE_NODE, DUPLICATE_LABEL, RESERVED_LABEL, OPEN_BRACKET, BAD_WORD, NO_NODE, EMPTY}
 use Rattle.ga_explain.specs.declared.layout.TheConstants.{UNDEFINED_LABEL, OUT_OF_REACH, UNEXT_ALONE, TOO_LONG}
-use Rattle.ga_explain.specs.declared.routes.TheConstants.{BAD_ROUTE, NOT_EDGE, NOT_NEIGHBOUR, REPEATED, UNREACHED}
-use Rattle.ga_explain.specs.declared.sessions.TheConstants.{BAD_COMMAND, BAD_ADDRESS, BAD_SIDE, BAD_COUNT, NOT_HELD, BAD_PROFILE, NO_GO, SOURCE, ASM, ROUTE, BOOT, EARLY_REPLY, DIFFERS}
+use Rattle.ga_explain.specs.declared.routes.TheConstants.{BAD_ROUTE, NOT_EDGE, NOT_NEIGHBOUR, REPEATED, OTHER_ROOT, UNREACHED}
+use Rattle.ga_explain.specs.declared.sessions.TheConstants.{BAD_COMMAND, BAD_ADDRESS, BAD_SIDE, BAD_COUNT, NOT_HELD, BAD_PROFILE, NO_GO, SOURCE, ASM, ROUTE, TREE, BOOT, EARLY_REPLY, DIFFERS}
 use Rattle.ga_explain.specs.declared.input.TheConstants.{READ, NO_FILE, FOLDER, BAD_TEXT, BAD_CODE, WRITE, MEMORY}
 use Rattle.ga_explain.specs.declared.needs.TheConstants.{OWN, TAKE, POST, CHECK, INPUT, STOPPED}
 use Rattle.ga_explain.specs.declared.stops.TheConstants.{COUNTED, IO_READ, ROM, UNMAPPED, MULTI_WRITE}
@@ -35,13 +35,14 @@ layout_entries =
     (codes "TooLong", TOO_LONG.now) ∷
     []
 
--- the faults of routes and of boots
+-- the faults of routes, of trees and of boots
 unfoldable pub routes_entries : List Entry
 routes_entries =
     (codes "BadRoute", BAD_ROUTE.now) ∷
     (codes "NotEdge", NOT_EDGE.now) ∷
     (codes "NotNeighbour", NOT_NEIGHBOUR.now) ∷
     (codes "Repeated", REPEATED.now) ∷
+    (codes "OtherRoot", OTHER_ROOT.now) ∷
     (codes "Unreached", UNREACHED.now) ∷
     []
 
@@ -58,6 +59,7 @@ sessions_entries =
     (codes "Source", SOURCE.now) ∷
     (codes "Asm", ASM.now) ∷
     (codes "Route", ROUTE.now) ∷
+    (codes "Tree", TREE.now) ∷
     (codes "Boot", BOOT.now) ∷
     (codes "EarlyReply", EARLY_REPLY.now) ∷
     (codes "differs", DIFFERS.now) ∷

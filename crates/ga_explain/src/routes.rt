@@ -4,9 +4,9 @@ ghost use Rattle.ga_explain.specs.Topic.{entry_of};
 
 use crate::topic::Topic;
 
-/// The faults of routes and of boots, in the order of the pages.
+/// The faults of routes, of trees and of boots, in the order of the pages.
 #[tactic(auto, unfolding(crate::specs::Table::routes_entries))]
-pub fn topics() -> [Topic; 5]
+pub fn topics() -> [Topic; 6]
     ensures { map entry_of result ≡ routes_entries }
 {
     [
@@ -14,16 +14,20 @@ pub fn topics() -> [Topic; 5]
         Topic::new("NotEdge", NOT_EDGE),
         Topic::new("NotNeighbour", NOT_NEIGHBOUR),
         Topic::new("Repeated", REPEATED),
+        Topic::new("OtherRoot", OTHER_ROOT),
         Topic::new("Unreached", UNREACHED),
     ]
 }
 
 const BAD_ROUTE: &str = "\
 BadRoute: ROUTE isn't names of nodes, three digits each, with commas between
-them and no blanks; or the second line of a session or of a replay text is
-missing, or is neither 'place' nor 'route' and such names.
+them and no blanks, or several such routes with a / between them; or the second
+line of a session or of a replay text is missing, or is neither 'place' nor
+'route' and such a text.
 
   $ echo 'node 709 .' | ga-bench boot '708, 709'
+  ga-bench: route BadRoute
+  $ echo 'node 709 .' | ga-bench boot 708//709
   ga-bench: route BadRoute
   $ printf 'profile 2\\nroute 708-709\\nnode 709 .\\ngo\\n' | ga-bench replay
   ga-bench: replay BadRoute
@@ -66,10 +70,14 @@ Mended, as a replay text with that route and no commands:
 
 const REPEATED: &str = "\
 Repeated: a node of the route, counted from 0, stands on the route before. A
-route passes each node once.
+route passes each node once. Of several routes (tree Repeated): this route,
+counted from 0, comes to a node of the tree by another way than the routes
+before it. A tree has one way to each node.
 
   $ echo 'node 709 .' | ga-bench boot 708,709,708
   ga-bench: route Repeated 2
+  $ echo 'node 609 .' | ga-bench boot 708,709,609/708,608,609
+  ga-bench: tree Repeated 1
 
 Mended:
 
@@ -79,10 +87,27 @@ Mended:
   05872 2C9B2 2C9B2 000AE 00000 00000
   start 7
   000AE 001D5 00001 10000 001B5 00000 00000
+  $ printf 'profile 2\\nroute 708,709,609/708,608\\nnode 609 .\\ngo\\n' |
+    ga-bench replay
+  same 0
+";
+
+const OTHER_ROOT: &str = "\
+OtherRoot: this route of several, counted from 0, doesn't begin at the node at
+which the first one begins. One stream boots a tree, and one node is given it.
+
+  $ echo 'node 709 .' | ga-bench boot 708,709/000,001
+  ga-bench: tree OtherRoot 1
+
+Mended: routes from one node, or a session of its own for the other.
+
+  $ printf 'profile 2\\nroute 708,709/708,608\\nnode 709 .\\ngo\\n' |
+    ga-bench replay
+  same 0
 ";
 
 const UNREACHED: &str = "\
-Unreached: this node of the text isn't on the route, and is the first such. The
+Unreached: this node of the text isn't on a route, and is the first such. The
 boot could not bring it its words. Nodes of the route without a section are
 fine: they pass words on.
 

@@ -6,7 +6,7 @@ use crate::topic::Topic;
 
 /// The refusals of commands, and faults of replay texts, in the order of the pages.
 #[tactic(auto, unfolding(crate::specs::Table::sessions_entries))]
-pub fn topics() -> [Topic; 13]
+pub fn topics() -> [Topic; 14]
     ensures { map entry_of result ≡ sessions_entries }
 {
     [
@@ -20,6 +20,7 @@ pub fn topics() -> [Topic; 13]
         Topic::new("Source", SOURCE),
         Topic::new("Asm", ASM),
         Topic::new("Route", ROUTE),
+        Topic::new("Tree", TREE),
         Topic::new("Boot", BOOT),
         Topic::new("EarlyReply", EARLY_REPLY),
         Topic::new("differs", DIFFERS),
@@ -160,8 +161,8 @@ Mended:
 ";
 
 const ROUTE: &str = "\
-Route: the nodes of the line 'route' of a session or of a replay text are no
-route. 'boot' tells why, of the same nodes and the source text.
+Route: nodes of the line 'route' of a session or of a replay text are no route.
+'boot' tells why, of the same routes and the source text.
 
   $ printf 'profile 2\\nroute 408\\nnode 408 .\\ngo\\n' | ga-bench replay
   ga-bench: replay Route
@@ -174,9 +175,26 @@ Mended: a route from the edge, or 'place' in its stead.
   same 0
 ";
 
+const TREE: &str = "\
+Tree: the routes of the line 'route' of a session or of a replay text are no
+tree. 'boot' tells why, of the same routes and the source text.
+
+  $ printf 'profile 2\\nroute 708,709/000,001\\nnode 709 .\\ngo\\n' |
+    ga-bench replay
+  ga-bench: replay Tree
+  $ echo 'node 709 .' | ga-bench boot 708,709/000,001
+  ga-bench: tree OtherRoot 1
+
+Mended:
+
+  $ printf 'profile 2\\nroute 708,709/708,608\\nnode 709 .\\ngo\\n' |
+    ga-bench replay
+  same 0
+";
+
 const BOOT: &str = "\
 Boot: a node of the source text of a session or of a replay text isn't on its
-route. 'boot' tells which, of the same nodes and the source text.
+routes. 'boot' tells which, of the same routes and the source text.
 
   $ printf 'profile 2\\nroute 708\\nnode 709 .\\ngo\\n' | ga-bench replay
   ga-bench: replay Boot

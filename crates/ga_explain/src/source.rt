@@ -192,7 +192,7 @@ Mended:
 
 const EMPTY: &str = "\
 Empty: a section of source text makes no word; there are no words for 'one' or
-'dis' (words Empty); or 'run' has more workers than the route has nodes (plan
+'dis' (words Empty); or 'run' has more workers than nodes (plan
 Empty, and the number of the first worker without a node, from 0).
 
   $ echo 'node 709 main:' | ga-bench asm
