@@ -13,7 +13,7 @@ SECONDS = 600
 
 
 def streams(files):
-    """Yields the name of each case that writes a boot stream, with the first node of its route and the words."""
+    """Yields the name of each case that writes a boot stream, with the first node of its routes and the words."""
     for file in files:
         with open(file, encoding="utf-8") as cases:
             for case in map(json.loads, cases):

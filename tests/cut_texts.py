@@ -11,11 +11,14 @@ from concurrent.futures import ProcessPoolExecutor
 import fuzz
 
 ROUTE = "708,709,609,608"
+TREE = "708,709,710/708,709,609/708,608/708,707"
 # A text, and the command lines that read such a text.
 TEXTS = [
     ("examples/ring/ring.source", [["asm"], ["list"], ["boot", ROUTE], ["run", ROUTE, "1", "600"]]),
     ("examples/ring/ring.transcript", [["debug"], ["check"], ["record"]]),
     ("examples/ring/ring.replay", [["replay"]]),
+    ("examples/tree_sum/tree_sum.source", [["boot", TREE], ["run", TREE, "1", "600"]]),
+    ("examples/tree_sum/tree_sum.replay", [["replay"]]),
 ]
 # Recorded cases whose texts are read too: the one of profile 1, the other of profile 2.
 CASES = {"replay-of-three", "debug-of-three"}

@@ -27,6 +27,7 @@ SECONDS = 60
 ROOT = os.path.dirname(os.path.dirname(os.path.abspath(__file__)))
 ROW = [f"{node}" for node in range(708, 715)]
 RING = ["708", "709", "710", "711", "611", "610", "609", "608"]
+TREE = [["708", "709", "710"], ["708", "709", "609"], ["708", "608"], ["708", "707"]]
 WORDS = 1 << 18
 NODES = [f"{row}{column:02}" for row in range(8) for column in range(18)]
 # Programs of which the session has one node more than the source, behind it: one that sends it something.
@@ -232,12 +233,17 @@ def sort(bench, source, chance):
         bench.same(f"sorted: {shown(words)}", held, sorted(words))
 
 
-def sent_at_boot(images, route):
-    """Returns how many words each node of the route but the first is sent by the boot, as docs/GUIDE.md counts them."""
-    counts = [0]
-    for node in reversed(route[1:]):
-        counts.append(3 + (5 + len(images[node][1]) if node in images else 0) + (10 + counts[-1] if counts[-1] else 0))
-    return counts[:0:-1]
+def sent_at_boot(images, *routes):
+    """Returns how many words each node of these routes but the first is sent by the boot, as docs/GUIDE.md counts them."""
+    parents = {}
+    for route in routes:
+        for parent, node in zip(route, route[1:]):
+            parents.setdefault(node, parent)
+    counts = {node: 3 + (5 + len(images[node][1]) if node in images else 0) for node in parents}
+    for node in reversed(parents):
+        if parents[node] in counts:
+            counts[parents[node]] += 10 + counts[node]
+    return counts
 
 
 def queue(bench, source, chance):
@@ -248,7 +254,7 @@ def queue(bench, source, chance):
         commands = ["break 708 000", "turn 5000", *(f"ports {node}" for node in ROW[:-1])]
         lines = bench.session(f"route {','.join(ROW)}", text, commands)
         written = [int(it) for it in re.findall(r"written (\d+)", "\n".join(lines))]
-        bench.same("the words of the boot", [it for it in written if it], sent_at_boot(bench.images(text), ROW))
+        bench.same("the words of the boot", [it for it in written if it], [*sent_at_boot(bench.images(text), ROW).values()])
     lists = [[0x11111, 0x22222, 0x33333, 0x04444, 0x15555, 0x26666, 0x37777, 0x08888, 0x19999, 0x2AAAA]]
     lists += [[chance.randrange(WORDS) for _ in range(length)] for length in (1, 3, 5, 6, 7, 20, 50)]
     for words in lists:
@@ -330,6 +336,34 @@ def token_ring(bench, source, chance):
             code = codes[node]
             held = memories[node][code:]
             bench.same(f"{node} of {shown(own)}", held, [0, code + 2 + len(wanted), *wanted] + [0] * (62 - code - len(wanted)))
+
+
+def tree_sum(bench, source, chance):
+    """708 has the sum of all lists, whatever their lengths, and each node is sent as many words as the guide counts."""
+    head = f"route {'/'.join(','.join(route) for route in TREE)}"
+    codes = {node: code for node, (code, _) in bench.images(source).items()}
+    # a list has its count in front of it, and that of 708 the sum behind it
+    room = {node: 63 - code - (node == "708") for node, code in codes.items()}
+    cases = [{node: [fill] * length for node in room} for fill in (0, 1, 0x3FFFF) for length in (1, 40)]
+    cases += [{node: [0x3FFFF] * most for node, most in room.items()}]
+    cases += [{node: [chance.choice(EDGES)] for node in room} for _ in range(10)]
+    cases += [{node: [chance.randrange(WORDS) for _ in range(chance.randint(1, most))] for node, most in room.items()} for _ in range(20)]
+    for lists in cases:
+        text = source
+        for node, words in lists.items():
+            text = with_words(text, "list", [len(words) - 1, *words], node)
+        total = sum(sum(words) for words in lists.values())
+        what = f"{total:X} in {sum(map(len, lists.values()))} words"
+        memory = bench.memories(head, text, ["turn 20000", "turn 4"], ["708"])["708"]
+        wanted = [len(lists["708"]) - 1, *lists["708"], total % WORDS]
+        bench.same(f"{what}, the sum", memory[codes["708"]:], wanted + [0] * (64 - codes["708"] - len(wanted)))
+        held = [f"break {node} 000" for node in room]
+        lines = bench.session(head, text, [*held, "turn 20000", *(f"ports {node}" for node in room)])
+        written = {(line.split()[0], line.split()[1]): int(line.split()[3]) for line in lines[len(held) + 1:]}
+        sent = sent_at_boot(bench.images(text), *TREE)
+        parents = {node: parent for route in TREE for parent, node in zip(route, route[1:])}
+        wanted = {(parent, side(parent, node)): sent[node] for node, parent in parents.items()}
+        bench.same(f"{what}, the words of the boot", {at: count for at, count in written.items() if count}, wanted)
 
 
 def registers(bench, head, source, turns, nodes):
@@ -432,7 +466,7 @@ def ring(bench, source, chance):
 
 
 DATA = [blinker, multiply, echo, fill, two_nodes, send, sum_, ring]
-DATA += [pulse, crc, product, division, long_sum, port_worker, moving_sum, sort, queue, token, token_ring]
+DATA += [pulse, crc, product, division, long_sum, port_worker, moving_sum, sort, queue, token, token_ring, tree_sum]
 
 
 def transcripts(bench, name):

@@ -48,7 +48,8 @@ def rows(page, heading):
 def names_of_pages():
     """Returns the names that the pages have in their tables of faults, needs, stops, outcomes and the carry."""
     names = set()
-    for heading in ["Faults of source text", "Faults of layout", "Frames", "Routes", "Plans", "Sessions", "Replay texts"]:
+    headings = ["Faults of source text", "Faults of layout", "Frames", "Routes", "Trees", "Plans", "Sessions", "Replay texts"]
+    for heading in headings:
         for cell in rows("FORMATS.md", heading):
             names.update(re.findall(r"^`([A-Z][a-z]\w*)(?: [A-Z]+)?`$", cell))
             names.update(re.findall(r"^`([a-z]+)` L$", cell))

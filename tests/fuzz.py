@@ -36,6 +36,9 @@ MOST_TURNS = 2000
 NUMBERS = ["0", "1", "7", "8", "63", "64", "65", "143", "144", "511", "512", "717", "718", "262143", "262144", "1000000",
            "1000001", "4294967295", "4294967296", "18446744073709551616", "-1", "$3ffff", "$40000", "$ffffffffff", "1ff", "200",
            "3FFFF", "40000", "999999999", "0x10", "00000001"]  # fmt: skip
+# Texts of ROUTE: a route and trees, routes that are no tree, and what is neither.
+ROUTES = ["708,709", "708,709,710/708,608/708,709,609", "708/708", "708,709/000,001", "708,709,609/708,608,609",
+          "708,709/708,710", "708//709", "/", "708,709/"]  # fmt: skip
 
 
 def rows_under(page, heading):
@@ -155,7 +158,7 @@ def input_of(cases, seed, number):
         data = chance.choice(CHANGES)(chance, data, chance.choice(cases)[1])
     args = list(args)
     if args and chance.random() < 0.1:
-        args[chance.randrange(len(args))] = chance.choice([*NUMBERS, *chance.choice(cases)[0], "", "708,709", "--", "é"])
+        args[chance.randrange(len(args))] = chance.choice([*NUMBERS, *chance.choice(cases)[0], "", *ROUTES, "--", "é"])
     if chance.random() < 0.001:
         data = data.ljust(1048576 + chance.choice([-1, 0, 1]), b" ")
     return few_turns(args, data)

@@ -1,11 +1,11 @@
 """Boots the routes of the recorded cases in orders that nobody chose: python3 tests/schedules.py PROGRAM FILE..
 
 For each case of a FILE (as tests/run_cases.py has them) that writes a boot stream for at most NODES nodes, a session of
-PROGRAM boots its route: tries and turns come by chance, and breakpoints are set, cleared and passed. At moments by chance
-the session is asked how far the nodes are. Where the first node has then taken the whole load part, each node with an
-image that hasn't begun must have it in memory, with zeros behind it. How many words a node has taken is told by the
-steps of the first node and by the ledgers, and how many it is sent by the lengths of the images. The last line that is
-printed is 'schedules: N passed, M failed', a case each, and the exit status is 0 where M is 0.
+PROGRAM boots its route, or its tree of routes: tries and turns come by chance, and breakpoints are set, cleared and
+passed. At moments by chance the session is asked how far the nodes are. Where the first node has then taken the whole load
+part, each node with an image that hasn't begun must have it in memory, with zeros behind it. How many words a node has
+taken is told by the steps of the first node and by the ledgers, and how many it is sent by the lengths of the images. The
+last line that is printed is 'schedules: N passed, M failed', a case each, and the exit status is 0 where M is 0.
 """
 import json
 import random
@@ -61,19 +61,33 @@ def feeds(words):
     return taken
 
 
-def sent(route, images):
-    """How many words each node of a route but the first is sent."""
-    load, start, counts = 0, 0, {}
-    for name in reversed(route[1:]):
-        behind = 5 if load else 0
-        load = 2 + (load + behind) + (5 + len(images[name]) if name in images else 0)
-        start = 1 + (start + behind)
-        counts[name] = load + start
-    return counts
+def children_of(text):
+    """The nodes of a ROUTE in the order in which its routes first name them, each with those that it boots, in order."""
+    children = {}
+    for route in text.split('/'):
+        names = [int(name) for name in route.split(',')]
+        for parent, name in zip([None, *names], names):
+            if name not in children:
+                children[name] = []
+                if parent is not None:
+                    children[parent].append(name)
+    return children
 
 
-def session(case, route, images, words, chance):
+def sent(name, children, images, counts):
+    """How many words a node is sent to load and to start; the sum of both is put into the counts, of those behind it too."""
+    load = 2 + (5 + len(images[name]) if name in images else 0)
+    start = 1
+    for child in children[name]:
+        behind = sent(child, children, images, counts)
+        load, start = load + 5 + behind[0], start + 5 + behind[1]
+    counts[name] = load + start
+    return load, start
+
+
+def session(children, images, words, chance):
     """The commands of a session, each with what it asks for, if it asks for something."""
+    route = [*children]
     turns = max(4, len(words) // 2)
     near = [*route, *{other for name in route for other in neighbours(name).values()}]
     commands = []
@@ -91,7 +105,7 @@ def session(case, route, images, words, chance):
             for address in [*PORTS.values(), '000', '001']:
                 commands += [(f'clear {name:03} {address}', None)] * (chance.random() < 0.1)
         commands.append((f'regs {route[0]:03}', 'regs'))
-        commands += [(f'ports {name:03}', 'ports') for name in route[:-1]]
+        commands += [(f'ports {name:03}', 'ports') for name in route if children[name]]
         commands += [(f'mem {name:03}', 'mem') for name in route if name in images]
     return commands
 
@@ -112,13 +126,15 @@ def answers(commands, lines):
 def moments(case, program):
     """How many nodes had to hold their images, over all moments; a text where one didn't."""
     chance = random.Random(case['name'])
-    route = [int(name) for name in case['args'][1].split(',')]
+    children = children_of(case['args'][1])
+    root = next(iter(children))
     lines = case['stdout'].splitlines()
     words = [word for line in lines if not line.startswith(('load ', 'start ')) for word in line.split()]
     load = int(lines[0].split()[1])
     images, taken = images_of(run(program, ['asm'], case['stdin'])), feeds(words)
-    counts = sent(route, images)
-    commands = session(case, route, images, words, chance)
+    counts = {}
+    sent(root, children, images, counts)
+    commands = session(children, images, words, chance)
     head = f"profile 2\nroute {case['args'][1]}\n{case['stdin']}\ngo\n"
     told = run(program, ['debug'], head + ''.join(f'{command}\n' for command, _ in commands))
     held, fed, read = 0, 0, {}
@@ -127,10 +143,10 @@ def moments(case, program):
             steps = int(lines[0].split(' steps ')[1].split()[0])
             fed = taken[min(steps, len(taken) - 1)]
         elif asks == 'ports':
-            child = route[route.index(name) + 1]
-            side = side_to(name, child)
-            read[child] = next(int(line.split()[5]) for line in lines if line.split()[1] == side)
-        elif fed >= load and (fed < len(words) if name == route[0] else read[name] < counts[name]):
+            for child in children[name]:
+                side = side_to(name, child)
+                read[child] = next(int(line.split()[5]) for line in lines if line.split()[1] == side)
+        elif fed >= load and (fed < len(words) if name == root else read[name] < counts[name]):
             ram = [word for line in lines for word in line.split()[1:]]
             if ram != images[name] + ['00000'] * (64 - len(images[name])):
                 return f"{case['name']}: {name:03} doesn't hold its image"
@@ -143,7 +159,7 @@ def main(program, *files):
     for file in files:
         with open(file, encoding='utf-8') as lines:
             cases += [case for case in map(json.loads, lines) if case['args'][:1] == ['boot'] and case['status'] == 0]
-    cases = [case for case in cases if case['args'][1].count(',') < NODES]
+    cases = [case for case in cases if len(children_of(case['args'][1])) <= NODES]
     with ThreadPoolExecutor() as pool:
         found = list(pool.map(lambda case: moments(case, program), cases))
     failed = [it for it in found if isinstance(it, str)]
