@@ -413,7 +413,9 @@ impl Chip {
         false
     }
 
-    /// One try of the node at an index in order of name, by all that it may need.
+    /// One try of the node at an index in order of name, by all that it may need. (Cold, so that in a turn one node's own
+    /// work comes behind another's without a jump.)
+    #[cold]
     #[inline(never)]
     fn attempt_far(&mut self, index: usize, side: Side) -> Outcome
         requires { index < 144 }

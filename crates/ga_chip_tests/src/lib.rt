@@ -1,4 +1,4 @@
-//! The tests of nodes and of the chip, in one file for each subject.
+//! The tests of the chip, in one file for each subject.
 //!
 //! A crate that has no test of its own is proved once by the gate, and one with tests twice. So the tests stand here,
 //! and this crate has nothing else.
@@ -14,10 +14,6 @@ mod chips;
 mod dumps;
 #[cfg(test)]
 mod laws;
-#[cfg(test)]
-mod loader;
-#[cfg(test)]
-mod node;
 #[cfg(test)]
 mod parts;
 #[cfg(test)]

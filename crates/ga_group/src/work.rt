@@ -89,7 +89,9 @@ fn try_node(
     try_other(cells, seat, part, looks, side)
 }
 
-/// The same of a node that does no work of its own. (It is apart so that the code of a node's own work is one piece.)
+/// The same of a node that does no work of its own. (It is apart, and cold, so that the code of a node's own work is one
+/// piece, behind which the next node's comes without a jump.)
+#[cold]
 #[inline(never)]
 fn try_other(
     cells: &Cells,
