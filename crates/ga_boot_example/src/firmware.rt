@@ -62,8 +62,8 @@ pub fn run_firmware(chip: &mut Chip, tries: &[Try])
     requires booted { chip.old ≡ begun.booted_tree the.firmware the.fork }
     ensures chip { chip.new ≡ ran chip.old (tries_of tries.now) }
     ensures memory { (now : model.Part) → part_of chip.new 608 ≡ Some now
-        → LoadTaken chip.old 708 (image_of the.firmware 708) (grove the.firmware 708 the.fork.subtrees)
-        (tries_of tries.now)
+        → LoadTaken chip.old 708 (image_of the.firmware 708)
+        (grove the.firmware 708 the.fork.subtrees) (tries_of tries.now)
         → (HasBegun chip.old the.firmware the.fork (tries_of tries.now) 608 → ⊥)
         → now.state.ram ≡ the.memory }
 {

@@ -121,7 +121,8 @@ fn turn_in_profile_1(chip: &mut Chip, side: Side) -> u8
 
 /// Whether the first profile stops no node.
 fn all_take_part(chip: &Chip) -> bool
-    ensures { result ≡ true → (index : ℕ) → index < 144 → is_left_out chip.now (name_at index) ≡ false }
+    ensures { result ≡ true
+        → (index : ℕ) → index < 144 → is_left_out chip.now (name_at index) ≡ false }
 {
     for index in 0..144 {
         if is_left_out(chip, Node::at(index)) {

@@ -73,7 +73,8 @@ fn follow(mut chip: Chip, profile: Profile, first: u64, lines: Pieces<'_>) -> Re
 /// One line, with its number. Answers how many outcomes were compared, one at most.
 #[tactic(auto, unfolding(crate::specs::Replaying::line_on, crate::specs::Replaying::statement_in))]
 fn line_on(chip: &mut Chip, profile: Profile, line: u64, text: &str) -> Result<u64, LineError>
-    ensures holds { IfOk result (λ more. line_on profile line chip.old text.now ≡ Ok (more, chip.new)) }
+    ensures holds { IfOk result (λ more.
+        line_on profile line chip.old text.now ≡ Ok (more, chip.new)) }
     ensures one { IfOk result (λ more. more ≤ 1) }
     ensures fault { IfErr result (λ fault. line_on profile line chip.old text.now ≡ Err fault) }
 {

@@ -75,7 +75,6 @@ fn plan_of(alloc: Global, nodes: &[Node], workers: u32) -> Result<Plan, ServeErr
 }
 
 /// The nodes of each of so many workers.
-#[inline(never)]
 fn dealt(alloc: Global, nodes: &[Node], workers: usize) -> Result<Vec<Vec<Node>>, AllocError>
     ensures { IfOk result (λ groups. groups_of groups ≡ dealt workers nodes.now) }
 {

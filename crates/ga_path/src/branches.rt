@@ -45,7 +45,8 @@ impl Branches {
 
     /// Adds the nodes of a route: those behind the nodes along which it goes.
     pub(crate) fn add(&mut self, alloc: Global, nodes: &[Node]) -> Result<(), AllocError>
-        ensures { OnOk result (subtrees_of self.new ≡ subtrees_with (subtrees_of self.old) nodes.now) }
+        ensures { OnOk result
+            (subtrees_of self.new ≡ subtrees_with (subtrees_of self.old) nodes.now) }
     {
         let Branches::Branch(node, inner, beside) = self else {
             *self = chain(alloc, nodes)?;

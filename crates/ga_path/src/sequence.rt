@@ -39,7 +39,8 @@ pub(crate) fn part_words(
     requires near { AreNear root (subtrees_of branches.now) }
     requires few { count_in (subtrees_of branches.now) < 144 }
     ensures words { IfOk result (λ words. words.items
-        ≡ part_words part root (image_of images.now root) (grove images.now root (subtrees_of branches.now))) }
+        ≡ part_words part root (image_of images.now root)
+        (grove images.now root (subtrees_of branches.now))) }
     ensures memory { IfErr result (λ error. error ≡ Memory) }
 {
     let mut words = Vec::new(alloc);
@@ -144,7 +145,8 @@ fn add_sent(
 
 /// Adds the words that fill a node's memory, where it has an image.
 fn add_load(words: &mut Vec<Word18>, image: Option<&Image>) -> Result<(), BootError>
-    ensures words { OnOk result (words.new.items ≡ words.old.items ++ load (option_copied image.entry)) }
+    ensures words { OnOk result
+        (words.new.items ≡ words.old.items ++ load (option_copied image.entry)) }
     ensures grows { OnOk result (length words.old.items ≤ length words.new.items) }
     ensures short { OnOk result (length words.new.items ≤ length words.old.items + 69) }
     ensures memory { IfErr result (λ error. error ≡ Memory) }

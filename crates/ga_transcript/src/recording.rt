@@ -69,7 +69,8 @@ fn push_recorded(
 /// The first lines of a text, so many, with an LF between two.
 fn front(alloc: Global, text: &str, count: u64) -> Result<String, AllocError>
     requires { 0 < count }
-    ensures { IfOk result (λ front. string_bytes front ≡ lines_text (take count (lines_of text.now))) }
+    ensures { IfOk result (λ front.
+        string_bytes front ≡ lines_text (take count (lines_of text.now))) }
 {
     let mut lines = Pieces::new(text, '\n');
     let mut front = String::new(alloc);
