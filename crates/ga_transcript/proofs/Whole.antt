@@ -118,6 +118,12 @@ ended_back (line ∷ lines) plain =
     ∙ ap (filter is_reply) (lines_of_text line (lines ++ [] ∷ []) (clean_line line parts.0) (clean_lines lines ([] ∷ []) parts.1 empty))
     ∙ kept_ended (line ∷ lines) plain
 
+-- a text of lines that are no command, comment or empty line, each ended by LF
+pub record AreLines (text : List ℕ) : Type 0 where
+  pub lines : Lines
+  pub made : text ≡ text_of lines
+  pub plain : ArePlainLines lines
+
 -- A text of lines of which each is a line of the reply that the text is.
 pub record IsWhole (text : List ℕ) : Type 0 where
   pub lines : Lines
@@ -129,8 +135,8 @@ pub record IsWhole (text : List ℕ) : Type 0 where
 between : (text : List ℕ) (lines : Lines) → text ≡ lines_text lines → ArePlainLines lines → IsWhole text
 between text lines is plain = record { lines = lines; made = inl is; plain = plain; kept = ap reply_lines is ∙ lines_back lines plain }
 
-pub ended : (text : List ℕ) (lines : Lines) → text ≡ text_of lines → ArePlainLines lines → IsWhole text
-ended text lines is plain = record { lines = lines; made = inr is; plain = plain; kept = ap reply_lines is ∙ ended_back lines plain }
+pub ended : (text : List ℕ) → AreLines text → IsWhole text
+ended text are = record { lines = are.lines; made = inr are.made; plain = are.plain; kept = ap reply_lines are.made ∙ ended_back are.lines are.plain }
 
 pub one_line : (text : List ℕ) → is_plain_line text ≡ true → IsWhole text
 one_line text plain = between text (text ∷ []) (sym (append-nil text)) (and_from (is_plain_line text) true plain refl)
@@ -148,7 +154,10 @@ without_end text =
     ∙ ap (λ c. if c == 10 then take (length text) whole else whole) (last_is text)
     ∙ take-append_seam text (10 ∷ [])
 
-pub shown : (text : List ℕ) (lines : Lines) → text ≡ text_of lines → ArePlainLines lines → IsWhole (without_line_end text)
-shown text [] is plain = between (without_line_end text) [] (ap without_line_end is) refl
-shown text (line ∷ lines) is plain =
-    between (without_line_end text) (line ∷ lines) (ap without_line_end (is ∙ text_ends line lines) ∙ without_end (lines_text (line ∷ lines))) plain
+pub shown : (text : List ℕ) → AreLines text → IsWhole (without_line_end text)
+shown text are = by are.lines are.made are.plain
+  where
+    by : (lines : Lines) → text ≡ text_of lines → ArePlainLines lines → IsWhole (without_line_end text)
+    by [] is plain = between (without_line_end text) [] (ap without_line_end is) refl
+    by (line ∷ lines) is plain =
+        between (without_line_end text) (line ∷ lines) (ap without_line_end (is ∙ text_ends line lines) ∙ without_end (lines_text (line ∷ lines))) plain

@@ -46,6 +46,7 @@ fn push_node_breaks(
 }
 
 /// Adds the line of an address, where it is a breakpoint.
+#[tactic(auto, unfolding(crate::specs::Breaks::break_line))]
 fn push_break_at(
     text: &mut String,
     chip: &Chip,
@@ -60,31 +61,14 @@ fn push_break_at(
     if !chip.has_break(node, address) {
         return Ok(());
     }
-    push_break(text, chip, images, node, address)
-}
-
-/// Adds the line of a breakpoint.
-#[tactic(auto, unfolding(crate::specs::Breaks::break_line))]
-fn push_break(
-    text: &mut String,
-    chip: &Chip,
-    images: &Images,
-    node: Node,
-    address: u16,
-) -> Result<(), AllocError>
-    requires { address < 2 ^ 9 }
-    ensures { OnOk result (string_bytes text.new
-        ≡ string_bytes text.old ++ break_line images.now chip.now node address) }
-{
     let number = Hex3::new(address);
     write!(text, "{node} {number}")?;
     push_label(text, label_of(images, node, address))?;
-    if is_held_at(chip, node, address) {
-        text.push_str(", held\n")?;
+    text.push_str(if is_held_at(chip, node, address) {
+        ", held\n"
     } else {
-        text.push_str("\n")?;
-    }
-    Ok(())
+        "\n"
+    })
 }
 
 /// Adds a label behind a space.
