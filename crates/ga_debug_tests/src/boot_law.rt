@@ -255,6 +255,20 @@ fn boots_in_schedules_by_chance(rt: HostRuntime) -> Result<(), Fail> {
     Ok(())
 }
 
+/// The chip of a stream when 708 has posted the start word of 709, which isn't let take it.
+fn start_posted(alloc: Global, stream: &[u32]) -> Result<Chip, Fail> {
+    let [node_708, node_709] = nodes(&[708, 709])?;
+    let mut chip = given(alloc, 708, stream)?;
+    chip.set_break(node_709, 0x1D5);
+    for _ in 0..400 {
+        let _moved = chip.turns(4);
+        if chip.ledger(node_708, Side::Right).read < 12 {
+            let _held = chip.pass_break(node_709);
+        }
+    }
+    Ok(chip)
+}
+
 // 709 gets the words 04A12 00004 10000 0A9B2 10141, a program that stores 10000 at 004. Where it is sent its start word in
 // the place of `. . . .`, it runs before the start part begins, and doesn't hold its image any more.
 #[test]
@@ -267,20 +281,30 @@ fn boot_starts_each_node_at_once(rt: HostRuntime) -> Result<(), Fail> {
             0x00004, 0x10000, 0x0A9B2, 0x10141, last, 0x000AE, 0x00000, 0x00000, 0x000AE, 0x001D5,
             1, 0x10000, 0x001B5, 0x00000, 0x00000,
         ];
-        let mut chip = given(rt.alloc(), 708, &stream)?;
-        // 708 posts the start word, and 709 isn't let take it
-        chip.set_break(node_709, 0x1D5);
-        for _ in 0..400 {
-            let _moved = chip.turns(4);
-            if chip.ledger(node_708, Side::Right).read < 12 {
-                let _held = chip.pass_break(node_709);
-            }
-        }
+        let chip = start_posted(rt.alloc(), &stream)?;
         assert!(rt; chip.stream_left(node_708) <= 7);
         assert!(rt; chip.ledger(node_708, Side::Right).read == 12);
         assert!(rt; holds(&chip, node_709, &image)? == is_held);
     }
     Ok(())
+}
+
+/// A chip after tries of each of these nodes until it has taken so many words, the last of its load, and of 708 until it has
+/// taken the load part.
+fn load_taken(mut chip: Chip, loaded: &[(Node, Side)], sent: u64) -> Result<Chip, Fail> {
+    let node_708 = node(708)?;
+    for _ in 0..1000 {
+        for &(node, side) in loaded {
+            let _posted = chip.attempt(Try {
+                node: node_708,
+                side,
+            });
+            if chip.ledger(node_708, side).read < sent {
+                let _taken = chip.attempt(Try { node, side });
+            }
+        }
+    }
+    Ok(chip)
 }
 
 // Where `. . . .` is left out, 708 takes the whole load part while 709 has still to store the last word.
@@ -292,20 +316,11 @@ fn boot_leaves_out_closes(rt: HostRuntime) -> Result<(), Fail> {
         0x000AE, 0x00000, 0x00000, 0x000AE, 0x001D5, 1, 0x10000, 0x001B5, 0x00000, 0x00000,
     ];
     for (stream, sent, is_held) in [(ONE_HOP.as_slice(), 8, true), (&open, 7, false)] {
-        let mut chip = given(rt.alloc(), 708, stream)?;
-        // 709 is tried until it has taken the last word of its load, and 708 until it has taken the load part
-        for _ in 0..1000 {
-            let _posted = chip.attempt(Try {
-                node: node_708,
-                side: Side::Right,
-            });
-            if chip.ledger(node_708, Side::Right).read < sent {
-                let _taken = chip.attempt(Try {
-                    node: node_709,
-                    side: Side::Right,
-                });
-            }
-        }
+        let chip = load_taken(
+            given(rt.alloc(), 708, stream)?,
+            &[(node_709, Side::Right)],
+            sent,
+        )?;
         assert!(rt; chip.stream_left(node_708) <= 7);
         assert!(rt; chip.ledger(node_708, Side::Right).read == sent);
         assert!(rt; holds(&chip, node_709, &[0x2C9B2])? == is_held);
@@ -326,15 +341,7 @@ fn boot_starts_each_node_of_a_tree_at_once(rt: HostRuntime) -> Result<(), Fail> 
             0x00000, 0x00000, 0x2E9B2, 0x05872, 0x2C9B2, 0x2C9B2, 0x000AE, 0x00000, 0x00000,
             0x000AE, 0x001D5, 1, 0x10000, 0x000AE, 0x00115, 1, 0x10000, 0x001B5, 0x00000, 0x00000,
         ];
-        let mut chip = given(rt.alloc(), 708, &stream)?;
-        // 708 posts the start word, and 709 isn't let take it
-        chip.set_break(node_709, 0x1D5);
-        for _ in 0..400 {
-            let _moved = chip.turns(4);
-            if chip.ledger(node_708, Side::Right).read < 12 {
-                let _held = chip.pass_break(node_709);
-            }
-        }
+        let chip = start_posted(rt.alloc(), &stream)?;
         assert!(rt; chip.stream_left(node_708) <= 11);
         assert!(rt; chip.ledger(node_708, Side::Right).read == 12);
         assert!(rt; holds(&chip, node_608, &[0x2C9B2])?);
@@ -348,6 +355,7 @@ fn boot_starts_each_node_of_a_tree_at_once(rt: HostRuntime) -> Result<(), Fail> 
 #[test]
 fn boot_of_a_tree_leaves_out_closes(rt: HostRuntime) -> Result<(), Fail> {
     let [node_708, node_709, node_608] = nodes(&[708, 709, 608])?;
+    let loaded = [(node_709, Side::Right), (node_608, Side::Down)];
     let open = [
         0x000AE, 0x001D5, 7, 0x101D5, 0x04A12, 0x00000, 0x00000, 0x2E9B2, 0x05872, 0x2C9B2,
         0x000AE, 0x00115, 7, 0x10115, 0x04A12, 0x00000, 0x00000, 0x2E9B2, 0x05872, 0x2C9B2,
@@ -355,21 +363,9 @@ fn boot_of_a_tree_leaves_out_closes(rt: HostRuntime) -> Result<(), Fail> {
         0x001B5, 0x00000, 0x00000,
     ];
     for (stream, sent, is_held) in [(FORK.as_slice(), 8, true), (&open, 7, false)] {
-        let mut chip = given(rt.alloc(), 708, stream)?;
-        // both are tried until they have taken the last word of their load, and 708 until it has taken the load part
-        for _ in 0..1000 {
-            for (node, side) in [(node_709, Side::Right), (node_608, Side::Down)] {
-                let _posted = chip.attempt(Try {
-                    node: node_708,
-                    side,
-                });
-                if chip.ledger(node_708, side).read < sent {
-                    let _taken = chip.attempt(Try { node, side });
-                }
-            }
-        }
+        let chip = load_taken(given(rt.alloc(), 708, stream)?, &loaded, sent)?;
         assert!(rt; chip.stream_left(node_708) <= 11);
-        for (node, side) in [(node_709, Side::Right), (node_608, Side::Down)] {
+        for (node, side) in loaded {
             assert!(rt; chip.ledger(node_708, side).read == sent);
             assert!(rt; holds(&chip, node, &[0x2C9B2])? == is_held);
         }
