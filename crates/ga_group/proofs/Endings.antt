@@ -218,23 +218,32 @@ module _ (chip : Chip) (nodes : List ℕ) (sides : List Side) (last : List (Opti
   pub legal_end : IsLegal (chip_of parts row)
   legal_end = subst IsLegal (sym is_led) (legal_ran chip (tries_of tries) off.legal)
 
-pub run_end : (chip next : Chip) (plan : Groups) (turns : ℕ) (last : List (Option Holding)) (parts : List Part) (row : List (Option ℕ)) (tries : List Try) → IsWorkedOff chip (concat plan) (sides_of_turns turns) last parts → IsEnd chip last row tries → next ≡ chip_of parts row → IsWorkersRun chip plan turns next
-run_end chip next plan turns last parts row tries off end is = record {
-  tries = tries;
-  planned = is_planned chip (concat plan) (sides_of_turns turns) last parts row tries off end;
-  others = is_other chip (concat plan) (sides_of_turns turns) last parts row tries off end;
-  leads = is ∙ is_led chip (concat plan) (sides_of_turns turns) last parts row tries off end;
-}
-
 pub legal_of : (chip : Chip) (parts : List Part) (row : List (Option ℕ)) → parts ≡ chip.parts → row ≡ chip.cells → IsLegal (chip_of parts row) → IsLegal chip
 legal_of chip parts row one other legal = subst IsLegal (ap₂ chip_of one other) legal
 
-pub is_off : (chip : Chip) (plan : Groups) (turns : ℕ) (given parts : List Part) (nodes : List ℕ) (first last : List (Option Holding)) → IsLegal chip → given ≡ chip.parts → nodes ≡ concat plan → first ≡ untried chip.parts
-    → names_of parts ≡ names_of given → AreLent parts last → HaveGained first last nodes (sides_of_turns turns) → ((name : ℕ) → is_among name nodes ≡ true → IsNodeName name) → IsWorkedOff chip (concat plan) (sides_of_turns turns) last parts
-is_off chip plan turns given parts nodes first last legal all planned start names lent gained known = record {
-  legal = legal;
-  names = names ∙ ap names_of all;
-  lent = lent;
-  gained = subst (λ v. HaveGained v last (concat plan) (sides_of_turns turns)) start (subst (λ l. HaveGained first last l (sides_of_turns turns)) planned gained);
-  known = λ name among. known name (ap (is_among name) planned ∙ among);
-}
+-- the parts and the row that a run of workers leaves
+pub run_end : (chip opening : Chip) (plan : Groups) (turns : ℕ) (parts left : List Part) (nodes : List ℕ) (first last : List (Option Holding)) (row : List (Option ℕ)) (tries : List Try) → IsLegal chip → nodes ≡ concat plan → first ≡ untried chip.parts
+    → names_of parts ≡ names_of chip.parts → AreLent parts last → HaveGained first last nodes (sides_of_turns turns) → ((name : ℕ) → is_among name nodes ≡ true → IsNodeName name)
+    → opening ≡ chip → IsEnd opening last row tries → left ≡ parts → IsLegal (chip_of left row) × IsWorkersRun chip plan turns (chip_of left row)
+run_end chip opening plan turns parts left nodes first last row tries legal planned start names lent gained known opens end_at same =
+    subst (λ l. IsLegal (chip_of l row) × IsWorkersRun chip plan turns (chip_of l row)) (sym same) (
+      legal_end chip (concat plan) (sides_of_turns turns) last parts row tries off end,
+      record {
+        tries = tries;
+        planned = is_planned chip (concat plan) (sides_of_turns turns) last parts row tries off end;
+        others = is_other chip (concat plan) (sides_of_turns turns) last parts row tries off end;
+        leads = is_led chip (concat plan) (sides_of_turns turns) last parts row tries off end;
+      },
+    )
+  where
+    off : IsWorkedOff chip (concat plan) (sides_of_turns turns) last parts
+    off = record {
+      legal = legal;
+      names = names;
+      lent = lent;
+      gained = subst (λ v. HaveGained v last (concat plan) (sides_of_turns turns)) start (subst (λ l. HaveGained first last l (sides_of_turns turns)) planned gained);
+      known = λ name among. known name (ap (is_among name) planned ∙ among);
+    }
+
+    end : IsEnd chip last row tries
+    end = subst (λ c. IsEnd c last row tries) opens end_at

@@ -58,10 +58,6 @@ distinct before (name ∷ names) e = (apart name names (not_behind before name n
 
 -- ---- names one after another
 
-or_join : (first second third : Option ℕ) → option_or first (option_or second third) ≡ option_or (option_or first second) third
-or_join None second third = refl
-or_join (Some x) second third = refl
-
 repeated_if : (b : Bool) (name : ℕ) (first second : Option ℕ) → option_or (if b then Some name else first) second ≡ (if b then Some name else option_or first second)
 repeated_if true name first second = refl
 repeated_if false name first second = refl
