@@ -10,22 +10,23 @@ use ga_word::Word18;
 use std::alloc::Global;
 use std::test::Fail;
 
+/// The cells of a chip, a seat with all nodes, and their parts.
+struct Hand {
+    cells: Cells,
+    seat: PortSeat,
+    parts: Vec<NodePart>,
+}
+
 /// A look at the cell of a node that asks to take a word: whether one is pending. Where none is, this was a try.
-fn poll(
-    cells: &Cells,
-    seat: &mut PortSeat,
-    parts: &mut Vec<NodePart>,
-    node: Node,
-    side: Side,
-) -> bool
-    requires { AreInHand cells.now seat.old parts.old.items }
-    ensures { AreInHand cells.now seat.new parts.new.items }
+fn poll(hand: &mut Hand, node: Node, side: Side) -> bool
+    requires { AreInHand hand.old.cells hand.old.seat hand.old.parts.items }
+    ensures { AreInHand hand.new.cells hand.new.seat hand.new.parts.items }
 {
-    let part = &mut parts[node.index()];
+    let part = &mut hand.parts[node.index()];
     let Asks::Take(from, cell) = part.asks(side) else {
         return false;
     };
-    if cells.poll(seat, Try { node, side }, cell) {
+    if hand.cells.poll(&mut hand.seat, Try { node, side }, cell) {
         return true;
     }
     let _outcome = part.done_take(from, None);
@@ -33,21 +34,15 @@ fn poll(
 }
 
 /// A try of a node that asks to take a word: the word, if one is pending.
-fn take(
-    cells: &Cells,
-    seat: &mut PortSeat,
-    parts: &mut Vec<NodePart>,
-    node: Node,
-    side: Side,
-) -> Option<Word18>
-    requires { AreInHand cells.now seat.old parts.old.items }
-    ensures { AreInHand cells.now seat.new parts.new.items }
+fn take(hand: &mut Hand, node: Node, side: Side) -> Option<Word18>
+    requires { AreInHand hand.old.cells hand.old.seat hand.old.parts.items }
+    ensures { AreInHand hand.new.cells hand.new.seat hand.new.parts.items }
 {
-    let part = &mut parts[node.index()];
+    let part = &mut hand.parts[node.index()];
     let Asks::Take(from, cell) = part.asks(side) else {
         return None;
     };
-    let Some(word) = cells.take(seat, Try { node, side }, cell) else {
+    let Some(word) = hand.cells.take(&mut hand.seat, Try { node, side }, cell) else {
         let _outcome = part.done_take(from, None);
         return None;
     };
@@ -56,68 +51,50 @@ fn take(
 }
 
 /// A try of a node that asks whether its word was read.
-fn check(
-    cells: &Cells,
-    seat: &mut PortSeat,
-    parts: &mut Vec<NodePart>,
-    node: Node,
-    side: Side,
-) -> Option<bool>
-    requires { AreInHand cells.now seat.old parts.old.items }
-    ensures { AreInHand cells.now seat.new parts.new.items }
+fn check(hand: &mut Hand, node: Node, side: Side) -> Option<bool>
+    requires { AreInHand hand.old.cells hand.old.seat hand.old.parts.items }
+    ensures { AreInHand hand.new.cells hand.new.seat hand.new.parts.items }
 {
-    let part = &mut parts[node.index()];
+    let part = &mut hand.parts[node.index()];
     let Asks::Check(to, cell) = part.asks(side) else {
         return None;
     };
-    let empty = cells.check(seat, Try { node, side }, cell);
+    let empty = hand.cells.check(&mut hand.seat, Try { node, side }, cell);
     let _outcome = part.done_check(to, empty);
     Some(empty)
 }
 
 /// A try of a node that asks for nothing: what comes of it.
-fn own(
-    cells: &Cells,
-    seat: &mut PortSeat,
-    parts: &mut Vec<NodePart>,
-    node: Node,
-    side: Side,
-) -> Option<Outcome>
-    requires { AreInHand cells.now seat.old parts.old.items }
-    ensures { AreInHand cells.now seat.new parts.new.items }
+fn own(hand: &mut Hand, node: Node, side: Side) -> Option<Outcome>
+    requires { AreInHand hand.old.cells hand.old.seat hand.old.parts.items }
+    ensures { AreInHand hand.new.cells hand.new.seat hand.new.parts.items }
 {
-    let part = &mut parts[node.index()];
+    let part = &mut hand.parts[node.index()];
     let Asks::Nothing(outcome) = part.asks(side) else {
         return None;
     };
-    cells.own(seat, Try { node, side });
+    hand.cells.own(&mut hand.seat, Try { node, side });
     Some(outcome)
 }
 
 /// A try of a node that asks to post its word.
-fn post(
-    cells: &Cells,
-    seat: &mut PortSeat,
-    parts: &mut Vec<NodePart>,
-    node: Node,
-    side: Side,
-) -> Option<Word18>
-    requires { AreInHand cells.now seat.old parts.old.items }
-    ensures { AreInHand cells.now seat.new parts.new.items }
+fn post(hand: &mut Hand, node: Node, side: Side) -> Option<Word18>
+    requires { AreInHand hand.old.cells hand.old.seat hand.old.parts.items }
+    ensures { AreInHand hand.new.cells hand.new.seat hand.new.parts.items }
 {
-    let part = &mut parts[node.index()];
+    let part = &mut hand.parts[node.index()];
     let Asks::Post(to, cell, word) = part.asks(side) else {
         return None;
     };
-    cells.post(seat, Try { node, side }, cell, word);
+    hand.cells
+        .post(&mut hand.seat, Try { node, side }, cell, word);
     let _outcome = part.done_post(to);
     Some(word)
 }
 
-/// The cells of a chip on which 708 has made so many tries of those that write 12 to its right, a seat with all nodes, and
-/// their parts.
-fn opened(alloc: Global, node: Node, tries: u32) -> Result<(Cells, PortSeat, Vec<NodePart>), Fail>
-    ensures { IfOk result (λ made. AreInHand made.0 made.1 made.2.items) }
+/// The cells of a chip on which 708 has made so many tries of those that write 12 to its right.
+fn opened(alloc: Global, node: Node, tries: u32) -> Result<Hand, Fail>
+    ensures { IfOk result (λ hand. AreInHand hand.cells hand.seat hand.parts.items) }
 {
     let mut chip = Chip::reset(alloc)?;
     place(&mut chip, node, &WRITE_12_RIGHT)?;
@@ -127,17 +104,22 @@ fn opened(alloc: Global, node: Node, tries: u32) -> Result<(Cells, PortSeat, Vec
     }
     let (cells, seat) = Cells::open(alloc, &chip)?;
     let (parts, _row) = chip.into_parts();
-    Ok((cells, seat, parts))
+    Ok(Hand { cells, seat, parts })
 }
 
 #[test]
 fn cells_by_hand(rt: HostRuntime) -> Result<(), Fail> {
     let [node_708, node_709] = nodes(&[708, 709])?;
-    let (cells, mut seat, mut parts) = opened(rt.alloc(), node_708, 7)?;
-    let pending = poll(&cells, &mut seat, &mut parts, node_709, Side::Right);
-    let found = take(&cells, &mut seat, &mut parts, node_709, Side::Right);
-    let read = check(&cells, &mut seat, &mut parts, node_708, Side::Right);
-    let outcome = own(&cells, &mut seat, &mut parts, node_709, Side::Right);
+    let mut hand = opened(rt.alloc(), node_708, 7)?;
+    let pending = poll(&mut hand, node_709, Side::Right);
+    let found = take(&mut hand, node_709, Side::Right);
+    let read = check(&mut hand, node_708, Side::Right);
+    let outcome = own(&mut hand, node_709, Side::Right);
+    let Hand {
+        cells,
+        seat,
+        parts: _parts,
+    } = hand;
     let row = cells.close(seat);
     assert!(rt; pending && found == Some(word(0x00012)?));
     assert!(rt; read == Some(true));
@@ -150,13 +132,18 @@ fn cells_by_hand(rt: HostRuntime) -> Result<(), Fail> {
 #[test]
 fn a_word_is_posted_by_hand(rt: HostRuntime) -> Result<(), Fail> {
     let [node_708, node_709] = nodes(&[708, 709])?;
-    let (cells, mut seat, mut parts) = opened(rt.alloc(), node_708, 6)?;
-    let pending = poll(&cells, &mut seat, &mut parts, node_709, Side::Right);
-    let found = take(&cells, &mut seat, &mut parts, node_709, Side::Right);
-    let posted = post(&cells, &mut seat, &mut parts, node_708, Side::Right);
-    let read = check(&cells, &mut seat, &mut parts, node_708, Side::Right);
-    let other = cells.share(&mut seat, &[node_709]);
-    cells.gather(&mut seat, other);
+    let mut hand = opened(rt.alloc(), node_708, 6)?;
+    let pending = poll(&mut hand, node_709, Side::Right);
+    let found = take(&mut hand, node_709, Side::Right);
+    let posted = post(&mut hand, node_708, Side::Right);
+    let read = check(&mut hand, node_708, Side::Right);
+    let other = hand.cells.share(&mut hand.seat, &[node_709]);
+    hand.cells.gather(&mut hand.seat, other);
+    let Hand {
+        cells,
+        seat,
+        parts: _parts,
+    } = hand;
     let row = cells.close(seat);
     assert!(rt; !pending && found == None && posted == Some(word(0x00012)?) && read == Some(false));
     let at = cell(node_708, Side::Right).ok_or("no such cell")?;
