@@ -11,9 +11,9 @@ use Rattle.std.proofs.lemmas.Grind.{common_steps}
 use Rattle.ga_place.specs.Cell.{index_of, cell_of}
 use Rattle.ga_place.specs.Node.{IsOnEdge, is_edge}
 use Rattle.ga_chip.specs.Part.{Part, count_at}
-use Rattle.ga_chip.specs.Chip.{Chip, given, part_of, part_refusal, pending, placed, refusal, streamed, streaming, unless_refused, with_changed, with_part}
+use Rattle.ga_chip.specs.Chip.{Chip, given, part_of, part_refusal, pending, placed, refusal, stream_refusal, streamed, streaming, unless_refused, with_changed, with_part}
 use Rattle.ga_chip.specs.declared.error.ChipError.{ChipError}
-use Rattle.ga_chip.specs.declared.error.ChipError.TheVariants.{AlreadyGiven, Begun}
+use Rattle.ga_chip.specs.declared.error.ChipError.TheVariants.{AlreadyGiven, Begun, NotEdge}
 use Rattle.ga_chip.specs.Legal.{IsLegal, StandsAtCheck}
 use Rattle.ga_chip.proofs.Lists.{get-set_here, get-set_else, set-get}
 use Rattle.ga_place.proofs.Cells.{one_place, neighbour_there}
@@ -119,8 +119,29 @@ unfolding streamed
 streamed_is chip name words = refl
 
 -- a node that stands at an edge
-pub on_edge : (name : ℕ) → IsOnEdge name → is_edge name ≡ true
+on_edge : (name : ℕ) → IsOnEdge name → is_edge name ≡ true
 on_edge name (inl south) = grind (arith, common_steps)
 on_edge name (inr (inl north)) = grind (arith, common_steps)
 on_edge name (inr (inr (inl west))) = grind (arith, common_steps)
 on_edge name (inr (inr (inr east))) = grind (arith, common_steps)
+
+-- such a node is refused a stream as it is refused words
+stream_refusal_of : (chip view : Chip) (name : ℕ) → chip ≡ view → IsOnEdge name → stream_refusal view name ≡ refusal chip name
+stream_refusal_of chip view name same edge = ap (λ c. stream_refusal c name) (sym same) ∙ ap (λ b. if b then refusal chip name else Some NotEdge) (on_edge name edge)
+
+-- what the code leaves where it refuses a stream, and where it begins one
+pub stream_refused_at : (chip view changed : Chip) (name index : ℕ) (part : Part) (fault : ChipError) → chip ≡ view → IsOnEdge name → IsLegal chip → index ≡ index_of name → index < 144 → part ≡ get_or chip.parts index part → part_refusal part ≡ Some fault
+    → (stream_refusal view name ≡ Some fault) × (record chip { parts = set chip.parts index part } ≡ unless_refused (stream_refusal view name) changed view)
+stream_refused_at chip view changed name index part fault same edge legal is below read refused =
+    let left = refused_at chip changed name index part fault legal is below read refused in
+    let yes = stream_refusal_of chip view name same edge ∙ left.0 in
+    (yes, left.1 ∙ ap (λ r. unless_refused r changed chip) left.0 ∙ same ∙ sym (ap (λ r. unless_refused r changed view) yes))
+
+pub stream_begun_at : (change : Part → Part) (chip view : Chip) (name index : ℕ) (part next : Part) → chip ≡ view → IsOnEdge name → IsLegal chip → index ≡ index_of name → index < 144 → part ≡ get_or chip.parts index part → part_refusal part ≡ None → next ≡ change part
+    → (change part).state.node ≡ part.state.node → (change part).written ≡ part.written → (change part).read ≡ part.read
+    → (stream_refusal view name ≡ None) × (record chip { parts = set chip.parts index next } ≡ unless_refused (stream_refusal view name) (with_changed change (part_of view name) view name) view)
+stream_begun_at change chip view name index part next same edge legal is below read free gives node written read_same =
+    let left = given_at change chip name index part next legal is below read free gives node written read_same in
+    let begun = λ (c : Chip). with_changed change (part_of c name) c name in
+    let no = stream_refusal_of chip view name same edge ∙ left.0 in
+    (no, left.1 ∙ ap (λ r. unless_refused r (begun chip) chip) left.0 ∙ ap begun same ∙ sym (ap (λ r. unless_refused r (begun view) view) no))

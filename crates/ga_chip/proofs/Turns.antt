@@ -1,5 +1,5 @@
 -- Lists of tries, as a loop goes along them.
-use Rattle.std.proofs.Common.{◌≡◌, ◌≢◌, ◌⊎◌, inl, inr, zero-add, ℕ, zero, suc, get_or, drop, ◌+◌, ◌-◌, ◌<◌, ◌≤◌, lit≤, List, [], ◌∷◌, ◌++◌, map, length, Option, Some, None, refl, sym, ap, ap₂, ◌∙◌, arith, length-append}
+use Rattle.std.proofs.Common.{◌≡◌, ◌≢◌, ◌⊎◌, inl, inr, add-zero, zero-add, ℕ, zero, suc, get_or, drop, ◌+◌, ◌-◌, ◌<◌, ◌≤◌, lit≤, List, [], ◌∷◌, ◌++◌, map, length, Option, Some, None, refl, sym, ap, ap₂, ◌∙◌, arith, length-append}
 use Rattle.std.specs.List.{range_with_len}
 use Rattle.ga_place.specs.Cell.{name_at}
 use Rattle.ga_place.specs.declared.side.Side.{Side}
@@ -120,3 +120,29 @@ moved_once Moved = lit≤ tt
 moved_once Waits = lit≤ tt
 moved_once Held = lit≤ tt
 moved_once Stopped = lit≤ tt
+
+-- How far a turn has come: the tries that are left lead to its end, and their moves with those that were counted are all.
+abbrev pub InTurn : Chip → Chip → Side → ℕ → ℕ → Type 0
+InTurn first chip side index moved =
+    (moved ≤ index)
+    × (ran chip (turn_left side index) ≡ ran first (turn_of side))
+    × (moved + length (moves chip (turn_left side index)) ≡ length (moves first (turn_of side)))
+
+pub turn_begins : (chip : Chip) (side : Side) → InTurn chip chip side 0 0
+turn_begins chip side = (lit≤ tt, ap (ran chip) (turn_whole side), zero-add _ ∙ ap (λ l. length (moves chip l)) (turn_whole side))
+
+pub turn_goes_on : (first chip next : Chip) (side : Side) (index moved more : ℕ) (outcome : Outcome) → InTurn first chip side index moved → index < 144 → ◌≡◌ {A = Outcome × Chip} (outcome, next) (tried chip (name_at index) side) → more ≡ moved_by outcome → InTurn first next side (index + 1) (moved + more)
+turn_goes_on first chip next side index moved more outcome before below is counted =
+    let once = moved_once outcome in
+    let rest = moves_next chip next (name_at index) side outcome _ _ (turn_next side index below) is in
+    (omega (arith, before.0, counted, once), sym (ran_next chip next (name_at index) side outcome _ _ (turn_next side index below) is) ∙ before.1, omega (arith, before.2, counted, rest))
+
+pub turn_skips : (first chip : Chip) (side : Side) (index next moved : ℕ) → InTurn first chip side index moved → index ≤ next → ((at : ℕ) (by : Side) → index ≤ at → at < next → at < 144 → (tried chip (name_at at) by).0 ≢ Moved) → InTurn first chip side next moved
+turn_skips first chip side index next moved before on still =
+    let skip = skips chip side index next on still in
+    (omega (arith, before.0, on), sym skip.runs ∙ before.1, ap (λ n. moved + n) (sym skip.moves) ∙ before.2)
+
+pub turn_ends : (first chip : Chip) (side : Side) (index moved : ℕ) → InTurn first chip side index moved → 144 ≤ index → (chip ≡ ran first (turn_of side)) × (moved ≡ length (moves first (turn_of side)))
+turn_ends first chip side index moved before reached =
+    let none = sym (turn_end side index reached) in
+    (ap (ran chip) none ∙ before.1, sym (add-zero _) ∙ ap (λ l. moved + length (moves chip l)) none ∙ before.2)

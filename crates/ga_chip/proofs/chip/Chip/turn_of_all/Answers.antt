@@ -1,29 +1,13 @@
-use Rattle.std.proofs.Common.{◌≡◌, ℕ, ◌+◌, ◌≤◌, ap, ◌∙◌, length, sym, add-zero, zero-add, subst, arith}
-use Rattle.ga_place.specs.Cell.{name_at}
-use Rattle.ga_chip.specs.Run.{moves, ran}
-use Rattle.ga_chip.proofs.Turns.{moved_once, moves_next, ran_next, turn_end, turn_left, turn_next, turn_whole}
+use Rattle.ga_chip.proofs.Turns.{turn_begins, turn_ends, turn_goes_on}
 use Rattle.ga_chip.proofs.chip.Chip.turn_of_all.Goals as goal
 
 pub loop-index-init : goal.loop-index-init
-loop-index-init c = (omega arith, ap (ran c.args.self.now) (turn_whole c.args.side), zero-add _ ∙ ap (λ l. length (moves c.args.self.now l)) (turn_whole c.args.side))
-
-one_more : (moved index more : ℕ) → moved ≤ index → more ≤ 1 → moved + more ≤ index + 1
-one_more moved index more e f = omega arith
-
-counted : (moved more now rest all : ℕ) → moved + rest ≡ all → rest ≡ more + now → moved + more + now ≡ all
-counted moved more now rest all e f = omega arith
+loop-index-init c = turn_begins c.args.self.now c.args.side
 
 pub loop-index-preserved : goal.loop-index-preserved
-loop-index-preserved c = (
-  one_more c.loop-index.moved c.loop-index.index c.moves-moved.result c.loop-index.invariant.0 (subst (λ n. n ≤ 1) (sym c.moves-moved.ensures) (moved_once _)),
-  sym (ran_next c.loop-index.self c.attempt_at.new.self (name_at c.loop-index.index) c.args.side _ _ _ (turn_next c.args.side c.loop-index.index c.loop-index-test.true) c.attempt_at.ensures) ∙ c.loop-index.invariant.1,
-  counted c.loop-index.moved c.moves-moved.result _ _ _ c.loop-index.invariant.2
-      (moves_next c.loop-index.self c.attempt_at.new.self (name_at c.loop-index.index) c.args.side _ _ _ (turn_next c.args.side c.loop-index.index c.loop-index-test.true) c.attempt_at.ensures ∙ ap (λ n. n + length (moves c.attempt_at.new.self (turn_left c.args.side (c.loop-index.index + 1)))) (sym c.moves-moved.ensures)),
-)
+loop-index-preserved c =
+    turn_goes_on _ c.loop-index.self c.attempt_at.new.self c.args.side c.loop-index.index c.loop-index.moved c.moves-moved.result _ c.loop-index.invariant c.loop-index-test.true c.attempt_at.ensures c.moves-moved.ensures
 
-pub returns-clause-chip : goal.returns-clause-chip
-returns-clause-chip c = ap (ran c.loop-index.self) (sym (turn_end c.args.side c.loop-index.index c.loop-index-test.false)) ∙ c.loop-index.invariant.1
-
-pub returns-clause-moved : goal.returns-clause-moved
-returns-clause-moved c =
-    sym (add-zero _) ∙ ap (λ l. c.loop-index.moved + length (moves c.loop-index.self l)) (sym (turn_end c.args.side c.loop-index.index c.loop-index-test.false)) ∙ c.loop-index.invariant.2
+pub returns : goal.returns
+returns c =
+    let ends = turn_ends _ c.loop-index.self c.args.side c.loop-index.index c.loop-index.moved c.loop-index.invariant c.loop-index-test.false in record { chip = ends.0; moved = ends.1 }
