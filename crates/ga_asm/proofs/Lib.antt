@@ -8,6 +8,6 @@ mod MakingSteps
 mod Groups
 mod Sections
 pub mod OneAnswer
-mod WorkedImages
+pub mod WorkedImages
 mod WordPlaces
 pub mod PlaceCount

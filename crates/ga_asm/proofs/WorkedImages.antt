@@ -18,28 +18,28 @@ use Rattle.ga_asm.proofs.Sections.{one_assembled}
 abbrev dots : PlacedSection
 dots = record { name = 709; items = record { item = Instruction Nop; place = record { line = 1; column = 10 }; name_place = None } ∷ [] }
 
-abbrev dots_image : ImageView
+abbrev pub dots_image : ImageView
 dots_image = record { words = 0x2_C9B2 ∷ []; code_len = 1; entry = 0; labels = []; item_counts = 1 ∷ [] }
 
+pub is_dots_image : IsImage (Instruction Nop ∷ []) dots_image
+unfolding Words GroupWords Arrangement fits bits stored stored_upper slot_key xor_bits
+is_dots_image = record {
+  laid = record {
+    groups = Shared (Instruction Nop) [] ∷ [];
+    stand_in = record { in_order = refl; arranged = (refl, refl, tt) };
+    labels_are = refl;
+    all_defined = refl;
+    in_reach = refl;
+    words_are = (0x2_C9B2 ∷ [], [], (0x2_C9B2, record { below = lit< tt; reads = no_dest Nop Nop Nop Nop refl refl refl refl }, refl), refl, refl);
+    code_is = refl;
+  };
+  entry_is = refl;
+  counts_are = refl;
+}
+
 pub one_nop : IsAssembled (dots ∷ []) ((709, dots_image) ∷ [])
-unfolding IsAssembled Words GroupWords Arrangement fits bits stored stored_upper slot_key xor_bits
-one_nop = (
-  refl,
-  record {
-    laid = record {
-      groups = Shared (Instruction Nop) [] ∷ [];
-      stand_in = record { in_order = refl; arranged = (refl, refl, tt) };
-      labels_are = refl;
-      all_defined = refl;
-      in_reach = refl;
-      words_are = (0x2_C9B2 ∷ [], [], (0x2_C9B2, record { below = lit< tt; reads = no_dest Nop Nop Nop Nop refl refl refl refl }, refl), refl, refl);
-      code_is = refl;
-    };
-    entry_is = refl;
-    counts_are = refl;
-  },
-  tt,
-)
+unfolding IsAssembled
+one_nop = (refl, is_dots_image, tt)
 
 -- it has no other image, as one that begins at another address
 first_entry : List (ℕ × ImageView) → ℕ

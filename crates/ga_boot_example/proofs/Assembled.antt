@@ -1,23 +1,20 @@
 -- The text of the firmware has the image that was worked out by hand, and what the law asks of a boot holds for it.
-use Rattle.std.proofs.Common.{◌≡◌, ℕ, List, [], ◌∷◌, None, Ok, refl, subst, le_refl, lit<}
+use Rattle.std.proofs.Common.{◌≡◌, ℕ, List, [], ◌∷◌, None, Ok, refl, subst, le_refl}
 use Rattle.std.specs.List.{IsDistinct}
 use Rattle.std.specs.Prelude.{All, codes}
 use Rattle.std.proofs.lemmas.List.Sorted.{IsPermutation-refl}
 use Rattle.std.proofs.lemmas.List.Elements.{All-from_recursion}
 use native.Mathlib.Bridge.{IsLe, le_by_compare}
-use Rattle.ga_word.specs.Word.{bits}
 use Rattle.ga_word.specs.declared.op.Op.TheVariants.{Nop}
-use Rattle.ga_pack.specs.Model.Layout.{Arrangement, GroupWords, Shared, Words, fits}
 use Rattle.ga_pack.specs.Model.Meaning.{meaning_at, meaning_of, meanings}
 use Rattle.ga_pack.specs.Model.Program.{IsProgram, PlacedSection, placed_items, placed_sections, tokens_of}
 use Rattle.ga_pack.specs.Model.Source.{Code, Instruction, Items, Sections, Source, is_item, part_after}
 use Rattle.ga_pack.specs.Model.Text.{end_of, lexemes, places_of, texts_of}
-use Rattle.ga_pack.specs.Reading.{no_dest, slot_key, stored, stored_upper, xor_bits}
 use Rattle.ga_pack.proofs.OneSource.{one_program}
 use Rattle.ga_place.specs.Node.{IsNodeName}
 use Rattle.ga_asm.specs.Assembling.{HasNoFault, IsAssembled}
-use Rattle.ga_asm.specs.Image.{IsImage}
 use Rattle.ga_asm.specs.Text.{AtMostOne, HasImages, IsImagesOf}
+use Rattle.ga_asm.proofs.WorkedImages.{is_dots_image}
 use Rattle.ga_path.specs.Stream.{Images}
 use Rattle.ga_path.specs.Tree.{IsSound}
 use Rattle.ga_boot.specs.Tree.{IsLoadable}
@@ -44,25 +41,9 @@ is_program = (
   refl,
 )
 
-is_dots : IsImage (Instruction Nop ∷ []) dots
-unfolding Words GroupWords Arrangement fits bits stored stored_upper slot_key xor_bits
-is_dots = record {
-  laid = record {
-    groups = Shared (Instruction Nop) [] ∷ [];
-    stand_in = record { in_order = refl; arranged = (refl, refl, tt) };
-    labels_are = refl;
-    all_defined = refl;
-    in_reach = refl;
-    words_are = (0x2_C9B2 ∷ [], [], (0x2_C9B2, record { below = lit< tt; reads = no_dest Nop Nop Nop Nop refl refl refl refl }, refl), refl, refl);
-    code_is = refl;
-  };
-  entry_is = refl;
-  counts_are = refl;
-}
-
 assembled : IsAssembled program firmware
 unfolding IsAssembled
-assembled = (refl, is_dots, (refl, is_dots, (refl, is_dots, tt)))
+assembled = (refl, is_dots_image, (refl, is_dots_image, (refl, is_dots_image, tt)))
 
 has_firmware : (images : Images) → HasImages text images → HasImages text firmware
 has_firmware images h =
