@@ -97,9 +97,6 @@ once_inner parent depth (Tree name side image inner beside) q o (inr e) = by (el
     by (inl g) one two = one g
     by (inr g) one two = two g
 
-pub once_root : (parent depth : ℕ) (grove : Grove) → Once (places parent depth grove) → Once (children parent depth grove)
-once_root parent depth grove o = once_children parent depth grove o
-
 -- a node of the tree is found by its name
 pub finds : (ps : List Place) (p : Place) → Once ps → Elem p ps → found p.name ps ≡ Some p
 finds [] p o e = absurd e

@@ -37,7 +37,7 @@ use Rattle.ga_boot.proofs.Idle.{idle_apart, idle_low, idle_wants}
 use Rattle.ga_boot.proofs.Node.{loads_node, starts_node}
 use Rattle.ga_boot.proofs.Root.{waiting, sends_frames, loads_root, starts_root}
 use Rattle.ga_boot.proofs.Words.{words_to, taken_loading, taken_starting, posted_loading, posted_starting, posted_root, taken_root, fed_inside}
-use Rattle.ga_boot.proofs.Places.{named_all, child_of, child_place, HasOver, over_it, inner_place, once_root, once_inner, finds, found_there, words_of, words_sent, at_same, at_other, none_sent, one_sent}
+use Rattle.ga_boot.proofs.Places.{named_all, child_of, child_place, HasOver, over_it, inner_place, once_children, once_inner, finds, found_there, words_of, words_sent, at_same, at_other, none_sent, one_sent}
 use Rattle.ga_boot.proofs.Wires.{wire}
 use Rattle.ga_boot.proofs.Steps.{fetching}
 
@@ -99,8 +99,8 @@ module _ (root : ℕ) (image : Option ImageView) (trees : Grove) (is : IsTree ro
   over_posts p e (inl f) =
       let at = (child_of root 1 trees p f).0 in
       let there : (q : Place) → Elem q (children root 1 trees) → neighbour_of root q.side ≡ Some q.name = λ q g. ap (λ n. neighbour_of n q.side) (sym (child_of root 1 trees q g).0) ∙ is.there q (child_elem q g) in (
-        ap (λ n. posted p.side (plan.loads n)) at ∙ ap (posted p.side) loads_it ∙ posted_root Load p.side root image trees ∙ words_sent Load root 1 p.side trees ∙ one_sent (words_of Load) (children root 1 trees) root p (once_root root 1 trees is.once) there f,
-        ap (λ n. posted p.side (plan.starts n)) at ∙ ap (posted p.side) starts_it ∙ posted_root Start p.side root image trees ∙ words_sent Start root 1 p.side trees ∙ one_sent (words_of Start) (children root 1 trees) root p (once_root root 1 trees is.once) there f,
+        ap (λ n. posted p.side (plan.loads n)) at ∙ ap (posted p.side) loads_it ∙ posted_root Load p.side root image trees ∙ words_sent Load root 1 p.side trees ∙ one_sent (words_of Load) (children root 1 trees) root p (once_children root 1 trees is.once) there f,
+        ap (λ n. posted p.side (plan.starts n)) at ∙ ap (posted p.side) starts_it ∙ posted_root Start p.side root image trees ∙ words_sent Start root 1 p.side trees ∙ one_sent (words_of Start) (children root 1 trees) root p (once_children root 1 trees is.once) there f,
       )
     where
       child_elem : (q : Place) → Elem q (children root 1 trees) → Elem q all

@@ -16,7 +16,7 @@ use Rattle.ga_chip.specs.Part.{Part}
 use Rattle.ga_chip.specs.Run.{moves, ran, side_of_turn, turn_of}
 use Rattle.ga_chip.proofs.Lists.{get-set_else}
 use Rattle.ga_chip.proofs.Tries.{tried_none, tried_still, tried_there}
-use Rattle.ga_chip.proofs.Turns.{moves_next, ran_next, turn_end, turn_left, turn_next, turn_whole}
+use Rattle.ga_chip.proofs.Turns.{moved_once, moves_next, ran_next, turn_end, turn_left, turn_next, turn_whole}
 use Rattle.ga_debug.specs.Profile.{tried_in_profile_1, tries_in_profile_1, turn_in_profile_1, turns_in_profile_1, is_extended_fetch, is_left_out}
 
 -- one more turn
@@ -102,10 +102,7 @@ turn_of_chip side chip next steps all counted made =
 
 -- a try makes one step at most
 pub one_step : (steps : ℕ) (outcome : Outcome) → steps ≡ moved_by outcome → steps ≤ 1
-one_step steps Moved e = omega (arith, e)
-one_step steps Waits e = omega (arith, e)
-one_step steps Held e = omega (arith, e)
-one_step steps Stopped e = omega (arith, e)
+one_step steps outcome e = subst (λ n. n ≤ 1) (sym e) (moved_once outcome)
 
 pub at_most : (moved index steps : ℕ) → moved ≤ index → steps ≤ 1 → moved + steps ≤ index + 1
 at_most moved index steps e f = omega arith

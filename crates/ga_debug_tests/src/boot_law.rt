@@ -255,7 +255,7 @@ fn boots_in_schedules_by_chance(rt: HostRuntime) -> Result<(), Fail> {
     Ok(())
 }
 
-/// The chip of a stream when 708 has posted the start word of 709, which isn't let take it.
+/// The chip of a stream when 708 has posted the start word of 709, and 709 isn't let take it.
 fn start_posted(alloc: Global, stream: &[u32]) -> Result<Chip, Fail> {
     let [node_708, node_709] = nodes(&[708, 709])?;
     let mut chip = given(alloc, 708, stream)?;

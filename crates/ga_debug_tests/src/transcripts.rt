@@ -72,9 +72,7 @@ fn loads_a_head(rt: HostRuntime) -> Result<(), Fail> {
     let name = node(0)?;
     let mut loaded = load(rt.alloc(), ASKED)?;
     assert!(rt; loaded.line == 4 && loaded.lines.next() == Some("\\ it goes round"));
-    let Some(image) = loaded.images.image_of(name) else {
-        return Ok(());
-    };
+    let image = loaded.images.image_of(name).ok_or("no image")?;
     assert!(rt; image_of(&loaded.images, name).is_some());
     assert!(rt; image.address_of("x") == Some(1) && label_at(image.labels(), 1) == Some("x"));
     let reply = reply_to(rt.alloc(), &mut loaded.chip, "turn 5")?;

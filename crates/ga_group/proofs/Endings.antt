@@ -22,7 +22,8 @@ use Rattle.ga_port.proofs.Nodes.{untried_there}
 use Rattle.ga_group.specs.Plan.{Groups}
 use Rattle.ga_group.specs.Workers.{IsWorkersRun, sides_of_turns}
 use Rattle.ga_group.specs.inner.Work.{AreApart, AreLent, AreSome, HasAllNodes, HasWorked, HaveGained, IsLent, names_of}
-use Rattle.ga_group.proofs.Orders.{among_place, name_of_part, named_part}
+use Rattle.ga_group.proofs.Gains.{name_there}
+use Rattle.ga_group.proofs.Orders.{among_place, named_part}
 
 -- ---- places in lists
 
@@ -74,7 +75,7 @@ module _ (chip : Chip) (legal : IsLegal chip) where
     count = legal.parts;
     at = λ name named.
         let found = part_there name (index_below name named) in
-        (index_of name, name_of_part chip.parts (index_of name) found.0 found.1 ∙ ap Some (legal.named name found.0 found.1));
+        (index_of name, name_there chip.parts (index_of name) found.0 found.1 ∙ ap Some (legal.named name found.0 found.1));
     once = record {
       places = λ here there name e f.
           let one = named_part chip.parts here name e in
@@ -145,8 +146,8 @@ module _ (front back after : List Part) (first last : SeatView) (sides : List Si
           let one = named_part front there.0 part.state.node there.1 in
           let inside = slice_get_within front there.0 one.0 one.1 in
           let deep = at_back front back place part e in
-          let here = name_of_part (front ++ back) deep.0 part deep.2 in
-          let also = name_of_part (front ++ back) there.0 one.0 (at_front front back there.0 one.0 one.1) ∙ ap Some one.2 in
+          let here = name_there (front ++ back) deep.0 part deep.2 in
+          let also = name_there (front ++ back) there.0 one.0 (at_front front back there.0 one.0 one.1) ∙ ap Some one.2 in
           let same = all.once.places there.0 deep.0 part.state.node also here in
           absurd (omega (arith, same, inside, deep.1))
 
@@ -211,7 +212,7 @@ module _ (chip : Chip) (nodes : List ℕ) (sides : List Side) (last : List (Opti
       each : (place : ℕ) (part : Part) → slice_get parts place ≡ Some part → slice_get (ran chip (tries_of tries)).parts place ≡ Some part
       each place part e =
           let one = off.lent.at place part e in
-          let was = named_part chip.parts place part.state.node (ap (λ l. slice_get l place) (sym off.names) ∙ name_of_part parts place part e) in
+          let was = named_part chip.parts place part.state.node (ap (λ l. slice_get l place) (sym off.names) ∙ name_there parts place part e) in
           let at = ap index_of (sym was.2) ∙ place_of_name chip off.legal place was.0 was.1 in
           ap (slice_get (ran chip (tries_of tries)).parts) (sym at) ∙ end.parts part.state.node one.one one.has ∙ ap Some one.same
 
@@ -221,7 +222,7 @@ module _ (chip : Chip) (nodes : List ℕ) (sides : List Side) (last : List (Opti
 pub legal_of : (chip : Chip) (parts : List Part) (row : List (Option ℕ)) → parts ≡ chip.parts → row ≡ chip.cells → IsLegal (chip_of parts row) → IsLegal chip
 legal_of chip parts row one other legal = subst IsLegal (ap₂ chip_of one other) legal
 
--- the parts and the row that a run of workers leaves
+-- what a run of workers leaves is a legal chip, and its run
 pub run_end : (chip opening : Chip) (plan : Groups) (turns : ℕ) (parts left : List Part) (nodes : List ℕ) (first last : List (Option Holding)) (row : List (Option ℕ)) (tries : List Try) → IsLegal chip → nodes ≡ concat plan → first ≡ untried chip.parts
     → names_of parts ≡ names_of chip.parts → AreLent parts last → HaveGained first last nodes (sides_of_turns turns) → ((name : ℕ) → is_among name nodes ≡ true → IsNodeName name)
     → opening ≡ chip → IsEnd opening last row tries → left ≡ parts → IsLegal (chip_of left row) × IsWorkersRun chip plan turns (chip_of left row)

@@ -1,7 +1,7 @@
 -- Parts, nodes and groups of nodes in one order, cut in two.
 use Rattle.std.proofs.Common.{◌≡◌, ◌∙◌, ℕ, ◌≤◌, List, ◌++◌, length, take, drop, Vec, [], sym, ap, subst, arith, length-drop}
 use Rattle.std.specs.List.{concat}
-use Rattle.std.proofs.lemmas.List.{drop-map, drop_at, length-map, length-take, take-map, take_at}
+use Rattle.std.proofs.lemmas.List.{drop-map, drop_at, length-take, take-map, take_at}
 use Rattle.ga_chip.specs.Part.{Part}
 use Rattle.ga_port.specs.Seat.{CellsId, SeatView, only, without}
 use Rattle.ga_group.specs.Plan.{first_repeated, groups_in}
@@ -10,9 +10,6 @@ use Rattle.ga_group.proofs.Shared.{IsCut}
 use Rattle.ga_group.proofs.Walk.{front_within, groups_cut}
 
 module _ {A : Type 0} (groups : List (Vec ℕ A)) (nodes : List ℕ) (parts : List Part) (grouped : AreGrouped groups nodes parts) where
-  pub parts_count : length parts ≡ length nodes
-  parts_count = sym (length-map parts (λ (p : Part). p.state.node)) ∙ ap length grouped.parts_is
-
   nodes_count : length (concat (groups_in groups)) ≡ length nodes
   nodes_count = ap length grouped.nodes_is
 

@@ -61,9 +61,6 @@ module _ (chip : Chip) (tries : List Try) (owner : ℕ → ℕ) (s : State ℕ (
   abbrev shared : List (List (Option Holding))
   shared = set s.views id (without names nodes) ++ only names nodes ∷ []
 
-  abbrev new_seat : ℕ
-  new_seat = length s.views
-
   -- the nodes with these names go to the new seat, if they were at this one
   abbrev next : ℕ → ℕ
   next name = if (owner name == id) && is_among name names then length s.views else owner name

@@ -1,11 +1,12 @@
 -- Texts that are written part by part.
-use Rattle.std.proofs.Common.{◌≡◌, ◌∙◌, ℕ, zero, suc, ◌+◌, ◌<◌, true, false, List, [], ◌∷◌, ◌++◌, length, get_or, drop, ap, sym, arith, add-one, append-nil, append_assoc, drop-cons}
+use Rattle.std.proofs.Common.{◌≡◌, ◌∙◌, ℕ, ◌+◌, ◌<◌, true, false, List, [], ◌∷◌, ◌++◌, length, get_or, drop, ap, sym, add-one, append_assoc, drop-cons}
 use Rattle.std.specs.Prelude.{if◌then◌else◌}
 use Rattle.std.specs.List.{flat_map, range_with_len}
 use Rattle.std.proofs.lemmas.Grind.{flat_map-append}
 use Rattle.ga_place.specs.Side.{is_among}
 use Rattle.ga_place.specs.declared.side.Side.{Side}
 use Rattle.ga_place.specs.declared.side.Sides.{Sides}
+use Rattle.ga_dump.proofs.Lines.{next_line}
 use Rattle.ga_waits.specs.Sides.{joined}
 use Rattle.ga_waits.specs.Waits.{text_of}
 
@@ -33,21 +34,9 @@ side_left_out text front between now sides items i d old new whole within so_far
     ∙ sym (ap (λ b. old ++ (if b then front ++ text side ++ behind else joined text front between sides rest)) among)
     ∙ sym (ap (λ l. old ++ joined text front between sides l) here) ∙ so_far
 
-counting : (a n : ℕ) → range_with_len a (suc n) ≡ range_with_len a n ++ (a + n) ∷ []
-counting a zero = let same : a ≡ a + 0 = omega arith in ap (λ k. k ∷ []) same
-counting a (suc n) =
-    let same : a + 1 + n ≡ a + suc n = omega arith in
-    ap (λ ks. a ∷ ks) (counting (a + 1) n ∙ ap (λ k. range_with_len (a + 1) n ++ k ∷ []) same)
-
-next_one : {A : Type 0} (f : ℕ → List A) (n : ℕ) → flat_map f (range_with_len 0 (n + 1)) ≡ flat_map f (range_with_len 0 n) ++ f n
-next_one f n =
-    let is : 0 + n ≡ n = omega arith in
-    ap (λ count. flat_map f (range_with_len 0 count)) (add-one n) ∙ ap (flat_map f) (counting 0 n) ∙ flat_map-append f (range_with_len 0 n) ((0 + n) ∷ [])
-    ∙ ap (λ line. flat_map f (range_with_len 0 n) ++ line) (append-nil (f (0 + n)) ∙ ap f is)
-
 -- the lines of one node more of those that are numbered from 0
 pub lines_more : (lines : ℕ → List (List ℕ)) (n : ℕ) (old text new : List ℕ) → text ≡ old ++ text_of (flat_map lines (range_with_len 0 n)) → new ≡ text ++ text_of (lines n) → new ≡ old ++ text_of (flat_map lines (range_with_len 0 (n + 1)))
 lines_more lines n old text new so_far wrote =
     let before = flat_map lines (range_with_len 0 n) in
     wrote ∙ ap (λ t. t ++ text_of (lines n)) so_far ∙ append_assoc old (text_of before) (text_of (lines n))
-    ∙ ap (λ t. old ++ t) (sym (flat_map-append (λ line. line ++ 10 ∷ []) before (lines n)) ∙ sym (ap text_of (next_one lines n)))
+    ∙ ap (λ t. old ++ t) (sym (flat_map-append (λ line. line ++ 10 ∷ []) before (lines n)) ∙ sym (ap text_of (next_line lines n)))
