@@ -355,7 +355,6 @@ fn boot_starts_each_node_of_a_tree_at_once(rt: HostRuntime) -> Result<(), Fail> 
 #[test]
 fn boot_of_a_tree_leaves_out_closes(rt: HostRuntime) -> Result<(), Fail> {
     let [node_708, node_709, node_608] = nodes(&[708, 709, 608])?;
-    let loaded = [(node_709, Side::Right), (node_608, Side::Down)];
     let open = [
         0x000AE, 0x001D5, 7, 0x101D5, 0x04A12, 0x00000, 0x00000, 0x2E9B2, 0x05872, 0x2C9B2,
         0x000AE, 0x00115, 7, 0x10115, 0x04A12, 0x00000, 0x00000, 0x2E9B2, 0x05872, 0x2C9B2,
@@ -363,9 +362,13 @@ fn boot_of_a_tree_leaves_out_closes(rt: HostRuntime) -> Result<(), Fail> {
         0x001B5, 0x00000, 0x00000,
     ];
     for (stream, sent, is_held) in [(FORK.as_slice(), 8, true), (&open, 7, false)] {
-        let chip = load_taken(given(rt.alloc(), 708, stream)?, &loaded, sent)?;
+        let chip = load_taken(
+            given(rt.alloc(), 708, stream)?,
+            &[(node_709, Side::Right), (node_608, Side::Down)],
+            sent,
+        )?;
         assert!(rt; chip.stream_left(node_708) <= 11);
-        for (node, side) in loaded {
+        for (node, side) in [(node_709, Side::Right), (node_608, Side::Down)] {
             assert!(rt; chip.ledger(node_708, side).read == sent);
             assert!(rt; holds(&chip, node, &[0x2C9B2])? == is_held);
         }
