@@ -7,13 +7,14 @@ use Rattle.ga_node.specs.Need.{need_of}
 use Rattle.ga_place.specs.Cell.{index_of, cell_of}
 use Rattle.ga_chip.specs.declared.outcome.Outcome.TheVariants.{Moved, Waits}
 use Rattle.ga_chip.specs.Part.{Part, Asks, Nothing, Own, Feed, Post, Take, Check, asks, after}
-use Rattle.ga_chip.specs.Chip.{Chip, part_of, pending, found_by, cells_after, tried, tried_at, tried_by}
+use Rattle.ga_chip.specs.Chip.{Chip, part_of, pending, found_by, cells_after, tried, tried_by}
 use Rattle.ga_chip.specs.Legal.{IsLegal}
 use Rattle.ga_chip.specs.Laws.{Commuting}
 use Rattle.ga_chip.proofs.Lists.{get-set_else}
 use Rattle.ga_place.proofs.Cells.{one_writer, one_reader, one_place}
 use Rattle.ga_chip.proofs.Parts.{Fits, asks_fits, Passes, passed_after}
 use Rattle.ga_chip.proofs.Kept.{empty_at_post, has_name}
+use Rattle.ga_chip.proofs.Tries.{tried_none, tried_there}
 
 -- a node whose try, that asks so, would be Moved
 record Tries (chip : Chip) (name : ℕ) (q : Asks) : Type 0 where
@@ -109,19 +110,11 @@ record Goes (chip : Chip) (name : ℕ) (side : Side) : Type 0 where
   there : part_of chip name ≡ Some part
   moved : (after part side (found_by (asks part side) chip.cells)).0 ≡ Moved
 
-tried_there : (chip : Chip) (name : ℕ) (side : Side) (part : Part) → part_of chip name ≡ Some part → tried chip name side ≡ tried_by chip name (asks part side) (after part side (found_by (asks part side) chip.cells))
-unfolding tried
-tried_there chip name side part there = ap (λ o. tried_at o chip name side) there
-
-tried_none : (chip : Chip) (name : ℕ) (side : Side) → part_of chip name ≡ None → (tried chip name side).0 ≡ Waits
-unfolding tried
-tried_none chip name side e = ap (λ o. (tried_at o chip name side).0) e
-
 goes : (chip : Chip) (name : ℕ) (side : Side) → (tried chip name side).0 ≡ Moved → Goes chip name side
 goes chip name side moved = by (part_of chip name) refl
   where
     by : (o : Option Part) → part_of chip name ≡ o → Goes chip name side
-    by None e = let no_ : Waits ≡ Moved = sym (tried_none chip name side e) ∙ moved in cc
+    by None e = let no_ : Waits ≡ Moved = sym (ap (λ r. r.0) (tried_none chip name side e)) ∙ moved in cc
     by (Some part) e = record { part = part; there = e; moved = ap (λ r. r.0) (sym (tried_there chip name side part e)) ∙ moved }
 
 tries : (chip : Chip) (name : ℕ) (side : Side) → IsLegal chip → (g : Goes chip name side) → Tries chip name (asks g.part side)

@@ -1,4 +1,4 @@
-ghost use Rattle.std.specs.Prelude.{◌≡◌, ◌∷◌, ◌≤◌, [], OnErr, string_bytes, length};
+ghost use Rattle.std.specs.Prelude.{◌≡◌, ◌+◌, ◌≤◌, [], OnErr, string_bytes, length};
 ghost use Rattle.std.specs.String.{string_capacity, string_len};
 ghost use Rattle.ga_debug.specs.Action.{after_action, answer_text, answer_to};
 ghost use Rattle.ga_debug.specs.Word.{outcome_text};
@@ -62,11 +62,11 @@ pub(crate) fn perform(chip: &mut Chip, action: Action) -> Result<Answer, DebugEr
     }
 }
 
-/// An answer as text, in an empty text that has room for it.
-pub(crate) fn answer_in(mut text: String, answer: Answer) -> String
-    requires empty { string_bytes text ≡ [] }
-    requires room { 32 ≤ string_capacity text }
-    ensures { string_bytes result ≡ answer_text answer }
+/// Adds an answer to an empty text that has room for it.
+pub(crate) fn push_answer(text: &mut String, answer: Answer)
+    requires empty { string_bytes text.old ≡ [] }
+    requires room { string_len text.old + 32 ≤ string_capacity text.old }
+    ensures { string_bytes text.new ≡ answer_text answer }
 {
     match answer {
         Answer::Done => text.push_str("ok").unwrap(),
@@ -77,7 +77,6 @@ pub(crate) fn answer_in(mut text: String, answer: Answer) -> String
             text.push_str(buffer.format(steps)).unwrap();
         }
     }
-    text
 }
 
 fn outcome_name(outcome: Outcome) -> &'static str

@@ -21,5 +21,5 @@ pub use error::DebugError;
 pub use pieces::Pieces;
 pub use replay_error::ReplayError;
 pub use replaying::replay;
-pub use session::{Session, reply_to};
+pub use session::{Session, reply_into};
 pub use word::{address_of, count_of};

@@ -34,6 +34,16 @@ impl<'a> Pieces<'a> {
             separator,
         }
     }
+
+    /// The pieces that are left, to go through them beside these.
+    pub fn fork(&self) -> Self
+        ensures { result ≡ self.now }
+    {
+        Pieces {
+            rest: self.rest,
+            separator: self.separator,
+        }
+    }
 }
 
 impl<'a> Iterator for Pieces<'a> {

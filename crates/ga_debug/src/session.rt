@@ -2,7 +2,7 @@ ghost use Rattle.std.specs.Prelude.{◌≡◌, ◌⊎◌, IfErr, IfOk, OnErr, On
 ghost use Rattle.ga_debug.specs.Session.{after_line, reply_to, view_text, without_line_end};
 ghost use Rattle.ga_debug.specs.declared.error.DebugError.TheVariants.{Memory};
 
-use crate::action::{ANSWER_LENGTH, answer_in, perform};
+use crate::action::{ANSWER_LENGTH, perform, push_answer};
 use crate::command::{Command, command_in};
 use crate::error::DebugError;
 use crate::word::View;
@@ -45,29 +45,38 @@ impl Session {
         ensures chip { OnOk result (self.new ≡ after_line line.now self.old) }
         ensures same { OnErr result (self.new ≡ self.old) }
     {
-        reply_to(alloc, &mut self.chip, line)
+        let mut text = String::new(alloc);
+        reply_into(alloc, &mut text, &mut self.chip, line)?;
+        Ok(text)
     }
 }
 
-/// The reply of a chip to a command, without an LF at its end: what a session over the chip replies, and does to it.
-pub fn reply_to(alloc: Global, chip: &mut Chip, line: &str) -> Result<String, DebugError>
-    ensures reply { IfOk result (λ text. reply_to line.now chip.old ≡ Ok (string_bytes text)) }
+/// Puts the reply of a chip to a command, without an LF at its end, in the place of a text: what a session over the chip
+/// replies, and does to it. Where it is refused the text stays as it is.
+pub fn reply_into(
+    alloc: Global,
+    text: &mut String,
+    chip: &mut Chip,
+    line: &str,
+) -> Result<(), DebugError>
+    ensures reply { OnOk result (reply_to line.now chip.old ≡ Ok (string_bytes text.new)) }
     ensures refused { IfErr result (λ error. (error ≡ Memory)
         ⊎ (reply_to line.now chip.old ≡ Err error)) }
     ensures chip { OnOk result (chip.new ≡ after_line line.now chip.old) }
     ensures same { OnErr result (chip.new ≡ chip.old) }
+    ensures same_text { OnErr result (string_bytes text.new ≡ string_bytes text.old) }
 {
     match command_in(line)? {
         Command::Act(action) => {
-            let text = String::with_capacity(alloc, ANSWER_LENGTH)?;
+            // Before the action, so that it is refused as a whole.
+            text.reserve(ANSWER_LENGTH)?;
             let answer = perform(chip, action)?;
-            Ok(answer_in(text, answer))
+            text.clear();
+            push_answer(text, answer);
         }
-        Command::Show(view, node) => {
-            let text = view_text(alloc, chip, view, node)?;
-            Ok(text)
-        }
+        Command::Show(view, node) => *text = view_text(alloc, chip, view, node)?,
     }
+    Ok(())
 }
 
 /// What a view shows of a node, without the last LF.

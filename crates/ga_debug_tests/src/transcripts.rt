@@ -1,6 +1,6 @@
 //! Tests of transcripts, and of the calls that they make.
 use ga_asm::label_at;
-use ga_debug::{DebugError, Pieces, ReplayError, address_of, count_of, load, reply_to};
+use ga_debug::{DebugError, Pieces, ReplayError, address_of, count_of, load, reply_into};
 use ga_path::image_of;
 use ga_test_values::node;
 use ga_transcript::{TranscriptError, check, record};
@@ -75,7 +75,8 @@ fn loads_a_head(rt: HostRuntime) -> Result<(), Fail> {
     let image = loaded.images.image_of(name).ok_or("no image")?;
     assert!(rt; image_of(&loaded.images, name).is_some());
     assert!(rt; image.address_of("x") == Some(1) && label_at(image.labels(), 1) == Some("x"));
-    let reply = reply_to(rt.alloc(), &mut loaded.chip, "turn 5")?;
+    let mut reply = String::new(rt.alloc());
+    reply_into(rt.alloc(), &mut reply, &mut loaded.chip, "turn 5")?;
     assert!(rt; reply.as_str() == "moved 5" && !loaded.chip.is_held(name));
     loaded.chip.set_break(name, 1);
     assert!(rt; loaded.chip.has_break(name, 1) && loaded.chip.is_held(name));

@@ -241,11 +241,6 @@ module _ (text run behind : List ℕ) (b : Begins text run behind) where
   behind_comment line next rest e f left =
       behind_more text (run ++ behind) rest (record { front = b.front; whole = b.whole; same = at_run }) (comment_first run line behind rest next b.none b.ends e f left)
 
-  pub comment_shorter : (line : List ℕ) (next : Option (Bor (List ℕ))) (rest : List ℕ) → FirstLine behind line next → IsLeft next rest → length rest < length text
-  comment_shorter line None rest f left = omega (arith, ap length left, ap length b.whole, length-append b.front (run ++ behind), length-append run behind, b.some)
-  comment_shorter line (Some next) rest f left =
-      omega (arith, ap length left, ap length f.0, length-append line (10 ∷ next.now), ap length b.whole, length-append b.front (run ++ behind), length-append run behind, b.some)
-
 pub found_behind : (text rest run behind : List ℕ) → Behind text rest → FirstRun rest run behind → FirstRun text run behind
 found_behind text rest run behind a f = record {
   front = a.front ++ f.front;

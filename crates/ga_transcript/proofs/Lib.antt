@@ -6,6 +6,7 @@ pub mod Recordings
 pub mod Writing
 pub mod Starting
 pub mod Comparing
+pub mod Letters
 pub mod Whole
 pub mod WholeReplies
 mod WorkedTranscripts

@@ -1,4 +1,5 @@
 -- What only the proof of this crate speaks of: no contract of an exported function rests on it.
 pub mod Line
+pub mod Command
 pub mod Counting
-pub mod Difference
+pub mod Next

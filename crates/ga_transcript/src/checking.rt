@@ -1,13 +1,12 @@
-ghost use Rattle.std.specs.Prelude.{◌≡◌, ◌+◌, ◌<◌, ◌++◌, ◌^◌, OnOk, length, map, string_bytes};
+ghost use Rattle.std.specs.Prelude.{◌≡◌, ◌+◌, ◌<◌, ◌++◌, ◌^◌, IfOk, OnOk, length, map, string_bytes};
 ghost use Rattle.ga_asm.specs.Text.{AtMostOne};
-ghost use Rattle.ga_transcript.specs.Check.{Answers, IsChecked, checked_by, signed};
-ghost use Rattle.ga_transcript.specs.Following.{checked};
-ghost use Rattle.ga_transcript.specs.Reply.{step_of};
-ghost use Rattle.ga_transcript.specs.inner.Difference.{IsDifference};
+ghost use Rattle.ga_transcript.specs.Check.{Answers, Differs, IsChecked, checked_by, difference_text, fault_of, signed};
+ghost use Rattle.ga_transcript.specs.Following.{wanted};
+ghost use Rattle.ga_transcript.specs.Reply.{reply_lines, step_of};
+ghost use Rattle.ga_transcript.specs.inner.Next.{checked_next, lines_from, next_of};
 
 use crate::error::TranscriptError;
-use crate::line::{Line, line_of};
-use crate::lines::{all_lines, early_reply, is_wanted, reply_lines, wanted};
+use crate::lines::{LinesLeft, first_command, next_behind, reply_lines, wanted};
 use crate::reply::reply;
 use ga_asm::Images;
 use ga_chip::Chip;
@@ -26,46 +25,59 @@ pub fn check(alloc: Global, text: &str) -> Result<u64, TranscriptError>
     ensures only { AtMostOne (IsChecked text.now) }
 {
     let loaded = load(alloc, text)?;
-    let lines = all_lines(alloc, loaded.lines)?;
-    let first = loaded.line + 1;
-    if let Some(line) = early_reply(first, &lines) {
-        return Err(TranscriptError::EarlyReply(line));
+    let mut left = LinesLeft {
+        number: loaded.line,
+        lines: loaded.lines,
+    };
+    match first_command(&mut left) {
+        Ok(first) => follow(alloc, loaded.chip, &loaded.images, first, left),
+        Err(line) => Err(TranscriptError::EarlyReply(line)),
     }
-    follow(alloc, loaded.chip, &loaded.images, first, &lines)
 }
 
-/// Does the commands of lines, of which the first has a number, and compares the reply to each with the lines behind it.
-fn follow(
+/// Does the commands from the first on, behind which these lines are left, and compares the reply to each with the lines
+/// behind it.
+fn follow<'a>(
     alloc: Global,
     mut chip: Chip,
     images: &Images,
-    first: u64,
-    lines: &[&str],
+    first: Option<&'a str>,
+    mut left: LinesLeft<'a>,
 ) -> Result<u64, TranscriptError>
-    requires { first + length lines.now < 2 ^ 64 }
-    ensures { Answers (λ count. count) (λ answer. checked_by (checked (step_of images.now) first 0
-        chip (map (λ line. line.now) lines.now)) ≡ answer) result }
+    requires room { left.number + length left.lines < 2 ^ 64 }
+    requires count { lines_from first left < 2 ^ 64 }
+    ensures { Answers (λ count. count) (λ answer. checked_by (checked_next (step_of images.now) 0
+        chip (next_of first.entry left.entry)) ≡ answer) result }
 {
     let mut count = 0;
-    for (index, line) in lines.iter().enumerate() {
-        if let Line::Command(command) = line_of(line) {
-            let came = reply(alloc, &mut chip, images, command)?;
-            compare(alloc, first + index as u64, &lines[index + 1..], &came)?;
-            count += 1;
-        }
+    let mut came = String::new(alloc);
+    let mut next = first;
+    while let Some(command) = next {
+        reply(alloc, &mut came, &mut chip, images, command)?;
+        let behind = left.fork();
+        let Ok(found) = next_behind(&mut left, &came) else {
+            return Err(difference(alloc, behind, &came)?);
+        };
+        next = found;
+        count += 1;
     }
     Ok(count)
 }
 
-/// Compares a reply with the lines behind its command, which is the line with this number.
-fn compare(alloc: Global, line: u64, behind: &[&str], came: &str) -> Result<(), TranscriptError>
-    ensures { Answers (λ same. same)
-        (IsDifference line (map (λ line. line.now) behind.now) came.now) result }
+/// What is told of a command with another reply than the one that stands behind it, where these lines are left.
+fn difference(
+    alloc: Global,
+    behind: LinesLeft<'_>,
+    came: &str,
+) -> Result<TranscriptError, AllocError>
+    ensures { IfOk result (λ error. fault_of error ≡ Differs behind.entry.number
+        (difference_text (record {
+          line = behind.entry.number;
+          wanted = wanted behind.entry.lines;
+          came = reply_lines came.now;
+        }))) }
 {
-    if is_wanted(behind, came) {
-        return Ok(());
-    }
-    let wanted = wanted(alloc, behind)?;
+    let wanted = wanted(alloc, behind.lines)?;
     let came = reply_lines(alloc, came)?;
     let mut lines = String::new(alloc);
     push_signed(&mut lines, '-', &wanted)?;
@@ -73,7 +85,7 @@ fn compare(alloc: Global, line: u64, behind: &[&str], came: &str) -> Result<(), 
     if lines.as_bytes().last() == Some(&b'\n') {
         lines.truncate(lines.len() - 1);
     }
-    Err(TranscriptError::Differs(line, lines))
+    Ok(TranscriptError::Differs(behind.number, lines))
 }
 
 /// Adds lines, each behind a sign and ended by LF.

@@ -3,6 +3,7 @@ ghost use Rattle.ga_debug.specs.declared.error.DebugError.TheVariants.{BadCount}
 ghost use Rattle.ga_debug.specs.Command.{node_first};
 ghost use Rattle.ga_transcript.specs.Command.{address_first, address_in, arguments, command_in, count_first, verb_of};
 ghost use Rattle.ga_debug.specs.inner.Command.{Reads};
+ghost use Rattle.ga_transcript.specs.inner.Command.{begins_no_verb};
 
 use ga_asm::Images;
 use ga_debug::{Address, DebugError, Pieces, address_of, count_of};
@@ -70,6 +71,17 @@ pub(crate) fn command_in(images: &Images, line: &str) -> Result<TranscriptComman
         None => Ok(command),
         Some(_) => Err(DebugError::BadCommand),
     }
+}
+
+/// Whether no verb begins with the first letter of a line: then it is a command of sessions, and its words need not be cut
+/// to tell.
+pub(crate) fn begins_no_verb(line: &[u8]) -> bool
+    ensures { result ≡ begins_no_verb line.now }
+{
+    let [letter, ..] = line else {
+        return true;
+    };
+    !matches!(letter, b'b' | b'c' | b'n' | b'u' | b'w')
 }
 
 /// The verb that a word is.

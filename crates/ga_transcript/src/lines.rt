@@ -1,21 +1,126 @@
 //! Lines of a transcript behind `go`.
-ghost use Rattle.std.specs.Prelude.{◌≡◌, ◌+◌, ◌<◌, ◌^◌, ◌∷◌, [], IfOk, MatchOption, filter, length, map};
+ghost use Rattle.std.specs.Prelude.{◌≡◌, ◌+◌, ◌≤◌, ◌<◌, ◌^◌, ◌∷◌, [], IfOk, MatchOption, MatchResult, None, Some, false, filter, length, map, true};
 ghost use Rattle.ga_transcript.specs.Following as spec;
 ghost use Rattle.ga_transcript.specs.Reply as reply;
+ghost use Rattle.ga_transcript.specs.inner.Next.{IsNext, lines_from};
 
 use crate::line::{Line, line_of};
 use ga_debug::Pieces;
 use std::alloc::{AllocError, Global};
 
-/// All of some lines.
-pub(crate) fn all_lines<'a>(alloc: Global, left: Pieces<'a>) -> Result<Vec<&'a str>, AllocError>
-    ensures { IfOk result (λ lines. map (λ line. line.now) lines.items ≡ left.entry) }
-{
-    let mut lines = Vec::new(alloc);
-    for line in left {
-        lines.push(line)?;
+/// The lines of a transcript that are left, and the number of the line in front of them.
+#[derive(Drop)]
+pub(crate) struct LinesLeft<'a> {
+    pub(crate) number: u64,
+    pub(crate) lines: Pieces<'a>,
+}
+
+impl<'a> LinesLeft<'a> {
+    /// The same lines, to go through them beside these.
+    pub(crate) fn fork(&self) -> Self
+        ensures { result ≡ self.now }
+    {
+        LinesLeft {
+            number: self.number,
+            lines: self.lines.fork(),
+        }
     }
-    Ok(lines)
+}
+
+/// The reply to a command isn't the one that is wanted.
+#[derive(Clone, Copy)]
+pub(crate) struct OtherReply;
+
+/// The first command, behind which the lines then go on; or the number of the line of a reply in front of it.
+pub(crate) fn first_command<'a>(left: &mut LinesLeft<'a>) -> Result<Option<&'a str>, u64>
+    requires { left.old.number + length left.old.lines < 2 ^ 64 }
+    ensures early { MatchResult result
+        (λ next. spec.early_reply (left.old.number + 1) left.old.lines ≡ None)
+        (λ line. spec.early_reply (left.old.number + 1) left.old.lines ≡ Some line) }
+    ensures next { IfOk result (λ next. IsNext next left.new left.old) }
+    ensures fewer { IfOk result (λ next. lines_from next left.new ≤ length left.old.lines) }
+    ensures room { left.new.number + length left.new.lines
+        ≡ left.old.number + length left.old.lines }
+{
+    while let Some(line) = left.lines.next() {
+        left.number += 1;
+        match line_of(line) {
+            Line::Command(command) => return Ok(Some(command)),
+            Line::Note => {}
+            Line::Reply => return Err(left.number),
+        }
+    }
+    Ok(None)
+}
+
+/// Compares a reply with the lines in front of the next command. Where they are the same that command comes back, and the
+/// lines then go on behind it.
+pub(crate) fn next_behind<'a>(
+    left: &mut LinesLeft<'a>,
+    came: &str,
+) -> Result<Option<&'a str>, OtherReply>
+    requires { left.old.number + length left.old.lines < 2 ^ 64 }
+    ensures same { MatchResult result
+        (λ next. spec.same_lines (spec.wanted left.old.lines) (reply.reply_lines came.now) ≡ true)
+        (λ _. spec.same_lines (spec.wanted left.old.lines) (reply.reply_lines came.now) ≡ false) }
+    ensures next { IfOk result (λ next. IsNext next left.new left.old) }
+    ensures fewer { IfOk result (λ next. lines_from next left.new ≤ length left.old.lines) }
+    ensures room { left.new.number + length left.new.lines
+        ≡ left.old.number + length left.old.lines }
+{
+    let mut reply = Pieces::new(came, '\n');
+    let next = next_command(left, &mut reply)?;
+    match next_reply(&mut reply) {
+        None => Ok(next),
+        Some(_) => Err(OtherReply),
+    }
+}
+
+/// The next command, where each line of a reply in front of it is the next one of this reply.
+fn next_command<'a>(
+    left: &mut LinesLeft<'a>,
+    reply: &mut Pieces<'_>,
+) -> Result<Option<&'a str>, OtherReply>
+    requires { left.old.number + length left.old.lines < 2 ^ 64 }
+    ensures same { MatchResult result
+        (λ next. spec.same_lines (spec.wanted left.old.lines) (filter spec.is_reply reply.old)
+        ≡ spec.same_lines [] (filter spec.is_reply reply.new))
+        (λ _. spec.same_lines (spec.wanted left.old.lines) (filter spec.is_reply reply.old)
+        ≡ false) }
+    ensures next { IfOk result (λ next. IsNext next left.new left.old) }
+    ensures fewer { IfOk result (λ next. lines_from next left.new ≤ length left.old.lines) }
+    ensures room { left.new.number + length left.new.lines
+        ≡ left.old.number + length left.old.lines }
+{
+    while let Some(line) = left.lines.next() {
+        left.number += 1;
+        match line_of(line) {
+            Line::Command(command) => return Ok(Some(command)),
+            Line::Note => {}
+            Line::Reply => {
+                let Some(next) = next_reply(reply) else {
+                    return Err(OtherReply);
+                };
+                if line != next {
+                    return Err(OtherReply);
+                }
+            }
+        }
+    }
+    Ok(None)
+}
+
+/// The next of the lines that are left which can stand in a reply, if there is one.
+fn next_reply<'a>(left: &mut Pieces<'a>) -> Option<&'a str>
+    ensures { MatchOption result (filter spec.is_reply left.old ≡ [])
+        (λ line. filter spec.is_reply left.old ≡ line.now ∷ filter spec.is_reply left.new) }
+{
+    while let Some(line) = left.next() {
+        if let Line::Reply = line_of(line) {
+            return Some(line);
+        }
+    }
+    None
 }
 
 /// The lines of a reply.
@@ -33,69 +138,17 @@ pub(crate) fn reply_lines<'a>(alloc: Global, text: &'a str) -> Result<Vec<&'a st
 }
 
 /// The lines of a reply that stand in front of the next command.
-pub(crate) fn wanted<'a>(alloc: Global, lines: &[&'a str]) -> Result<Vec<&'a str>, AllocError>
+pub(crate) fn wanted<'a>(alloc: Global, lines: Pieces<'a>) -> Result<Vec<&'a str>, AllocError>
     ensures { IfOk result (λ wanted. map (λ line. line.now) wanted.items
-        ≡ spec.wanted (map (λ line. line.now) lines.now)) }
+        ≡ spec.wanted lines.entry) }
 {
     let mut wanted = Vec::new(alloc);
     for line in lines {
         match line_of(line) {
             Line::Command(_) => return Ok(wanted),
             Line::Note => {}
-            Line::Reply => wanted.push(*line)?,
+            Line::Reply => wanted.push(line)?,
         }
     }
     Ok(wanted)
-}
-
-/// Whether the lines of a reply are those that stand in front of the next command.
-pub(crate) fn is_wanted(behind: &[&str], came: &str) -> bool
-    ensures { result ≡ spec.same_lines (spec.wanted (map (λ line. line.now) behind.now))
-        (reply.reply_lines came.now) }
-{
-    let mut left = Pieces::new(came, '\n');
-    for line in behind {
-        match line_of(line) {
-            Line::Command(_) => return next_reply(&mut left).is_none(),
-            Line::Note => {}
-            Line::Reply => {
-                let Some(next) = next_reply(&mut left) else {
-                    return false;
-                };
-                if *line != next {
-                    return false;
-                }
-            }
-        }
-    }
-    next_reply(&mut left).is_none()
-}
-
-/// The next of the lines that are left which can stand in a reply, if there is one.
-fn next_reply<'a>(left: &mut Pieces<'a>) -> Option<&'a str>
-    ensures { MatchOption result (filter spec.is_reply left.old ≡ [])
-        (λ line. filter spec.is_reply left.old ≡ line.now ∷ filter spec.is_reply left.new) }
-{
-    while let Some(line) = left.next() {
-        if let Line::Reply = line_of(line) {
-            return Some(line);
-        }
-    }
-    None
-}
-
-/// The number of the first line of a reply in front of all commands, where there is one. The first line has this number.
-pub(crate) fn early_reply(first: u64, lines: &[&str]) -> Option<u64>
-    requires { first + length lines.now < 2 ^ 64 }
-    ensures { result ≡ spec.early_reply first (map (λ line. line.now) lines.now) }
-{
-    let mut number = first;
-    for line in lines {
-        match line_of(line) {
-            Line::Command(_) => return None,
-            Line::Reply => return Some(number),
-            Line::Note => number += 1,
-        }
-    }
-    None
 }

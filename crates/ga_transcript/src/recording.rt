@@ -1,4 +1,4 @@
-ghost use Rattle.std.specs.Prelude.{◌≡◌, ◌<◌, ◌++◌, ◌∷◌, IfOk, Ok, OnOk, map, string_bytes, take};
+ghost use Rattle.std.specs.Prelude.{◌≡◌, ◌<◌, ◌++◌, ◌∷◌, IfOk, Ok, OnOk, string_bytes, take};
 ghost use Rattle.ga_asm.specs.Text.{AtMostOne};
 ghost use Rattle.ga_pack.specs.Model.Text.{lines_of};
 ghost use Rattle.ga_transcript.specs.Check.{Answers};
@@ -8,7 +8,7 @@ ghost use Rattle.ga_transcript.specs.Reply as spec;
 
 use crate::error::TranscriptError;
 use crate::line::{Line, line_of};
-use crate::lines::{all_lines, early_reply};
+use crate::lines::{LinesLeft, first_command};
 use crate::reply::reply;
 use ga_asm::Images;
 use ga_chip::Chip;
@@ -31,12 +31,16 @@ pub fn record(alloc: Global, text: &str) -> Result<String, TranscriptError>
         (Ok (string_bytes recording))) }
 {
     let loaded = load(alloc, text)?;
-    let lines = all_lines(alloc, loaded.lines)?;
-    if let Some(line) = early_reply(loaded.line + 1, &lines) {
+    let lines = loaded.lines;
+    let mut left = LinesLeft {
+        number: loaded.line,
+        lines: lines.fork(),
+    };
+    if let Err(line) = first_command(&mut left) {
         return Err(TranscriptError::EarlyReply(line));
     }
     let mut recording = front(alloc, text, loaded.line)?;
-    push_recorded(alloc, &mut recording, loaded.chip, &loaded.images, &lines)?;
+    push_recorded(alloc, &mut recording, loaded.chip, &loaded.images, lines)?;
     Ok(recording)
 }
 
@@ -46,17 +50,17 @@ fn push_recorded(
     text: &mut String,
     mut chip: Chip,
     images: &Images,
-    lines: &[&str],
+    lines: Pieces<'_>,
 ) -> Result<(), AllocError>
     ensures { OnOk result (string_bytes text.new ≡ string_bytes text.old
-        ++ behind_ends (recorded (spec.step_of images.now) chip
-        (map (λ line. line.now) lines.now))) }
+        ++ behind_ends (recorded (spec.step_of images.now) chip lines.entry)) }
 {
+    let mut came = String::new(alloc);
     for line in lines {
         match line_of(line) {
             Line::Command(command) => {
                 push_line(text, line)?;
-                let came = reply(alloc, &mut chip, images, command)?;
+                reply(alloc, &mut came, &mut chip, images, command)?;
                 push_reply(text, &came)?;
             }
             Line::Note => push_line(text, line)?,
