@@ -1,5 +1,5 @@
 use ga_chip::Chip;
-use ga_debug::{DebugError, ReplayError, Session, begin, replay};
+use ga_debug::{ReplayError, Session, begin, replay};
 use ga_path::{BootError, RouteError, TreeError};
 use ga_test_values::{array, node};
 use std::alloc::Global;
@@ -22,10 +22,6 @@ fn replies(session: &mut Session, alloc: Global, line: &str, wanted: &str) -> bo
         Ok(text) => text.as_str() == wanted,
         Err(_) => false,
     }
-}
-
-fn refusal(session: &mut Session, alloc: Global, line: &str) -> Option<DebugError> {
-    session.command(alloc, line).err()
 }
 
 #[test]
@@ -69,38 +65,6 @@ fn break_and_pass(rt: HostRuntime) -> Result<(), Fail> {
     Ok(())
 }
 
-#[test]
-fn first_bad_words(rt: HostRuntime) -> Result<(), Fail> {
-    let mut session = session(rt.alloc())?;
-    let table = [
-        ("", DebugError::BadCommand),
-        ("step 000", DebugError::BadCommand),
-        ("Try 000 r", DebugError::BadCommand),
-        ("try", DebugError::BadNode),
-        ("try  000 r", DebugError::BadNode),
-        ("try 018 x y", DebugError::BadNode),
-        ("try 000", DebugError::BadSide),
-        ("try 000 x y", DebugError::BadSide),
-        ("try 000 r ", DebugError::BadCommand),
-        ("break 000 200", DebugError::BadAddress),
-        ("break 000 03", DebugError::BadAddress),
-        ("clear 000 00G", DebugError::BadAddress),
-        ("turn 1000001", DebugError::BadCount),
-        ("turn 00000001", DebugError::BadCount),
-        ("turn +1", DebugError::BadCount),
-        ("regs 000 000", DebugError::BadCommand),
-        ("pass 000 000", DebugError::BadCommand),
-        ("pass 000", DebugError::NotHeld),
-    ];
-    for (line, fault) in table {
-        assert!(rt;
-            refusal(&mut session, rt.alloc(), line) == Some(fault),
-            "at {line}"
-        );
-    }
-    Ok(())
-}
-
 /// The head of a replay text of node 000 behind its first line: its words.
 const WORDS: &str = "\
 place
@@ -138,26 +102,6 @@ fn begin_at_go(rt: HostRuntime) -> Result<(), Fail> {
 }
 
 #[test]
-fn sessions_are_of_profile_2(rt: HostRuntime) -> Result<(), Fail> {
-    let table = [
-        (
-            "profile 1\nplace\nnode 000 .\ngo\n",
-            ReplayError::BadProfile,
-        ),
-        ("profile 1", ReplayError::BadProfile),
-        (
-            "profile 2 \nplace\nnode 000 .\ngo\n",
-            ReplayError::BadProfile,
-        ),
-        ("profile 2", ReplayError::BadRoute),
-    ];
-    for (text, fault) in table {
-        assert!(rt; begin(rt.alloc(), text).err() == Some(fault), "at {text}");
-    }
-    Ok(())
-}
-
-#[test]
 fn replay_three(rt: HostRuntime) -> Result<(), Fail> {
     let alloc = rt.alloc();
     let commands = "\
@@ -178,117 +122,10 @@ try 000 r = moved
     Ok(())
 }
 
-/// Node 000, which comes to 200: extended mode, which profile 1 doesn't have.
-const JUMP: &str = "\
-place
-node 000
-main: jump $200
-go
-";
-
-#[test]
-fn profiles_of_replay_texts(rt: HostRuntime) -> Result<(), Fail> {
-    let alloc = rt.alloc();
-    // commands, and what comes of them under profile 1 and under profile 2
-    let table = [
-        (
-            "try 000 r = moved\ntry 000 r = moved\ntry 000 r = stopped\n",
-            Ok(3),
-            Err(ReplayError::Differs(8)),
-        ),
-        // under profile 2 the breakpoint at 000 holds the node at 200 too
-        (
-            "break 000 000\npass 000\nturn 2 = 2\ntry 000 r = stopped\n",
-            Ok(2),
-            Err(ReplayError::Differs(9)),
-        ),
-        (
-            "break 000 000\npass 000\nturn 2 = 2\ntry 000 r = held\n",
-            Err(ReplayError::Differs(9)),
-            Ok(2),
-        ),
-        (
-            "break 000 000\npass 000\nturn 2 = 2\npass 000\n",
-            Err(ReplayError::Bad(9, DebugError::NotHeld)),
-            Ok(1),
-        ),
-        (
-            "turn 2 = 2\nturn 4 = 0\n",
-            Ok(2),
-            Err(ReplayError::Differs(7)),
-        ),
-        (
-            "turn 2 = 2\nturn 4 = 4\n",
-            Err(ReplayError::Differs(7)),
-            Ok(2),
-        ),
-    ];
-    for (commands, first, second) in table {
-        let lines = text(alloc, JUMP, commands)?;
-        let of_first = replayed(alloc, "profile 1\n", lines.as_str())?;
-        assert!(rt; of_first == first, "profile 1: {commands}");
-        let of_second = replayed(alloc, "profile 2\n", lines.as_str())?;
-        assert!(rt; of_second == second, "profile 2: {commands}");
-    }
-    Ok(())
-}
-
-#[test]
-fn a_turn_of_profile_1_leaves_a_stopped_node_out(rt: HostRuntime) -> Result<(), Fail> {
-    let alloc = rt.alloc();
-    // 000 stops behind its jump, and 001 goes round
-    let lines = "\
-place
-node 000
-main: jump $200
-node 001
-main: jump main
-go
-turn 2 = 4
-turn 3 = 3
-";
-    assert!(rt; replayed(alloc, "profile 1\n", lines)? == Ok(2));
-    assert!(rt; replayed(alloc, "profile 2\n", lines)? == Err(ReplayError::Differs(9)));
-    Ok(())
-}
-
-#[test]
-fn faults_of_heads(rt: HostRuntime) -> Result<(), Fail> {
-    let table = [
-        ("", ReplayError::BadProfile),
-        ("profile 3\nplace\ngo\n", ReplayError::BadProfile),
-        ("profile 1 \nplace\ngo\n", ReplayError::BadProfile),
-        ("profile 2\r\nplace\ngo\n", ReplayError::BadProfile),
-        ("profile 1", ReplayError::BadRoute),
-        ("profile 2", ReplayError::BadRoute),
-        ("profile 2\nplace \ngo\n", ReplayError::BadRoute),
-        ("profile 1\nroute \ngo\n", ReplayError::BadRoute),
-        ("profile 2\nroute 708,999\ngo\n", ReplayError::BadRoute),
-        ("profile 2\nplace\nnode 000 .\ngo \n", ReplayError::NoGo),
-        (
-            "profile 2\nroute 708,710\nnode 709 .\ngo\n",
-            ReplayError::Route(RouteError::NotNeighbour(1)),
-        ),
-    ];
-    for (text, fault) in table {
-        assert!(rt; replay(rt.alloc(), text) == Err(fault), "at {text}");
-    }
-    let source = "profile 2\nroute 710\nnode 000 # .\ngo\n";
-    assert!(rt; matches!(replay(rt.alloc(), source), Err(ReplayError::Source(_))));
-    let assembly = "profile 2\nplace\nnode 000 jump x\ngo\n";
-    assert!(rt; matches!(replay(rt.alloc(), assembly), Err(ReplayError::Asm(_))));
-    let boot = "profile 2\nroute 708\nnode 709 .\ngo\n";
-    assert!(rt; matches!(replay(rt.alloc(), boot), Err(ReplayError::Boot(_))));
-    Ok(())
-}
-
-// Of a route in a head, and of the tree that several are; in this order, and before the boot's.
+// Of routes in a head: which one is wrong, and where, which the program doesn't tell.
 #[test]
 fn faults_of_routes_in_heads(rt: HostRuntime) -> Result<(), Fail> {
     let table = [
-        ("708,709/", ReplayError::BadRoute),
-        ("/708,709", ReplayError::BadRoute),
-        ("708//709", ReplayError::BadRoute),
         (
             "708,709/708,710",
             ReplayError::Route(RouteError::NotNeighbour(1)),
@@ -302,49 +139,17 @@ fn faults_of_routes_in_heads(rt: HostRuntime) -> Result<(), Fail> {
             ReplayError::Tree(TreeError::Repeated(1)),
         ),
         (
-            "708,709/000,001/708,710",
-            ReplayError::Route(RouteError::NotNeighbour(1)),
-        ),
-        (
             "708,709/708,709",
             ReplayError::Boot(BootError::Unreached(node(608)?)),
         ),
     ];
     for (routes, fault) in table {
-        for profile in ["profile 1\nroute ", "profile 2\nroute "] {
-            let head = text(rt.alloc(), profile, routes)?;
-            let whole = text(rt.alloc(), head.as_str(), "\nnode 608 .\ngo\n")?;
-            assert!(rt;
-                replay(rt.alloc(), whole.as_str()) == Err(fault),
-                "at {whole}"
-            );
-        }
-    }
-    let fork = "profile 1\nroute 708,709/708,608\nnode 608 .\ngo\nturn 1 = 1\n";
-    assert!(rt; replay(rt.alloc(), fork) == Ok(1));
-    Ok(())
-}
-
-#[test]
-fn faults_of_lines(rt: HostRuntime) -> Result<(), Fail> {
-    let alloc = rt.alloc();
-    let table = [
-        ("regs 999", DebugError::BadCommand),
-        ("try 999 r", DebugError::BadNode),
-        ("try 000 r", DebugError::BadCommand),
-        ("try 000 r = ", DebugError::BadCommand),
-        ("try 000 r == moved", DebugError::BadCommand),
-        ("try 000 r = moved moved", DebugError::BadCommand),
-        ("turn 2 = 1000000000", DebugError::BadCommand),
-        ("break 000 003 = ok", DebugError::BadCommand),
-        ("pass 000", DebugError::NotHeld),
-        (" ", DebugError::BadCommand),
-    ];
-    for (line, fault) in table {
-        let commands = text(alloc, "\nturn 1 = 000000001\n\n", line)?;
-        let lines = text(alloc, WORDS, commands.as_str())?;
-        let found = replayed(alloc, "profile 2\n", lines.as_str())?;
-        assert!(rt; found == Err(ReplayError::Bad(10, fault)), "at {line}");
+        let head = text(rt.alloc(), "profile 2\nroute ", routes)?;
+        let whole = text(rt.alloc(), head.as_str(), "\nnode 608 .\ngo\n")?;
+        assert!(rt;
+            replay(rt.alloc(), whole.as_str()) == Err(fault),
+            "at {whole}"
+        );
     }
     Ok(())
 }

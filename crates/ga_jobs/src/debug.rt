@@ -14,6 +14,7 @@ use std::fmt::Write;
 
 /// The replies to the commands of the input, which is a replay text, as text.
 #[tactic(auto, using(crate::proofs::OneOutput::one_debug_output))]
+#[inline(never)]
 pub fn output(alloc: Global, input: &[u8]) -> Result<String, ServeError>
     ensures output { Answers string_bytes (IsDebugOutput input.now) result }
     // an input has one output, or one first fault

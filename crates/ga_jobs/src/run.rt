@@ -86,6 +86,7 @@ fn dealt(alloc: Global, nodes: &[Node], workers: usize) -> Result<Vec<Vec<Node>>
 }
 
 /// The nodes of one of so many workers: the i-th node goes to worker i modulo their number.
+#[inline(never)]
 fn nodes_for(
     alloc: Global,
     nodes: &[Node],
