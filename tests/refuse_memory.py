@@ -103,6 +103,7 @@ CALLS = [
             "ports 708", "pass 708",
         )
     ],
+    *[(["reply_into", line], b"") for line in ("try 708 r", "turn 9", "mem 708", "pass 708")],
     *[(["serve", *words], data) for words, data in RUNS],
 ]  # fmt: skip
 MOST = 10000

@@ -1,5 +1,5 @@
-ghost use Rattle.std.specs.Prelude.{◌≡◌, ◌+◌, ◌≤◌, [], OnErr, string_bytes, length};
-ghost use Rattle.std.specs.String.{string_capacity, string_len};
+ghost use Rattle.std.specs.Prelude.{◌≡◌, ◌≤◌, [], OnErr, string_bytes, length};
+ghost use Rattle.std.specs.String.{string_capacity};
 ghost use Rattle.ga_debug.specs.Action.{after_action, answer_text, answer_to};
 ghost use Rattle.ga_debug.specs.Word.{outcome_text};
 
@@ -65,7 +65,7 @@ pub(crate) fn perform(chip: &mut Chip, action: Action) -> Result<Answer, DebugEr
 /// Adds an answer to an empty text that has room for it.
 pub(crate) fn push_answer(text: &mut String, answer: Answer)
     requires empty { string_bytes text.old ≡ [] }
-    requires room { string_len text.old + 32 ≤ string_capacity text.old }
+    requires room { 32 ≤ string_capacity text.old }
     ensures { string_bytes text.new ≡ answer_text answer }
 {
     match answer {

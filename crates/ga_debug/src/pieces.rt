@@ -35,8 +35,8 @@ impl<'a> Pieces<'a> {
         }
     }
 
-    /// The pieces that are left, to go through them beside these.
-    pub fn fork(&self) -> Self
+    /// The pieces that are left, to go through them once more.
+    pub fn again(&self) -> Self
         ensures { result ≡ self.now }
     {
         Pieces {

@@ -52,7 +52,8 @@ impl Session {
 }
 
 /// Puts the reply of a chip to a command, without an LF at its end, in the place of a text: what a session over the chip
-/// replies, and does to it. Where it is refused the text stays as it is.
+/// replies, and does to it. It is refused as a command of a session is, and as [`DebugError::Memory`] only where memory
+/// is refused; chip and text are then as they were.
 pub fn reply_into(
     alloc: Global,
     text: &mut String,

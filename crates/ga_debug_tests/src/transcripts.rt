@@ -86,6 +86,7 @@ fn loads_a_head(rt: HostRuntime) -> Result<(), Fail> {
 #[test]
 fn reads_words_of_commands(rt: HostRuntime) -> Result<(), Fail> {
     let mut words = Pieces::new("a  b", ' ');
+    assert!(rt; words.again().next() == Some("a"));
     assert!(rt; words.next() == Some("a") && words.next() == Some("") && words.next() == Some("b"));
     assert!(rt; words.next().is_none());
     assert!(rt; address_of(b"1fF").map(|address| address.get()) == Some(0x1FF));

@@ -18,7 +18,7 @@ use crate::boots::boot_told;
 use crate::frames::{feed_told, read_frames_told, write_frame_told};
 use crate::runs::{chip_text_told, run_workers_told};
 use crate::serving::serve_told;
-use crate::sessions::command_told;
+use crate::sessions::{command_told, reply_into_told};
 use crate::told::Told;
 use crate::words::{push_words_told, tokens_told, words_text_told};
 use std::alloc::AllocError;
@@ -76,6 +76,7 @@ fn told_of<Rt: AllocGlobal + Threads + Sync, R: Read>(
         ["chip_text"] => chip_text_told(alloc)?,
         ["run_workers"] => run_workers_told(rt, alloc)?,
         ["command", line] => command_told(alloc, line)?,
+        ["reply_into", line] => reply_into_told(alloc, line)?,
         ["serve", ..] => serve_told(rt, reader, words)?,
         _ => return Ok(None),
     };

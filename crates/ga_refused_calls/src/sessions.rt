@@ -1,7 +1,7 @@
 //! Commands of a session over a chip on which a ring of four nodes has begun.
 use crate::chips::ring;
 use crate::told::Told;
-use ga_debug::{DebugError, Session};
+use ga_debug::{DebugError, Session, reply_into};
 use ga_place::Node;
 use std::alloc::{AllocError, Global};
 
@@ -27,6 +27,28 @@ pub fn command_told(alloc: Global, line: &str) -> Result<Told, AllocError> {
         Err(fault) => {
             let is_alike = shown(alloc, &mut session)? == shown(alloc, &mut other)?;
             Ok(Told::failed(fault == DebugError::Memory, is_alike))
+        }
+    }
+}
+
+/// What the text has that is lent to a reply.
+const KEPT: &str = "kept";
+
+/// A reply in the place of a text. After a refusal the text must be as it was, and the chip show what one shows on which as
+/// much was done.
+pub fn reply_into_told(alloc: Global, line: &str) -> Result<Told, AllocError> {
+    let mut chip = ring(alloc)?;
+    let mut text = String::from_str(alloc, KEPT)?;
+    match reply_into(alloc, &mut text, &mut chip, line) {
+        Ok(()) => Ok(Told::Answered),
+        Err(fault) => {
+            let mut session = Session::new(chip);
+            let mut other = Session::new(ring(alloc)?);
+            let is_alike = shown(alloc, &mut session)? == shown(alloc, &mut other)?;
+            Ok(Told::failed(
+                fault == DebugError::Memory,
+                is_alike && text.as_str() == KEPT,
+            ))
         }
     }
 }

@@ -1,12 +1,11 @@
-ghost use Rattle.std.specs.Prelude.{◌≡◌, ◌+◌, ◌<◌, ◌++◌, ◌^◌, IfOk, OnOk, length, map, string_bytes};
+ghost use Rattle.std.specs.Prelude.{◌≡◌, ◌+◌, ◌<◌, ◌++◌, ◌^◌, IfOk, None, OnOk, length, map, string_bytes};
 ghost use Rattle.ga_asm.specs.Text.{AtMostOne};
 ghost use Rattle.ga_transcript.specs.Check.{Answers, Differs, IsChecked, checked_by, difference_text, fault_of, signed};
-ghost use Rattle.ga_transcript.specs.Following.{wanted};
+ghost use Rattle.ga_transcript.specs.Following.{checked, early_reply, wanted};
 ghost use Rattle.ga_transcript.specs.Reply.{reply_lines, step_of};
-ghost use Rattle.ga_transcript.specs.inner.Next.{checked_next, lines_from, next_of};
 
 use crate::error::TranscriptError;
-use crate::lines::{LinesLeft, first_command, next_behind, reply_lines, wanted};
+use crate::lines::{LinesLeft, command_behind, early_reply, reply_lines, wanted};
 use crate::reply::reply;
 use ga_asm::Images;
 use ga_chip::Chip;
@@ -25,43 +24,42 @@ pub fn check(alloc: Global, text: &str) -> Result<u64, TranscriptError>
     ensures only { AtMostOne (IsChecked text.now) }
 {
     let loaded = load(alloc, text)?;
-    let mut left = LinesLeft {
+    let left = LinesLeft {
         number: loaded.line,
         lines: loaded.lines,
     };
-    match first_command(&mut left) {
-        Ok(first) => follow(alloc, loaded.chip, &loaded.images, first, left),
-        Err(line) => Err(TranscriptError::EarlyReply(line)),
+    match early_reply(left.again()) {
+        None => follow(alloc, loaded.chip, &loaded.images, left),
+        Some(line) => Err(TranscriptError::EarlyReply(line)),
     }
 }
 
-/// Does the commands from the first on, behind which these lines are left, and compares the reply to each with the lines
-/// behind it.
-fn follow<'a>(
+/// Does the commands of lines, and compares the reply to each with the lines behind it. No line of a reply stands in front
+/// of the first one.
+fn follow(
     alloc: Global,
     mut chip: Chip,
     images: &Images,
-    first: Option<&'a str>,
-    mut left: LinesLeft<'a>,
+    mut left: LinesLeft<'_>,
 ) -> Result<u64, TranscriptError>
     requires room { left.number + length left.lines < 2 ^ 64 }
-    requires count { lines_from first left < 2 ^ 64 }
-    ensures { Answers (λ count. count) (λ answer. checked_by (checked_next (step_of images.now) 0
-        chip (next_of first.entry left.entry)) ≡ answer) result }
+    requires none { early_reply (left.number + 1) left.lines ≡ None }
+    ensures { Answers (λ count. count) (λ answer. checked_by (checked (step_of images.now)
+        (left.entry.number + 1) 0 chip left.entry.lines) ≡ answer) result }
 {
     let mut count = 0;
     let mut came = String::new(alloc);
-    let mut next = first;
-    while let Some(command) = next {
-        reply(alloc, &mut came, &mut chip, images, command)?;
-        let behind = left.fork();
-        let Ok(found) = next_behind(&mut left, &came) else {
+    loop {
+        let behind = left.again();
+        let Ok(next) = command_behind(&mut left, &came) else {
             return Err(difference(alloc, behind, &came)?);
         };
-        next = found;
+        let Some(command) = next else {
+            return Ok(count);
+        };
+        reply(alloc, &mut came, &mut chip, images, command)?;
         count += 1;
     }
-    Ok(count)
 }
 
 /// What is told of a command with another reply than the one that stands behind it, where these lines are left.

@@ -1,5 +1,5 @@
 //! Lines of a transcript behind `go`.
-ghost use Rattle.std.specs.Prelude.{◌≡◌, ◌+◌, ◌≤◌, ◌<◌, ◌^◌, ◌∷◌, [], IfOk, MatchOption, MatchResult, None, Some, false, filter, length, map, true};
+ghost use Rattle.std.specs.Prelude.{◌≡◌, ◌+◌, ◌≤◌, ◌<◌, ◌^◌, ◌∷◌, [], IfOk, MatchOption, MatchResult, false, filter, length, map, true};
 ghost use Rattle.ga_transcript.specs.Following as spec;
 ghost use Rattle.ga_transcript.specs.Reply as reply;
 ghost use Rattle.ga_transcript.specs.inner.Next.{IsNext, lines_from};
@@ -16,13 +16,13 @@ pub(crate) struct LinesLeft<'a> {
 }
 
 impl<'a> LinesLeft<'a> {
-    /// The same lines, to go through them beside these.
-    pub(crate) fn fork(&self) -> Self
+    /// The same lines, to go through them once more.
+    pub(crate) fn again(&self) -> Self
         ensures { result ≡ self.now }
     {
         LinesLeft {
             number: self.number,
-            lines: self.lines.fork(),
+            lines: self.lines.again(),
         }
     }
 }
@@ -31,31 +31,25 @@ impl<'a> LinesLeft<'a> {
 #[derive(Clone, Copy)]
 pub(crate) struct OtherReply;
 
-/// The first command, behind which the lines then go on; or the number of the line of a reply in front of it.
-pub(crate) fn first_command<'a>(left: &mut LinesLeft<'a>) -> Result<Option<&'a str>, u64>
-    requires { left.old.number + length left.old.lines < 2 ^ 64 }
-    ensures early { MatchResult result
-        (λ next. spec.early_reply (left.old.number + 1) left.old.lines ≡ None)
-        (λ line. spec.early_reply (left.old.number + 1) left.old.lines ≡ Some line) }
-    ensures next { IfOk result (λ next. IsNext next left.new left.old) }
-    ensures fewer { IfOk result (λ next. lines_from next left.new ≤ length left.old.lines) }
-    ensures room { left.new.number + length left.new.lines
-        ≡ left.old.number + length left.old.lines }
+/// The number of the first line of a reply in front of all commands, where there is one.
+pub(crate) fn early_reply(mut left: LinesLeft<'_>) -> Option<u64>
+    requires { left.number + length left.lines < 2 ^ 64 }
+    ensures { result ≡ spec.early_reply (left.entry.number + 1) left.entry.lines }
 {
     while let Some(line) = left.lines.next() {
         left.number += 1;
         match line_of(line) {
-            Line::Command(command) => return Ok(Some(command)),
+            Line::Command(_) => return None,
+            Line::Reply => return Some(left.number),
             Line::Note => {}
-            Line::Reply => return Err(left.number),
         }
     }
-    Ok(None)
+    None
 }
 
-/// Compares a reply with the lines in front of the next command. Where they are the same that command comes back, and the
-/// lines then go on behind it.
-pub(crate) fn next_behind<'a>(
+/// The next command, or none, where the lines of a reply in front of it are those of the reply that came. The lines then
+/// go on behind it.
+pub(crate) fn command_behind<'a>(
     left: &mut LinesLeft<'a>,
     came: &str,
 ) -> Result<Option<&'a str>, OtherReply>

@@ -8,7 +8,7 @@ ghost use Rattle.ga_transcript.specs.Reply as spec;
 
 use crate::error::TranscriptError;
 use crate::line::{Line, line_of};
-use crate::lines::{LinesLeft, first_command};
+use crate::lines::{LinesLeft, early_reply};
 use crate::reply::reply;
 use ga_asm::Images;
 use ga_chip::Chip;
@@ -32,11 +32,11 @@ pub fn record(alloc: Global, text: &str) -> Result<String, TranscriptError>
 {
     let loaded = load(alloc, text)?;
     let lines = loaded.lines;
-    let mut left = LinesLeft {
+    let left = LinesLeft {
         number: loaded.line,
-        lines: lines.fork(),
+        lines: lines.again(),
     };
-    if let Err(line) = first_command(&mut left) {
+    if let Some(line) = early_reply(left) {
         return Err(TranscriptError::EarlyReply(line));
     }
     let mut recording = front(alloc, text, loaded.line)?;

@@ -20,12 +20,16 @@ next_command number (line ∷ lines) =
     (next_command (suc number) lines)
     (next_command (suc number) lines)
 
+-- what is checked of the lines behind a command of this number, to which these lines came as reply
+abbrev pub checked_behind : {S : Type 0} → Step S → ℕ → ℕ → S → Lines → Lines → Result ℕ Difference
+checked_behind step number count state lines came =
+    if same_lines (wanted lines) came then checked step (suc number) count state lines else Err (record { line = number; wanted = wanted lines; came = came })
+
 -- what is checked from a command on, behind so many commands
 abbrev pub checked_next : {S : Type 0} → Step S → ℕ → S → Option Next → Result ℕ Difference
 checked_next step count state None = Ok count
 checked_next step count state (Some next) =
-    if same_lines (wanted next.behind) (step next.command state).0 then checked step (suc next.number) (suc count) (step next.command state).1 next.behind
-    else Err (record { line = next.number; wanted = wanted next.behind; came = (step next.command state).0 })
+    checked_behind step next.number (suc count) (step next.command state).1 next.behind (step next.command state).0
 
 -- a command that the code has, behind which lines are left
 abbrev pub next_of : Option (Bor (List ℕ)) → LinesLeft → Option Next

@@ -5,11 +5,11 @@ use Rattle.ga_transcript.proofs.Recordings.{recording_again, recording_holds}
 use Rattle.ga_transcript.proofs.Starting.{early_recorded, go_line, recorded_behind}
 use Rattle.ga_transcript.proofs.recording.record.Goals as goal
 
-pub returns-in-Err-clause-recorded : goal.returns-in-Err-clause-recorded
-returns-in-Err-clause-recorded c =
+pub returns-in-Some-clause-recorded : goal.returns-in-Some-clause-recorded
+returns-in-Some-clause-recorded c =
     let start = start_view c.in_ok-loaded.loaded in
-    let early : early_reply (start.line + 1) start.commands ≡ Some c.in-Err.line = ap (early_reply (start.line + 1)) (sym c.fork.ensures) ∙ c.in-Err.ensures.early in
-    inr (start, c.in_ok-loaded.ensures.loaded, early_recorded c.args.text.now start c.in-Err.line early)
+    let early : early_reply (start.line + 1) start.commands ≡ Some c.in-Some.line = ap (early_reply (start.line + 1)) (sym c.again.ensures) ∙ sym c.in-Some.ensures in
+    inr (start, c.in_ok-loaded.ensures.loaded, early_recorded c.args.text.now start c.in-Some.line early)
 
 pub front-requires : goal.front-requires
 front-requires c = go_line c.args.text.now (start_view c.in_ok-loaded.loaded) c.in_ok-loaded.ensures.loaded
@@ -17,8 +17,8 @@ front-requires c = go_line c.args.text.now (start_view c.in_ok-loaded.loaded) c.
 pub returns-clause-recorded : goal.returns-clause-recorded
 returns-clause-recorded c =
     let start = start_view c.in_ok-loaded.loaded in
-    let found : early_reply (start.line + 1) c.fork.result ≡ None = search rules in
-    let none : early_reply (start.line + 1) start.commands ≡ None = ap (early_reply (start.line + 1)) (sym c.fork.ensures) ∙ found in
+    let found : early_reply (start.line + 1) c.again.result ≡ None = search rules in
+    let none : early_reply (start.line + 1) start.commands ≡ None = ap (early_reply (start.line + 1)) (sym c.again.ensures) ∙ found in
     recorded_behind c.args.text.now start (string_bytes c.in_ok-recording.recording) (string_bytes c.push_recorded.new.text) c.in_ok-loaded.ensures.loaded none
     c.in_ok-recording.ensures c.in_ok-push_recorded.ensures
 
