@@ -11,5 +11,5 @@ use Rattle.ga_command_line.specs.One.{one_command}
 use Rattle.ga_command_line.specs.Run.{routed_command, run_command, shared_command}
 
 unfoldable pub whole_command : App
-unfolding linked bare_command plain_command one_command dis_command boot_command routed_command shared_command run_command flagged_command list_command file_command explain_command
+unfolding bench_command linked bare_command plain_command one_command dis_command boot_command routed_command shared_command run_command flagged_command list_command file_command explain_command
 whole_command = bench_command

@@ -1,8 +1,14 @@
-ghost use Rattle.std.specs.Prelude.{IfOk};
+ghost use Rattle.std.specs.Prelude.{◌≡◌, IfErr, IfOk, codes};
+ghost use Rattle.clap.specs.Words.{Text, found_of, rows_of};
 ghost use Rattle.ga_command_line.specs.Boot.{boot_command};
+ghost use Rattle.ga_command_line.specs.CommandLine.{AsksFor, InRange};
+ghost use Rattle.ga_command_line.specs.Route.{IsRouteAt};
 ghost use Rattle.ga_command_line.specs.inner.Command.{IsCommandOf};
 
-use clap::{Arg, Command};
+use crate::command_line::LineError;
+use crate::request::Job;
+use crate::route::route_at;
+use clap::{Arg, ArgMatches, Command};
 use std::alloc::{AllocError, Global};
 
 const HELP: &str = "\
@@ -27,4 +33,16 @@ pub fn command<'a>(alloc: Global) -> Result<Command<'a>, AllocError>
         .about("Assembles source text, and prints the words that boot a route or a tree")
         .after_help(HELP)
         .arg(route)
+}
+
+/// The job that the arguments of `boot` ask for.
+pub fn job_of(alloc: Global, found: &ArgMatches<'_>) -> Result<Job, LineError>
+    ensures in_range { IfOk result InRange }
+    ensures asked { IfOk result (AsksFor (codes "boot", rows_of (found_of found.now))) }
+    ensures right { IfErr result (λ error. (route : Text)
+        → IsRouteAt (rows_of (found_of found.now)) route
+        → error ≡ LineError.Memory) }
+{
+    let route = route_at(alloc, found)?;
+    Ok(Job::Boot { route })
 }

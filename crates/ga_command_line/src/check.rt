@@ -1,8 +1,12 @@
 ghost use Rattle.std.specs.Prelude.{IfOk, codes};
+ghost use Rattle.clap.specs.Words.{found_of, rows_of};
+ghost use Rattle.ga_command_line.specs.CommandLine.{AsksFor, InRange};
 ghost use Rattle.ga_command_line.specs.File.{file_command};
 ghost use Rattle.ga_command_line.specs.inner.Command.{IsCommandOf};
 
-use clap::{Arg, Command};
+use crate::file::file_in;
+use crate::request::Job;
+use clap::{Arg, ArgMatches, Command};
 use std::alloc::{AllocError, Global};
 
 const HELP: &str = "\
@@ -34,4 +38,13 @@ pub fn command<'a>(alloc: Global) -> Result<Command<'a>, AllocError>
         .about("Does the commands of a transcript, and compares the replies with those that it has")
         .after_help(HELP)
         .arg(file)
+}
+
+/// The job that the arguments of `check` ask for.
+pub fn job_of(alloc: Global, found: &ArgMatches<'_>) -> Result<Job, AllocError>
+    ensures in_range { IfOk result InRange }
+    ensures asked { IfOk result (AsksFor (codes "check", rows_of (found_of found.now))) }
+{
+    let file = file_in(alloc, found)?;
+    Ok(Job::Check { file })
 }

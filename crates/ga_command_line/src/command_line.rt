@@ -1,14 +1,12 @@
 ghost use Rattle.std.specs.Prelude.{◌≡◌, IfErr, IfOk, false, map};
-ghost use Rattle.clap.specs.Words.{App, app_of, kind_of, subcommand_rows_of};
+ghost use Rattle.clap.specs.Words.{App, app_of, found_of, kind_of, rows_of, subcommand_rows_of};
 ghost use Rattle.clap.specs.declared.error.kind.ErrorKind.TheVariants.{OutOfMemory};
 ghost use Rattle.ga_command_line.specs.declared.command_line.LineError.TheVariants.{Memory};
 ghost use Rattle.ga_command_line.specs.Command.{linked};
 ghost use Rattle.ga_command_line.specs.inner.Command.{IsCommandOf, has_globals};
-ghost use Rattle.ga_command_line.specs.CommandLine.{InRange, IsAskedFor, IsJobOf, IsRight, bare_command, bench_command};
+ghost use Rattle.ga_command_line.specs.CommandLine.{AsksFor, InRange, IsAskedFor, IsJobOf, IsRight, bare_command, bench_command, first_commands};
 
-use crate::file::file_in;
 use crate::request::Job;
-use crate::route::route_at;
 use crate::{asm, boot, check, debug, dis, explain, list, one, record, replay, run};
 use clap::error::ErrorKind;
 use clap::{ArgMatches, Command};
@@ -68,38 +66,41 @@ fn job_in(alloc: Global, matches: &ArgMatches<'_>) -> Result<Job, LineError>
         → InRange job → error ≡ LineError.Memory) }
 {
     match matches.subcommand() {
-        Some(("one", found)) => Ok(Job::One {
-            tries: one::tries_of(alloc, found)?,
-        }),
-        Some(("asm", _)) => Ok(Job::Asm),
-        Some(("dis", found)) => Ok(Job::Dis {
-            code: dis::code_of(alloc, found)?,
-        }),
-        Some(("boot", found)) => Ok(Job::Boot {
-            route: route_at(alloc, found)?,
-        }),
-        Some(("run", found)) => Ok(run::job_of(alloc, found)?),
-        Some(("debug", _)) => Ok(Job::Debug),
-        Some(("replay", _)) => Ok(Job::Replay),
-        Some(("list", found)) => Ok(Job::List {
-            labels: list::labels_in(found),
-            file: file_in(alloc, found)?,
-        }),
-        Some(("check", found)) => Ok(Job::Check {
-            file: file_in(alloc, found)?,
-        }),
-        Some(("record", found)) => Ok(Job::Record {
-            file: file_in(alloc, found)?,
-        }),
-        Some(("explain", found)) => Ok(Job::Explain {
-            topic: explain::topic_of(alloc, found)?,
-        }),
-        _ => Err(refusal(
-            alloc,
-            ErrorKind::MissingSubcommand,
-            "a subcommand is missing",
-        )),
+        Some((name, found)) => job_named(alloc, name, found),
+        None => Err(missing(alloc)),
     }
+}
+
+/// The job that a subcommand with these arguments names.
+fn job_named(alloc: Global, name: &str, found: &ArgMatches<'_>) -> Result<Job, LineError>
+    ensures in_range { IfOk result InRange }
+    ensures named { IfOk result (AsksFor (name.now, rows_of (found_of found.now))) }
+    ensures right { IfErr result (λ error. (job : Job)
+        → AsksFor (name.now, rows_of (found_of found.now)) job
+        → InRange job → error ≡ LineError.Memory) }
+{
+    match name {
+        "one" => one::job_of(alloc, found),
+        "asm" => Ok(Job::Asm),
+        "dis" => dis::job_of(alloc, found),
+        "boot" => boot::job_of(alloc, found),
+        "run" => run::job_of(alloc, found),
+        "debug" => Ok(Job::Debug),
+        "replay" => Ok(Job::Replay),
+        "list" => Ok(list::job_of(alloc, found)?),
+        "check" => Ok(check::job_of(alloc, found)?),
+        "record" => Ok(record::job_of(alloc, found)?),
+        "explain" => explain::job_of(alloc, found),
+        _ => Err(missing(alloc)),
+    }
+}
+
+fn missing(alloc: Global) -> LineError {
+    refusal(
+        alloc,
+        ErrorKind::MissingSubcommand,
+        "a subcommand is missing",
+    )
 }
 
 /// An error in a command line that this program finds itself, with the usage.
@@ -118,18 +119,25 @@ fn refused(alloc: Global, kind: ErrorKind, message: &str) -> Result<clap::Error,
 fn command<'a>(alloc: Global) -> Result<Command<'a>, AllocError>
     ensures { IfOk result (IsCommandOf bench_command) }
 {
-    let command = bare_command(alloc);
-    let command = link(command, one::command(alloc));
-    let command = link(command, asm::command(alloc));
-    let command = link(command, dis::command(alloc));
-    let command = link(command, boot::command(alloc));
-    let command = link(command, run::command(alloc));
+    let command = first_commands(alloc);
     let command = link(command, debug::command(alloc));
     let command = link(command, replay::command(alloc));
     let command = link(command, list::command(alloc));
     let command = link(command, check::command(alloc));
     let command = link(command, record::command(alloc));
     link(command, explain::command(alloc))
+}
+
+/// The command with the subcommands up to `run`.
+fn first_commands<'a>(alloc: Global) -> Result<Command<'a>, AllocError>
+    ensures { IfOk result (IsCommandOf first_commands) }
+{
+    let command = bare_command(alloc);
+    let command = link(command, one::command(alloc));
+    let command = link(command, asm::command(alloc));
+    let command = link(command, dis::command(alloc));
+    let command = link(command, boot::command(alloc));
+    link(command, run::command(alloc))
 }
 
 /// The command without its subcommands.

@@ -1,11 +1,13 @@
 ghost use Rattle.std.specs.Prelude.{◌≡◌, ℕ, IfErr, IfOk, Option, codes};
 ghost use Rattle.clap.specs.Words.{found_of, rows_of};
 ghost use Rattle.ga_command_line.specs.inner.Command.{IsCommandOf};
+ghost use Rattle.ga_command_line.specs.CommandLine.{AsksFor, InRange};
 ghost use Rattle.ga_command_line.specs.Dis.{IsDisInRange, dis_command};
 ghost use Rattle.ga_command_line.specs.Number.{IsNumberIfAt};
 
 use crate::command_line::LineError;
 use crate::number::number_if;
+use crate::request::Job;
 use clap::{Arg, ArgMatches, Command, value_parser};
 use std::alloc::{AllocError, Global};
 
@@ -38,12 +40,13 @@ pub fn command<'a>(alloc: Global) -> Result<Command<'a>, AllocError>
         .arg(code)
 }
 
-/// How many words the arguments of `dis` say to be code, where they say it.
-pub fn code_of(alloc: Global, found: &ArgMatches<'_>) -> Result<Option<u32>, LineError>
-    ensures in_range { IfOk result IsDisInRange }
-    ensures number { IfOk result (IsNumberIfAt (codes "N") (rows_of (found_of found.now))) }
+/// The job that the arguments of `dis` ask for.
+pub fn job_of(alloc: Global, found: &ArgMatches<'_>) -> Result<Job, LineError>
+    ensures in_range { IfOk result InRange }
+    ensures asked { IfOk result (AsksFor (codes "dis", rows_of (found_of found.now))) }
     ensures right { IfErr result (λ error. (code : Option ℕ) → IsDisInRange code
         → IsNumberIfAt (codes "N") (rows_of (found_of found.now)) code → error ≡ LineError.Memory) }
 {
-    number_if(alloc, found, "N", 0, CODE_LIMIT)
+    let code = number_if(alloc, found, "N", 0, CODE_LIMIT)?;
+    Ok(Job::Dis { code })
 }

@@ -1,9 +1,11 @@
-ghost use Rattle.std.specs.Prelude.{◌≡◌, IfErr, IfOk, Option};
+ghost use Rattle.std.specs.Prelude.{◌≡◌, IfErr, IfOk, Option, codes};
 ghost use Rattle.clap.specs.Words.{found_of, rows_of};
 ghost use Rattle.ga_command_line.specs.inner.Command.{IsCommandOf};
+ghost use Rattle.ga_command_line.specs.CommandLine.{AsksFor, InRange};
 ghost use Rattle.ga_command_line.specs.Explain.{IsOfTable, IsTopicAt, explain_command};
 
 use crate::command_line::{LineError, refusal};
+use crate::request::Job;
 use clap::error::ErrorKind;
 use clap::{Arg, ArgMatches, Command};
 use ga_explain::Topic;
@@ -29,8 +31,19 @@ pub fn command<'a>(alloc: Global) -> Result<Command<'a>, AllocError>
         .arg(name)
 }
 
+/// The job that the arguments of `explain` ask for.
+pub fn job_of(alloc: Global, found: &ArgMatches<'_>) -> Result<Job, LineError>
+    ensures in_range { IfOk result InRange }
+    ensures asked { IfOk result (AsksFor (codes "explain", rows_of (found_of found.now))) }
+    ensures right { IfErr result (λ error. (topic : Option Topic) → IsOfTable topic
+        → IsTopicAt (rows_of (found_of found.now)) topic → error ≡ LineError.Memory) }
+{
+    let topic = topic_of(alloc, found)?;
+    Ok(Job::Explain { topic })
+}
+
 /// The topic that the arguments of `explain` name, where they name one.
-pub fn topic_of(alloc: Global, found: &ArgMatches<'_>) -> Result<Option<Topic>, LineError>
+fn topic_of(alloc: Global, found: &ArgMatches<'_>) -> Result<Option<Topic>, LineError>
     ensures in_range { IfOk result IsOfTable }
     ensures topic { IfOk result (IsTopicAt (rows_of (found_of found.now))) }
     ensures right { IfErr result (λ error. (topic : Option Topic) → IsOfTable topic

@@ -1,8 +1,11 @@
 ghost use Rattle.std.specs.Prelude.{IfOk, codes};
 ghost use Rattle.clap.specs.Words.{found_of, rows_of};
+ghost use Rattle.ga_command_line.specs.CommandLine.{AsksFor, InRange};
 ghost use Rattle.ga_command_line.specs.inner.Command.{IsCommandOf};
 ghost use Rattle.ga_command_line.specs.List.{IsFlagAt, flagged_command, list_command};
 
+use crate::file::file_in;
+use crate::request::Job;
 use clap::{Arg, ArgAction, ArgMatches, Command};
 use std::alloc::{AllocError, Global};
 
@@ -40,8 +43,18 @@ fn flagged_command<'a>(alloc: Global) -> Result<Command<'a>, AllocError>
         .arg(labels)
 }
 
+/// The job that the arguments of `list` ask for.
+pub fn job_of(alloc: Global, found: &ArgMatches<'_>) -> Result<Job, AllocError>
+    ensures in_range { IfOk result InRange }
+    ensures asked { IfOk result (AsksFor (codes "list", rows_of (found_of found.now))) }
+{
+    let labels = labels_in(found);
+    let file = file_in(alloc, found)?;
+    Ok(Job::List { labels, file })
+}
+
 /// Whether the arguments of `list` ask for the labels alone.
-pub fn labels_in(found: &ArgMatches<'_>) -> bool
+fn labels_in(found: &ArgMatches<'_>) -> bool
     ensures { IsFlagAt (codes "LABELS") (rows_of (found_of found.now)) result }
 {
     match found.get_str("LABELS") {

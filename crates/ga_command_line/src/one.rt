@@ -1,11 +1,13 @@
 ghost use Rattle.std.specs.Prelude.{◌≡◌, ℕ, IfErr, IfOk, codes};
 ghost use Rattle.clap.specs.Words.{found_of, rows_of};
 ghost use Rattle.ga_command_line.specs.inner.Command.{IsCommandOf};
+ghost use Rattle.ga_command_line.specs.CommandLine.{AsksFor, InRange};
 ghost use Rattle.ga_command_line.specs.Number.{IsNumberAt};
 ghost use Rattle.ga_command_line.specs.One.{IsOneInRange, one_command};
 
 use crate::command_line::LineError;
 use crate::number::number_of;
+use crate::request::Job;
 use clap::{Arg, ArgMatches, Command, value_parser};
 use std::alloc::{AllocError, Global};
 
@@ -37,13 +39,14 @@ pub fn command<'a>(alloc: Global) -> Result<Command<'a>, AllocError>
         .arg(tries)
 }
 
-/// The tries that the arguments of `one` ask for.
-pub fn tries_of(alloc: Global, found: &ArgMatches<'_>) -> Result<u32, LineError>
-    ensures in_range { IfOk result IsOneInRange }
-    ensures number { IfOk result (IsNumberAt (codes "TRIES") (rows_of (found_of found.now))) }
+/// The job that the arguments of `one` ask for.
+pub fn job_of(alloc: Global, found: &ArgMatches<'_>) -> Result<Job, LineError>
+    ensures in_range { IfOk result InRange }
+    ensures asked { IfOk result (AsksFor (codes "one", rows_of (found_of found.now))) }
     ensures right { IfErr result (λ error. (tries : ℕ) → IsOneInRange tries
         → IsNumberAt (codes "TRIES") (rows_of (found_of found.now)) tries
         → error ≡ LineError.Memory) }
 {
-    number_of(alloc, found, "TRIES", 0, TRIES_LIMIT)
+    let tries = number_of(alloc, found, "TRIES", 0, TRIES_LIMIT)?;
+    Ok(Job::One { tries })
 }

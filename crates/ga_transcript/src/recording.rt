@@ -60,14 +60,30 @@ fn push_recorded(
         match line_of(line) {
             Line::Command(command) => {
                 push_line(text, line)?;
-                reply(alloc, &mut came, &mut chip, images, command)?;
-                push_reply(text, &came)?;
+                push_came(alloc, text, &mut came, &mut chip, images, command)?;
             }
             Line::Note => push_line(text, line)?,
             Line::Reply => {}
         }
     }
     Ok(())
+}
+
+/// Does a command, puts its reply in the place of what came before, and adds the lines of the reply, each behind an LF.
+fn push_came(
+    alloc: Global,
+    text: &mut String,
+    came: &mut String,
+    chip: &mut Chip,
+    images: &Images,
+    command: &str,
+) -> Result<(), AllocError>
+    ensures text { OnOk result (string_bytes text.new ≡ string_bytes text.old
+        ++ behind_ends (spec.step_of images.now command.now chip.old).0) }
+    ensures chip { OnOk result (chip.new ≡ (spec.step_of images.now command.now chip.old).1) }
+{
+    reply(alloc, came, chip, images, command)?;
+    push_reply(text, came)
 }
 
 /// The first lines of a text, so many, with an LF between two.
