@@ -1,4 +1,4 @@
-use crate::chips::{give, moves, outcome, place};
+use crate::chips::{chip_given, chip_with, chip_with_each, give, moves, outcome, place};
 use ga_chip::{Chip, ChipError, Outcome};
 use ga_node::Stop;
 use ga_place::{Node, Side};
@@ -16,8 +16,7 @@ fn refuses_pass(chip: &mut Chip, node: Node) -> bool {
 #[test]
 fn break_and_pass(rt: HostRuntime) -> Result<(), Fail> {
     let [node_000, node_001] = nodes(&[0, 1])?;
-    let mut chip = Chip::reset(rt.alloc())?;
-    place(&mut chip, node_000, &ROUNDS)?;
+    let mut chip = chip_with(rt.alloc(), node_000, &ROUNDS)?;
     chip.set_break(node_000, 3);
     assert!(rt; moves(&mut chip, node_000, Side::Right, 100) == 16);
     for side in [Side::Right, Side::Down, Side::Left, Side::Up] {
@@ -62,8 +61,7 @@ fn breakpoints_are_addresses(rt: HostRuntime) -> Result<(), Fail> {
     let node_000 = node(0)?;
     // to 043, the same word of memory as 003; to 003; and to 203, which is 003 in extended mode
     for (jump, held) in [(0x10043, false), (0x10003, true), (0x10203, true)] {
-        let mut chip = Chip::reset(rt.alloc())?;
-        place(&mut chip, node_000, &[jump, 0x2C9B2, 0x2C9B2, 0x2C9B2])?;
+        let mut chip = chip_with(rt.alloc(), node_000, &[jump, 0x2C9B2, 0x2C9B2, 0x2C9B2])?;
         chip.set_break(node_000, 3);
         assert!(rt; moves(&mut chip, node_000, Side::Right, 2) == 2);
         let is_held = outcome(&mut chip, node_000, Side::Right) == Outcome::Held;
@@ -75,11 +73,9 @@ fn breakpoints_are_addresses(rt: HostRuntime) -> Result<(), Fail> {
 
 #[test]
 fn a_turn_goes_over_held_nodes(rt: HostRuntime) -> Result<(), Fail> {
-    let [node_000, node_001, node_002] = nodes(&[0, 1, 2])?;
-    let mut chip = Chip::reset(rt.alloc())?;
-    for node in [node_000, node_001, node_002] {
-        place(&mut chip, node, &[0x10000])?;
-    }
+    let nodes = nodes(&[0, 1, 2])?;
+    let node_001 = nodes[1];
+    let mut chip = chip_with_each(rt.alloc(), &nodes, &[0x10000])?;
     chip.set_break(node_001, 0);
     for _ in 0..4 {
         assert!(rt; chip.turn(Side::Right) == 2);
@@ -99,8 +95,7 @@ fn a_turn_goes_over_held_nodes(rt: HostRuntime) -> Result<(), Fail> {
 #[test]
 fn a_pass_stays_until_the_next_fetch(rt: HostRuntime) -> Result<(), Fail> {
     let node_000 = node(0)?;
-    let mut chip = Chip::reset(rt.alloc())?;
-    place(&mut chip, node_000, &[0x2C9B2, 0x10000])?;
+    let mut chip = chip_with(rt.alloc(), node_000, &[0x2C9B2, 0x10000])?;
     chip.set_break(node_000, 0);
     chip.set_break(node_000, 1);
     chip.pass_break(node_000)?;
@@ -122,8 +117,7 @@ fn a_pass_stays_until_the_next_fetch(rt: HostRuntime) -> Result<(), Fail> {
 #[test]
 fn a_boot_is_held_at_a_port(rt: HostRuntime) -> Result<(), Fail> {
     let [node_708, node_709] = nodes(&[708, 709])?;
-    let mut chip = Chip::reset(rt.alloc())?;
-    give(rt.alloc(), &mut chip, node_708, &ONE_HOP)?;
+    let mut chip = chip_given(rt.alloc(), node_708, &ONE_HOP)?;
     chip.set_break(node_709, 0x1D5);
     let _moved = chip.turns(4000);
     for (written, read, is_loaded) in [(2, 1, false), (5, 4, false), (6, 5, false), (8, 7, true)] {

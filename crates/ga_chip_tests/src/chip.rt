@@ -1,8 +1,8 @@
-use crate::chips::{WRITE_12_RIGHT, chip_with, give, moves, outcome, place};
+use crate::chips::{WRITE_12_RIGHT, chip_given, chip_with, give, moves, outcome, place, refusal};
 use ga_chip::{Chip, ChipError, Ledger, Outcome, Try};
 use ga_node::Stop;
-use ga_place::Side;
-use ga_test_values::{TWO_HOPS, array, node, nodes, words};
+use ga_place::{Node, Side};
+use ga_test_values::{TWO_HOPS, array, node, nodes};
 use std::alloc::Global;
 use std::test::Fail;
 
@@ -17,8 +17,7 @@ fn ledger(written: u64, read: u64, pending: u8) -> Ledger {
 #[test]
 fn one_word_through_a_port(rt: HostRuntime) -> Result<(), Fail> {
     let [node_708, node_709, node_700] = nodes(&[708, 709, 700])?;
-    let mut chip = Chip::reset(rt.alloc())?;
-    place(&mut chip, node_708, &WRITE_12_RIGHT)?;
+    let mut chip = chip_with(rt.alloc(), node_708, &WRITE_12_RIGHT)?;
     assert!(rt; moves(&mut chip, node_708, Side::Right, 7) == 7);
     for _ in 0..100 {
         assert!(rt; outcome(&mut chip, node_708, Side::Right) == Outcome::Waits);
@@ -38,8 +37,7 @@ fn one_word_through_a_port(rt: HostRuntime) -> Result<(), Fail> {
 #[test]
 fn sleepers_are_woken(rt: HostRuntime) -> Result<(), Fail> {
     let [node_708, node_709] = nodes(&[708, 709])?;
-    let mut chip = Chip::reset(rt.alloc())?;
-    place(&mut chip, node_708, &WRITE_12_RIGHT)?;
+    let mut chip = chip_with(rt.alloc(), node_708, &WRITE_12_RIGHT)?;
     for _ in 0..6 {
         assert!(rt; chip.turn(Side::Right) == 1);
     }
@@ -59,8 +57,7 @@ fn sleepers_are_woken(rt: HostRuntime) -> Result<(), Fail> {
 #[test]
 fn a_chip_stands_still(rt: HostRuntime) -> Result<(), Fail> {
     let [node_708, node_709, node_000] = nodes(&[708, 709, 0])?;
-    let mut chip = Chip::reset(rt.alloc())?;
-    place(&mut chip, node_708, &WRITE_12_RIGHT)?;
+    let mut chip = chip_with(rt.alloc(), node_708, &WRITE_12_RIGHT)?;
     assert!(rt; chip.turns(0) == 0 && chip.state(node_708).steps() == 0);
     // 709 takes the word of 708, and stops: `@b` reads io. 708 goes on to its words of 0, and waits: `@b` reads 709.
     assert!(rt; chip.turns(32) == 13);
@@ -76,8 +73,7 @@ fn a_chip_stands_still(rt: HostRuntime) -> Result<(), Fail> {
 /// by seven tries in an order, and 709 has made three.
 fn taken(alloc: Global, order: &[u16], side: Side) -> Result<u32, Fail> {
     let [node_709, node_708, node_609] = nodes(&[709, 708, 609])?;
-    let mut chip = Chip::reset(alloc)?;
-    place(&mut chip, node_708, &WRITE_12_RIGHT)?;
+    let mut chip = chip_with(alloc, node_708, &WRITE_12_RIGHT)?;
     place(&mut chip, node_609, &[0x05DA2, 0x00034, 0x00115, 0x089B2])?;
     place(&mut chip, node_709, &[0x04A0A, 0x001B5])?;
     for name in order {
@@ -116,8 +112,7 @@ fn two_writers_one_multiport(rt: HostRuntime) -> Result<(), Fail> {
 #[test]
 fn both_neighbours_write_at_once(rt: HostRuntime) -> Result<(), Fail> {
     let [node_708, node_709] = nodes(&[708, 709])?;
-    let mut chip = Chip::reset(rt.alloc())?;
-    place(&mut chip, node_708, &WRITE_12_RIGHT)?;
+    let mut chip = chip_with(rt.alloc(), node_708, &WRITE_12_RIGHT)?;
     place(&mut chip, node_709, &[0x05DA2, 0x00034, 0x001D5, 0x089B2])?;
     for node in [node_708, node_709] {
         assert!(rt; moves(&mut chip, node, Side::Right, 7) == 7);
@@ -134,7 +129,6 @@ fn both_neighbours_write_at_once(rt: HostRuntime) -> Result<(), Fail> {
 
 #[test]
 fn stops(rt: HostRuntime) -> Result<(), Fail> {
-    let node_000 = node(0)?;
     let table = [
         ([0x05DA2, 0x00001, 0x001A5, 0x089B2], 6, Stop::MultiWrite),
         ([0x009B2, 0, 0, 0], 1, Stop::IoRead),
@@ -142,14 +136,28 @@ fn stops(rt: HostRuntime) -> Result<(), Fail> {
         ([0x10141, 0, 0, 0], 2, Stop::Unmapped),
     ];
     for (numbers, steps, stop) in table {
-        let mut chip = Chip::reset(rt.alloc())?;
-        place(&mut chip, node_000, &numbers)?;
-        assert!(rt; moves(&mut chip, node_000, Side::Right, 100) == steps);
-        assert!(rt; outcome(&mut chip, node_000, Side::Down) == Outcome::Stopped);
-        let state = chip.state(node_000);
-        assert!(rt; state.stop() == Some(stop) && state.steps() == u64::from(steps));
+        assert!(rt; stops_after(rt.alloc(), &numbers, steps, stop)?);
     }
     Ok(())
+}
+
+/// Whether node 000, with these words, makes so many steps and then has stopped so.
+fn stops_after(alloc: Global, numbers: &[u32], steps: u32, stop: Stop) -> Result<bool, Fail> {
+    let node_000 = node(0)?;
+    let mut chip = chip_with(alloc, node_000, numbers)?;
+    let moved = moves(&mut chip, node_000, Side::Right, 100);
+    Ok(moved == steps && has_stopped(&mut chip, node_000, steps, stop))
+}
+
+/// Whether a node has stopped so after so many steps.
+fn has_stopped(chip: &mut Chip, node: Node, steps: u32, stop: Stop) -> bool {
+    let right = outcome(chip, node, Side::Right);
+    let down = outcome(chip, node, Side::Down);
+    let state = chip.state(node);
+    right == Outcome::Stopped
+        && down == Outcome::Stopped
+        && state.stop() == Some(stop)
+        && state.steps() == u64::from(steps)
 }
 
 #[test]
@@ -159,8 +167,7 @@ fn multiply_step(rt: HostRuntime) -> Result<(), Fail> {
         0x04A12, 5, 3, 0x049B2, 0, 0x345D1, 0x345D1, 0x345D1, 0x345D1, 0x345B2,
     ];
     for (tries, t, a) in [(10, 0, 5), (12, 1, 0x20002), (33, 0, 0x0000F)] {
-        let mut chip = Chip::reset(rt.alloc())?;
-        place(&mut chip, node_000, &numbers)?;
+        let mut chip = chip_with(rt.alloc(), node_000, &numbers)?;
         assert!(rt; moves(&mut chip, node_000, Side::Right, tries) == tries);
         let state = chip.state(node_000);
         assert!(rt; state.t().get() == t && state.a().get() == a);
@@ -175,8 +182,7 @@ fn stack_order(rt: HostRuntime) -> Result<(), Fail> {
         0x05D17, 1, 2, 3, 4, 0x05D17, 5, 6, 7, 8, 0x05D12, 9, 10, 11, 0x3A2EA, 0x3A2EA, 0x3A2EA,
         0x3A2B2,
     ];
-    let mut chip = Chip::reset(rt.alloc())?;
-    place(&mut chip, node_000, &numbers)?;
+    let mut chip = chip_with(rt.alloc(), node_000, &numbers)?;
     let one = Try {
         node: node_000,
         side: Side::Right,
@@ -205,13 +211,13 @@ fn stack_order(rt: HostRuntime) -> Result<(), Fail> {
 #[test]
 fn placed_anew_until_it_begins(rt: HostRuntime) -> Result<(), Fail> {
     let node_708 = node(708)?;
+    let nops = array::<1>(&[0x2C9B2])?;
     let mut chip = Chip::reset(rt.alloc())?;
     assert!(rt; chip.turn(Side::Right) == 0);
     place(&mut chip, node_708, &[0x2C9B2])?;
     place(&mut chip, node_708, &WRITE_12_RIGHT)?;
     assert!(rt; chip.turn(Side::Right) == 1);
-    let again = chip.place(node_708, &array::<1>(&[0x2C9B2])?, 1);
-    assert!(rt; again == Err(ChipError::Begun));
+    assert!(rt; chip.place(node_708, &nops, 1) == Err(ChipError::Begun));
     assert!(rt; chip.state(node_708).p() == 1);
     assert!(rt; moves(&mut chip, node_708, Side::Right, 100) == 6);
     Ok(())
@@ -220,28 +226,32 @@ fn placed_anew_until_it_begins(rt: HostRuntime) -> Result<(), Fail> {
 #[test]
 fn boot_two_hops(rt: HostRuntime) -> Result<(), Fail> {
     let [node_708, node_710, node_709] = nodes(&[708, 710, 709])?;
-    let mut chip = Chip::reset(rt.alloc())?;
-    give(rt.alloc(), &mut chip, node_708, &TWO_HOPS)?;
-    for _ in 0..1000 {
-        for side in [Side::Right, Side::Down, Side::Left, Side::Up] {
-            let _moved = chip.turn(side);
-        }
-    }
+    let memory = array::<64>(&[0x2C9B2])?;
+    let mut chip = chip_given(rt.alloc(), node_708, &TWO_HOPS)?;
+    go_round(&mut chip, 1000);
     let loaded = chip.state(node_710);
     assert!(rt; loaded.stop() == Some(Stop::IoRead) && loaded.p() == 2);
-    assert!(rt; loaded.ram() == array::<64>(&[0x2C9B2])?.as_slice());
+    assert!(rt; loaded.ram() == memory.as_slice());
     // the edge node and the one on the way went idle
     assert!(rt; chip.state(node_708).p() == 0x1B5 && chip.state(node_709).p() == 0x1B5);
     assert!(rt; chip.turn(Side::Right) == 0);
     Ok(())
 }
 
+/// Goes over the four sides so many times, with a turn for each.
+fn go_round(chip: &mut Chip, times: u32) {
+    for _ in 0..times {
+        for side in [Side::Right, Side::Down, Side::Left, Side::Up] {
+            let _moved = chip.turn(side);
+        }
+    }
+}
+
 #[test]
 fn streams_refused_by_name(rt: HostRuntime) -> Result<(), Fail> {
-    let [node_000, node_001, node_017, node_101, node_708] = nodes(&[0, 1, 17, 101, 708])?;
+    let [node_000, node_101, node_708] = nodes(&[0, 101, 708])?;
     let alloc = rt.alloc();
-    let mut chip = Chip::reset(alloc)?;
-    give(alloc, &mut chip, node_708, &TWO_HOPS)?;
+    let mut chip = chip_given(alloc, node_708, &TWO_HOPS)?;
     place(&mut chip, node_000, &[0x2C9B2])?;
     assert!(rt; moves(&mut chip, node_000, Side::Right, 1) == 1);
     for (node, fault) in [
@@ -249,23 +259,38 @@ fn streams_refused_by_name(rt: HostRuntime) -> Result<(), Fail> {
         (node_708, ChipError::AlreadyGiven),
         (node_000, ChipError::Begun),
     ] {
-        let Err((refused, back)) = chip.give_stream(node, words(alloc, &TWO_HOPS)?) else {
-            return Err("given")?;
-        };
-        assert!(rt; refused == fault && back.len() == 34);
+        assert!(rt; refusal(alloc, &mut chip, node, &TWO_HOPS)? == Some(fault));
     }
-    // a node with a stream is given no words, before its first step and after
+    Ok(())
+}
+
+#[test]
+fn a_node_with_a_stream_is_given_no_words(rt: HostRuntime) -> Result<(), Fail> {
+    let node_708 = node(708)?;
+    let mut chip = chip_given(rt.alloc(), node_708, &TWO_HOPS)?;
+    // before its first step and after
     for _ in 0..2 {
         assert!(rt; chip.place(node_708, &[], 0) == Err(ChipError::AlreadyGiven));
         assert!(rt; moves(&mut chip, node_708, Side::Up, 1) == 1);
     }
-    // a node that was placed and made no step is given a stream
-    place(&mut chip, node_001, &[0x2C9B2])?;
+    Ok(())
+}
+
+#[test]
+fn a_node_without_a_step_is_given_a_stream(rt: HostRuntime) -> Result<(), Fail> {
+    let node_001 = node(1)?;
+    let alloc = rt.alloc();
+    let mut chip = chip_with(alloc, node_001, &[0x2C9B2])?;
     give(alloc, &mut chip, node_001, &[0x00003, 0x00000, 0x00000])?;
     assert!(rt; moves(&mut chip, node_001, Side::Up, 3) == 3);
     assert!(rt; chip.state(node_001).p() == 3);
-    // without words left it waits
-    give(alloc, &mut chip, node_017, &[0x000AE])?;
+    Ok(())
+}
+
+#[test]
+fn a_node_waits_without_words_left(rt: HostRuntime) -> Result<(), Fail> {
+    let node_017 = node(17)?;
+    let mut chip = chip_given(rt.alloc(), node_017, &[0x000AE])?;
     assert!(rt; moves(&mut chip, node_017, Side::Up, 9) == 1);
     assert!(rt; outcome(&mut chip, node_017, Side::Up) == Outcome::Waits);
     Ok(())
@@ -291,20 +316,16 @@ fn programs_that_write_themselves(rt: HostRuntime) -> Result<(), Fail> {
         let state = chip.state(node_000);
         assert!(rt; state.p() == p && state.ram()[at].get() == stored);
     }
-    // a store to ROM, and one to where nothing is
-    for (numbers, moved, stop) in [
-        (
-            [0x04A12, 0x000A9, 0x00000, 0x0A9B2].as_slice(),
-            6,
-            Stop::Rom,
-        ),
-        (&[0x04A12, 0x00141, 0x00000, 0x0A9B2], 6, Stop::Unmapped),
-    ] {
-        let mut chip = chip_with(rt.alloc(), node_000, numbers)?;
-        assert!(rt; moves(&mut chip, node_000, Side::Right, 100) == moved);
-        assert!(rt; outcome(&mut chip, node_000, Side::Right) == Outcome::Stopped);
-        assert!(rt; chip.state(node_000).stop() == Some(stop));
-    }
+    Ok(())
+}
+
+#[test]
+fn stores_outside_of_memory(rt: HostRuntime) -> Result<(), Fail> {
+    // to ROM, and to where nothing is
+    let to_rom = [0x04A12, 0x000A9, 0x00000, 0x0A9B2];
+    assert!(rt; stops_after(rt.alloc(), &to_rom, 6, Stop::Rom)?);
+    let to_nothing = [0x04A12, 0x00141, 0x00000, 0x0A9B2];
+    assert!(rt; stops_after(rt.alloc(), &to_nothing, 6, Stop::Unmapped)?);
     Ok(())
 }
 

@@ -1,6 +1,6 @@
 //! Chips for the tests of chips, breakpoints, workers and sessions, and tries of their nodes.
 
-use ga_chip::{Chip, Outcome, Try};
+use ga_chip::{Chip, ChipError, Outcome, Try};
 use ga_place::{Node, Side};
 use ga_test_values::{array, words};
 use std::alloc::Global;
@@ -21,12 +21,43 @@ pub fn chip_with(alloc: Global, node: Node, numbers: &[u32]) -> Result<Chip, Fai
     Ok(chip)
 }
 
+/// Gives a node a stream. Answers the fault where it is refused, and then as many words have come back.
+pub fn refusal(
+    alloc: Global,
+    chip: &mut Chip,
+    node: Node,
+    numbers: &[u32],
+) -> Result<Option<ChipError>, Fail> {
+    let stream = words(alloc, numbers)?;
+    match chip.give_stream(node, stream) {
+        Ok(()) => Ok(None),
+        Err((fault, back)) if back.len() == numbers.len() => Ok(Some(fault)),
+        Err(_) => Err("other words came back")?,
+    }
+}
+
 /// Gives a node a stream, which it isn't refused.
 pub fn give(alloc: Global, chip: &mut Chip, node: Node, numbers: &[u32]) -> Result<(), Fail> {
-    match chip.give_stream(node, words(alloc, numbers)?) {
-        Ok(()) => Ok(()),
-        Err((error, _)) => Err(error.into()),
+    match refusal(alloc, chip, node, numbers)? {
+        None => Ok(()),
+        Some(fault) => Err(fault.into()),
     }
+}
+
+/// A chip after reset with the same words in each of these nodes, whose entry is 0.
+pub fn chip_with_each(alloc: Global, nodes: &[Node], numbers: &[u32]) -> Result<Chip, Fail> {
+    let mut chip = Chip::reset(alloc)?;
+    for node in nodes {
+        place(&mut chip, *node, numbers)?;
+    }
+    Ok(chip)
+}
+
+/// A chip after reset with a stream at a node.
+pub fn chip_given(alloc: Global, node: Node, numbers: &[u32]) -> Result<Chip, Fail> {
+    let mut chip = Chip::reset(alloc)?;
+    give(alloc, &mut chip, node, numbers)?;
+    Ok(chip)
 }
 
 /// How many of so many tries were `Moved` before the first that wasn't.

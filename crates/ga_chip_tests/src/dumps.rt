@@ -1,4 +1,4 @@
-use crate::chips::{WRITE_12_RIGHT, place};
+use crate::chips::{WRITE_12_RIGHT, chip_with};
 use ga_chip::Chip;
 use ga_dump::{ledger_text, memory_text, node_text};
 use ga_node::NodeState;
@@ -54,14 +54,19 @@ fn has_ledgers(alloc: Global, chip: &Chip, node: Node, lines: &str) -> Result<bo
     Ok(ledger_text(alloc, chip, node)?.as_str() == lines)
 }
 
-#[test]
-fn ledgers(rt: HostRuntime) -> Result<(), Fail> {
-    let [node_708, node_000, node_408] = nodes(&[708, 0, 408])?;
-    let mut chip = Chip::reset(rt.alloc())?;
-    place(&mut chip, node_708, &WRITE_12_RIGHT)?;
+/// A chip after the seven turns in which a node has written a word to its right.
+fn after_turns(alloc: Global, node: Node) -> Result<Chip, Fail> {
+    let mut chip = chip_with(alloc, node, &WRITE_12_RIGHT)?;
     for _ in 0..7 {
         let _moved = chip.turn(Side::Right);
     }
+    Ok(chip)
+}
+
+#[test]
+fn ledgers(rt: HostRuntime) -> Result<(), Fail> {
+    let [node_708, node_000, node_408] = nodes(&[708, 0, 408])?;
+    let chip = after_turns(rt.alloc(), node_708)?;
     let of_708 = "\
 708 right written 1 read 1 pending 0
 708 down written 0 read 0 pending 0

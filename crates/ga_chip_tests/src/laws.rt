@@ -1,8 +1,8 @@
 //! Runs of two chips that the laws compare: 708 writes a word to 709.
-ghost use Rattle.std.specs.Prelude.{◌≡◌, IfOk};
+ghost use Rattle.std.specs.Prelude.{◌≡◌, IfOk, OnOk};
 ghost use Rattle.ga_place.specs.declared.side.Side.TheVariants.{Right};
 
-use crate::chips::WRITE_12_RIGHT;
+use crate::chips::{WRITE_12_RIGHT, chip_with_each};
 use crate::workers::plan;
 use ga_chip::{Chip, Try};
 use ga_group::Open;
@@ -19,13 +19,22 @@ use std::test::Fail;
 fn two_chips(alloc: Global) -> Result<(Chip, Chip), Fail>
     ensures { IfOk result (λ chips. chips.0 ≡ chips.1) }
 {
-    let node_708 = node(708)?;
-    let words = array::<64>(&WRITE_12_RIGHT)?;
     let mut one = Chip::reset(alloc)?;
     let mut two = Chip::reset(alloc)?;
+    place_both(&mut one, &mut two)?;
+    Ok((one, two))
+}
+
+/// Places the words in 708 of two chips.
+fn place_both(one: &mut Chip, two: &mut Chip) -> Result<(), Fail>
+    requires { one.old ≡ two.old }
+    ensures { OnOk result (one.new ≡ two.new) }
+{
+    let node_708 = node(708)?;
+    let words = array::<64>(&WRITE_12_RIGHT)?;
     one.place(node_708, &words, 0)?;
     two.place(node_708, &words, 0)?;
-    Ok((one, two))
+    Ok(())
 }
 
 /// A try that names the right side.
@@ -112,12 +121,9 @@ fn a_plan_behind_a_plan(rt: HostRuntime) -> Result<(), Fail> {
 
 #[test]
 fn tries_beside_two_stuck_nodes(rt: HostRuntime) -> Result<(), Fail> {
-    let [node_708, node_709, node_000] = nodes(&[708, 709, 0])?;
-    let words = array::<64>(&WRITE_12_RIGHT)?;
-    let mut chip = Chip::reset(rt.alloc())?;
-    for node in [node_708, node_709, node_000] {
-        chip.place(node, &words, 0)?;
-    }
+    let nodes = nodes(&[708, 709, 0])?;
+    let [node_708, node_709, node_000] = nodes;
+    let mut chip = chip_with_each(rt.alloc(), &nodes, &WRITE_12_RIGHT)?;
     let (a, b, c) = (right(node_708), right(node_709), right(node_000));
     chip.run(&[a, a, a, a, a, a, a, b, b, b, b, b, b, b]);
     let tries = [a, c, b, c, a, b];

@@ -1,6 +1,6 @@
 //! Tests of the nodes that are stuck.
 
-use crate::chips::{WRITE_12_RIGHT, moves, outcome, place};
+use crate::chips::{WRITE_12_RIGHT, chip_with, moves, outcome, place};
 use ga_chip::{Chip, Outcome};
 use ga_place::Side;
 use ga_test_values::{node, nodes, words};
@@ -19,8 +19,7 @@ fn all_wait_after_reset(rt: HostRuntime) -> Result<(), Fail> {
 #[test]
 fn a_node_that_moves_leaves_those_that_wait_for_it(rt: HostRuntime) -> Result<(), Fail> {
     let [node_708, node_709] = nodes(&[708, 709])?;
-    let mut chip = Chip::reset(rt.alloc())?;
-    place(&mut chip, node_708, &WRITE_12_RIGHT)?;
+    let mut chip = chip_with(rt.alloc(), node_708, &WRITE_12_RIGHT)?;
     let stuck = chip.stuck();
     assert!(rt; !stuck.contains(node_708) && !stuck.contains(node_709) && stuck.count() == 0);
     // 708 waits for its word to be read, and 709 can still read it.
@@ -36,8 +35,7 @@ fn a_node_that_moves_leaves_those_that_wait_for_it(rt: HostRuntime) -> Result<()
 #[test]
 fn two_nodes_wait_for_each_other(rt: HostRuntime) -> Result<(), Fail> {
     let [node_708, node_709, node_000] = nodes(&[708, 709, 0])?;
-    let mut chip = Chip::reset(rt.alloc())?;
-    place(&mut chip, node_708, &WRITE_12_RIGHT)?;
+    let mut chip = chip_with(rt.alloc(), node_708, &WRITE_12_RIGHT)?;
     place(&mut chip, node_709, &WRITE_12_RIGHT)?;
     // 000 can move, so all that wait for it, one by the other, aren't stuck.
     place(&mut chip, node_000, &WRITE_12_RIGHT)?;
@@ -65,8 +63,7 @@ fn a_side_without_a_neighbour(rt: HostRuntime) -> Result<(), Fail> {
 #[test]
 fn a_held_node_goes_by_its_need(rt: HostRuntime) -> Result<(), Fail> {
     let [node_708, node_709] = nodes(&[708, 709])?;
-    let mut chip = Chip::reset(rt.alloc())?;
-    place(&mut chip, node_708, &WRITE_12_RIGHT)?;
+    let mut chip = chip_with(rt.alloc(), node_708, &WRITE_12_RIGHT)?;
     chip.set_break(node_708, 0);
     assert!(rt; outcome(&mut chip, node_708, Side::Right) == Outcome::Held);
     let stuck = chip.stuck();

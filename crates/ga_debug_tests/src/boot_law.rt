@@ -1,4 +1,5 @@
 //! What the law of booting says at moments of runs of which nobody chose the order, and streams that it refuses.
+use crate::rings::plan_of;
 use ga_boot::images_fit;
 use ga_boot_example::{assemble_firmware, boot_firmware, run_firmware};
 use ga_chip::{Chip, Try};
@@ -182,18 +183,18 @@ fn plan(alloc: Global, boot: &Boot, chance: &mut Chance) -> Result<Plan, Fail> {
     let [mut front, mut back] = [Vec::new(alloc), Vec::new(alloc)];
     front.push(node(boot.root)?)?;
     for (_, _, name, _, _) in boot.hops {
+        let node = node(*name)?;
         if chance.next() < 16 {
-            front.push(node(*name)?)?;
+            front.push(node)?;
         } else {
-            back.push(node(*name)?)?;
+            back.push(node)?;
         }
     }
-    let mut groups = Vec::new(alloc);
-    groups.push(front)?;
-    if !back.is_empty() {
-        groups.push(back)?;
+    if back.is_empty() {
+        plan_of(alloc, &[&front])
+    } else {
+        plan_of(alloc, &[&front, &back])
     }
-    Ok(Plan::new(groups).map_err(|_| "no plan")?)
 }
 
 /// What happens next to a node, by chance: tries, a breakpoint at the port of one side, or none there any more, or a pass.
@@ -269,12 +270,20 @@ fn start_posted(alloc: Global, stream: &[u32]) -> Result<Chip, Fail> {
     Ok(chip)
 }
 
+/// Whether 708 has posted the start word of 709, with no more than so many words left.
+fn is_posted(chip: &Chip, left: usize) -> Result<bool, Fail> {
+    let node_708 = node(708)?;
+    Ok(chip.stream_left(node_708) <= left && chip.ledger(node_708, Side::Right).read == 12)
+}
+
+/// A program of 709 that stores 10000 at 004.
+const PROGRAM: [u32; 5] = [0x04A12, 0x00004, 0x10000, 0x0A9B2, 0x10141];
+
 // 709 gets the words 04A12 00004 10000 0A9B2 10141, a program that stores 10000 at 004. Where it is sent its start word in
 // the place of `. . . .`, it runs before the start part begins, and doesn't hold its image any more.
 #[test]
 fn boot_starts_each_node_at_once(rt: HostRuntime) -> Result<(), Fail> {
-    let [node_708, node_709] = nodes(&[708, 709])?;
-    let image = [0x04A12, 0x00004, 0x10000, 0x0A9B2, 0x10141];
+    let node_709 = node(709)?;
     for (last, is_held) in [(0x2C9B2, true), (0x10000, false)] {
         let stream = [
             0x000AE, 0x001D5, 12, 0x101D5, 0x04A12, 0x00000, 0x00004, 0x2E9B2, 0x05872, 0x04A12,
@@ -282,9 +291,8 @@ fn boot_starts_each_node_at_once(rt: HostRuntime) -> Result<(), Fail> {
             1, 0x10000, 0x001B5, 0x00000, 0x00000,
         ];
         let chip = start_posted(rt.alloc(), &stream)?;
-        assert!(rt; chip.stream_left(node_708) <= 7);
-        assert!(rt; chip.ledger(node_708, Side::Right).read == 12);
-        assert!(rt; holds(&chip, node_709, &image)? == is_held);
+        assert!(rt; is_posted(&chip, 7)?);
+        assert!(rt; holds(&chip, node_709, &PROGRAM)? == is_held);
     }
     Ok(())
 }
@@ -328,50 +336,60 @@ fn boot_leaves_out_closes(rt: HostRuntime) -> Result<(), Fail> {
     Ok(())
 }
 
-// A fork: 709 gets the same program, and 608 the word `. . . .`. Where 709 is sent its start word in the place of its own
-// `. . . .`, it runs while 608 is loaded, and doesn't hold its image any more as the start part begins.
+/// The boot of a fork: 709 gets the same program, and 608 the word `. . . .`.
+const PROGRAM_FORK: [u32; 40] = [
+    0x000AE, 0x001D5, 0x0000C, 0x101D5, 0x04A12, 0x00000, 0x00004, 0x2E9B2, 0x05872, 0x04A12,
+    0x00004, 0x10000, 0x0A9B2, 0x10141, 0x2C9B2, 0x000AE, 0x00115, 0x00008, 0x10115, 0x04A12,
+    0x00000, 0x00000, 0x2E9B2, 0x05872, 0x2C9B2, 0x2C9B2, 0x000AE, 0x00000, 0x00000, 0x000AE,
+    0x001D5, 0x00001, 0x10000, 0x000AE, 0x00115, 0x00001, 0x10000, 0x001B5, 0x00000, 0x00000,
+];
+
+// Where 709 is sent its start word in the place of its own `. . . .`, the word at 14, it runs while 608 is loaded, and
+// doesn't hold its image any more as the start part begins.
 #[test]
 fn boot_starts_each_node_of_a_tree_at_once(rt: HostRuntime) -> Result<(), Fail> {
-    let [node_708, node_709, node_608] = nodes(&[708, 709, 608])?;
-    let image = [0x04A12, 0x00004, 0x10000, 0x0A9B2, 0x10141];
+    let [node_709, node_608] = nodes(&[709, 608])?;
     for (last, is_held) in [(0x2C9B2, true), (0x10000, false)] {
-        let stream = [
-            0x000AE, 0x001D5, 12, 0x101D5, 0x04A12, 0x00000, 0x00004, 0x2E9B2, 0x05872, 0x04A12,
-            0x00004, 0x10000, 0x0A9B2, 0x10141, last, 0x000AE, 0x00115, 8, 0x10115, 0x04A12,
-            0x00000, 0x00000, 0x2E9B2, 0x05872, 0x2C9B2, 0x2C9B2, 0x000AE, 0x00000, 0x00000,
-            0x000AE, 0x001D5, 1, 0x10000, 0x000AE, 0x00115, 1, 0x10000, 0x001B5, 0x00000, 0x00000,
-        ];
+        let mut stream = PROGRAM_FORK;
+        stream[14] = last;
         let chip = start_posted(rt.alloc(), &stream)?;
-        assert!(rt; chip.stream_left(node_708) <= 11);
-        assert!(rt; chip.ledger(node_708, Side::Right).read == 12);
+        assert!(rt; is_posted(&chip, 11)?);
         assert!(rt; holds(&chip, node_608, &[0x2C9B2])?);
-        assert!(rt; holds(&chip, node_709, &image)? == is_held);
+        assert!(rt; holds(&chip, node_709, &PROGRAM)? == is_held);
     }
     Ok(())
 }
+
+/// Whether 708 has sent 709 and 608 so many words each, and both hold their images, or neither does.
+fn have_taken(chip: &Chip, sent: u64, is_held: bool) -> Result<bool, Fail> {
+    let node_708 = node(708)?;
+    for (name, side) in [(709, Side::Right), (608, Side::Down)] {
+        let is_taken = chip.ledger(node_708, side).read == sent;
+        if !is_taken || holds(chip, node(name)?, &[0x2C9B2])? != is_held {
+            return Ok(false);
+        }
+    }
+    Ok(true)
+}
+
+/// The boot of the fork without `. . . .` behind the words for either node.
+const OPEN_FORK: [u32; 34] = [
+    0x000AE, 0x001D5, 0x00007, 0x101D5, 0x04A12, 0x00000, 0x00000, 0x2E9B2, 0x05872, 0x2C9B2,
+    0x000AE, 0x00115, 0x00007, 0x10115, 0x04A12, 0x00000, 0x00000, 0x2E9B2, 0x05872, 0x2C9B2,
+    0x000AE, 0x00000, 0x00000, 0x000AE, 0x001D5, 0x00001, 0x10000, 0x000AE, 0x00115, 0x00001,
+    0x10000, 0x001B5, 0x00000, 0x00000,
+];
 
 // A fork where `. . . .` is left out of the words for both nodes: 708 takes the whole load part while each of them has
 // still to store its last word.
 #[test]
 fn boot_of_a_tree_leaves_out_closes(rt: HostRuntime) -> Result<(), Fail> {
     let [node_708, node_709, node_608] = nodes(&[708, 709, 608])?;
-    let open = [
-        0x000AE, 0x001D5, 7, 0x101D5, 0x04A12, 0x00000, 0x00000, 0x2E9B2, 0x05872, 0x2C9B2,
-        0x000AE, 0x00115, 7, 0x10115, 0x04A12, 0x00000, 0x00000, 0x2E9B2, 0x05872, 0x2C9B2,
-        0x000AE, 0x00000, 0x00000, 0x000AE, 0x001D5, 1, 0x10000, 0x000AE, 0x00115, 1, 0x10000,
-        0x001B5, 0x00000, 0x00000,
-    ];
-    for (stream, sent, is_held) in [(FORK.as_slice(), 8, true), (&open, 7, false)] {
-        let chip = load_taken(
-            given(rt.alloc(), 708, stream)?,
-            &[(node_709, Side::Right), (node_608, Side::Down)],
-            sent,
-        )?;
+    let loaded = [(node_709, Side::Right), (node_608, Side::Down)];
+    for (stream, sent, is_held) in [(FORK.as_slice(), 8, true), (&OPEN_FORK, 7, false)] {
+        let chip = load_taken(given(rt.alloc(), 708, stream)?, &loaded, sent)?;
         assert!(rt; chip.stream_left(node_708) <= 11);
-        for (node, side) in [(node_709, Side::Right), (node_608, Side::Down)] {
-            assert!(rt; chip.ledger(node_708, side).read == sent);
-            assert!(rt; holds(&chip, node, &[0x2C9B2])? == is_held);
-        }
+        assert!(rt; have_taken(&chip, sent, is_held)?);
     }
     Ok(())
 }

@@ -10,13 +10,18 @@ use std::alloc::Global;
 use std::fmt::Write;
 use std::test::Fail;
 
-/// The nodes of a snake through the chip, row by row to and fro.
+/// The node at a place of a snake through the chip, row by row to and fro.
+fn node_at(at: u16) -> Result<Node, Fail> {
+    let (row, column) = (at / 18 % 8, at % 18);
+    let column = if row % 2 == 0 { column } else { 17 - column };
+    Ok(Node::new(row * 100 + column).ok_or("no node")?)
+}
+
+/// So many nodes of the snake.
 fn snake(alloc: Global, count: u16) -> Result<Vec<Node>, Fail> {
     let mut nodes = Vec::new(alloc);
     for at in 0..count {
-        let (row, column) = (at / 18 % 8, at % 18);
-        let column = if row % 2 == 0 { column } else { 17 - column };
-        nodes.push(Node::new(row * 100 + column).ok_or("no node")?)?;
+        nodes.push(node_at(at)?)?;
     }
     Ok(nodes)
 }

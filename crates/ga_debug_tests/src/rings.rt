@@ -1,5 +1,5 @@
 //! Workers in threads: a ring of four nodes ends alike with one worker, with two and with four.
-use ga_asm::assemble;
+use ga_asm::{Images, assemble};
 use ga_chip::Chip;
 use ga_debug::booted_tree;
 use ga_dump::node_text;
@@ -24,20 +24,35 @@ node 609 down a! right b! @ $1 + !b jump warm
 node 608 right a! down b! @ $1 + !b jump warm
 ";
 
+/// The images of the four nodes.
+fn images(alloc: Global) -> Result<Images, Fail> {
+    Ok(assemble(alloc, &parse(alloc, RING)?)?)
+}
+
 /// The ring on a chip that is about to boot.
 fn ring(alloc: Global, nodes: &[Node; 4]) -> Result<Chip, Fail> {
-    let images = assemble(alloc, &parse(alloc, RING)?)?;
     let tree = Tree::new(alloc, &[Route::new(alloc, nodes)?])?;
+    let images = images(alloc)?;
     Ok(booted_tree(alloc, &tree, &images)?)
 }
 
-/// A plan of workers, each of which has so many of the nodes.
-fn plan_of(alloc: Global, groups: &[&[Node]]) -> Result<Plan, Fail> {
+/// A plan of workers with these nodes each.
+pub fn plan_of(alloc: Global, groups: &[&[Node]]) -> Result<Plan, Fail> {
     let mut all = Vec::new(alloc);
     for group in groups {
         all.push(Vec::from_slice(alloc, group)?)?;
     }
     Ok(Plan::new(all).map_err(|_| "no plan")?)
+}
+
+/// A plan of one worker for the ring, of two, or of four.
+fn plan_by(alloc: Global, nodes: &[Node; 4], workers: u32) -> Result<Plan, Fail> {
+    let [a, b, c, d] = *nodes;
+    match workers {
+        1 => plan_of(alloc, &[nodes]),
+        2 => plan_of(alloc, &[&[a, c], &[b, d]]),
+        _ => plan_of(alloc, &[&[a], &[b], &[c], &[d]]),
+    }
 }
 
 /// Whether all nodes have made as many steps on one chip as on another.
@@ -47,7 +62,7 @@ fn are_level(nodes: &[Node; 4], one: &Chip, other: &Chip) -> bool {
 
 /// The ring by one worker.
 fn by_one<R: Threads + Sync>(rt: &R, alloc: Global, nodes: &[Node; 4]) -> Result<Chip, Fail> {
-    let plan = plan_of(alloc, &[nodes])?;
+    let plan = plan_by(alloc, nodes, 1)?;
     Ok(after_run(rt, alloc, ring(alloc, nodes)?, &plan, 4000, &Open)?)
 }
 
@@ -84,29 +99,28 @@ fn have_alike(alloc: Global, nodes: &[Node; 4], one: &Chip, other: &Chip) -> Res
     Ok(true)
 }
 
+/// Whether the ring by so many workers ends as on another chip.
+fn ends_alike<R: Threads + Sync>(
+    rt: &R,
+    alloc: Global,
+    nodes: &[Node; 4],
+    workers: u32,
+    other: &Chip,
+) -> Result<bool, Fail> {
+    let plan = plan_by(alloc, nodes, workers)?;
+    let chip = by_several(rt, alloc, nodes, &plan, other)?;
+    have_alike(alloc, nodes, other, &chip)
+}
+
 #[test]
 fn ring_of_four(rt: HostRuntime) -> Result<(), Fail> {
     let alloc = rt.alloc();
     let ring = nodes(&[708, 709, 609, 608])?;
     let one = by_one(&rt, alloc, &ring)?;
     assert!(rt; one.state(ring[0]).t().get() == 4);
-    let [a, b, c, d] = ring;
-    let two = by_several(
-        &rt,
-        alloc,
-        &ring,
-        &plan_of(alloc, &[&[a, c], &[b, d]])?,
-        &one,
-    )?;
-    assert!(rt; have_alike(alloc, &ring, &one, &two)?);
-    let four = by_several(
-        &rt,
-        alloc,
-        &ring,
-        &plan_of(alloc, &[&[a], &[b], &[c], &[d]])?,
-        &one,
-    )?;
-    assert!(rt; have_alike(alloc, &ring, &one, &four)?);
+    for workers in [2, 4] {
+        assert!(rt; ends_alike(&rt, alloc, &ring, workers, &one)?);
+    }
     Ok(())
 }
 
@@ -167,16 +181,16 @@ impl Gate for Meeting {
     }
 }
 
-/// Whether all workers of a plan run at once: each comes to its first turn while the others wait in theirs.
+/// Whether so many workers run at once: each comes to its first turn while the others wait in theirs.
 fn overlap<R: Threads + Sync>(
     rt: &R,
     alloc: Global,
     nodes: &[Node; 4],
-    plan: &Plan,
     workers: u32,
 ) -> Result<bool, Fail> {
+    let plan = plan_by(alloc, nodes, workers)?;
     let gate = Meeting::new(workers);
-    let _chip = after_run(rt, alloc, ring(alloc, nodes)?, plan, 2, &gate)?;
+    let _chip = after_run(rt, alloc, ring(alloc, nodes)?, &plan, 2, &gate)?;
     Ok(gate.met.load(Ordering::SeqCst) == workers)
 }
 
@@ -184,16 +198,8 @@ fn overlap<R: Threads + Sync>(
 fn workers_overlap(rt: HostRuntime) -> Result<(), Fail> {
     let alloc = rt.alloc();
     let ring = nodes(&[708, 709, 609, 608])?;
-    let [a, b, c, d] = ring;
-    assert!(rt; overlap(&rt, alloc, &ring, &plan_of(alloc, &[&[a, c], &[b, d]])?, 2)?);
-    assert!(rt;
-        overlap(
-            &rt,
-            alloc,
-            &ring,
-            &plan_of(alloc, &[&[a], &[b], &[c], &[d]])?,
-            4
-        )?
-    );
+    for workers in [2, 4] {
+        assert!(rt; overlap(&rt, alloc, &ring, workers)?);
+    }
     Ok(())
 }

@@ -11,8 +11,10 @@ fn session(alloc: Global) -> Result<Session, Fail> {
 
 /// A session over a chip with words in a node.
 fn placed(alloc: Global, name: u16, numbers: &[u32]) -> Result<Session, Fail> {
+    let node = node(name)?;
+    let words = array::<64>(numbers)?;
     let mut chip = Chip::reset(alloc)?;
-    chip.place(node(name)?, &array::<64>(numbers)?, 0)?;
+    chip.place(node, &words, 0)?;
     Ok(Session::new(chip))
 }
 

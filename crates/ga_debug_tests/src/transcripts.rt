@@ -1,9 +1,12 @@
 //! Tests of transcripts, and of the calls that they make.
-use ga_asm::label_at;
+use ga_asm::{Images, label_at};
+use ga_chip::Chip;
 use ga_debug::{DebugError, Pieces, ReplayError, address_of, count_of, load, reply_into};
 use ga_path::image_of;
+use ga_place::Node;
 use ga_test_values::node;
 use ga_transcript::{TranscriptError, check, record};
+use std::alloc::Global;
 use std::test::Fail;
 
 /// A node with two labels, and what is asked of it.
@@ -67,19 +70,38 @@ fn transcripts_are_of_profile_2(rt: HostRuntime) -> Result<(), Fail> {
     Ok(())
 }
 
+/// Whether the image of a node has the label `x` at its second word.
+fn has_label(images: &Images, name: Node) -> bool {
+    match images.image_of(name) {
+        Some(image) => {
+            image_of(images, name).is_some()
+                && image.address_of("x") == Some(1)
+                && label_at(image.labels(), 1) == Some("x")
+        }
+        None => false,
+    }
+}
+
+/// Whether a command has this reply.
+fn replies(alloc: Global, chip: &mut Chip, line: &str, wanted: &str) -> bool {
+    let mut reply = String::new(alloc);
+    reply_into(alloc, &mut reply, chip, line).is_ok() && reply.as_str() == wanted
+}
+
+/// Whether a breakpoint at the second word of a node holds it there.
+fn is_held_by_break(chip: &mut Chip, name: Node) -> bool {
+    chip.set_break(name, 1);
+    chip.has_break(name, 1) && chip.is_held(name)
+}
+
 #[test]
 fn loads_a_head(rt: HostRuntime) -> Result<(), Fail> {
     let name = node(0)?;
     let mut loaded = load(rt.alloc(), ASKED)?;
     assert!(rt; loaded.line == 4 && loaded.lines.next() == Some("\\ it goes round"));
-    let image = loaded.images.image_of(name).ok_or("no image")?;
-    assert!(rt; image_of(&loaded.images, name).is_some());
-    assert!(rt; image.address_of("x") == Some(1) && label_at(image.labels(), 1) == Some("x"));
-    let mut reply = String::new(rt.alloc());
-    reply_into(rt.alloc(), &mut reply, &mut loaded.chip, "turn 5")?;
-    assert!(rt; reply.as_str() == "moved 5" && !loaded.chip.is_held(name));
-    loaded.chip.set_break(name, 1);
-    assert!(rt; loaded.chip.has_break(name, 1) && loaded.chip.is_held(name));
+    assert!(rt; has_label(&loaded.images, name));
+    assert!(rt; replies(rt.alloc(), &mut loaded.chip, "turn 5", "moved 5"));
+    assert!(rt; !loaded.chip.is_held(name) && is_held_by_break(&mut loaded.chip, name));
     Ok(())
 }
 

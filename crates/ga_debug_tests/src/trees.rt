@@ -1,4 +1,5 @@
 //! A tree boots alike under turns and with two workers.
+use crate::rings::plan_of;
 use ga_asm::assemble_text;
 use ga_chip::Chip;
 use ga_debug::booted_tree;
@@ -21,11 +22,7 @@ fn fork(alloc: Global) -> Result<Chip, Fail> {
 
 /// A plan of two workers for the four nodes: each meets the other at two ports.
 fn two_workers(alloc: Global) -> Result<Plan, Fail> {
-    let mut groups = Vec::new(alloc);
-    for names in [[708, 710], [709, 609]] {
-        groups.push(Vec::from_slice(alloc, &nodes(&names)?)?)?;
-    }
-    Ok(Plan::new(groups).map_err(|_| "no plan")?)
+    plan_of(alloc, &[&nodes(&[708, 710])?, &nodes(&[709, 609])?])
 }
 
 /// Whether both nodes with an image have it in memory, and have run it and the zeros behind it up to a read of io.

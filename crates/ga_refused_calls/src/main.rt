@@ -64,20 +64,32 @@ fn told_of<Rt: AllocGlobal + Threads + Sync, R: Read>(
     reader: &mut R,
     words: &[&str],
 ) -> Result<Option<Told>, AllocError> {
-    let alloc = rt.alloc();
     let told = match words {
-        ["words_text"] => words_text_told(alloc)?,
-        ["push_words"] => push_words_told(alloc)?,
-        ["tokens"] => tokens_told(alloc)?,
-        ["write_frame"] => write_frame_told(alloc)?,
-        ["read_frames"] => read_frames_told(alloc)?,
-        ["feed"] => feed_told(alloc)?,
-        ["boot"] => boot_told(alloc)?,
-        ["chip_text"] => chip_text_told(alloc)?,
-        ["run_workers"] => run_workers_told(rt, alloc)?,
-        ["command", line] => command_told(alloc, line)?,
-        ["reply_into", line] => reply_into_told(alloc, line)?,
+        [name] => return told_alone(rt, name),
+        ["command", line] => command_told(rt.alloc(), line)?,
+        ["reply_into", line] => reply_into_told(rt.alloc(), line)?,
         ["serve", ..] => serve_told(rt, reader, words)?,
+        _ => return Ok(None),
+    };
+    Ok(Some(told))
+}
+
+/// The same of a call with no word behind its name.
+fn told_alone<Rt: AllocGlobal + Threads + Sync>(
+    rt: &Rt,
+    name: &str,
+) -> Result<Option<Told>, AllocError> {
+    let alloc = rt.alloc();
+    let told = match name {
+        "words_text" => words_text_told(alloc)?,
+        "push_words" => push_words_told(alloc)?,
+        "tokens" => tokens_told(alloc)?,
+        "write_frame" => write_frame_told(alloc)?,
+        "read_frames" => read_frames_told(alloc)?,
+        "feed" => feed_told(alloc)?,
+        "boot" => boot_told(alloc)?,
+        "chip_text" => chip_text_told(alloc)?,
+        "run_workers" => run_workers_told(rt, alloc)?,
         _ => return Ok(None),
     };
     Ok(Some(told))

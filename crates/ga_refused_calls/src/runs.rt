@@ -1,6 +1,7 @@
 //! Calls that are lent a chip, or handed one, on which a ring of four nodes has begun.
 use crate::chips::{ring, ring_nodes};
 use crate::told::Told;
+use ga_chip::Chip;
 use ga_dump::chip_text;
 use ga_group::{Open, Plan, RunError, run_workers};
 use std::alloc::{AllocError, Global};
@@ -12,11 +13,10 @@ const TURNS: u64 = 16;
 /// A run of four workers over a chip, which comes back where it is refused.
 pub fn run_workers_told<R: Threads + Sync>(rt: &R, alloc: Global) -> Result<Told, AllocError> {
     let plan = plan(alloc)?;
-    let same = ring(alloc)?;
     match run_workers(rt, alloc, ring(alloc)?, &plan, TURNS, &Open) {
         Ok(_) => Ok(Told::Answered),
         Err((fault, chip)) => {
-            let is_alike = chip_text(alloc, &chip)? == chip_text(alloc, &same)?;
+            let is_alike = is_ring(alloc, &chip)?;
             Ok(Told::failed(fault == RunError::Memory, is_alike))
         }
     }
@@ -25,10 +25,13 @@ pub fn run_workers_told<R: Threads + Sync>(rt: &R, alloc: Global) -> Result<Told
 /// The text of a chip that is lent.
 pub fn chip_text_told(alloc: Global) -> Result<Told, AllocError> {
     let chip = ring(alloc)?;
-    let same = ring(alloc)?;
     let is_answered = chip_text(alloc, &chip).is_ok();
-    let is_alike = is_answered || chip_text(alloc, &chip)? == chip_text(alloc, &same)?;
-    Ok(Told::answered(is_answered, is_alike))
+    Ok(Told::answered(is_answered, is_answered || is_ring(alloc, &chip)?))
+}
+
+/// Whether a chip shows what the ring shows.
+fn is_ring(alloc: Global, chip: &Chip) -> Result<bool, AllocError> {
+    Ok(chip_text(alloc, chip)? == chip_text(alloc, &ring(alloc)?)?)
 }
 
 /// A worker for each node of the ring.

@@ -21,11 +21,10 @@ const BEHIND: [&str; 6] = [
 /// A command. After a refusal the session must give what one gives to which the command wasn't given.
 pub fn command_told(alloc: Global, line: &str) -> Result<Told, AllocError> {
     let mut session = begun(alloc)?;
-    let mut other = begun(alloc)?;
     match session.command(alloc, line) {
         Ok(_) => Ok(Told::Answered),
         Err(fault) => {
-            let is_alike = shown(alloc, &mut session)? == shown(alloc, &mut other)?;
+            let is_alike = are_alike(alloc, session, begun(alloc)?)?;
             Ok(Told::failed(fault == DebugError::Memory, is_alike))
         }
     }
@@ -42,13 +41,10 @@ pub fn reply_into_told(alloc: Global, line: &str) -> Result<Told, AllocError> {
     match reply_into(alloc, &mut text, &mut chip, line) {
         Ok(()) => Ok(Told::Answered),
         Err(fault) => {
-            let mut session = Session::new(chip);
-            let mut other = Session::new(ring(alloc)?);
-            let is_alike = shown(alloc, &mut session)? == shown(alloc, &mut other)?;
-            Ok(Told::failed(
-                fault == DebugError::Memory,
-                is_alike && text.as_str() == KEPT,
-            ))
+            let is_kept = text.as_str() == KEPT;
+            let other = Session::new(ring(alloc)?);
+            let is_alike = are_alike(alloc, Session::new(chip), other)?;
+            Ok(Told::failed(fault == DebugError::Memory, is_alike && is_kept))
         }
     }
 }
@@ -62,6 +58,11 @@ fn begun(alloc: Global) -> Result<Session, AllocError> {
         }
     }
     Ok(session)
+}
+
+/// Whether two sessions show the same.
+fn are_alike(alloc: Global, mut one: Session, mut other: Session) -> Result<bool, AllocError> {
+    Ok(shown(alloc, &mut one)? == shown(alloc, &mut other)?)
 }
 
 /// All that a session shows: each node, and the replies to some commands behind that.

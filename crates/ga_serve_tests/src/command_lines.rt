@@ -1,96 +1,129 @@
 //! Command lines: the jobs that they name, and what is wrong with others.
+use crate::streams::{boot_of, run_of};
 use clap::error::ErrorKind;
 use ga_command_line::{Job, LineError, job};
 use ga_explain::Topic;
 use std::alloc::Global;
 use std::test::Fail;
 
-/// The job that a command line names, which is not refused.
-fn named(alloc: Global, words: &[&str]) -> Result<Job, Fail> {
+/// Whether a command line names this job.
+fn names(alloc: Global, words: &[&str], wanted: &Job) -> bool {
     match job(alloc, words) {
-        Ok(job) => Ok(job),
-        Err(_) => Err("a refused line".into()),
+        Ok(job) => job == *wanted,
+        Err(_) => false,
+    }
+}
+
+/// Whether a command line names a job that reads this file, or no file.
+fn names_file(alloc: Global, words: &[&str], wanted: Option<&str>) -> bool {
+    match job(alloc, words) {
+        Ok(job) => job.file() == wanted,
+        Err(_) => false,
     }
 }
 
 #[test]
-fn reads_command_lines(rt: HostRuntime) -> Result<(), Fail> {
+fn reads_command_lines(rt: HostRuntime) {
     let alloc = rt.alloc();
     for (text, tries) in [("0", 0), ("5", 5), ("1000000", 1_000_000)] {
-        assert!(rt; named(alloc, &["ga-bench", "one", text])? == Job::One { tries });
+        assert!(rt; names(alloc, &["ga-bench", "one", text], &Job::One { tries }));
     }
-    assert!(rt; named(alloc, &["ga-bench", "asm"])? == Job::Asm);
-    assert!(rt; named(alloc, &["ga-bench", "debug"])? == Job::Debug);
-    assert!(rt; named(alloc, &["ga-bench", "replay"])? == Job::Replay);
+    assert!(rt; names(alloc, &["ga-bench", "asm"], &Job::Asm));
+    assert!(rt; names(alloc, &["ga-bench", "debug"], &Job::Debug));
+    assert!(rt; names(alloc, &["ga-bench", "replay"], &Job::Replay));
+}
+
+#[test]
+fn reads_counts_of_code(rt: HostRuntime) {
+    let alloc = rt.alloc();
     for (words, code) in [
         (["ga-bench", "dis"].as_slice(), None),
         (&["ga-bench", "dis", "--code", "0"], Some(0)),
         (&["ga-bench", "dis", "--code=64"], Some(64)),
     ] {
-        assert!(rt; named(alloc, words)? == Job::Dis { code });
+        assert!(rt; names(alloc, words, &Job::Dis { code }));
     }
-    Ok(())
+}
+
+/// Whether a command line names the run of 708 by so many workers.
+fn names_run(alloc: Global, words: &[&str], workers: u32, turns: u32) -> Result<bool, Fail> {
+    let run = run_of(alloc, "708", workers, turns)?;
+    Ok(names(alloc, words, &run))
 }
 
 #[test]
 fn reads_routes(rt: HostRuntime) -> Result<(), Fail> {
     let alloc = rt.alloc();
     for text in ["708,709", "", "any text"] {
-        let route = String::from_str(alloc, text)?;
-        assert!(rt; named(alloc, &["ga-bench", "boot", text])? == Job::Boot { route });
+        let boot = boot_of(alloc, text)?;
+        assert!(rt; names(alloc, &["ga-bench", "boot", text], &boot));
     }
-    for (words, workers, turns) in [
-        (&["ga-bench", "run", "708", "1", "0"], 1, 0),
-        (
-            &["ga-bench", "run", "708", "144", "1000000"],
-            144,
-            1_000_000,
-        ),
-    ] {
-        let route = String::from_str(alloc, "708")?;
-        let run = Job::Run {
-            route,
-            workers,
-            turns,
-        };
-        assert!(rt; named(alloc, words)? == run);
-    }
+    let least = ["ga-bench", "run", "708", "1", "0"];
+    assert!(rt; names_run(alloc, &least, 1, 0)?);
+    let most = ["ga-bench", "run", "708", "144", "1000000"];
+    assert!(rt; names_run(alloc, &most, 144, 1_000_000)?);
     Ok(())
 }
 
+/// Whether a command line names the list of the labels of a file.
+fn names_labels(alloc: Global, words: &[&str]) -> bool {
+    matches!(job(alloc, words), Ok(Job::List { labels: true, .. }))
+}
+
+/// Whether a command line names the check of a transcript.
+fn names_check(alloc: Global, words: &[&str]) -> bool {
+    matches!(job(alloc, words), Ok(Job::Check { .. }))
+}
+
 #[test]
-fn reads_files(rt: HostRuntime) -> Result<(), Fail> {
+fn reads_files(rt: HostRuntime) {
     let alloc = rt.alloc();
-    let all = named(alloc, &["ga-bench", "list"])?;
-    assert!(rt;
-        all.file().is_none()
-            && all
-                == Job::List {
-                    labels: false,
-                    file: None
-                }
-    );
-    let job = named(alloc, &["ga-bench", "list", "x.source", "--labels"])?;
-    assert!(rt; job.file() == Some("x.source") && matches!(job, Job::List { labels: true, .. }));
-    assert!(rt; named(alloc, &["ga-bench", "list", "-"])?.file().is_none());
-    let check = named(alloc, &["ga-bench", "check", "x.transcript"])?;
-    assert!(rt; check.file() == Some("x.transcript") && matches!(check, Job::Check { .. }));
-    assert!(rt; named(alloc, &["ga-bench", "record", "-"])?.file().is_none());
-    Ok(())
+    let all = Job::List {
+        labels: false,
+        file: None,
+    };
+    assert!(rt; names(alloc, &["ga-bench", "list"], &all));
+    assert!(rt; names_file(alloc, &["ga-bench", "list"], None));
+    let labels = ["ga-bench", "list", "x.source", "--labels"];
+    assert!(rt; names_file(alloc, &labels, Some("x.source")) && names_labels(alloc, &labels));
+    assert!(rt; names_file(alloc, &["ga-bench", "list", "-"], None));
+    let check = ["ga-bench", "check", "x.transcript"];
+    assert!(rt; names_file(alloc, &check, Some("x.transcript")) && names_check(alloc, &check));
+    assert!(rt; names_file(alloc, &["ga-bench", "record", "-"], None));
 }
 
 #[test]
 fn reads_names(rt: HostRuntime) -> Result<(), Fail> {
     let alloc = rt.alloc();
-    assert!(rt; named(alloc, &["ga-bench", "explain"])? == Job::Explain { topic: None });
+    assert!(rt;
+        names(
+            alloc,
+            &["ga-bench", "explain"],
+            &Job::Explain { topic: None }
+        )
+    );
     let topic = Topic::named(alloc, "NotHeld")?;
     assert!(rt; topic.is_some());
-    assert!(rt; named(alloc, &["ga-bench", "explain", "NotHeld"])? == Job::Explain { topic });
+    assert!(rt;
+        names(
+            alloc,
+            &["ga-bench", "explain", "NotHeld"],
+            &Job::Explain { topic }
+        )
+    );
     Ok(())
 }
 
+/// The kind of the fault of a refused command line.
+fn kind_of(alloc: Global, words: &[&str]) -> Option<ErrorKind> {
+    match job(alloc, words) {
+        Err(LineError::Parse(error)) => Some(error.kind()),
+        _ => None,
+    }
+}
+
 #[test]
-fn refuses_command_lines(rt: HostRuntime) -> Result<(), Fail> {
+fn refuses_command_lines(rt: HostRuntime) {
     let alloc = rt.alloc();
     let table = [
         (["ga-bench"].as_slice(), ErrorKind::MissingSubcommand),
@@ -141,10 +174,6 @@ fn refuses_command_lines(rt: HostRuntime) -> Result<(), Fail> {
         (&["ga-bench", "--version"], ErrorKind::DisplayVersion),
     ];
     for (words, kind) in table {
-        match job(alloc, words) {
-            Err(LineError::Parse(error)) => assert!(rt; error.kind() == kind, "{words:?}"),
-            _ => return Err("no error of the line".into()),
-        }
+        assert!(rt; kind_of(alloc, words) == Some(kind), "{words:?}");
     }
-    Ok(())
 }

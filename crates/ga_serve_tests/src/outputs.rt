@@ -2,15 +2,29 @@
 ghost use Rattle.std.specs.Prelude.{◌≡◌, ◌++◌, List, ℕ, Ok, OnOk};
 ghost use Rattle.ga_serve.specs.Answering.{IsOutput};
 
-use crate::streams::{LINE, WORDS, sink_of, source_of};
+use crate::streams::{LINE, WORDS, boot_of, run_of, sink_of, source_of};
 use ga_command_line::Job;
 use ga_jobs::{InputFault, ServeError};
 use ga_serve::{answer, serve, status};
 use std::test::Fail;
 use std::thread::Threads;
 
+/// Whether a job writes this text for an input, by reads and writes of so many bytes.
+fn writes(
+    rt: &(impl AllocGlobal + Threads + Sync),
+    job: &Job,
+    input: &str,
+    most: usize,
+    text: &str,
+) -> bool {
+    let mut reader = source_of(input.as_bytes(), most);
+    let mut writer = sink_of(rt.alloc(), most);
+    let outcome = serve(rt, &mut reader, &mut writer, job);
+    status(&outcome) == 0 && writer.taken.as_slice() == text.as_bytes()
+}
+
 #[test]
-fn answers_lines(rt: HostRuntime) -> Result<(), Fail> {
+fn answers_lines(rt: HostRuntime) {
     let table = [
         (Job::One { tries: 5 }, WORDS, LINE),
         (
@@ -59,17 +73,9 @@ fn answers_lines(rt: HostRuntime) -> Result<(), Fail> {
     ];
     for (job, input, text) in table {
         for most in [1, 7, 8192] {
-            let mut reader = source_of(input.as_bytes(), most);
-            let mut writer = sink_of(rt.alloc(), most);
-            let outcome = serve(&rt, &mut reader, &mut writer, &job);
-            assert!(rt; status(&outcome) == 0);
-            assert!(rt;
-                writer.taken.as_slice() == text.as_bytes(),
-                "{most} at a call"
-            );
+            assert!(rt; writes(&rt, &job, input, most, text), "{most} at a call");
         }
     }
-    Ok(())
 }
 
 /// The boot of 709 along 708, 709.
@@ -95,19 +101,14 @@ start 11
 
 #[test]
 fn boots_routes(rt: HostRuntime) -> Result<(), Fail> {
-    let alloc = rt.alloc();
     let table = [
         ("708,709", "node 709 .", ROUTE_BOOT),
         ("708,709/708", "node 709 .", ROUTE_BOOT),
         ("708,709/708,608", "node 709 . node 608 .", TREE_BOOT),
     ];
     for (route, input, text) in table {
-        let route = String::from_str(alloc, route)?;
-        let mut writer = sink_of(alloc, 8192);
-        let mut reader = source_of(input.as_bytes(), 8192);
-        let outcome = serve(&rt, &mut reader, &mut writer, &Job::Boot { route });
-        assert!(rt; status(&outcome) == 0);
-        assert!(rt; writer.taken.as_slice() == text.as_bytes());
+        let boot = boot_of(rt.alloc(), route)?;
+        assert!(rt; writes(&rt, &boot, input, 8192, text));
     }
     Ok(())
 }
@@ -133,20 +134,16 @@ rs 00000 00000 00000 00000 00000 00000 00000 00000
 
 #[test]
 fn run_two_nodes(rt: HostRuntime) -> Result<(), Fail> {
-    let alloc = rt.alloc();
     // the second is the tree of the first, and a front of it
-    for (route, workers) in [("708,709", 1), ("708,709/708", 1), ("708,709", 2)] {
-        let job = Job::Run {
-            route: String::from_str(alloc, route)?,
-            workers,
-            turns: 200,
-        };
-        let mut writer = sink_of(alloc, 8192);
-        let mut reader = source_of(TWO_NODES.as_bytes(), 8192);
-        assert!(rt; status(&serve(&rt, &mut reader, &mut writer, &job)) == 0);
-        // How far two workers come in so many turns is open.
-        assert!(rt; workers > 1 || writer.taken.as_slice() == TWO_NODES_RUN.as_bytes());
+    for route in ["708,709", "708,709/708"] {
+        let run = run_of(rt.alloc(), route, 1, 200)?;
+        assert!(rt; writes(&rt, &run, TWO_NODES, 8192, TWO_NODES_RUN));
     }
+    // How far two workers come in so many turns is open.
+    let run = run_of(rt.alloc(), "708,709", 2, 200)?;
+    let mut reader = source_of(TWO_NODES.as_bytes(), 8192);
+    let outcome = serve(&rt, &mut reader, &mut sink_of(rt.alloc(), 8192), &run);
+    assert!(rt; status(&outcome) == 0);
     Ok(())
 }
 
@@ -177,7 +174,11 @@ fn composes(rt: HostRuntime) {
 fn answers_bytes_in_memory(rt: HostRuntime) -> Result<(), Fail> {
     let text = answer(&rt, &Job::One { tries: 5 }, WORDS.as_bytes())?;
     assert!(rt; text.as_str() == LINE);
+    Ok(())
+}
 
+#[test]
+fn answers_no_long_input(rt: HostRuntime) -> Result<(), Fail> {
     let long = vec![in rt.alloc(); 0xFF; 1_048_577]?;
     let fault = answer(&rt, &Job::Asm, &long).err();
     assert!(rt; fault == Some(ServeError::Input(InputFault::TooLong)));

@@ -1,5 +1,5 @@
 //! Every job, by readers and writers that fail at each call in turn, or take and give one byte at a call.
-use crate::streams::{WORDS, sink_of, source_of};
+use crate::streams::{WORDS, boot_of, run_of, sink_of, source_of};
 use ga_command_line::Job;
 use ga_explain::Topic;
 use ga_jobs::ServeError;
@@ -31,19 +31,13 @@ const MOST: u32 = 1000;
 
 /// A job of each subcommand, and an input that it accepts.
 fn jobs(alloc: Global) -> Result<Vec<(Job, &'static str)>, Fail> {
-    let route = String::from_str(alloc, "708,709")?;
-    let run = Job::Run {
-        route: route.clone()?,
-        workers: 1,
-        turns: 200,
-    };
     let topic = Topic::named(alloc, "NotHeld")?;
     let mut jobs = Vec::new(alloc);
     jobs.push((Job::One { tries: 5 }, WORDS))?;
     jobs.push((Job::Asm, SOURCE))?;
     jobs.push((Job::Dis { code: Some(2) }, WORDS))?;
-    jobs.push((Job::Boot { route }, SOURCE))?;
-    jobs.push((run, SOURCE))?;
+    jobs.push((boot_of(alloc, "708,709")?, SOURCE))?;
+    jobs.push((run_of(alloc, "708,709", 1, 200)?, SOURCE))?;
     jobs.push((Job::Debug, SESSION))?;
     jobs.push((Job::Replay, STEPS))?;
     let listed = Job::List {

@@ -7,6 +7,7 @@ use ga_serve::serve;
 use std::alloc::{AllocError, Global};
 use std::io::ErrorKind;
 use std::test::Fail;
+use std::thread::Threads;
 
 /// The four words and spaces behind them, so many bytes in all.
 fn padded(alloc: Global, len: usize) -> Result<Vec<u8>, AllocError> {
@@ -15,22 +16,41 @@ fn padded(alloc: Global, len: usize) -> Result<Vec<u8>, AllocError> {
     Ok(input)
 }
 
+/// Whether `one 5` writes the line of the four words for an input, by reads of so many bytes.
+fn is_served(rt: &(impl AllocGlobal + Threads + Sync), input: &[u8], most: usize) -> bool {
+    let mut reader = source_of(input, most);
+    let mut writer = sink_of(rt.alloc(), 8192);
+    let outcome = serve(rt, &mut reader, &mut writer, &Job::One { tries: 5 });
+    outcome == Ok(()) && writer.taken.as_slice() == LINE.as_bytes()
+}
+
+/// Whether `one 5` refuses an input that has no words, and writes nothing.
+fn is_refused(rt: &(impl AllocGlobal + Threads + Sync), input: &[u8], most: usize) -> bool {
+    let mut reader = source_of(input, most);
+    let mut writer = sink_of(rt.alloc(), 8192);
+    let outcome = serve(rt, &mut reader, &mut writer, &Job::One { tries: 5 });
+    outcome == Err(ServeError::Words(WordsFault::Empty)) && writer.taken.is_empty()
+}
+
+/// How many bytes of an input that `one 5` refuses aren't read.
+fn left_of(rt: &(impl AllocGlobal + Threads + Sync), input: &[u8], most: usize) -> Option<usize> {
+    let mut reader = source_of(input, most);
+    let mut writer = sink_of(rt.alloc(), 8192);
+    match serve(rt, &mut reader, &mut writer, &Job::One { tries: 5 }) {
+        Ok(()) => None,
+        Err(_) => Some(reader.bytes.len()),
+    }
+}
+
 #[test]
 fn reads_up_to_the_limit(rt: HostRuntime) -> Result<(), Fail> {
     let alloc = rt.alloc();
     let accepted = padded(alloc, 1_048_576)?;
     let refused = padded(alloc, 1_048_585)?;
     for most in [1, 8192] {
-        let mut writer = sink_of(alloc, 8192);
-        let mut reader = source_of(&accepted, most);
-        let outcome = serve(&rt, &mut reader, &mut writer, &Job::One { tries: 5 });
-        assert!(rt; outcome == Ok(()));
-        assert!(rt; writer.taken.as_slice() == LINE.as_bytes());
-
-        let mut reader = source_of(&refused, most);
-        let outcome = serve(&rt, &mut reader, &mut writer, &Job::One { tries: 5 });
-        assert!(rt; outcome.is_err());
-        assert!(rt; reader.bytes.len() == 8, "one byte past the limit is read");
+        assert!(rt; is_served(&rt, &accepted, most));
+        // one byte past the limit is read
+        assert!(rt; left_of(&rt, &refused, most) == Some(8));
     }
     Ok(())
 }
@@ -80,34 +100,29 @@ fn reads_each_length(rt: HostRuntime) -> Result<(), Fail> {
     let alloc = rt.alloc();
     for len in 0..3000 {
         let mut input = vec![in alloc; b' '; len]?;
-        let mut writer = sink_of(alloc, 8192);
-        let mut reader = source_of(&input, 1 + len % 97);
-        let outcome = serve(&rt, &mut reader, &mut writer, &Job::One { tries: 5 });
-        assert!(rt;
-            outcome == Err(ServeError::Words(WordsFault::Empty)),
-            "{len} bytes"
-        );
-
+        let most = 1 + len % 97;
+        assert!(rt; is_refused(&rt, &input, most), "{len} bytes");
         input.extend_from_slice(WORDS.as_bytes())?;
-        let mut reader = source_of(&input, 1 + len % 97);
-        let outcome = serve(&rt, &mut reader, &mut writer, &Job::One { tries: 5 });
-        assert!(rt; outcome == Ok(()), "{len} bytes more");
-        assert!(rt; writer.taken.as_slice() == LINE.as_bytes());
+        assert!(rt; is_served(&rt, &input, most), "{len} bytes more");
     }
     Ok(())
 }
 
+/// Whether a topic, or all topics, are explained without a read, in a text that begins with this byte and ends with LF.
+fn explains(rt: &(impl AllocGlobal + Threads + Sync), topic: Option<Topic>, first: u8) -> bool {
+    let mut reader = source_of(WORDS.as_bytes(), 6);
+    let mut writer = sink_of(rt.alloc(), 8192);
+    let outcome = serve(rt, &mut reader, &mut writer, &Job::Explain { topic });
+    outcome == Ok(())
+        && reader.calls == 0
+        && writer.taken.first() == Some(&first)
+        && writer.taken.last() == Some(&b'\n')
+}
+
 #[test]
 fn explains_without_reading(rt: HostRuntime) -> Result<(), Fail> {
-    let alloc = rt.alloc();
-    let topic = Topic::named(alloc, "NotHeld")?;
+    let topic = Topic::named(rt.alloc(), "NotHeld")?;
     assert!(rt; topic.is_some());
-    for (topic, first) in [(None, b'B'), (topic, b'N')] {
-        let mut reader = source_of(WORDS.as_bytes(), 6);
-        let mut writer = sink_of(alloc, 8192);
-        let outcome = serve(&rt, &mut reader, &mut writer, &Job::Explain { topic });
-        assert!(rt; outcome == Ok(()) && reader.calls == 0);
-        assert!(rt; writer.taken.first() == Some(&first) && writer.taken.last() == Some(&b'\n'));
-    }
+    assert!(rt; explains(&rt, None, b'B') && explains(&rt, topic, b'N'));
     Ok(())
 }

@@ -1,12 +1,26 @@
 //! Inputs and routes that are refused, and why; nothing is written then.
-use crate::streams::{sink_of, source_of};
+use crate::streams::{boot_of, run_of, sink_of, source_of};
 use ga_command_line::Job;
 use ga_jobs::ServeError;
 use ga_serve::{serve, status};
-use std::alloc::Global;
 use std::process::Abort;
 use std::test::Fail;
 use std::thread::Threads;
+
+/// Compares the status of a job that is refused, and the text of its fault.
+fn told(
+    rt: &(impl AllocGlobal + Abort),
+    outcome: &Result<(), ServeError>,
+    text: &str,
+    number: u8,
+) -> Result<(), Fail> {
+    assert!(rt; status(outcome) == number);
+    let Err(fault) = outcome else {
+        return Err("an answer".into());
+    };
+    assert!(rt; fault.to_string(rt.alloc())?.as_str() == text, "{text}");
+    Ok(())
+}
 
 /// Serves a job that is refused, and compares the text of its fault and its status. Nothing is written.
 fn refuses(
@@ -15,56 +29,42 @@ fn refuses(
     input: &[u8],
     text: &str,
 ) -> Result<(), Fail> {
-    let alloc = rt.alloc();
-    let mut writer = sink_of(alloc, 8192);
+    let mut writer = sink_of(rt.alloc(), 8192);
     let outcome = serve(rt, &mut source_of(input, 8192), &mut writer, job);
-    assert!(rt; status(&outcome) == 1);
-    let Err(fault) = outcome else {
-        return Err("an answer".into());
-    };
-    assert!(rt; fault.to_string(alloc)?.as_str() == text, "{text}");
     assert!(rt; writer.calls == 0);
-    Ok(())
-}
-
-fn boot_of(alloc: Global, route: &str) -> Result<Job, Fail> {
-    let route = String::from_str(alloc, route)?;
-    Ok(Job::Boot { route })
-}
-
-fn run_of(alloc: Global, route: &str, workers: u32, turns: u32) -> Result<Job, Fail> {
-    let route = String::from_str(alloc, route)?;
-    Ok(Job::Run {
-        route,
-        workers,
-        turns,
-    })
+    told(rt, &outcome, text, 1)
 }
 
 #[test]
 fn refuses_inputs(rt: HostRuntime) -> Result<(), Fail> {
-    let alloc = rt.alloc();
-    let mut many = Vec::new(alloc);
-    for _ in 0..65 {
-        many.extend_from_slice(b"3FFFF ")?;
-    }
-    let mut many_and_bad = many.clone()?;
-    many_and_bad.extend_from_slice(b"40000")?;
-    let long = vec![in alloc; 0xFF; 1_048_577]?;
     let table = [
         (b"".as_slice(), "words Empty"),
         (b" \t\r\n", "words Empty"),
         (b"04A12 5", "words 1 BadWord"),
-        (&many, "words TooLong"),
-        (&many_and_bad, "words 65 BadWord"),
         (b"\xFF", "input BadText"),
         (b"5 \xFF", "input BadText"),
-        (&long, "input TooLong"),
     ];
     for (input, text) in table {
         refuses(&rt, &Job::One { tries: 1 }, input, text)?;
     }
     Ok(())
+}
+
+#[test]
+fn refuses_many_words(rt: HostRuntime) -> Result<(), Fail> {
+    let mut many = Vec::new(rt.alloc());
+    for _ in 0..65 {
+        many.extend_from_slice(b"3FFFF ")?;
+    }
+    refuses(&rt, &Job::One { tries: 1 }, &many, "words TooLong")?;
+    many.extend_from_slice(b"40000")?;
+    refuses(&rt, &Job::One { tries: 1 }, &many, "words 65 BadWord")
+}
+
+#[test]
+fn refuses_long_inputs(rt: HostRuntime) -> Result<(), Fail> {
+    let long = vec![in rt.alloc(); 0xFF; 1_048_577]?;
+    refuses(&rt, &Job::One { tries: 1 }, &long, "input TooLong")
 }
 
 #[test]
@@ -80,36 +80,42 @@ fn refuses_too_much_code(rt: HostRuntime) -> Result<(), Fail> {
     Ok(())
 }
 
+/// Serves a boot that is refused.
+fn refuses_boot(
+    rt: &(impl AllocGlobal + Threads + Sync + Abort),
+    source: &str,
+    route: &str,
+    text: &str,
+) -> Result<(), Fail> {
+    let boot = boot_of(rt.alloc(), route)?;
+    refuses(rt, &boot, source.as_bytes(), text)
+}
+
 #[test]
 fn refuses_routes(rt: HostRuntime) -> Result<(), Fail> {
     // faults of the source and of the assembly come before those of a route, these before the tree's, and these before
     // the boot's
     let table = [
-        (b"node 709 .".as_slice(), "", "route BadRoute"),
-        (b"node 709 .", "999", "route BadRoute"),
-        (b"node 709 .", "101,102", "route NotEdge"),
-        (b"node 709 .", "708,710", "route NotNeighbour 1"),
-        (b"node 709 .", "708,709,708", "route Repeated 2"),
-        (b"node 709 .", "708//709", "route BadRoute"),
-        (b"node 709 .", "708,709/", "route BadRoute"),
-        (b"node 709 .", "708,709/708,709,708", "route Repeated 2"),
-        (b"node 709 .", "708,709/000,001", "tree OtherRoot 1"),
-        (b"node 709 .", "708,709,609/708,608,609", "tree Repeated 1"),
-        (
-            b"node 709 .",
-            "708,608/000,001/708,710",
-            "route NotNeighbour 1",
-        ),
-        (b"node 709 .", "708,608/000,001", "tree OtherRoot 1"),
-        (b"node 709 .", "708,608/708,707", "boot Unreached 709"),
-        (b"node 709 .", "708,707", "boot Unreached 709"),
-        (b"node 709 . #", "", "source 1:12 BadToken"),
-        (b"node 709 jump x", "", "asm 709 1:15 UndefinedLabel"),
+        ("", "route BadRoute"),
+        ("999", "route BadRoute"),
+        ("101,102", "route NotEdge"),
+        ("708,710", "route NotNeighbour 1"),
+        ("708,709,708", "route Repeated 2"),
+        ("708//709", "route BadRoute"),
+        ("708,709/", "route BadRoute"),
+        ("708,709/708,709,708", "route Repeated 2"),
+        ("708,709/000,001", "tree OtherRoot 1"),
+        ("708,709,609/708,608,609", "tree Repeated 1"),
+        ("708,608/000,001/708,710", "route NotNeighbour 1"),
+        ("708,608/000,001", "tree OtherRoot 1"),
+        ("708,608/708,707", "boot Unreached 709"),
+        ("708,707", "boot Unreached 709"),
     ];
-    for (input, route, text) in table {
-        refuses(&rt, &boot_of(rt.alloc(), route)?, input, text)?;
+    for (route, text) in table {
+        refuses_boot(&rt, "node 709 .", route, text)?;
     }
-    Ok(())
+    refuses_boot(&rt, "node 709 . #", "", "source 1:12 BadToken")?;
+    refuses_boot(&rt, "node 709 jump x", "", "asm 709 1:15 UndefinedLabel")
 }
 
 #[test]
@@ -131,32 +137,40 @@ fn refuses_source_texts(rt: HostRuntime) -> Result<(), Fail> {
 /// What is told of a token that the language does not have, or not where it stands.
 const BAD_TOKEN: &str = "a token that the language doesn't have, or one that may not stand there";
 
-#[test]
-fn shows_what_is_wrong(rt: HostRuntime) -> Result<(), Fail> {
-    let alloc = rt.alloc();
-    let tabs = format!(in alloc; "source 2:6 BadToken\n  \tdup\tfrob !p\n  \t   \t^\n{BAD_TOKEN}")?;
-    let letters = format!(in alloc;
-        "source 1:10 BadToken\n  node 709 \u{fc}ber\n           ^\n{BAD_TOKEN}"
-    )?;
-    let table = [
-        (b"node 709\r\n\tdup\tfrob !p\r\n".as_slice(), tabs.as_str()),
-        (b"node 709 \xC3\xBCber", letters.as_str()),
-        (
-            b"node 709 jump x",
-            "asm 709 1:15 UndefinedLabel\n  node 709 jump x\n                ^\na name that is no label of its node",
-        ),
-        (
-            b"node 709 main:\n",
-            "source 2:1 Empty\n  \n  ^\na section that makes no word",
-        ),
-        (b"node 000 \xFF", "input BadText"),
-    ];
-    for (input, text) in table {
-        for labels in [false, true] {
-            refuses(&rt, &Job::List { labels, file: None }, input, text)?;
-        }
+/// Serves a list that is refused, with all words and with the labels alone.
+fn refuses_list(
+    rt: &(impl AllocGlobal + Threads + Sync + Abort),
+    input: &[u8],
+    text: &str,
+) -> Result<(), Fail> {
+    for labels in [false, true] {
+        refuses(rt, &Job::List { labels, file: None }, input, text)?;
     }
     Ok(())
+}
+
+/// Serves a list that is refused for a token: the text begins with where it stands.
+fn refuses_token(
+    rt: &(impl AllocGlobal + Threads + Sync + Abort),
+    input: &[u8],
+    place: &str,
+) -> Result<(), Fail> {
+    let text = format!(in rt.alloc(); "{place}\n{BAD_TOKEN}")?;
+    refuses_list(rt, input, &text)
+}
+
+#[test]
+fn shows_what_is_wrong(rt: HostRuntime) -> Result<(), Fail> {
+    let tabs = "source 2:6 BadToken\n  \tdup\tfrob !p\n  \t   \t^";
+    refuses_token(&rt, b"node 709\r\n\tdup\tfrob !p\r\n", tabs)?;
+    let letters = "source 1:10 BadToken\n  node 709 \u{fc}ber\n           ^";
+    refuses_token(&rt, b"node 709 \xC3\xBCber", letters)?;
+    let label =
+        "asm 709 1:15 UndefinedLabel\n  node 709 jump x\n                ^\na name that is no label of its node";
+    refuses_list(&rt, b"node 709 jump x", label)?;
+    let empty = "source 2:1 Empty\n  \n  ^\na section that makes no word";
+    refuses_list(&rt, b"node 709 main:\n", empty)?;
+    refuses_list(&rt, b"node 000 \xFF", "input BadText")
 }
 
 #[test]
@@ -185,11 +199,7 @@ fn tells_faults(rt: HostRuntime) -> Result<(), Fail> {
         (Err(ServeError::Memory), "memory", 3),
     ];
     for (outcome, text, number) in &table {
-        assert!(rt; status(outcome) == *number);
-        let Err(fault) = outcome else {
-            return Err("an answer".into());
-        };
-        assert!(rt; fault.to_string(rt.alloc())?.as_str() == *text, "{text}");
+        told(&rt, outcome, text, *number)?;
     }
     Ok(())
 }

@@ -1,7 +1,9 @@
-//! Readers and writers in memory, which fail where a test says it.
+//! Readers and writers in memory, which fail where a test says it, and jobs of routes.
+use ga_command_line::Job;
 use std::alloc::Global;
 use std::io;
 use std::io::{ErrorKind, Read, Write};
+use std::test::Fail;
 
 /// Gives its bytes, at most so many at a call, and fails at one call, counted from 0.
 #[derive(Drop)]
@@ -107,3 +109,19 @@ pub const WORDS: &str = "04A12 00005 00003 2C9B2";
 /// What `one 5` writes of them.
 pub const LINE: &str =
     "node 000 P 003 A 00005 B 15D R 00000 S 00000 T 00003 C 0 io 00000 at fetch steps 5 need own\n";
+
+/// The boot of a route.
+pub fn boot_of(alloc: Global, route: &str) -> Result<Job, Fail> {
+    let route = String::from_str(alloc, route)?;
+    Ok(Job::Boot { route })
+}
+
+/// The run of a route by so many workers.
+pub fn run_of(alloc: Global, route: &str, workers: u32, turns: u32) -> Result<Job, Fail> {
+    let route = String::from_str(alloc, route)?;
+    Ok(Job::Run {
+        route,
+        workers,
+        turns,
+    })
+}

@@ -1,8 +1,8 @@
-use crate::shared::assembled;
+use crate::shared::{are_numbers, assembled, sections_of_all_nodes};
 use ga_asm::{AsmError, AsmErrorKind, Image, Images, TextError, assemble, assemble_text};
 use ga_source::{SourceError, SourceErrorKind, parse};
 use ga_test_values::node;
-use std::alloc::Global;
+use std::alloc::{AllocError, Global};
 use std::test::Fail;
 
 fn fault(alloc: Global, text: &str) -> Result<Option<AsmError>, Fail> {
@@ -16,14 +16,31 @@ fn image(images: &Images, name: u16) -> Result<&Image, Fail> {
 /// Whether the image of a node has these words.
 fn has_words(alloc: Global, text: &str, name: u16, numbers: &[u32]) -> Result<bool, Fail> {
     let images = assembled(alloc, text)?;
-    let words = image(&images, name)?.words();
-    Ok(
-        words.len() == numbers.len()
-            && words
-                .iter()
-                .zip(numbers)
-                .all(|(word, number)| word.get() == *number),
-    )
+    Ok(are_numbers(image(&images, name)?.words(), numbers))
+}
+
+/// Whether so many words of a node are code, and it begins at this address.
+fn has_code(
+    alloc: Global,
+    text: &str,
+    name: u16,
+    code_len: usize,
+    entry: u8,
+) -> Result<bool, Fail> {
+    let images = assembled(alloc, text)?;
+    let image = image(&images, name)?;
+    Ok(image.code_len() == code_len && image.entry() == entry)
+}
+
+/// Whether a node has a label at this address.
+fn has_label(alloc: Global, text: &str, name: u16, label: &str, address: u8) -> Result<bool, Fail> {
+    let images = assembled(alloc, text)?;
+    Ok(image(&images, name)?.labels().get(label).copied() == Some(address))
+}
+
+/// How many nodes of a text have an image.
+fn image_count(alloc: Global, text: &str) -> Result<usize, Fail> {
+    Ok(assembled(alloc, text)?.images().len())
 }
 
 /// Whether a text of node 000 on one line is refused for this at this column.
@@ -55,16 +72,9 @@ fn words_of_items(rt: HostRuntime) -> Result<(), Fail> {
     ];
     for (text, words) in cases {
         assert!(rt; has_words(rt.alloc(), text, 709, words)?, "{text}");
-        assert!(rt; is_code_from_0(rt.alloc(), text, 709)?, "{text}");
+        assert!(rt; has_code(rt.alloc(), text, 709, words.len(), 0)?, "{text}");
     }
     Ok(())
-}
-
-/// Whether all words of a node are code, which begins at address 000.
-fn is_code_from_0(alloc: Global, text: &str, name: u16) -> Result<bool, Fail> {
-    let images = assembled(alloc, text)?;
-    let image = image(&images, name)?;
-    Ok(image.code_len() == image.words().len() && image.entry() == 0)
 }
 
 #[test]
@@ -140,14 +150,12 @@ fn labels_data_and_entry(rt: HostRuntime) -> Result<(), Fail> {
     let text = "node 708 dup main: drop data table: , $3FFFF , main end:\nnode 001 .";
     let words = [0x249B2, 0x3A9B2, 0x3FFFF, 0x00001];
     assert!(rt; has_words(rt.alloc(), text, 708, &words)?);
-    let images = assembled(rt.alloc(), text)?;
-    assert!(rt; images.images().len() == 2);
-    let image = image(&images, 708)?;
-    assert!(rt; image.code_len() == 2 && image.entry() == 1);
-    for (name, address) in [("main", 1), ("table", 2), ("end", 4)] {
+    assert!(rt; image_count(rt.alloc(), text)? == 2);
+    assert!(rt; has_code(rt.alloc(), text, 708, 2, 1)?);
+    for (label, address) in [("main", 1), ("table", 2), ("end", 4)] {
         assert!(rt;
-            image.labels().get(name).copied() == Some(address),
-            "{name}"
+            has_label(rt.alloc(), text, 708, label, address)?,
+            "{label}"
         );
     }
     Ok(())
@@ -165,38 +173,25 @@ fn labels_at_each_slot(rt: HostRuntime) -> Result<(), Fail> {
     ];
     for (text, words, address) in cases {
         assert!(rt; has_words(rt.alloc(), text, 0, words)?, "{text}");
-        assert!(rt; has_label_at(rt.alloc(), text, "x", address)?, "{text}");
+        assert!(rt; has_label(rt.alloc(), text, 0, "x", address)?, "{text}");
     }
     Ok(())
 }
 
-/// Whether node 000 has a label at this address.
-fn has_label_at(alloc: Global, text: &str, label: &str, address: u8) -> Result<bool, Fail> {
-    let images = assembled(alloc, text)?;
-    Ok(image(&images, 0)?.labels().get(label).copied() == Some(address))
-}
-
-/// A section for each node, each of 64 words.
-fn full_sections(alloc: Global) -> Result<String, Fail> {
+/// The text of 64 words of data.
+fn full_memory(alloc: Global) -> Result<String, AllocError> {
     let mut words = String::from_str(alloc, "data")?;
     for _ in 0..64u32 {
         words.push_str(" , $3FFFF")?;
     }
-    let mut text = String::new(alloc);
-    for row in 0..8u16 {
-        for column in 0..18u16 {
-            let node = node(row * 100 + column)?;
-            let line = format!(in alloc; "node {node} {words}\n")?;
-            text.push_str(line.as_str())?;
-        }
-    }
-    Ok(text)
+    Ok(words)
 }
 
 #[test]
 fn all_nodes_full(rt: HostRuntime) -> Result<(), Fail> {
     let alloc = rt.alloc();
-    let text = full_sections(alloc)?;
+    let memory = full_memory(alloc)?;
+    let text = sections_of_all_nodes(alloc, memory.as_str())?;
     let images = assembled(alloc, text.as_str())?;
     assert!(rt; images.images().len() == 144);
     let last = image(&images, 717)?;
@@ -208,16 +203,15 @@ fn all_nodes_full(rt: HostRuntime) -> Result<(), Fail> {
 /// A fault of the text comes before one of its program.
 #[test]
 fn texts_to_images(rt: HostRuntime) -> Result<(), Fail> {
-    let images = assemble_text(rt.alloc(), "node 709 main: $5 $7 + @b")?;
-    assert!(rt; image(&images, 709)?.words().len() == 4);
+    assert!(rt; word_count(rt.alloc(), "node 709 main: $5 $7 + @b", 709)? == 4);
 
     let token = SourceError {
         kind: SourceErrorKind::BadToken,
         line: 1,
         column: 17,
     };
-    let error = assemble_text(rt.alloc(), "node 000 jump x #").err();
-    assert!(rt; error == Some(TextError::Source(token)));
+    let told = Some(TextError::Source(token));
+    assert!(rt; assemble_text(rt.alloc(), "node 000 jump x #").err() == told);
 
     let name = AsmError {
         kind: AsmErrorKind::UndefinedLabel,
@@ -225,7 +219,13 @@ fn texts_to_images(rt: HostRuntime) -> Result<(), Fail> {
         line: 1,
         column: 15,
     };
-    let error = assemble_text(rt.alloc(), "node 000 jump x").err();
-    assert!(rt; error == Some(TextError::Asm(name)));
+    let told = Some(TextError::Asm(name));
+    assert!(rt; assemble_text(rt.alloc(), "node 000 jump x").err() == told);
     Ok(())
+}
+
+/// How many words a node of a text has.
+fn word_count(alloc: Global, text: &str, name: u16) -> Result<usize, Fail> {
+    let images = assemble_text(alloc, text)?;
+    Ok(image(&images, name)?.words().len())
 }

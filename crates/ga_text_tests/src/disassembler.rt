@@ -1,4 +1,4 @@
-use crate::shared::packed;
+use crate::shared::{packed, printed};
 use ga_disasm::{Item, items, print};
 use ga_test_values::{word, words};
 use ga_word::Op;
@@ -27,30 +27,26 @@ fn items_and_print(rt: HostRuntime) -> Result<(), Fail> {
     Ok(())
 }
 
-/// The lines of words, of which so many are code.
-fn lines(alloc: Global, numbers: &[u32], code_len: usize) -> Result<String, Fail> {
+/// Whether words, of which so many are code, have these lines.
+fn has_lines(alloc: Global, numbers: &[u32], code_len: usize, lines: &str) -> Result<bool, Fail> {
     let words = words(alloc, numbers)?;
     if code_len > words.len() {
         return Err("too few words")?;
     }
-    let items = items(alloc, &words, code_len)?;
-    Ok(print(alloc, &items)?)
+    Ok(printed(alloc, &words, code_len)?.as_str() == lines)
 }
 
 #[test]
 fn lines_of_words(rt: HostRuntime) -> Result<(), Fail> {
     let alloc = rt.alloc();
-    assert!(rt; lines(alloc, &[], 0)?.is_empty());
-    let jump = lines(alloc, &[0x1_0BD5], 1)?;
-    assert!(rt; jump.as_str() == "[ jump $003D5 / 2 ]\n");
-    let in_slot1 = lines(alloc, &[0x2_572A], 1)?;
-    assert!(rt; in_slot1.as_str() == "[ dup jump $0002A ]\n");
-    let in_slot2 = lines(alloc, &[0x2_4242], 1)?;
-    assert!(rt; in_slot2.as_str() == "[ dup drop jump $00002 ]\n");
-    let data = lines(alloc, &[0x1_0BD5], 0)?;
-    assert!(rt; data.as_str() == "data\n, $10BD5\n");
+    assert!(rt; has_lines(alloc, &[], 0, "")?);
+    assert!(rt; has_lines(alloc, &[0x1_0BD5], 1, "[ jump $003D5 / 2 ]\n")?);
+    // a jump in slot 1 and one in slot 2
+    assert!(rt; has_lines(alloc, &[0x2_572A], 1, "[ dup jump $0002A ]\n")?);
+    assert!(rt; has_lines(alloc, &[0x2_4242], 1, "[ dup drop jump $00002 ]\n")?);
+    assert!(rt; has_lines(alloc, &[0x1_0BD5], 0, "data\n, $10BD5\n")?);
     // the code ends before the follower
-    let cut = lines(alloc, &[0x0_49B2, 0x0_0005], 1)?;
-    assert!(rt; cut.as_str() == "[ @p . . . ]\ndata\n, $00005\n");
+    let cut = "[ @p . . . ]\ndata\n, $00005\n";
+    assert!(rt; has_lines(alloc, &[0x0_49B2, 0x0_0005], 1, cut)?);
     Ok(())
 }

@@ -92,31 +92,42 @@ fn cut_streams(rt: HostRuntime) -> Result<(), Fail> {
     Ok(())
 }
 
-/// Feeds a piece. Answers how many frames are whole with it.
-fn feed(
+/// Feeds a piece. Answers whether so many frames are whole with it, or it is refused so.
+fn gives(
     alloc: Global,
     feed: &mut FrameFeed,
     numbers: &[u32],
-) -> Result<Result<usize, FrameError>, Fail> {
+    wanted: Result<usize, FrameError>,
+) -> Result<bool, Fail> {
     let piece = words(alloc, numbers)?;
-    Ok(feed.feed(&piece).map(|frames| frames.len()))
+    Ok(feed.feed(&piece).map(|frames| frames.len()) == wanted)
 }
 
 #[test]
 fn frame_in_pieces(rt: HostRuntime) -> Result<(), Fail> {
     let alloc = rt.alloc();
     let mut reader = FrameFeed::new(alloc);
-    assert!(rt; feed(alloc, &mut reader, &[0x001B5, 0x00000])? == Ok(0));
-    assert!(rt; feed(alloc, &mut reader, &[0x00001])? == Ok(0));
-    let nops = words(alloc, &[0x2C9B2])?;
-    let frames = reader.feed(&nops)?;
-    assert!(rt; frames.len() == 1 && frames[0].completion.get() == 0x1B5);
-    assert!(rt; frames[0].transfer.get() == 0 && frames[0].words == nops);
+    assert!(rt; gives(alloc, &mut reader, &[0x001B5, 0x00000], Ok(0))?);
+    assert!(rt; gives(alloc, &mut reader, &[0x00001], Ok(0))?);
+    assert!(rt; ends_frame(&mut reader, word(0x2C9B2)?)?);
     // behind the last frame comes a word, and then none
-    assert!(rt; feed(alloc, &mut reader, &[0x2C9B2])? == Err(FrameError::AfterEnd(4)));
-    assert!(rt; feed(alloc, &mut reader, &[])? == Ok(0));
+    assert!(rt; gives(alloc, &mut reader, &[0x2C9B2], Err(FrameError::AfterEnd(4)))?);
+    assert!(rt; gives(alloc, &mut reader, &[], Ok(0))?);
     assert!(rt; reader.finish() == Ok(()));
     Ok(())
+}
+
+/// Whether one frame is whole with this word, its only one, and has 1B5 and 000 in front of it.
+fn ends_frame(reader: &mut FrameFeed, only: Word18) -> Result<bool, Fail> {
+    let frames = reader.feed(&[only])?;
+    let [frame] = frames.as_slice() else {
+        return Ok(false);
+    };
+    Ok(
+        frame.completion.get() == 0x1B5
+            && frame.transfer.get() == 0
+            && frame.words.as_slice() == [only].as_slice(),
+    )
 }
 
 #[test]
@@ -124,17 +135,24 @@ fn refused_pieces(rt: HostRuntime) -> Result<(), Fail> {
     let alloc = rt.alloc();
     let mut reader = FrameFeed::new(alloc);
     let begun = [0x000AE, 0x00000, 0x00001, 0x2C9B2, 0x001B5];
-    assert!(rt; feed(alloc, &mut reader, &begun)? == Ok(1));
+    assert!(rt; gives(alloc, &mut reader, &begun, Ok(1))?);
     // a bad address of the second frame, as soon as its three first words are there
-    assert!(rt; feed(alloc, &mut reader, &[0x00141])? == Ok(0));
-    assert!(rt; feed(alloc, &mut reader, &[0x00000])? == Err(FrameError::BadAddress(4)));
+    assert!(rt; gives(alloc, &mut reader, &[0x00141], Ok(0))?);
+    assert!(rt;
+        gives(
+            alloc,
+            &mut reader,
+            &[0x00000],
+            Err(FrameError::BadAddress(4))
+        )?
+    );
     assert!(rt; reader.finish() == Err(FrameError::CutHeader(4)));
     // a piece that is refused for its last word is not kept
     let mut reader = FrameFeed::new(alloc);
-    assert!(rt; feed(alloc, &mut reader, &[0x001B5])? == Ok(0));
+    assert!(rt; gives(alloc, &mut reader, &[0x001B5], Ok(0))?);
     let late = [0x00000, 0x00000, 0x2C9B2];
-    assert!(rt; feed(alloc, &mut reader, &late)? == Err(FrameError::AfterEnd(3)));
-    assert!(rt; feed(alloc, &mut reader, &[0x00000, 0x00002, 0x2C9B2])? == Ok(0));
+    assert!(rt; gives(alloc, &mut reader, &late, Err(FrameError::AfterEnd(3)))?);
+    assert!(rt; gives(alloc, &mut reader, &[0x00000, 0x00002, 0x2C9B2], Ok(0))?);
     assert!(rt; reader.finish() == Err(FrameError::CutBody(0)));
     Ok(())
 }
@@ -144,7 +162,7 @@ fn cut_short(rt: HostRuntime) -> Result<(), Fail> {
     let alloc = rt.alloc();
     assert!(rt; FrameFeed::new(alloc).finish() == Err(FrameError::CutHeader(0)));
     let mut reader = FrameFeed::new(alloc);
-    assert!(rt; feed(alloc, &mut reader, &[0x001B5])? == Ok(0));
+    assert!(rt; gives(alloc, &mut reader, &[0x001B5], Ok(0))?);
     assert!(rt; reader.finish() == Err(FrameError::CutHeader(0)));
     Ok(())
 }

@@ -1,6 +1,6 @@
-use ga_asm::{assemble, word_places};
+use ga_asm::{Images, assemble, word_places};
 use ga_list::{list, list_labels};
-use ga_source::parse;
+use ga_source::{Place, Program, parse};
 use ga_test_values::node;
 use std::alloc::Global;
 use std::test::Fail;
@@ -36,14 +36,25 @@ fn lists_labels(rt: HostRuntime) -> Result<(), Fail> {
 
 /// The lines in which the words of the second node of a text begin.
 fn lines_of(alloc: Global, text: &str) -> Result<Vec<usize>, Fail> {
-    let program = parse(alloc, text)?;
-    let images = assemble(alloc, &program)?;
-    let image = images.image_of(node(1)?).ok_or("no image")?;
+    let places = places_of(alloc, text)?;
     let mut lines = Vec::new(alloc);
-    for place in &word_places(alloc, &program, 1, image)? {
+    for place in &places {
         lines.push(place.line)?;
     }
     Ok(lines)
+}
+
+/// The places in which the words of the second node of a text begin.
+fn places_of(alloc: Global, text: &str) -> Result<Vec<Place>, Fail> {
+    let program = parse(alloc, text)?;
+    let images = assemble(alloc, &program)?;
+    places_in(alloc, &program, &images)
+}
+
+/// The places in which the words of node 001 begin, which is the second one of its program.
+fn places_in(alloc: Global, program: &Program<'_>, images: &Images) -> Result<Vec<Place>, Fail> {
+    let image = images.image_of(node(1)?).ok_or("no image")?;
+    Ok(word_places(alloc, program, 1, image)?)
 }
 
 #[test]

@@ -4,6 +4,7 @@ use ga_place::{
     side_to,
 };
 use ga_test_values::node;
+use std::alloc::Global;
 use std::test::Fail;
 
 #[test]
@@ -23,8 +24,7 @@ fn nodes(rt: HostRuntime) -> Result<(), Fail> {
             node.is_edge() == edge && idle_address(node) == idle,
             "at {name}"
         );
-        assert!(rt; node.to_string(rt.alloc())?.as_str() == text);
-        assert!(rt; Node::from_digits(text.as_bytes()) == Some(node));
+        assert!(rt; has_text(rt.alloc(), node, text)?);
     }
     assert!(rt;
         [820, 718, 800]
@@ -32,6 +32,12 @@ fn nodes(rt: HostRuntime) -> Result<(), Fail> {
             .all(|name| Node::new(name).is_none())
     );
     Ok(())
+}
+
+/// Whether a node is written as this text, and read from it.
+fn has_text(alloc: Global, node: Node, text: &str) -> Result<bool, Fail> {
+    let written = node.to_string(alloc)?;
+    Ok(written.as_str() == text && Node::from_digits(text.as_bytes()) == Some(node))
 }
 
 #[test]

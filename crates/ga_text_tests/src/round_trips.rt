@@ -1,10 +1,9 @@
 //! What is printed of words is assembled to these words.
 ghost use Rattle.std.specs.Prelude.{◌<◌, ◌≤◌, length};
 
-use ga_asm::assemble;
-use ga_disasm::{items, print};
-use ga_place::Node;
-use ga_source::parse;
+use crate::shared::{assembled, printed};
+use ga_asm::Images;
+use ga_test_values::{node, word};
 use ga_word::Word18;
 use std::alloc::Global;
 use std::test::Fail;
@@ -13,19 +12,29 @@ use std::test::Fail;
 fn comes_back(alloc: Global, words: &[Word18], code_len: usize) -> Result<bool, Fail>
     requires { code_len ≤ length words.now }
 {
-    let mut text = String::from_str(alloc, "node 000\n")?;
-    text.push_str(&print(alloc, &items(alloc, words, code_len)?)?)?;
-    let program = parse(alloc, &text)?;
-    let images = assemble(alloc, &program)?;
-    let node = Node::new(0).ok_or("no node")?;
-    let image = images.images().get(&node).ok_or("no image")?;
+    let text = section_of(alloc, words, code_len)?;
+    let images = assembled(alloc, text.as_str())?;
+    is_alone(&images, words, code_len)
+}
+
+/// The source text of node 000 with these words, of which so many are code.
+fn section_of(alloc: Global, words: &[Word18], code_len: usize) -> Result<String, Fail>
+    requires { code_len ≤ length words.now }
+{
+    let lines = printed(alloc, words, code_len)?;
+    Ok(format!(in alloc; "node 000\n{lines}")?)
+}
+
+/// Whether node 000 alone has an image, which has these words, of which so many are code.
+fn is_alone(images: &Images, words: &[Word18], code_len: usize) -> Result<bool, Fail> {
+    let image = images.images().get(&node(0)?).ok_or("no image")?;
     Ok(images.images().len() == 1 && image.words() == words && image.code_len() == code_len)
 }
 
 #[test]
 fn each_word_comes_back(rt: HostRuntime) -> Result<(), Fail> {
     for number in 0..1 << 18 {
-        let word = Word18::new(number).ok_or("no word")?;
+        let word = word(number)?;
         assert!(rt; comes_back(rt.alloc(), &[word], 1)?, "{number:05X}");
     }
     Ok(())
@@ -49,6 +58,15 @@ impl Numbers {
             .wrapping_add(1442695040888963407);
         (self.state >> 33) as u32 % bound
     }
+
+    /// So many words.
+    fn words(&mut self, alloc: Global, count: u32) -> Result<Vec<Word18>, Fail> {
+        let mut words = Vec::new(alloc);
+        for _ in 0..count {
+            words.push(word(self.below(1 << 18))?)?;
+        }
+        Ok(words)
+    }
 }
 
 #[test]
@@ -57,10 +75,7 @@ fn lists_of_words_come_back(rt: HostRuntime) -> Result<(), Fail> {
     let mut numbers = Numbers { state: 1 };
     for _ in 0..2000u32 {
         let count = 1 + numbers.below(64);
-        let mut words = Vec::new(alloc);
-        for _ in 0..count {
-            words.push(Word18::new(numbers.below(1 << 18)).ok_or("no word")?)?;
-        }
+        let words = numbers.words(alloc, count)?;
         let code_len = numbers.below(count + 1) as usize;
         assert!(rt; code_len <= words.len());
         assert!(rt;

@@ -1,7 +1,8 @@
+use crate::shared::sections_of_all_nodes;
 use arrayvec::ArrayVec;
 use ga_source::{
-    Item, ItemPlace, Name, Place, SourceError, SourceErrorKind, Token, TransferWord, Value, parse,
-    tokens,
+    Item, ItemPlace, Name, Place, Program, Section, SourceError, SourceErrorKind, Token,
+    TransferWord, Value, parse, tokens,
 };
 use ga_test_values::{node, word};
 use ga_word::Op;
@@ -34,17 +35,33 @@ fn named(name: &str) -> Result<Name, Fail> {
     Ok(Name::new(name).ok_or("more than 16 bytes")?)
 }
 
-/// A section for each node, each of one word and on a line of its own.
-fn sections_of_all_nodes(alloc: Global) -> Result<String, Fail> {
-    let mut text = String::new(alloc);
-    for row in 0..8u16 {
-        for column in 0..18u16 {
-            let node = node(row * 100 + column)?;
-            let line = format!(in alloc; "node {node} dup\n")?;
-            text.push_str(line.as_str())?;
-        }
-    }
-    Ok(text)
+/// How many sections a text has.
+fn section_count(alloc: Global, text: &str) -> Result<usize, Fail> {
+    Ok(parse(alloc, text)?.sections().len())
+}
+
+/// Whether the section of a node has these items and these labels.
+fn has_section(
+    alloc: Global,
+    text: &str,
+    name: u16,
+    items: &[Item],
+    labels: &[Name],
+) -> Result<bool, Fail> {
+    let program = parse(alloc, text)?;
+    let section = section(&program, name)?;
+    Ok(section.items.as_slice() == items && section.labels.as_slice() == labels)
+}
+
+/// The section of a node.
+fn section<'a>(program: &'a Program<'_>, name: u16) -> Result<&'a Section, Fail> {
+    Ok(program.sections().get(&node(name)?).ok_or("no section")?)
+}
+
+/// Whether the items of a section of the text below stand at these places.
+fn has_places(alloc: Global, section: usize, places: &[ItemPlace]) -> Result<bool, Fail> {
+    let program = parse(alloc, TWO_NODES)?;
+    Ok(program.places(alloc, section)?.as_slice() == places)
 }
 
 #[test]
@@ -131,9 +148,8 @@ fn lines(rt: HostRuntime) -> Result<(), Fail> {
 #[test]
 fn every_node_once(rt: HostRuntime) -> Result<(), Fail> {
     let alloc = rt.alloc();
-    let text = sections_of_all_nodes(alloc)?;
-    let program = parse(alloc, text.as_str())?;
-    assert!(rt; program.sections().len() == 144);
+    let text = sections_of_all_nodes(alloc, "dup")?;
+    assert!(rt; section_count(alloc, text.as_str())? == 144);
     let cases = [
         ("node", SourceErrorKind::BadNode, 5),
         ("node dup", SourceErrorKind::BadNode, 6),
@@ -201,21 +217,15 @@ const TWO_NODES: &str =
 #[test]
 fn items_of_sections(rt: HostRuntime) -> Result<(), Fail> {
     let alloc = rt.alloc();
-    let program = parse(alloc, TWO_NODES)?;
-    let sections = program.sections();
-    assert!(rt; sections.len() == 2);
-    let section = sections.get(&node(8)?).ok_or("no section")?;
-    let expected = expected_items(alloc)?;
-    assert!(rt; section.items == expected);
+    assert!(rt; section_count(alloc, TWO_NODES)? == 2);
     let name = named("loop")?;
-    assert!(rt; section.labels.as_slice() == [name].as_slice());
+    let items = expected_items(alloc)?;
+    assert!(rt; has_section(alloc, TWO_NODES, 8, &items, &[name])?);
     Ok(())
 }
 
 #[test]
 fn places_of_items(rt: HostRuntime) -> Result<(), Fail> {
-    let alloc = rt.alloc();
-    let program = parse(alloc, TWO_NODES)?;
     let first = [
         found((2, 3), None),
         found((2, 9), None),
@@ -230,25 +240,27 @@ fn places_of_items(rt: HostRuntime) -> Result<(), Fail> {
         found((5, 26), None),
         found((5, 31), None),
     ];
-    assert!(rt; program.places(alloc, 0)?.as_slice() == first.as_slice());
+    assert!(rt; has_places(rt.alloc(), 0, &first)?);
     let second = [found((6, 10), None), found((6, 15), Some((6, 20)))];
-    assert!(rt; program.places(alloc, 1)?.as_slice() == second.as_slice());
-    assert!(rt; program.places(alloc, 2)?.is_empty());
+    assert!(rt; has_places(rt.alloc(), 1, &second)?);
+    assert!(rt; has_places(rt.alloc(), 2, &[])?);
     Ok(())
 }
 
 #[test]
 fn upper_case_is_a_name(rt: HostRuntime) -> Result<(), Fail> {
     let alloc = rt.alloc();
-    let program = parse(alloc, "node 717 DUP: jump DUP")?;
-    let section = program.sections().get(&node(717)?).ok_or("no section")?;
-    let dest = Value::Label(named("DUP")?);
-    let expected = vec![in alloc;
-        Item::Label(named("DUP")?),
-        Item::Transfer { op: Op::Jump, dest },
-    ]?;
-    assert!(rt; section.items == expected);
+    let name = named("DUP")?;
+    let items = jump_to_itself(alloc, name)?;
+    assert!(rt; has_section(alloc, "node 717 DUP: jump DUP", 717, &items, &[name])?);
     Ok(())
+}
+
+/// A label, and a jump to it.
+fn jump_to_itself(alloc: Global, label: Name) -> Result<Vec<Item>, Fail> {
+    let dest = Value::Label(label);
+    let jump = Item::Transfer { op: Op::Jump, dest };
+    Ok(vec![in alloc; Item::Label(label), jump]?)
 }
 
 #[test]
@@ -273,33 +285,30 @@ fn printed_faults(rt: HostRuntime) -> Result<(), Fail> {
 
 #[test]
 fn tokens_of_texts(rt: HostRuntime) -> Result<(), Fail> {
-    let one = tokens(rt.alloc(), "dup")?;
-    let dup = Token {
-        start: 0,
-        end: 3,
-        line: 1,
-        column: 1,
-    };
-    assert!(rt; one.as_slice() == [dup].as_slice());
-    let mixed = tokens(rt.alloc(), "é €x \u{1D11E} dup \\ dup\r\n\tdup")?;
-    let places = [
-        (0, 2, 1, 1),
-        (3, 7, 1, 3),
-        (8, 12, 1, 6),
-        (13, 16, 1, 8),
-        (25, 28, 2, 2),
+    assert!(rt; has_tokens(rt.alloc(), "dup", &[token(0, 3, 1, 1)])?);
+    let wanted = [
+        token(0, 2, 1, 1),
+        token(3, 7, 1, 3),
+        token(8, 12, 1, 6),
+        token(13, 16, 1, 8),
+        token(25, 28, 2, 2),
     ];
-    assert!(rt; mixed.len() == places.len());
-    for (token, (start, end, line, column)) in mixed.iter().zip(places) {
-        assert!(rt;
-            *token
-                == Token {
-                    start,
-                    end,
-                    line,
-                    column
-                }
-        );
-    }
+    let mixed = "é €x \u{1D11E} dup \\ dup\r\n\tdup";
+    assert!(rt; has_tokens(rt.alloc(), mixed, &wanted)?);
     Ok(())
+}
+
+/// A token between two offsets, at a line and a column.
+fn token(start: usize, end: usize, line: usize, column: usize) -> Token {
+    Token {
+        start,
+        end,
+        line,
+        column,
+    }
+}
+
+/// Whether a text has these tokens.
+fn has_tokens(alloc: Global, text: &str, wanted: &[Token]) -> Result<bool, Fail> {
+    Ok(tokens(alloc, text)?.as_slice() == wanted)
 }

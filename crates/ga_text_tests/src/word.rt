@@ -1,8 +1,9 @@
-use ga_test_values::array;
+use ga_test_values::{array, word};
 use ga_word::{
     Hex3, Op, Word18, WordsError, first_blank, first_non_blank, hex5, read_hex5, read_words,
     words_text,
 };
+use std::alloc::Global;
 use std::test::Fail;
 
 #[test]
@@ -84,18 +85,50 @@ fn opcodes(rt: HostRuntime) -> Result<(), Fail> {
     for (code, name, op) in table {
         assert!(rt; Op::from_code(code) == Some(op) && op.code() == code);
         assert!(rt; Op::from_name(name) == Some(op) && op.name() == name);
-        assert!(rt; op.to_string(rt.alloc())?.as_str() == name);
+        assert!(rt; is_printed(rt.alloc(), op, name)?);
     }
     assert!(rt; Op::from_code(0x20).is_none() && Op::from_name("xor").is_none());
+    Ok(())
+}
+
+/// Whether an opcode is printed as this name.
+fn is_printed(alloc: Global, op: Op, name: &str) -> Result<bool, Fail> {
+    Ok(op.to_string(alloc)?.as_str() == name)
+}
+
+#[test]
+fn classes_of_opcodes(rt: HostRuntime) {
     assert!(rt; Op::Dup.fits_slot3() && !Op::Drop.fits_slot3());
     assert!(rt; Op::Next.takes_dest() && !Op::Micronext.takes_dest());
     assert!(rt; Op::Execute.ends_word() && !Op::Micronext.ends_word());
-    Ok(())
 }
 
 #[test]
 fn texts(rt: HostRuntime) -> Result<(), Fail> {
     let [nops, one] = array::<2>(&[0x2C9B2, 1])?;
+    assert!(rt; has_text(rt.alloc(), &[nops], "2C9B2\n")?);
+    assert!(rt; has_text(rt.alloc(), &[], "")?);
+    let nine = "00001 00001 00001 00001 00001 00001 00001 00001\n00001\n";
+    assert!(rt; has_text(rt.alloc(), &[one; 9], nine)?);
+    assert!(rt; is_read_as(rt.alloc(), "2C9B2\n", &[nops])?);
+    let refused = read_words(rt.alloc(), "\t04A12\r\n 5").err();
+    assert!(rt; refused == Some(WordsError::BadWord(1)));
+    Ok(())
+}
+
+/// Whether words have this text.
+fn has_text(alloc: Global, words: &[Word18], text: &str) -> Result<bool, Fail> {
+    Ok(words_text(alloc, words)?.as_str() == text)
+}
+
+/// Whether these words are read from a text.
+fn is_read_as(alloc: Global, text: &str, words: &[Word18]) -> Result<bool, Fail> {
+    Ok(read_words(alloc, text)?.as_slice() == words)
+}
+
+#[test]
+fn digits_and_blanks(rt: HostRuntime) -> Result<(), Fail> {
+    let nops = word(0x2C9B2)?;
     assert!(rt; hex5(nops).as_slice() == b"2C9B2".as_slice());
     assert!(rt; nops.to_string(rt.alloc())?.as_str() == "2C9B2");
     assert!(rt; Hex3::new(0x2A).to_string(rt.alloc())?.as_str() == "02A");
@@ -103,14 +136,6 @@ fn texts(rt: HostRuntime) -> Result<(), Fail> {
     for refused in ["2C9B", "02C9B2", "40000", "2C9G2", "+2C9B"] {
         assert!(rt; read_hex5(refused.as_bytes()).is_none(), "{refused}");
     }
-    assert!(rt; words_text(rt.alloc(), &[nops])?.as_str() == "2C9B2\n");
     assert!(rt; first_blank(b"dup\rup") == Some(3) && first_non_blank(b" \t\n.") == Some(3));
-    assert!(rt; words_text(rt.alloc(), &[])?.as_str() == "");
-    let nine = words_text(rt.alloc(), &[one; 9])?;
-    assert!(rt; nine.as_str() == "00001 00001 00001 00001 00001 00001 00001 00001\n00001\n");
-    let read = read_words(rt.alloc(), "2C9B2\n")?;
-    assert!(rt; read.as_slice() == [nops].as_slice());
-    let refused = read_words(rt.alloc(), "\t04A12\r\n 5").err();
-    assert!(rt; refused == Some(WordsError::BadWord(1)));
     Ok(())
 }
