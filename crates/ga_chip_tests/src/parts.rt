@@ -1,10 +1,11 @@
-ghost use Rattle.std.specs.Prelude.{◌≡◌, length};
+ghost use Rattle.std.specs.Prelude.{◌≡◌, IfOk, length};
 
 use crate::chips::{WRITE_12_RIGHT, chip_with, moves, outcome};
 use ga_chip::{Asks, Chip, NodePart, Outcome};
-use ga_place::{Side, cell};
+use ga_place::{Node, Side, cell};
 use ga_test_values::nodes;
 use ga_word::Word18;
+use std::alloc::Global;
 use std::test::Fail;
 
 /// One try by hand of a node that names a side, over the words pending in the cells.
@@ -50,36 +51,53 @@ fn a_chip_comes_apart_and_together(rt: HostRuntime) -> Result<(), Fail> {
     Ok(())
 }
 
+/// The parts of a chip on which a node has posted 12 to its right, and the words that are pending in the cells.
+fn apart(alloc: Global, node: Node) -> Result<(Vec<NodePart>, Vec<Option<Word18>>), Fail>
+    ensures { IfOk result (λ apart.
+        (length apart.0.items ≡ 144) × (length apart.1.items ≡ 524)) }
+{
+    let mut chip = chip_with(alloc, node, &WRITE_12_RIGHT)?;
+    if moves(&mut chip, node, Side::Right, 7) != 7 {
+        return Err("a try waits".into());
+    }
+    let (parts, cells) = chip.into_parts();
+    Ok((parts, cells.into_words()))
+}
+
+// 708 has posted, and 709 waits for a word from any side; its up has no neighbour.
+#[test]
+fn parts_ask_for_cells(rt: HostRuntime) -> Result<(), Fail> {
+    let [node_708, node_709] = nodes(&[708, 709])?;
+    let right = cell(node_708, Side::Right).ok_or("no cell")?;
+    let (parts, _words) = apart(rt.alloc(), node_708)?;
+    let (writer, reader) = (&parts[node_708.index()], &parts[node_709.index()]);
+    assert!(rt; writer.asks(Side::Down) == Asks::Check(Side::Right, right));
+    assert!(rt; reader.asks(Side::Right) == Asks::Take(Side::Right, right));
+    assert!(rt; reader.asks(Side::Up) == Asks::Nothing(Outcome::Waits));
+    let looks = reader.looks().ok_or("no looks")?;
+    assert!(rt; looks.at(Side::Right) == Some(right) && looks.at(Side::Up).is_none());
+    assert!(rt; writer.looks().is_none());
+    Ok(())
+}
+
 #[test]
 fn cells_by_hand(rt: HostRuntime) -> Result<(), Fail> {
     let [node_708, node_709] = nodes(&[708, 709])?;
+    let (writer, reader) = (node_708.index(), node_709.index());
     let right = cell(node_708, Side::Right).ok_or("no cell")?;
-    let mut chip = chip_with(rt.alloc(), node_708, &WRITE_12_RIGHT)?;
-    assert!(rt; moves(&mut chip, node_708, Side::Right, 7) == 7);
-    let (mut parts, cells) = chip.into_parts();
-    let mut words = cells.into_words();
-    assert!(rt; parts.len() == 144);
-    // 708 has posted, and 709 waits for a word from any side; its up has no neighbour.
-    let waits = Asks::Nothing(Outcome::Waits);
-    let stopped = Asks::Nothing(Outcome::Stopped);
-    assert!(rt; parts[node_708.index()].asks(Side::Down) == Asks::Check(Side::Right, right));
-    assert!(rt; parts[node_709.index()].asks(Side::Right) == Asks::Take(Side::Right, right));
-    assert!(rt; parts[node_709.index()].asks(Side::Up) == waits);
-    let looks = parts[node_709.index()].looks().ok_or("no looks")?;
-    assert!(rt; looks.at(Side::Right) == Some(right) && looks.at(Side::Up).is_none());
-    assert!(rt; parts[node_708.index()].looks().is_none());
-    assert!(rt; by_hand(&mut parts[node_708.index()], Side::Right, &mut words) == Outcome::Waits);
-    assert!(rt; by_hand(&mut parts[node_709.index()], Side::Down, &mut words) == Outcome::Waits);
-    assert!(rt; by_hand(&mut parts[node_709.index()], Side::Right, &mut words) == Outcome::Moved);
+    let (mut parts, mut words) = apart(rt.alloc(), node_708)?;
+    assert!(rt; by_hand(&mut parts[writer], Side::Right, &mut words) == Outcome::Waits);
+    assert!(rt; by_hand(&mut parts[reader], Side::Down, &mut words) == Outcome::Waits);
+    assert!(rt; by_hand(&mut parts[reader], Side::Right, &mut words) == Outcome::Moved);
     assert!(rt; words[right.index()].is_none());
     // The word is run: `@b` reads io.
-    assert!(rt; parts[node_709.index()].state().word().get() == 0x00012);
-    assert!(rt; parts[node_709.index()].asks(Side::Right) == stopped);
-    assert!(rt; parts[node_708.index()].asks(Side::Down) == Asks::Check(Side::Right, right));
-    assert!(rt; by_hand(&mut parts[node_708.index()], Side::Right, &mut words) == Outcome::Moved);
-    assert!(rt; parts[node_708.index()].state().steps() == 8);
+    assert!(rt; parts[reader].state().word().get() == 0x00012);
+    assert!(rt; parts[reader].asks(Side::Right) == Asks::Nothing(Outcome::Stopped));
+    assert!(rt; parts[writer].asks(Side::Down) == Asks::Check(Side::Right, right));
+    assert!(rt; by_hand(&mut parts[writer], Side::Right, &mut words) == Outcome::Moved);
+    assert!(rt; parts[writer].state().steps() == 8);
     // 708 goes on by itself, with `.`, and 709 doesn't.
-    assert!(rt; parts[node_708.index()].done_if_own() && !parts[node_709.index()].done_if_own());
-    assert!(rt; parts[node_708.index()].state().steps() == 9);
+    assert!(rt; parts[writer].done_if_own() && !parts[reader].done_if_own());
+    assert!(rt; parts[writer].state().steps() == 9);
     Ok(())
 }

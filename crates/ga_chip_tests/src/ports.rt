@@ -1,8 +1,8 @@
-ghost use Rattle.std.specs.Prelude.{IfOk};
+ghost use Rattle.std.specs.Prelude.{◌≡◌, IfOk};
 ghost use Rattle.ga_chip_tests.specs.inner.Hands.{AreInHand};
 
 use crate::chips::{WRITE_12_RIGHT, moves, place};
-use ga_chip::{Asks, Chip, NodePart, Outcome, Try};
+use ga_chip::{Asks, CellRow, Chip, NodePart, Outcome, Try};
 use ga_place::{Node, Side, cell};
 use ga_port::{Cells, PortSeat};
 use ga_test_values::{nodes, word};
@@ -107,21 +107,29 @@ fn opened(alloc: Global, node: Node, tries: u32) -> Result<Hand, Fail>
     Ok(Hand { cells, seat, parts })
 }
 
-#[test]
-fn cells_by_hand(rt: HostRuntime) -> Result<(), Fail> {
-    let [node_708, node_709] = nodes(&[708, 709])?;
-    let mut hand = opened(rt.alloc(), node_708, 7)?;
-    let pending = poll(&mut hand, node_709, Side::Right);
-    let found = take(&mut hand, node_709, Side::Right);
-    let read = check(&mut hand, node_708, Side::Right);
-    let outcome = own(&mut hand, node_709, Side::Right);
+/// The cells at the end.
+fn closed(hand: Hand) -> CellRow
+    requires { hand.seat.table ≡ hand.cells.table }
+{
     let Hand {
         cells,
         seat,
         parts: _parts,
     } = hand;
-    let row = cells.close(seat);
-    assert!(rt; pending && found == Some(word(0x00012)?));
+    cells.close(seat)
+}
+
+#[test]
+fn cells_by_hand(rt: HostRuntime) -> Result<(), Fail> {
+    let [node_708, node_709] = nodes(&[708, 709])?;
+    let wanted = word(0x00012)?;
+    let mut hand = opened(rt.alloc(), node_708, 7)?;
+    let pending = poll(&mut hand, node_709, Side::Right);
+    let found = take(&mut hand, node_709, Side::Right);
+    let read = check(&mut hand, node_708, Side::Right);
+    let outcome = own(&mut hand, node_709, Side::Right);
+    let row = closed(hand);
+    assert!(rt; pending && found == Some(wanted));
     assert!(rt; read == Some(true));
     // The word is run: `@b` reads io.
     assert!(rt; outcome == Some(Outcome::Stopped));
@@ -132,6 +140,8 @@ fn cells_by_hand(rt: HostRuntime) -> Result<(), Fail> {
 #[test]
 fn a_word_is_posted_by_hand(rt: HostRuntime) -> Result<(), Fail> {
     let [node_708, node_709] = nodes(&[708, 709])?;
+    let wanted = word(0x00012)?;
+    let at = cell(node_708, Side::Right).ok_or("no such cell")?;
     let mut hand = opened(rt.alloc(), node_708, 6)?;
     let pending = poll(&mut hand, node_709, Side::Right);
     let found = take(&mut hand, node_709, Side::Right);
@@ -139,14 +149,8 @@ fn a_word_is_posted_by_hand(rt: HostRuntime) -> Result<(), Fail> {
     let read = check(&mut hand, node_708, Side::Right);
     let other = hand.cells.share(&mut hand.seat, &[node_709]);
     hand.cells.gather(&mut hand.seat, other);
-    let Hand {
-        cells,
-        seat,
-        parts: _parts,
-    } = hand;
-    let row = cells.close(seat);
-    assert!(rt; !pending && found == None && posted == Some(word(0x00012)?) && read == Some(false));
-    let at = cell(node_708, Side::Right).ok_or("no such cell")?;
+    let row = closed(hand);
+    assert!(rt; !pending && found == None && posted == Some(wanted) && read == Some(false));
     assert!(rt; row.pending(at) == posted);
     assert!(rt;
         row.words()

@@ -1,10 +1,10 @@
 //! Tests of streams that come in pieces.
 
-use crate::chips::{give, moves, outcome, place};
+use crate::chips::{chip_with, give, moves, outcome};
 use ga_chip::{Chip, ChipError, Outcome};
 use ga_node::{Need, Stop};
 use ga_place::{Node, Side};
-use ga_test_values::{ONE_HOP, array, nodes, words};
+use ga_test_values::{ONE_HOP, array, node, nodes, words};
 use std::alloc::Global;
 use std::test::Fail;
 
@@ -48,10 +48,9 @@ fn boot_one_neighbour_in_pieces(rt: HostRuntime) -> Result<(), Fail> {
 
 #[test]
 fn pieces_refused_by_name(rt: HostRuntime) -> Result<(), Fail> {
-    let [node_001, node_101, node_700, node_708, node_709] = nodes(&[1, 101, 700, 708, 709])?;
+    let [node_001, node_709] = nodes(&[1, 709])?;
     let alloc = rt.alloc();
     let mut chip = Chip::reset(alloc)?;
-    assert!(rt; chip.open_stream(node_101) == Err(ChipError::NotEdge));
     assert!(rt; moves(&mut chip, node_709, Side::Right, 1) == 0);
     assert!(rt; chip.stream_left(node_709) == 0);
     assert!(rt; feed(alloc, &mut chip, node_709, &ONE_HOP[..14])? == Some(ChipError::NotOpen));
@@ -60,22 +59,44 @@ fn pieces_refused_by_name(rt: HostRuntime) -> Result<(), Fail> {
     assert!(rt; feed(alloc, &mut chip, node_001, &ONE_HOP[..14])? == Some(ChipError::NotOpen));
     assert!(rt; chip.stream_left(node_001) == 1);
     assert!(rt; chip.open_stream(node_001) == Err(ChipError::AlreadyGiven));
-    // one that was opened isn't given
+    Ok(())
+}
+
+#[test]
+fn an_open_stream_is_not_given(rt: HostRuntime) -> Result<(), Fail> {
+    let node_708 = node(708)?;
+    let stream = words(rt.alloc(), &ONE_HOP[..14])?;
+    let mut chip = Chip::reset(rt.alloc())?;
     assert!(rt; chip.open_stream(node_708).is_ok());
     assert!(rt; chip.open_stream(node_708) == Err(ChipError::AlreadyGiven));
     assert!(rt; chip.place(node_708, &[], 0) == Err(ChipError::AlreadyGiven));
-    let Err((fault, back)) = chip.give_stream(node_708, words(alloc, &ONE_HOP[..14])?) else {
+    let Err((fault, back)) = chip.give_stream(node_708, stream) else {
         return Err("given")?;
     };
     assert!(rt; fault == ChipError::AlreadyGiven && back.len() == 14);
-    // an empty piece changes nothing, and a word wakes the node
+    Ok(())
+}
+
+#[test]
+fn an_empty_piece_wakes_no_node(rt: HostRuntime) -> Result<(), Fail> {
+    let node_708 = node(708)?;
+    let alloc = rt.alloc();
+    let mut chip = Chip::reset(alloc)?;
+    assert!(rt; chip.open_stream(node_708).is_ok());
     assert!(rt; feed(alloc, &mut chip, node_708, &[])?.is_none());
     assert!(rt; outcome(&mut chip, node_708, Side::Right) == Outcome::Waits);
     assert!(rt; chip.turn(Side::Right) == 1 && chip.turn(Side::Right) == 0);
     assert!(rt; feed(alloc, &mut chip, node_708, &[0x000AE])?.is_none());
     assert!(rt; chip.turn(Side::Right) == 1 && chip.stream_left(node_708) == 0);
-    // nor is one opened for a node that has made a step
-    place(&mut chip, node_700, &[0x2C9B2])?;
+    Ok(())
+}
+
+#[test]
+fn streams_that_are_not_opened(rt: HostRuntime) -> Result<(), Fail> {
+    let [node_101, node_700] = nodes(&[101, 700])?;
+    let mut chip = chip_with(rt.alloc(), node_700, &[0x2C9B2])?;
+    assert!(rt; chip.open_stream(node_101) == Err(ChipError::NotEdge));
+    // a node that has made a step
     assert!(rt; moves(&mut chip, node_700, Side::Right, 1) == 1);
     assert!(rt; chip.open_stream(node_700) == Err(ChipError::Begun));
     Ok(())

@@ -38,19 +38,31 @@ fn has_crossed(chip: &Chip, node: Node) -> bool {
     chip.ledger(node, Side::Right) == one
 }
 
+/// Whether groups are refused as a plan with this fault, and come back.
+fn are_no_plan(alloc: Global, names: &[&[u16]], fault: PlanError) -> Result<bool, Fail> {
+    let (found, back) = Plan::new(groups(alloc, names)?).err().ok_or("a plan")?;
+    Ok(found == fault && back == groups(alloc, names)?)
+}
+
 #[test]
 fn refusals_by_name(rt: HostRuntime) -> Result<(), Fail> {
-    let [node_708, node_001] = nodes(&[708, 1])?;
-    let cases: [(&[&[u16]], PlanError); 4] = [
-        (&[], PlanError::NoWorker),
-        (&[&[708], &[]], PlanError::Empty(1)),
-        (&[&[708], &[709, 708], &[]], PlanError::Repeated(node_708)),
-        (&[&[1, 1], &[708]], PlanError::Repeated(node_001)),
-    ];
-    for (names, fault) in cases {
-        let (found, back) = Plan::new(groups(rt.alloc(), names)?).err().ok_or("a plan")?;
-        assert!(rt; found == fault && back == groups(rt.alloc(), names)?);
-    }
+    let alloc = rt.alloc();
+    assert!(rt; are_no_plan(alloc, &[], PlanError::NoWorker)?);
+    assert!(rt; are_no_plan(alloc, &[&[708], &[]], PlanError::Empty(1))?);
+    assert!(rt;
+        are_no_plan(
+            alloc,
+            &[&[708], &[709, 708], &[]],
+            PlanError::Repeated(node(708)?)
+        )?
+    );
+    assert!(rt; are_no_plan(alloc, &[&[1, 1], &[708]], PlanError::Repeated(node(1)?))?);
+    Ok(())
+}
+
+#[test]
+fn a_run_of_too_many_turns(rt: HostRuntime) -> Result<(), Fail> {
+    let node_708 = node(708)?;
     let chip = chip_with(rt.alloc(), node_708, &WRITE_12_RIGHT)?;
     let plan = plan(rt.alloc(), &[&[708]])?;
     let (fault, back) = run_workers(&rt, rt.alloc(), chip, &plan, 1 << 40, &Open)
