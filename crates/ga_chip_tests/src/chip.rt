@@ -149,7 +149,7 @@ fn stops_after(alloc: Global, numbers: &[u32], steps: u32, stop: Stop) -> Result
     Ok(moved == steps && has_stopped(&mut chip, node_000, steps, stop))
 }
 
-/// Whether a node has stopped so after so many steps.
+/// Whether a node, tried at two sides, has stopped so after so many steps.
 fn has_stopped(chip: &mut Chip, node: Node, steps: u32, stop: Stop) -> bool {
     let right = outcome(chip, node, Side::Right);
     let down = outcome(chip, node, Side::Down);
@@ -261,6 +261,8 @@ fn streams_refused_by_name(rt: HostRuntime) -> Result<(), Fail> {
     ] {
         assert!(rt; refusal(alloc, &mut chip, node, &TWO_HOPS)? == Some(fault));
     }
+    // 708 still has its own stream
+    assert!(rt; moves(&mut chip, node_708, Side::Up, 1) == 1);
     Ok(())
 }
 

@@ -1,4 +1,4 @@
-//! Chips for the tests of chips, breakpoints, workers and sessions, and tries of their nodes.
+//! Chips for the tests, and tries of their nodes.
 
 use ga_chip::{Chip, ChipError, Outcome, Try};
 use ga_place::{Node, Side};

@@ -1,6 +1,6 @@
 //! Tests of streams that come in pieces.
 
-use crate::chips::{chip_with, give, moves, outcome};
+use crate::chips::{chip_given, chip_with, give, moves, outcome, refusal};
 use ga_chip::{Chip, ChipError, Outcome};
 use ga_node::{Need, Stop};
 use ga_place::{Node, Side};
@@ -65,23 +65,25 @@ fn pieces_refused_by_name(rt: HostRuntime) -> Result<(), Fail> {
 #[test]
 fn an_open_stream_is_not_given(rt: HostRuntime) -> Result<(), Fail> {
     let node_708 = node(708)?;
-    let stream = words(rt.alloc(), &ONE_HOP[..14])?;
     let mut chip = Chip::reset(rt.alloc())?;
     assert!(rt; chip.open_stream(node_708).is_ok());
     assert!(rt; chip.open_stream(node_708) == Err(ChipError::AlreadyGiven));
     assert!(rt; chip.place(node_708, &[], 0) == Err(ChipError::AlreadyGiven));
-    let Err((fault, back)) = chip.give_stream(node_708, stream) else {
-        return Err("given")?;
-    };
-    assert!(rt; fault == ChipError::AlreadyGiven && back.len() == 14);
+    let fault = refusal(rt.alloc(), &mut chip, node_708, &ONE_HOP[..14])?;
+    assert!(rt; fault == Some(ChipError::AlreadyGiven));
+    // what is refused changes nothing
+    assert!(rt; chip.stream_left(node_708) == 0);
+    assert!(rt; feed(rt.alloc(), &mut chip, node_708, &[0x000AE])?.is_none());
+    assert!(rt; chip.turn(Side::Right) == 1 && chip.stream_left(node_708) == 0);
     Ok(())
 }
 
 #[test]
 fn an_empty_piece_wakes_no_node(rt: HostRuntime) -> Result<(), Fail> {
-    let node_708 = node(708)?;
+    let [node_001, node_708] = nodes(&[1, 708])?;
     let alloc = rt.alloc();
-    let mut chip = Chip::reset(alloc)?;
+    // 001 moves once, so a turn in which one node moves hasn't moved 708
+    let mut chip = chip_given(alloc, node_001, &[0x000AE])?;
     assert!(rt; chip.open_stream(node_708).is_ok());
     assert!(rt; feed(alloc, &mut chip, node_708, &[])?.is_none());
     assert!(rt; outcome(&mut chip, node_708, Side::Right) == Outcome::Waits);

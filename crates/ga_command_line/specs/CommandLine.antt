@@ -28,10 +28,6 @@ subcommands =
     one_command ∷ plain_command (codes "asm") ∷ dis_command ∷ boot_command ∷ run_command ∷ plain_command (codes "debug") ∷ plain_command (codes "replay") ∷ list_command
     ∷ file_command (codes "check") ∷ file_command (codes "record") ∷ explain_command ∷ []
 
--- the command with the first five of them
-unfoldable pub first_commands : App
-first_commands = fold linked bare_command (one_command ∷ plain_command (codes "asm") ∷ dis_command ∷ boot_command ∷ run_command ∷ [])
-
 -- the whole command
 unfoldable pub bench_command : App
 bench_command = fold linked bare_command subcommands

@@ -4,7 +4,8 @@ ghost use Rattle.clap.specs.declared.error.kind.ErrorKind.TheVariants.{OutOfMemo
 ghost use Rattle.ga_command_line.specs.declared.command_line.LineError.TheVariants.{Memory};
 ghost use Rattle.ga_command_line.specs.Command.{linked};
 ghost use Rattle.ga_command_line.specs.inner.Command.{IsCommandOf, has_globals};
-ghost use Rattle.ga_command_line.specs.CommandLine.{AsksFor, InRange, IsAskedFor, IsJobOf, IsRight, bare_command, bench_command, first_commands};
+ghost use Rattle.ga_command_line.specs.CommandLine.{AsksFor, InRange, IsAskedFor, IsJobOf, IsRight, bare_command, bench_command};
+ghost use Rattle.ga_command_line.specs.inner.CommandLine.{first_commands};
 
 use crate::request::Job;
 use crate::{asm, boot, check, debug, dis, explain, list, one, record, replay, run};
@@ -95,6 +96,7 @@ fn job_named(alloc: Global, name: &str, found: &ArgMatches<'_>) -> Result<Job, L
     }
 }
 
+/// The error of a command line that names no subcommand.
 fn missing(alloc: Global) -> LineError {
     refusal(
         alloc,

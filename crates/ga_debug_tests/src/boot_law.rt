@@ -270,7 +270,7 @@ fn start_posted(alloc: Global, stream: &[u32]) -> Result<Chip, Fail> {
     Ok(chip)
 }
 
-/// Whether 708 has posted the start word of 709, with no more than so many words left.
+/// Whether 708 has no more than so many words left, and 709 has taken its twelve words of the load part.
 fn is_posted(chip: &Chip, left: usize) -> Result<bool, Fail> {
     let node_708 = node(708)?;
     Ok(chip.stream_left(node_708) <= left && chip.ledger(node_708, Side::Right).read == 12)
@@ -360,7 +360,7 @@ fn boot_starts_each_node_of_a_tree_at_once(rt: HostRuntime) -> Result<(), Fail> 
     Ok(())
 }
 
-/// Whether 708 has sent 709 and 608 so many words each, and both hold their images, or neither does.
+/// Whether 709 and 608 have taken so many words each, and both hold their images, or neither, as it is said.
 fn have_taken(chip: &Chip, sent: u64, is_held: bool) -> Result<bool, Fail> {
     let node_708 = node(708)?;
     for (name, side) in [(709, Side::Right), (608, Side::Down)] {
@@ -372,7 +372,7 @@ fn have_taken(chip: &Chip, sent: u64, is_held: bool) -> Result<bool, Fail> {
     Ok(true)
 }
 
-/// The boot of the fork without `. . . .` behind the words for either node.
+/// The boot of a fork with one word for 709 and one for 608, without `. . . .` behind the words for either.
 const OPEN_FORK: [u32; 34] = [
     0x000AE, 0x001D5, 0x00007, 0x101D5, 0x04A12, 0x00000, 0x00000, 0x2E9B2, 0x05872, 0x2C9B2,
     0x000AE, 0x00115, 0x00007, 0x10115, 0x04A12, 0x00000, 0x00000, 0x2E9B2, 0x05872, 0x2C9B2,

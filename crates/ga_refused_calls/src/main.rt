@@ -65,10 +65,10 @@ fn told_of<Rt: AllocGlobal + Threads + Sync, R: Read>(
     words: &[&str],
 ) -> Result<Option<Told>, AllocError> {
     let told = match words {
-        [name] => return told_alone(rt, name),
+        ["serve", ..] => serve_told(rt, reader, words)?,
         ["command", line] => command_told(rt.alloc(), line)?,
         ["reply_into", line] => reply_into_told(rt.alloc(), line)?,
-        ["serve", ..] => serve_told(rt, reader, words)?,
+        [name] => return told_alone(rt, name),
         _ => return Ok(None),
     };
     Ok(Some(told))

@@ -45,7 +45,7 @@ fn reads_counts_of_code(rt: HostRuntime) {
     }
 }
 
-/// Whether a command line names the run of 708 by so many workers.
+/// Whether a command line names the run of 708 by so many workers, of so many turns.
 fn names_run(alloc: Global, words: &[&str], workers: u32, turns: u32) -> Result<bool, Fail> {
     let run = run_of(alloc, "708", workers, turns)?;
     Ok(names(alloc, words, &run))

@@ -116,7 +116,7 @@ pub fn boot_of(alloc: Global, route: &str) -> Result<Job, Fail> {
     Ok(Job::Boot { route })
 }
 
-/// The run of a route by so many workers.
+/// The run of a route by so many workers, of so many turns.
 pub fn run_of(alloc: Global, route: &str, workers: u32, turns: u32) -> Result<Job, Fail> {
     let route = String::from_str(alloc, route)?;
     Ok(Job::Run {

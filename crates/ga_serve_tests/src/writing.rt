@@ -6,8 +6,8 @@ use ga_serve::serve;
 use std::io::ErrorKind;
 use std::thread::Threads;
 
-/// Whether `one 5` writes so many bytes of its line where one call of the writer fails, and whether it is served then.
-fn writes(
+/// Whether `one 5` writes so many bytes of its line where one call of the writer fails, and is served or not, as it is said.
+fn writes_front(
     rt: &(impl AllocGlobal + Threads + Sync),
     call: u32,
     kind: ErrorKind,
@@ -39,7 +39,10 @@ fn fails_at_each_write(rt: HostRuntime) {
         (1, ErrorKind::Interrupted, 92, true),
         (2, ErrorKind::Interrupted, 92, true),
     ] {
-        assert!(rt; writes(&rt, call, kind, taken, is_served), "at call {call}");
+        assert!(rt;
+            writes_front(&rt, call, kind, taken, is_served),
+            "at call {call}"
+        );
     }
 }
 

@@ -1,4 +1,5 @@
-use Rattle.ga_command_line.specs.CommandLine.{bench_command, first_commands}
+use Rattle.ga_command_line.specs.CommandLine.{bench_command}
+use Rattle.ga_command_line.specs.inner.CommandLine.{first_commands}
 use Rattle.ga_command_line.proofs.command_line.command.Goals as goal
 
 -- each link has one subcommand more than the one before it

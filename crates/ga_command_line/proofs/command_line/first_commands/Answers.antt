@@ -1,4 +1,4 @@
-use Rattle.ga_command_line.specs.CommandLine.{first_commands}
+use Rattle.ga_command_line.specs.inner.CommandLine.{first_commands}
 use Rattle.ga_command_line.proofs.command_line.first_commands.Goals as goal
 
 -- each link has one subcommand more than the one before it
