@@ -106,6 +106,7 @@ fn refuse<R: Print + Eprint>(rt: &R, error: LineError) -> u8
 }
 
 /// The job that the arguments of the program name. The kit tells nothing of the arguments, so no more than this is stated.
+#[inline(never)]
 fn job_of_arguments<R: Env + AllocGlobal>(rt: &R) -> Result<Job, LineError>
     ensures { IfOk result InRange }
 {

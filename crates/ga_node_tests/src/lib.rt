@@ -5,6 +5,18 @@
 #![tactic(auto)]
 
 #[cfg(test)]
+mod carries;
+#[cfg(test)]
 mod loader;
 #[cfg(test)]
+mod memory;
+#[cfg(test)]
 mod node;
+#[cfg(test)]
+mod nodes;
+#[cfg(test)]
+mod opcodes;
+#[cfg(test)]
+mod ports;
+#[cfg(test)]
+mod rows;
