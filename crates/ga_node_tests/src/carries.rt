@@ -53,7 +53,7 @@ fn carrying(op: Op, wanted: Registers) -> Result<NodeState, Fail> {
     Ok(state)
 }
 
-fn sums_as_told(row: &str) -> Result<bool, Fail> {
+fn steps_as_told(row: &str) -> Result<bool, Fail> {
     let mut state = carrying(op(row)?, five(row, 1)?)?;
     Ok(state.try_own() && carries(&state) == five(row, 6)?)
 }
@@ -61,7 +61,7 @@ fn sums_as_told(row: &str) -> Result<bool, Fail> {
 #[test]
 fn extended_mode(rt: HostRuntime) -> Result<(), Fail> {
     for row in CARRIES.lines() {
-        assert!(rt; sums_as_told(row)?, "{row}");
+        assert!(rt; steps_as_told(row)?, "{row}");
     }
     Ok(())
 }

@@ -11,12 +11,12 @@ mod loader;
 #[cfg(test)]
 mod memory;
 #[cfg(test)]
-mod node;
-#[cfg(test)]
 mod nodes;
 #[cfg(test)]
 mod opcodes;
 #[cfg(test)]
 mod ports;
+#[cfg(test)]
+mod programs;
 #[cfg(test)]
 mod rows;

@@ -77,8 +77,8 @@ pub fn packed(op: Op, place: Place, dest: u32) -> Result<Word18, Fail> {
     })
 }
 
-/// Node 000 at the right port, with 10A00 and 10A3F at both ends of its memory, and one word more, which stands there or
-/// comes in at the port.
+/// Node 000 about to fetch at the right port, with 10A00 and 10A3F at both ends of its memory, but for the word, which
+/// stands at `from` where that is an address of memory.
 fn at_the_port(from: u32, word_with: Word18) -> Result<NodeState, Fail> {
     let mut words = array::<64>(&[0x10A00])?;
     words[63] = word(0x10A3F)?;
@@ -118,7 +118,7 @@ fn reach(state: &mut NodeState, from: u32, word_with: Word18, place: Place) -> R
     Ok(())
 }
 
-/// Whether the node is as `before` wants it.
+/// Whether the registers and the stacks are as `before` wants them.
 fn is_filled(state: &NodeState, registers: Registers) -> bool {
     let [_, _, _, _, a] = registers;
     self::registers(state) == registers

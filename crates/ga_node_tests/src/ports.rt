@@ -5,7 +5,7 @@ use ga_test_values::word;
 use ga_word::Op;
 use std::test::Fail;
 
-/// Whether the node stops there, and does nothing more.
+/// Whether the node stops so after so many steps, and does nothing more.
 fn stops_at(numbers: &[u32], steps: u64, stop: Stop) -> Result<bool, Fail> {
     let mut state = run(numbers, 9)?;
     Ok(
@@ -58,7 +58,8 @@ fn a_fetch_and_a_literal_at_a_port(rt: HostRuntime) -> Result<(), Fail> {
     Ok(())
 }
 
-/// Whether an opcode waits at the upper and the left port, and takes a word there as it would from memory.
+/// Whether an opcode waits at several ports, the upper and the left one among them, and takes a word at the upper one. The
+/// address stays.
 fn takes_upward(op: Op) -> Result<bool, Fail> {
     let mut state = before(op, Place::Slot0, 0, [5, 9, 1, 2, 0x001A5])?;
     let Need::Take(sides) = state.need() else {
@@ -97,7 +98,7 @@ fn posts_right(state: &mut NodeState, p: u32, a: u32) -> Result<bool, Fail> {
     )
 }
 
-/// Whether its word is seen to be gone, and the node goes on.
+/// Whether the node sees that its word was read, and goes on.
 fn checks_right(state: &mut NodeState, p: u32, a: u32) -> bool {
     if state.need() != Need::Check(Side::Right) {
         return false;
