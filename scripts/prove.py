@@ -124,7 +124,7 @@ def prove_all(crates):
     A crate loads alone what it stands on, and then checks some functions at a time, in copies of itself: more of them
     than processors, where a single crate can be proved, since some always wait for others. Where several can be
     proved, those whose chain is about the longest get as many jobs as there are processors, and each other crate
-    has one, which yields to these."""
+    has one, which yields to these. Where so few can be proved that this would leave processors idle, each gets as many."""
     processors = len(os.sched_getaffinity(0))
     left, proved, running, began = sorted(crates, key=lambda it: -it.chain), set(), {}, time.monotonic()
     with ThreadPoolExecutor(len(crates)) as pool:
@@ -132,13 +132,14 @@ def prove_all(crates):
             ready = [it for it in left if proved.issuperset(it.below)]
             longest = max(it.chain for it in [*left, *[it for it, _ in running.values()]])
             alone = len(ready) == 1 and not running
+            few = len(ready) + len(running) <= processors // 2
             for crate in ready:
                 free = 2 * processors - sum(jobs for _, jobs in running.values())
                 if free > 0:
-                    is_long = crate.chain >= SHARE_OF_LONGEST * longest
-                    jobs = min(free, (processors + alone if is_long else 1))
+                    is_first = few or crate.chain >= SHARE_OF_LONGEST * longest
+                    jobs = min(free, (processors + alone if is_first else 1))
                     left.remove(crate)
-                    running[pool.submit(crate.prove, jobs, not is_long)] = crate, jobs
+                    running[pool.submit(crate.prove, jobs, not is_first)] = crate, jobs
             for ended in wait(running, return_when=FIRST_COMPLETED).done:
                 crate, _ = running.pop(ended)
                 if not ended.result():
