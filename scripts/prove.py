@@ -124,7 +124,8 @@ def prove_all(crates):
     A crate loads alone what it stands on, and then checks some functions at a time, in copies of itself: more of them
     than processors, where a single crate can be proved, since some always wait for others. Where several can be
     proved, those whose chain is about the longest get as many jobs as there are processors, and each other crate
-    has one, which yields to these. Where so few can be proved that this would leave processors idle, each gets as many."""
+    has one, which yields to these. Where so few can be proved that this would leave processors idle, each gets as
+    many."""
     processors = len(os.sched_getaffinity(0))
     left, proved, running, began = sorted(crates, key=lambda it: -it.chain), set(), {}, time.monotonic()
     with ThreadPoolExecutor(len(crates)) as pool:
