@@ -1,5 +1,5 @@
 -- What a take and a check make of what they find, and where tries look.
-use Rattle.std.proofs.Common.{◌≡◌, ◌∙◌, ℕ, List, [], ◌∷◌, Option, Some, None, refl, sym, ap}
+use Rattle.std.proofs.Common.{◌≡◌, ◌∙◌, ℕ, List, [], ◌∷◌, Option, Some, None, refl, sym, ap, subst}
 use Rattle.std.proofs.lemmas.Option.{same_Some}
 use Rattle.ga_place.specs.declared.side.Side.{Side}
 use Rattle.ga_place.specs.declared.side.Side.TheVariants.{Right, Down, Left, Up}
@@ -7,10 +7,11 @@ use Rattle.ga_chip.specs.declared.outcome.Outcome.{Outcome}
 use Rattle.ga_chip.specs.declared.outcome.Outcome.TheVariants.{Moved}
 use Rattle.ga_chip.specs.declared.asks.Asks as told
 use Rattle.ga_chip.specs.declared.asks.Asks.TheVariants as call
-use Rattle.ga_chip.specs.Part.{Part, asks, after, after_asked}
+use Rattle.ga_node.specs.Need.{need_of}
+use Rattle.ga_chip.specs.Part.{Part, Nothing, asks, after, after_asked}
 use Rattle.ga_chip.specs.Asks.{asked_of, look_at, look_of, looks_by, looks_of}
-use Rattle.ga_chip.proofs.Asked.{nothing_after, told_check, told_take}
-use Rattle.ga_chip.proofs.Parts.{still_after}
+use Rattle.ga_chip.proofs.Asked.{nothing_after, told_check, told_nothing, told_take}
+use Rattle.ga_chip.proofs.Parts.{Fits, asks_fits, still_after}
 
 pub take_moves : (part : Part) (side at : Side) (cell word : ℕ) → asked_of part side ≡ call.Take at cell → (after part side (Some word)).0 ≡ Moved
 unfolding after
@@ -80,3 +81,13 @@ looked_still part side (Some cell) e =
 looked_still part side None e =
     let nothing = look_nothing (asked_of part side) e in
     ap (λ r. r.1) (nothing_after part side nothing.0 None nothing.1)
+
+-- and is no move
+pub looked_waits : (part : Part) (side : Side) (look : Option ℕ) → look_of (asked_of part side) ≡ Some look → (after part side None).0 ≡ Moved → ⊥
+looked_waits part side (Some cell) e moved =
+    let takes = look_takes (asked_of part side) cell e in
+    take_waits part side takes.0 cell takes.1 moved
+looked_waits part side None e moved =
+    let nothing = look_nothing (asked_of part side) e in
+    let fits : Fits (Nothing nothing.0) (need_of part.state) part.state.node = subst (λ q. Fits q (need_of part.state) part.state.node) (told_nothing (asks part side) nothing.0 nothing.1) (asks_fits part side) in
+    fits (ap (λ r. r.0) (sym (nothing_after part side nothing.0 None nothing.1)) ∙ moved)

@@ -30,5 +30,7 @@ pub mod Sides
 pub mod Uses
 pub mod Feeding
 pub mod Holds
+pub mod Joining
+pub mod Differing
 mod WorkedChip
 mod WorkedStuck

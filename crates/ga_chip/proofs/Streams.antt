@@ -68,7 +68,7 @@ fed_event chip event name part now legal there there' = by (does chip event)
     by (inr d) = by_name d (cases_eq d.name name)
 
 -- no event opens a stream
-opened_event : (chip : Chip) (event : Event) (name : ℕ) (part now : Part) → IsLegal chip → part_of chip name ≡ Some part → part_of (happened chip event) name ≡ Some now → now.opened ≡ part.opened
+pub opened_event : (chip : Chip) (event : Event) (name : ℕ) (part now : Part) → IsLegal chip → part_of chip name ≡ Some part → part_of (happened chip event) name ≡ Some now → now.opened ≡ part.opened
 opened_event chip event name part now legal there there' = by (does chip event)
   where
     by_name : (d : Does chip event) → (d.name ≡ name) ⊎ (d.name ≡ name → ⊥) → now.opened ≡ part.opened

@@ -8,5 +8,6 @@ pub mod Stream
 pub mod Grow
 pub mod Legal
 pub mod Laws
+pub mod Joining
 pub mod Stuck
 pub mod inner

@@ -1,5 +1,6 @@
 //! Laws of the definitions. They do nothing when run.
 ghost use Rattle.ga_chip.specs.Grow.{Growing, StreamsGo};
+ghost use Rattle.ga_chip.specs.Joining.{OnePortNamesNoSide, OpenedIsOpen, RunsAreLegal, RunsJoin, TriesFeedNothing, TriesJoin};
 ghost use Rattle.ga_chip.specs.Laws.{Commuting, Confluence};
 ghost use Rattle.ga_chip.specs.Stuck.{Stuck};
 
@@ -26,4 +27,21 @@ pub fn stuck()
 pub fn ledgers()
     ensures grow { Growing }
     ensures streams { StreamsGo }
+{}
+
+/// Runs one behind the other. A run of a legal chip leads to a legal chip. A run and one behind it are one run: it leads to
+/// the same chip, has the moves of both, and feeds each stream what both feed it; tries feed nothing. A stream that was
+/// opened is open. So a proof that makes several calls joins what they promise into one run, of which the laws speak.
+pub fn runs()
+    ensures legal { RunsAreLegal }
+    ensures joined { RunsJoin }
+    ensures tries { TriesJoin }
+    ensures unfed { TriesFeedNothing }
+    ensures opened { OpenedIsOpen }
+{}
+
+/// A node whose need is at no moment of a run a take of several sides names no side: for it the condition of
+/// [`confluence`] holds.
+pub fn one_port()
+    ensures { OnePortNamesNoSide }
 {}

@@ -1,4 +1,6 @@
 pub mod Plans
+pub mod Rounds
+pub mod Counting
 pub mod Walk
 pub mod Tries
 pub mod Gains

@@ -1,6 +1,6 @@
 -- Runs of workers: each worker tries the nodes of its group, in whatever order the workers come.
 use Rattle.std.specs.Prelude.{◌≡◌, ℕ, true, false, List, [], map}
-use Rattle.std.specs.List.{concat, range_with_len}
+use Rattle.std.specs.List.{concat, flat_map, range_with_len}
 use Rattle.ga_place.specs.Node.{is_among}
 use Rattle.ga_place.specs.declared.side.Side.{Side}
 use Rattle.ga_chip.specs.declared.outcome.Try.{Try}
@@ -20,3 +20,11 @@ pub record IsWorkersRun (chip : Chip) (plan : Groups) (turns : ℕ) (next : Chip
   pub planned : (name : ℕ) → is_among name (concat plan) ≡ true → sides_tried name tries ≡ sides_of_turns turns
   pub others : (name : ℕ) → is_among name (concat plan) ≡ false → sides_tried name tries ≡ []
   pub leads : next ≡ ran chip (tries_of tries)
+
+-- one try of each of some nodes in order, all with one side
+abbrev pub round_of : List ℕ → Side → List Try
+round_of nodes side = map (λ name. record { node = name; side = side }) nodes
+
+-- so many rounds, one behind another, with the sides of the turns
+abbrev pub rounds_of : List ℕ → ℕ → List Try
+rounds_of nodes turns = flat_map (λ turn. round_of nodes (side_of_turn turn)) (range_with_len 0 turns)

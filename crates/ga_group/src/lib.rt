@@ -1,6 +1,7 @@
 //! Workers in threads that try the nodes of a chip, each those of its own group.
 #![tactic(auto)]
 
+mod alone;
 mod error;
 mod gate;
 mod halves;

@@ -2,11 +2,11 @@
 //!
 //! A node that waits is tried in each turn too, and such tries come often. So of a node that waits for a word, is held or
 //! is stopped, a worker keeps where its tries look: then a try is one look there, as long as nothing is there.
-ghost use Rattle.std.specs.Prelude.{◌≡◌, ◌≤◌, ◌<◌, ◌^◌, [], ◌∷◌, None, Some, false, length, true};
+ghost use Rattle.std.specs.Prelude.{◌≡◌, ◌+◌, ◌≤◌, ◌<◌, ◌^◌, [], ◌∷◌, None, Some, false, length, true};
 ghost use Rattle.ga_chip.specs.Asks.{asked_of};
 ghost use Rattle.ga_port.specs.Seat.{tried_in};
 ghost use Rattle.ga_group.specs.Workers.{sides_of_turns};
-ghost use Rattle.ga_group.specs.inner.Tried.{HasTried};
+ghost use Rattle.ga_group.specs.inner.Tried.{HasTried, is_move, steps_in};
 ghost use Rattle.ga_group.specs.inner.Work.{AreKnown, HasWorked, IsKnown, IsLent, IsReady, LooksAt};
 
 use crate::gate::Gate;
@@ -51,7 +51,9 @@ fn work_turn(
     ensures worked { HasWorked seat.old seat.new parts.old parts.new (side ∷ []) }
     ensures known { AreKnown parts.new looks.new }
     ensures same { length looks.new ≡ length looks.old }
-    ensures moved { result ≤ length parts.old }
+    // each try that was `Moved` is a step more of its node
+    ensures moved { steps_in parts.new ≡ steps_in parts.old + result }
+    ensures few { result ≤ length parts.old }
 {
     let mut moved = 0;
     for (index, part) in parts.iter_mut().enumerate() {
@@ -79,7 +81,7 @@ fn try_node(
     ensures node { part.new.state.node ≡ part.old.state.node }
     ensures known { IsKnown part.new looks.new }
     ensures tried { HasTried (record { node = part.old.state.node; side = side })
-        seat.old.nodes seat.new.nodes part.old part.new }
+        seat.old.nodes seat.new.nodes part.old part.new result }
 {
     let node = part.node();
     if part.done_if_own() {
@@ -107,7 +109,7 @@ fn try_other(
     ensures node { part.new.state.node ≡ part.old.state.node }
     ensures known { IsKnown part.new looks.new }
     ensures tried { HasTried (record { node = part.old.state.node; side = side })
-        seat.old.nodes seat.new.nodes part.old part.new }
+        seat.old.nodes seat.new.nodes part.old part.new result }
 {
     let node = part.node();
     let Some(known) = looks else {
@@ -135,7 +137,7 @@ fn try_far(
     ensures own { seat.new.table ≡ seat.old.table }
     ensures node { part.new.state.node ≡ part.old.state.node }
     ensures known { IsKnown part.new looks.new }
-    ensures tried { HasTried what seat.old.nodes seat.new.nodes part.old part.new }
+    ensures tried { HasTried what seat.old.nodes seat.new.nodes part.old part.new result }
 {
     let is_moved = try_asked(cells, seat, part, what) == Outcome::Moved;
     *looks = if is_moved { None } else { part.looks() };
@@ -169,7 +171,8 @@ fn try_asked(cells: &Cells, seat: &mut PortSeat, part: &mut NodePart, what: Try)
     requires node { what.node ≡ part.old.state.node }
     ensures own { seat.new.table ≡ seat.old.table }
     ensures node { part.new.state.node ≡ part.old.state.node }
-    ensures tried { HasTried what seat.old.nodes seat.new.nodes part.old part.new }
+    ensures tried { HasTried what seat.old.nodes seat.new.nodes part.old part.new
+        (is_move result) }
 {
     match part.asks(what.side) {
         Asks::Own => {
@@ -209,7 +212,8 @@ fn take_word(
     requires asks { asked_of part.old what.side ≡ Asks.Take from cell }
     ensures own { seat.new.table ≡ seat.old.table }
     ensures node { part.new.state.node ≡ part.old.state.node }
-    ensures tried { HasTried what seat.old.nodes seat.new.nodes part.old part.new }
+    ensures tried { HasTried what seat.old.nodes seat.new.nodes part.old part.new
+        (is_move result) }
 {
     // The checker refuses a second use of `what` by value.
     let look = what;

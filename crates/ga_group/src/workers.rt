@@ -1,16 +1,17 @@
-ghost use Rattle.std.specs.Prelude.{◌≡◌, ◌≤◌, ◌<◌, ◌^◌, ℕ, true, IfErr, IfOk, OnOk};
+ghost use Rattle.std.specs.Prelude.{◌≡◌, ◌∷◌, ◌≤◌, ◌<◌, ◌^◌, [], ℕ, List, true, IfErr, IfOk, OnOk};
 ghost use Rattle.std.specs.List.{concat};
 ghost use Rattle.ga_place.specs.Node.{IsNodeName, is_among};
 ghost use Rattle.ga_chip.specs.Chip.{IsHeld, part_of};
 ghost use Rattle.ga_chip.specs.Grow.{LedgersGrow};
 ghost use Rattle.ga_chip.specs.Legal.{IsLegal};
-ghost use Rattle.ga_chip.specs.Run.{tries_of};
+ghost use Rattle.ga_chip.specs.Run.{ran, tries_of};
 ghost use Rattle.ga_port.specs.Seat.{untried};
 ghost use Rattle.ga_group.specs.Plan.{groups_in};
-ghost use Rattle.ga_group.specs.Workers.{IsWorkersRun, sides_of_turns};
+ghost use Rattle.ga_group.specs.Workers.{IsWorkersRun, rounds_of, sides_of_turns};
 ghost use Rattle.ga_group.specs.inner.Work.{AreLent, HasAllNodes, HaveGained, names_of};
 ghost use Rattle.ga_group.specs.declared.error.RunError.TheVariants.{TooManyTurns};
 
+use crate::alone::work_alone;
 use crate::error::RunError;
 use crate::gate::Gate;
 use crate::halves::work_groups;
@@ -28,9 +29,10 @@ const TOO_MANY_TURNS: u64 = 1 << 40;
 /// Runs a chip by a plan over so many turns, counted from 0, and hands it back. In each turn each worker calls the gate
 /// and then tries each node of its group once, in the group's order, with the side of the turn: right, down, left, up,
 /// and again. Each worker runs in a thread of its own, of which one is the caller's; where no thread can be started,
-/// another one works its group. In which order the tries of two nodes come is free. From 2^40 turns up it is refused as
-/// `TooManyTurns`, and where memory runs out as `Memory`, which is before any try; the chip comes back as it was then.
-/// (Runs of workers are this project's own: profile.)
+/// another one works its group. In which order the tries of nodes of two workers come is free; a single worker makes its
+/// tries in the caller's thread, one round behind another. From 2^40 turns up it is refused as `TooManyTurns`, and where
+/// memory runs out as `Memory`, which is before any try; the chip comes back as it was then. (Runs of workers are this
+/// project's own: profile.)
 pub fn run_workers<R: Threads + Sync, G: Gate>(
     rt: &R,
     alloc: Global,
@@ -40,6 +42,9 @@ pub fn run_workers<R: Threads + Sync, G: Gate>(
     gate: &G,
 ) -> Result<Chip, (RunError, Chip)>
     ensures run { IfOk result (λ next. IsWorkersRun chip plan.now turns next) }
+    // with one group the order of all tries is known
+    ensures alone { IfOk result (λ next. (group : List ℕ) → plan.now ≡ group ∷ []
+        → next ≡ ran chip (tries_of (rounds_of group turns))) }
     ensures held { IfOk result (λ next. (name : ℕ) → IsHeld chip name
         → part_of next name ≡ part_of chip name) }
     ensures ledgers { IfOk result (λ next. (run : IsWorkersRun chip plan.now turns next)
@@ -53,6 +58,10 @@ pub fn run_workers<R: Threads + Sync, G: Gate>(
     chip.legal();
     if turns >= TOO_MANY_TURNS {
         return Err((RunError::TooManyTurns, chip));
+    }
+    let groups = plan.groups();
+    if groups.len() == 1 {
+        return Ok(work_alone(chip, gate, &groups[0], turns));
     }
     match open(alloc, &chip, plan) {
         Ok((nodes, cells, seat)) => Ok(run_at(rt, chip, plan, &nodes, cells, seat, turns, gate)),

@@ -4,6 +4,7 @@ use Rattle.ga_place.specs.declared.side.Side.TheVariants.{Right}
 use Rattle.ga_port.specs.Cells.{is_off_cells}
 use Rattle.ga_port.specs.Seat.{kept, tried_in}
 use Rattle.ga_group.proofs.Known.{known_own}
+use Rattle.ga_group.specs.inner.Tried.{is_move}
 use Rattle.ga_group.proofs.work.try_node.Goals as goal
 
 pub own-requires-clause-asks : goal.own-requires-clause-asks
@@ -20,5 +21,6 @@ returns-then-done_if_own c = record {
     None,
     c.own.ensures.nodes ∙ ap (λ n. tried_in c.args.seat.now.nodes (record { node = n; side = c.args.side }) None) c.node-node.ensures,
     ap (λ r. r.1) (c.done_if_own.ensures.part c.if-done_if_own.true c.args.side),
+    ap (λ r. is_move r.0) (c.done_if_own.ensures.part c.if-done_if_own.true c.args.side),
   );
 }

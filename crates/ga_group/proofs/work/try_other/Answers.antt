@@ -2,6 +2,7 @@ use Rattle.std.proofs.Common.{◌∙◌, Some, None, ap, sym}
 use Rattle.ga_chip.specs.Asks.{asked_of, look_at, look_of}
 use Rattle.ga_chip.proofs.Found.{look_there, looked_still}
 use Rattle.ga_port.specs.Seat.{kept, tried_in}
+use Rattle.ga_group.proofs.Counting.{looked_waits}
 use Rattle.ga_group.proofs.work.try_other.Goals as goal
 
 pub finds_nothing-requires-clause-looks : goal.finds_nothing-requires-clause-looks
@@ -15,4 +16,5 @@ returns-then-finds_nothing-clause-tried c =
       None,
       c.finds_nothing.ensures.tried c.if-finds_nothing.true ∙ ap (λ n. tried_in c.args.seat.now.nodes (record { node = n; side = c.args.side }) None) c.node-node.ensures,
       sym (looked_still c.args.part.now c.args.side (look_at c.in-Some.known c.args.side) looks),
+      looked_waits c.args.part.now c.args.side (look_at c.in-Some.known c.args.side) looks,
     )

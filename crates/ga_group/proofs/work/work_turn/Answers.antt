@@ -1,7 +1,8 @@
-use Rattle.std.proofs.Common.{◌∙◌, ◌<◌, ◌∷◌, [], ◌+◌, take, length, set, slice_index_or, sym, ap, subst, arith}
+use Rattle.std.proofs.Common.{true, false, ◌∙◌, ◌<◌, ◌∷◌, [], ◌+◌, take, length, set, slice_index_or, sym, ap, subst, arith}
 use Rattle.std.proofs.lemmas.Option.{slice_get-get_or}
 use Rattle.ga_group.specs.Plan.{first_repeated}
 use Rattle.ga_group.specs.inner.Work.{AreLent, HaveGained, names_of}
+use Rattle.ga_group.proofs.Counting.{steps_made, steps_set}
 use Rattle.ga_group.proofs.Gains.{gained_next, lent_set, names_set}
 use Rattle.ga_group.proofs.Known.{known_set}
 use Rattle.ga_group.proofs.work.work_turn.Goals as goal
@@ -26,5 +27,9 @@ loop-index-preserved c =
       gained = subst (λ nodes. HaveGained c.args.seat.now.nodes nodes (take (index + 1) (names_of c.args.parts.now)) (c.args.side ∷ [])) (sym tried.1)
           (gained_next c.args.seat.now.nodes c.loop-index.seat.nodes (names_of c.args.parts.now) parts index part c.args.side tried.0 c.loop-index.invariant.names c.requires.ready.once c.loop-index.invariant.lent there c.loop-index.invariant.gained);
       known = known_set parts c.loop-index.looks index part new look c.try_node.new.looks c.loop-index.invariant.known there known c.try_node.ensures.known;
-      moved = elim c.if-try_node.branch [ then-try_node w ↦ omega arith | else-try_node w ↦ omega arith ];
+      moved = elim c.if-try_node.branch [
+        | then-try_node w ↦ omega (arith, steps_set parts index part new 1 there (ap (λ p. p.state.steps) tried.2 ∙ steps_made part c.args.side tried.0 true (sym w.if-try_node.true ∙ tried.3)))
+        | else-try_node w ↦ omega (arith, steps_set parts index part new 0 there (ap (λ p. p.state.steps) tried.2 ∙ steps_made part c.args.side tried.0 false (sym w.if-try_node.false ∙ tried.3)))
+      ];
+      few = elim c.if-try_node.branch [ then-try_node w ↦ omega arith | else-try_node w ↦ omega arith ];
     }

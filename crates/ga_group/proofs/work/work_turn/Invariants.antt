@@ -1,4 +1,5 @@
-use Rattle.std.proofs.Common.{◌≡◌, ◌≤◌, [], ◌∷◌, take}
+use Rattle.std.proofs.Common.{◌≡◌, ◌+◌, ◌≤◌, [], ◌∷◌, take}
+use Rattle.ga_group.specs.inner.Tried.{steps_in}
 use Rattle.ga_group.specs.inner.Work.{AreKnown, AreLent, HaveGained, names_of}
 use Rattle.ga_group.proofs.work.work_turn.Given as goal
 
@@ -10,5 +11,6 @@ invariant-loop-index l = record {
   lent : AreLent l.parts l.seat.nodes;
   gained : HaveGained l.fn.seat.nodes l.seat.nodes (take l.index (names_of l.fn.parts)) (l.side ∷ []);
   known : AreKnown l.parts l.looks;
-  moved : l.moved ≤ l.index;
+  moved : steps_in l.parts ≡ steps_in l.fn.parts + l.moved;
+  few : l.moved ≤ l.index;
 }
