@@ -10,7 +10,7 @@ use Rattle.ga_chip.proofs.Found.{check_moves, check_same, check_waits, take_move
 use Rattle.ga_port.specs.declared.seat.Holding.{Holding}
 use Rattle.ga_port.specs.Cells.{AsksToCheck, AsksToTake, IsMoved}
 use Rattle.ga_port.specs.Seat.{kept, kept_after, tried_in, tried_of}
-use Rattle.ga_port.specs.inner.Rule.{pending_of}
+use Rattle.ga_port.specs.inner.Entering.{pending_of}
 
 same_entry : (nodes : List (Option Holding)) (name : ℕ) (one other : Holding) → kept nodes name ≡ Some one → kept nodes name ≡ Some other → one ≡ other
 same_entry nodes name one other e f = same_Some one other (sym e ∙ f)

@@ -15,7 +15,7 @@ use Rattle.ga_chip.specs.Chip.{Chip}
 use Rattle.ga_chip.specs.Run.{ran, tries_of}
 use Rattle.ga_port.specs.declared.seat.Holding.{Holding}
 use Rattle.ga_port.specs.Seat.{kept, merged, only, without}
-use Rattle.ga_port.specs.inner.Rule.{Holds, IsOf}
+use Rattle.ga_port.specs.Rule.{Holds, IsOf}
 use Rattle.ga_port.proofs.Nodes.{kept_none, merged_from, merged_left, merged_right, only_among, only_from, only_keeps, without_among, without_from, without_keeps}
 use Rattle.ga_port.proofs.Steps.{at_bound, place_below}
 

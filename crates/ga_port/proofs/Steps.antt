@@ -23,7 +23,8 @@ use Rattle.ga_chip.proofs.Lists.{get-set_here, get-set_else}
 use Rattle.ga_port.specs.declared.seat.Holding.{Holding}
 use Rattle.ga_port.specs.Seat.{kept, kept_after, tried_in}
 use Rattle.ga_port.specs.Cells.{AsksForNoCell, AsksToCheck, AsksToPost, AsksToTake, is_off_cells}
-use Rattle.ga_port.specs.inner.Rule.{AreSmall, Enters, EntersEmpty, EntersFound, Holds, IsCellWord, IsOf, pending_of, row_of, word_of}
+use Rattle.ga_port.specs.Rule.{AreSmall, Holds, IsOf, row_of, word_of}
+use Rattle.ga_port.specs.inner.Entering.{Enters, EntersEmpty, EntersFound, IsCellWord, pending_of}
 use Rattle.ga_port.proofs.Nodes as nodes
 use Rattle.ga_port.proofs.Rows.{empties_again, held_small, held_word, row_read, row_write, small_set}
 use Rattle.ga_port.proofs.Runs.{happened_at, ran_push}

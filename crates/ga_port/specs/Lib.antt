@@ -1,3 +1,4 @@
 pub mod Seat
 pub mod Cells
+pub mod Rule
 pub mod inner

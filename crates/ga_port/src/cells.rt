@@ -5,7 +5,8 @@ ghost use lib.ListN.{get_elem?};
 ghost use Rattle.ga_chip.specs.declared.outcome.Try.{Try};
 ghost use Rattle.ga_port.specs.Cells.{AsksForNoCell, AsksToCheck, AsksToPost, AsksToTake, IsEnd, IsMoved};
 ghost use Rattle.ga_port.specs.Seat.{merged, only, tried_in, untried, without};
-ghost use Rattle.ga_port.specs.inner.Rule.{AreSmall, IsCellWord, pending_of, row_of};
+ghost use Rattle.ga_port.specs.Rule.{AreSmall, row_of};
+ghost use Rattle.ga_port.specs.inner.Entering.{IsCellWord, pending_of};
 
 use crate::name::{Chosen, Named};
 use crate::rule::{Acts, Finds, Gathers, InOneRun, Polls, Shares};
@@ -249,7 +250,7 @@ impl Cells {
 }
 
 /// What the table holds at the start: the words of the cells, and the words behind them.
-#[tactic(auto, unfolding(crate::specs::inner::Rule::row_of))]
+#[tactic(auto, unfolding(crate::specs::Rule::row_of))]
 fn words_of(alloc: Global, cells: &[Option<Word18>]) -> Result<Vec<u64>, AllocError>
     requires { length cells.now ≡ 524 }
     ensures words { IfOk result (λ made. made.items ≡ row_of cells.now) }

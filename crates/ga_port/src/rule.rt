@@ -9,7 +9,7 @@ pub(crate) struct InOneRun;
 
 impl TableRule<u64, Nodes, Chip> for InOneRun {
     ghost use Rattle.ga_port.specs.Seat.{untried};
-    ghost use Rattle.ga_port.specs.inner.Rule.{Holds};
+    ghost use Rattle.ga_port.specs.Rule.{Holds};
 
     ghost holds = { λ opening s. Holds opening s };
 
@@ -22,7 +22,7 @@ pub(crate) struct Acts<T> {
 }
 
 impl<T: Named> Play<u64, Nodes> for Acts<T> {
-    ghost use Rattle.ga_port.specs.inner.Rule.{Enters};
+    ghost use Rattle.ga_port.specs.inner.Entering.{Enters};
 
     ghost then = { λ step old held new. Enters T.what old new };
 }
@@ -33,7 +33,7 @@ pub(crate) struct Finds<T> {
 }
 
 impl<T: Named> Play<u64, Nodes> for Finds<T> {
-    ghost use Rattle.ga_port.specs.inner.Rule.{EntersFound};
+    ghost use Rattle.ga_port.specs.inner.Entering.{EntersFound};
 
     ghost then = { λ step old held new. EntersFound T.what held old new };
 }
@@ -44,7 +44,7 @@ pub(crate) struct Polls<T> {
 }
 
 impl<T: Named> Play<u64, Nodes> for Polls<T> {
-    ghost use Rattle.ga_port.specs.inner.Rule.{EntersEmpty};
+    ghost use Rattle.ga_port.specs.inner.Entering.{EntersEmpty};
 
     ghost then = { λ step old held new. EntersEmpty T.what held old new };
 }

@@ -1,5 +1,6 @@
 ghost use Rattle.std.specs.Prelude.{◌≡◌, ◌<◌, ◌^◌, IfSome, Some};
-ghost use Rattle.ga_port.specs.inner.Rule.{IsCellWord, pending_of, word_of};
+ghost use Rattle.ga_port.specs.Rule.{word_of};
+ghost use Rattle.ga_port.specs.inner.Entering.{IsCellWord, pending_of};
 
 use ga_word::Word18;
 

@@ -1,6 +1,6 @@
 use Rattle.std.proofs.Common.{◌≡◌, ◌≤◌, map, take, vec_items, vec_capacity}
 use Rattle.std.specs.Slots.{slots_items}
-use Rattle.ga_port.specs.inner.Rule.{pending_of}
+use Rattle.ga_port.specs.inner.Entering.{pending_of}
 use Rattle.ga_port.proofs.cells.words_back.Given as goal
 
 abbrev pub invariant-loop-cell : goal.invariant-loop-cell

@@ -1,5 +1,5 @@
 use Rattle.std.proofs.Common.{◌≡◌, ℕ, ◌<◌, ◌^◌, map, take, Some, None, get_or, vec_items}
-use Rattle.ga_port.specs.inner.Rule.{word_of}
+use Rattle.ga_port.specs.Rule.{word_of}
 use Rattle.ga_port.proofs.cells.words_of.Given as goal
 
 abbrev pub invariant-loop-cell : goal.invariant-loop-cell

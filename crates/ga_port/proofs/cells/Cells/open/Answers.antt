@@ -1,5 +1,5 @@
 use Rattle.std.proofs.Common.{◌∙◌, ap, length, subst}
-use Rattle.ga_port.specs.inner.Rule.{AreSmall, row_of}
+use Rattle.ga_port.specs.Rule.{AreSmall, row_of}
 use Rattle.ga_port.proofs.Ends.{starts}
 use Rattle.ga_port.proofs.Rows.{row_length}
 use Rattle.ga_port.proofs.cells.Cells.open.Goals as goal

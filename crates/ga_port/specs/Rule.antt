@@ -1,27 +1,22 @@
--- The rule of the cells: their words, and what all seats have, are those of one run of the chip.
-use Rattle.std.specs.Prelude.{◌≡◌, ◌≢◌, ℕ, ◌+◌, ◌-◌, ◌==◌, ◌<◌, ◌≤◌, ◌^◌, if◌then◌else◌, List, [], ◌++◌, map, length, replicate, Option, Some, None}
+-- The rule of the cells. Whatever threads do at the cells, at each moment there is one run of the chip, along tries of its
+-- nodes from the opening chip on, so that the words of the table are the cells of the chip to which the run leads, and what
+-- all seats have of their nodes is what the run makes of these; and each node is at exactly one seat.
+use Rattle.std.specs.Prelude.{◌≡◌, ℕ, ◌+◌, ◌<◌, ◌^◌, List, [], ◌++◌, map, length, replicate, Option, Some, None}
 use mathlib.Core.Option.{some}
 use lib.ListN.{get_elem?}
-use Rattle.atomic_table.specs.Table.{State, Me}
+use Rattle.atomic_table.specs.Table.{State}
 use Rattle.ga_place.specs.Node.{IsNodeName}
 use Rattle.ga_chip.specs.declared.outcome.Try.{Try}
 use Rattle.ga_chip.specs.Part.{Part}
 use Rattle.ga_chip.specs.Chip.{Chip, part_of, pending_in}
 use Rattle.ga_chip.specs.Run.{ran, sides_tried, tries_of}
 use Rattle.ga_port.specs.declared.seat.Holding.{Holding}
-use Rattle.ga_port.specs.Seat.{kept, tried_in}
+use Rattle.ga_port.specs.Seat.{kept}
 
 -- what a cell holds: 0, or the pending word and a bit above it
 abbrev pub word_of : Option ℕ → ℕ
 word_of None = 0
 word_of (Some word) = 262144 + word
-
-abbrev pub IsCellWord : ℕ → Type 0
-IsCellWord held = (held < 2 ^ 19) × (held ≢ 0 → 262144 ≤ held)
-
--- the word pending in a cell that holds this
-abbrev pub pending_of : ℕ → Option ℕ
-pending_of held = if held == 0 then None else Some (held - 262144)
 
 -- all words of the table: those of the cells, and one of no cell
 unfoldable pub row_of : List (Option ℕ) → List ℕ
@@ -31,8 +26,9 @@ row_of cells = map word_of cells ++ replicate 1 0
 abbrev pub AreSmall : List (Option ℕ) → Type 0
 AreSmall cells = (cell word : ℕ) → pending_in cells cell ≡ Some word → word < 2 ^ 18
 
--- the words, and what all seats have, are those of the chip to which these tries lead
+-- The words, and what all seats have, are those of the chip to which these tries lead.
 pub record IsOf (chip : Chip) (tries : List Try) (owner : ℕ → ℕ) (s : State ℕ (List (Option Holding))) : Type 0 where
+  -- the words are those of the cells
   pub words : s.words ≡ row_of chip.cells
   pub cells : length chip.cells ≡ 524
   pub small : AreSmall chip.cells
@@ -49,15 +45,3 @@ pub record IsOf (chip : Chip) (tries : List Try) (owner : ℕ → ℕ) (s : Stat
 -- there is one run from the opening chip
 abbrev pub Holds : Chip → State ℕ (List (Option Holding)) → Type 0
 Holds opening s = (tries : List Try) × (owner : ℕ → ℕ) × IsOf (ran opening (tries_of tries)) tries owner s
-
--- a step enters a try that found nothing
-abbrev pub Enters : Try → Me ℕ (List (Option Holding)) → Me ℕ (List (Option Holding)) → Type 0
-Enters what old new = new ≡ (tried_in old.0 what None, old.1)
-
--- a step enters a try that found what the cell held
-abbrev pub EntersFound : Try → ℕ → Me ℕ (List (Option Holding)) → Me ℕ (List (Option Holding)) → Type 0
-EntersFound what held old new = IsCellWord held × (new ≡ (tried_in old.0 what (pending_of held), old.1))
-
--- a step enters a try that found nothing where the cell was empty, and else none
-abbrev pub EntersEmpty : Try → ℕ → Me ℕ (List (Option Holding)) → Me ℕ (List (Option Holding)) → Type 0
-EntersEmpty what held old new = IsCellWord held × (new ≡ (if held == 0 then tried_in old.0 what None else old.0, old.1))
