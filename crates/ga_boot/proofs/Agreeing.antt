@@ -10,11 +10,13 @@ use Rattle.ga_place.specs.Cell.{index_of}
 use Rattle.ga_place.specs.Node.{IsNodeName}
 use Rattle.ga_place.specs.declared.side.Side.{Side}
 use Rattle.ga_place.proofs.Cells.{one_place}
-use Rattle.ga_chip.specs.Chip.{Chip, part_of, reset_chip, streamed}
+use Rattle.ga_chip.specs.Chip.{Chip, part_of, reset_chip, stream_opened, streamed}
 use Rattle.ga_chip.specs.Laws.{AgreesWith, IsPrefix}
+use Rattle.ga_chip.specs.Legal.{DifferInBreaks}
 use Rattle.ga_chip.specs.Part.{Part}
 use Rattle.ga_chip.specs.Run.{Event, pieces, sides_of, words_fed}
 use Rattle.ga_chip.proofs.Confluence.{confluence}
+use Rattle.ga_chip.proofs.Differing.{differ_back}
 use Rattle.ga_chip.proofs.Lists.{agree_cut, agree_front, get-set_else}
 use Rattle.ga_chip.proofs.Reset.{is_reset}
 use Rattle.ga_boot.specs.Boot.{IsSupplied, stream_words}
@@ -23,7 +25,7 @@ use Rattle.ga_boot.specs.Tree.{Place, found, places}
 use Rattle.ga_boot.proofs.Boot.{tree_boots}
 use Rattle.ga_boot.proofs.Given.{from_opened, from_streamed, root_chip, root_part}
 use Rattle.ga_boot.proofs.Places.{found_there}
-use Rattle.ga_boot.proofs.Supplied.{fed_closed, none_fed, supplied}
+use Rattle.ga_boot.proofs.Supplied.{fed_alike, fed_closed, none_fed, supplied}
 
 -- lists of one side agree
 one_side_by : (side : Side) (xs ys : List Side) → AllByRecursion (λ s. s ≡ side) xs → AllByRecursion (λ s. s ≡ side) ys → AgreesWith xs ys
@@ -61,58 +63,70 @@ closed_else root name stream opened events named apart =
     by None e = none_fed name events
     by (Some part) e = ap (λ p. pieces p.opened name events) (is_reset name part e) ∙ none_fed name events
 
-both_none : (xs ys : List ℕ) → xs ≡ [] → ys ≡ [] → AgreesWith xs ys
-both_none xs ys e f = inl (ys, ap (λ l. l ++ ys) (sym e))
-
 fronts_agree : (xs ys words : List ℕ) → IsPrefix xs words → IsPrefix ys words → AgreesWith xs ys
 fronts_agree xs ys words (rest, e) (more, f) = agree_cut xs ys rest more (sym e ∙ f)
 
 -- where the root was given its stream, no node is fed anything
-given_none : (chip : Chip) (root : ℕ) (words : List ℕ) (events : List Event) (name : ℕ) → IsNodeName root → chip ≡ streamed reset_chip root words → words_fed chip events name ≡ []
-given_none chip root words events name named e = ap (λ c. words_fed c events name) (e ∙ from_streamed root (Some words) false named words) ∙ by (cases_eq name root)
+given_none : (chip : Chip) (root : ℕ) (words : List ℕ) (events : List Event) (name : ℕ) → IsNodeName root → DifferInBreaks chip (streamed reset_chip root words) → words_fed chip events name ≡ []
+given_none chip root words events name named e =
+    fed_alike base chip (differ_back chip base (subst (DifferInBreaks chip) (from_streamed root (Some words) false named words) e)) events name ∙ by (cases_eq name root)
   where
-    by : (name ≡ root) ⊎ (name ≡ root → ⊥) → words_fed (root_chip root (Some words) false) events name ≡ []
-    by (inl same) = ap (words_fed (root_chip root (Some words) false) events) same ∙ fed_closed root words events named
+    base : Chip
+    base = root_chip root (Some words) false
+
+    by : (name ≡ root) ⊎ (name ≡ root → ⊥) → words_fed base events name ≡ []
+    by (inl same) = ap (words_fed base events) same ∙ fed_closed root words events named
     by (inr apart) = closed_else root name (Some words) false events named apart
 
--- the words that the nodes are fed in two runs
-fed_agrees : (chip : Chip) (root : ℕ) (words : List ℕ) (events others : List Event) → IsNodeName root → IsSupplied chip root words events → IsSupplied chip root words others → (name : ℕ) → AgreesWith (words_fed chip events name) (words_fed chip others name)
-fed_agrees chip root words events others named (inl (given, e, front)) other name = both_none _ _ (given_none chip root given events name named e) (given_none chip root given others name named e)
-fed_agrees chip root words events others named (inr one) (inl (given, e, front)) name = both_none _ _ (given_none chip root given events name named e) (given_none chip root given others name named e)
-fed_agrees chip root words events others named (inr (e, front)) (inr (f, other)) name = by (cases_eq name root)
-  where
-    closed : (run : List Event) → (name ≡ root → ⊥) → words_fed chip run name ≡ []
-    closed run apart = ap (λ c. words_fed c run name) (e ∙ from_opened root (Some []) true named) ∙ closed_else root name (Some []) true run named apart
+-- where it was opened, no other node is
+opened_none : (chip : Chip) (root : ℕ) (events : List Event) (name : ℕ) → IsNodeName root → DifferInBreaks chip (stream_opened reset_chip root) → (name ≡ root → ⊥) → words_fed chip events name ≡ []
+opened_none chip root events name named e apart =
+    let base = root_chip root (Some []) true in
+    fed_alike base chip (differ_back chip base (subst (DifferInBreaks chip) (from_opened root (Some []) true named) e)) events name
+    ∙ closed_else root name (Some []) true events named apart
 
-    by : (name ≡ root) ⊎ (name ≡ root → ⊥) → AgreesWith (words_fed chip events name) (words_fed chip others name)
-    by (inl same) = subst (λ n. AgreesWith (words_fed chip events n) (words_fed chip others n)) (sym same) (fronts_agree (words_fed chip events root) (words_fed chip others root) words front other)
-    by (inr apart) = both_none _ _ (closed events apart) (closed others apart)
+prefix_none : (xs ys : List ℕ) → xs ≡ [] → AgreesWith xs ys
+prefix_none xs ys e = inl (ys, ap (λ l. l ++ ys) (sym e))
+
+none_prefix : (xs ys : List ℕ) → ys ≡ [] → AgreesWith xs ys
+none_prefix xs ys e = inr (xs, ap (λ l. l ++ xs) (sym e))
+
+-- the words that the nodes are fed in two runs
+fed_agrees : (one two : Chip) (root : ℕ) (words : List ℕ) (events others : List Event) → IsNodeName root → IsSupplied one root words events → IsSupplied two root words others → (name : ℕ) → AgreesWith (words_fed one events name) (words_fed two others name)
+fed_agrees one two root words events others named (inl (given, e, front)) other name = prefix_none _ _ (given_none one root given events name named e)
+fed_agrees one two root words events others named (inr first) (inl (given, e, front)) name = none_prefix _ _ (given_none two root given others name named e)
+fed_agrees one two root words events others named (inr (e, front)) (inr (f, other)) name = by (cases_eq name root)
+  where
+    by : (name ≡ root) ⊎ (name ≡ root → ⊥) → AgreesWith (words_fed one events name) (words_fed two others name)
+    by (inl same) = subst (λ n. AgreesWith (words_fed one events n) (words_fed two others n)) (sym same) (fronts_agree (words_fed one events root) (words_fed two others root) words front other)
+    by (inr apart) = prefix_none _ _ (opened_none one root events name named e apart)
 
 pub tree_boots_agree : TreeBootsAgree
-tree_boots_agree chip root image trees events others side_of tree supply other later later' =
-    let both = supplied chip root (stream_words root image trees) events tree.named supply in
-    confluence chip chip events others both.0.legal both.0.legal (record { parts = refl; cells = refl }) sides (fed_agrees chip root (stream_words root image trees) events others tree.named supply other)
+tree_boots_agree first second root image trees events others side_of tree differ supply other later later' =
+    let here = supplied first root (stream_words root image trees) events tree.named supply in
+    let there = supplied second root (stream_words root image trees) others tree.named other in
+    confluence first second events others here.0.legal there.0.legal differ sides (fed_agrees first second root (stream_words root image trees) events others tree.named supply other)
   where
-    one : Boots chip root image trees events
-    one = tree_boots chip root image trees events tree supply
+    one : Boots first root image trees events
+    one = tree_boots first root image trees events tree supply
 
-    two : Boots chip root image trees others
-    two = tree_boots chip root image trees others tree other
+    two : Boots second root image trees others
+    two = tree_boots second root image trees others tree other
 
-    sides : (name : ℕ) → AgreesWith (sides_of chip events name) (sides_of chip others name)
+    sides : (name : ℕ) → AgreesWith (sides_of first events name) (sides_of second others name)
     sides name = by (found name (places root 1 trees)) refl (later name) (later' name)
       where
         by : (o : Option Place) → found name (places root 1 trees) ≡ o
-            → All (λ side. side ≡ side_of name) (if is_some (found name (places root 1 trees)) then drop 1 (sides_of chip events name) else sides_of chip events name)
-            → All (λ side. side ≡ side_of name) (if is_some (found name (places root 1 trees)) then drop 1 (sides_of chip others name) else sides_of chip others name)
-            → AgreesWith (sides_of chip events name) (sides_of chip others name)
+            → All (λ side. side ≡ side_of name) (if is_some (found name (places root 1 trees)) then drop 1 (sides_of first events name) else sides_of first events name)
+            → All (λ side. side ≡ side_of name) (if is_some (found name (places root 1 trees)) then drop 1 (sides_of second others name) else sides_of second others name)
+            → AgreesWith (sides_of first events name) (sides_of second others name)
         by None e all all' =
-            one_side_agrees (side_of name) (sides_of chip events name) (sides_of chip others name)
-            (subst (λ o. All (λ side. side ≡ side_of name) (if is_some o then drop 1 (sides_of chip events name) else sides_of chip events name)) e all)
-            (subst (λ o. All (λ side. side ≡ side_of name) (if is_some o then drop 1 (sides_of chip others name) else sides_of chip others name)) e all')
+            one_side_agrees (side_of name) (sides_of first events name) (sides_of second others name)
+            (subst (λ o. All (λ side. side ≡ side_of name) (if is_some o then drop 1 (sides_of first events name) else sides_of first events name)) e all)
+            (subst (λ o. All (λ side. side ≡ side_of name) (if is_some o then drop 1 (sides_of second others name) else sides_of second others name)) e all')
         by (Some p) e all all' =
             let there = found_there (places root 1 trees) name p e in
-            first_agrees p.side (side_of name) (sides_of chip events name) (sides_of chip others name)
-            (subst (λ n. BeginsBy p.side (sides_of chip events n)) there.1 (one.first_side p there.0)) (subst (λ n. BeginsBy p.side (sides_of chip others n)) there.1 (two.first_side p there.0))
-            (subst (λ o. All (λ side. side ≡ side_of name) (if is_some o then drop 1 (sides_of chip events name) else sides_of chip events name)) e all)
-            (subst (λ o. All (λ side. side ≡ side_of name) (if is_some o then drop 1 (sides_of chip others name) else sides_of chip others name)) e all')
+            first_agrees p.side (side_of name) (sides_of first events name) (sides_of second others name)
+            (subst (λ n. BeginsBy p.side (sides_of first events n)) there.1 (one.first_side p there.0)) (subst (λ n. BeginsBy p.side (sides_of second others n)) there.1 (two.first_side p there.0))
+            (subst (λ o. All (λ side. side ≡ side_of name) (if is_some o then drop 1 (sides_of first events name) else sides_of first events name)) e all)
+            (subst (λ o. All (λ side. side ≡ side_of name) (if is_some o then drop 1 (sides_of second others name) else sides_of second others name)) e all')

@@ -5,7 +5,7 @@ use Rattle.std.proofs.lemmas.List.{length-map, map-append}
 use Rattle.std.proofs.lemmas.List.Concat.{flat_map-append}
 use Rattle.std.proofs.lemmas.Option.{same_Some}
 use Rattle.ga_asm.specs.Image.{ImageView}
-use Rattle.ga_path.specs.Sequences.{Grove, image_words, jump_to, part_words, start_address}
+use Rattle.ga_path.specs.Sequences.{Grove, image_words, jump_to, part_words, pumps, sent, start_address}
 use Rattle.ga_path.specs.declared.parts.Part.TheVariants.{Load, Start}
 use Rattle.ga_place.specs.Cell.{read_cell}
 use Rattle.ga_place.specs.declared.side.Side.{Side}
@@ -13,12 +13,13 @@ use Rattle.ga_place.proofs.Cells.{reader_there}
 use Rattle.ga_chip.specs.Chip.{Chip, part_of}
 use Rattle.ga_chip.specs.Laws.{AgreesWith, IsPrefix}
 use Rattle.ga_chip.specs.Part.{Part}
-use Rattle.ga_chip.specs.Run.{Event, Move, move_in, moves, moves_of, ran, sides_of, taken_words}
+use Rattle.ga_chip.specs.Run.{Event, Move, input_words, move_in, moves, moves_of, ran, sides_of, taken_words, words_left}
 use Rattle.ga_chip.proofs.Kept.{legal_ran}
-use Rattle.ga_chip.proofs.Lists.{agree_after, agree_first, agree_left}
+use Rattle.ga_chip.proofs.Lists.{agree_after, agree_first, agree_flat_map, agree_left}
 use Rattle.ga_chip.proofs.Moments.{one_at_most}
 use Rattle.ga_chip.proofs.Numbers.{part_there}
 use Rattle.ga_chip.proofs.Runs.{moves-append, moves_of-append, ran-append, stand_ran, takes_ran}
+use Rattle.ga_chip.proofs.Streams.{streams_go}
 use Rattle.ga_boot.specs.Boot.{Begun, CameToBe, LoadTaken, RootBegun, node_words, stream_words, words_from}
 use Rattle.ga_boot.specs.Laws.{Boots, TreeBoots}
 use Rattle.ga_boot.specs.inner.Local.{Feed, Local, Own, Take, fed, fed_by, history, local_of, taken, taken_at}
@@ -252,6 +253,51 @@ module _ (chip : Chip) (root : ℕ) (image : Option ImageView) (trees : Grove) (
         by (inl front) = front
         by (inr (rest, f)) = absurd (not_begun (along p e (rest, f)))
 
+    -- what was taken is a front of what is sent, or the other way round
+    sent_agrees : (p : Place) → Elem p all → AgreesWith (words_from chip events p.name p.side) (node_words p)
+    sent_agrees p e =
+        subst (λ l. AgreesWith l (node_words p)) (sym (from_parent p e events)) (subst (AgreesWith (taken p.side (history chip events p.name))) (script_taken p e)
+        (agree_flat_map (taken_at p.side) (history chip events p.name) (script plan p.name) (agrees p.name)))
+
+    takes : (p : Place) → Elem p all → (Begun chip p events → ⊥) → IsPrefix (words_from chip events p.name p.side) (node_words p)
+    takes p e not_begun = by (sent_agrees p e)
+      where
+        by : AgreesWith (words_from chip events p.name p.side) (node_words p) → IsPrefix (words_from chip events p.name p.side) (node_words p)
+        by (inl front) = front
+        by (inr (rest, f)) = absurd (not_begun (longer (node_words p) rest (words_from chip events p.name p.side) f))
+
+    took : (p : Place) → Elem p all → Begun chip p events → IsPrefix (node_words p) (words_from chip events p.name p.side)
+    took p e begun = by (sent_agrees p e)
+      where
+        by : AgreesWith (words_from chip events p.name p.side) (node_words p) → IsPrefix (node_words p) (words_from chip events p.name p.side)
+        by (inr front) = front
+        by (inl (rest, f)) = ([], whole rest f ∙ sym (append-nil (node_words p)))
+          where
+            whole : (rest : List ℕ) → node_words p ≡ words_from chip events p.name p.side ++ rest → words_from chip events p.name p.side ≡ node_words p
+            whole [] f = sym (append-nil _) ∙ sym f
+            whole (word ∷ rest) f =
+                let long = ap (λ l. length l) f ∙ length-append (words_from chip events p.name p.side) (word ∷ rest) in
+                absurd (omega (arith, long, begun))
+
+    -- the root takes no word from a port before it begins
+    root_alone : (side : Side) → (RootBegun chip root image trees events → ⊥) → words_from chip events root side ≡ []
+    root_alone side not_begun = by (read_cell root side) refl
+      where
+        front : IsPrefix (history chip events root) (script plan root)
+        front = along_it (agrees root)
+          where
+            along_it : AgreesWith (history chip events root) (script plan root) → IsPrefix (history chip events root) (script plan root)
+            along_it (inl front) = front
+            along_it (inr (rest, f)) = absurd (not_begun (root_along (rest, f)))
+
+        none : taken side (history chip events root) ≡ []
+        none = none_before (taken side (history chip events root)) (taken side front.0)
+            (sym (flat_map-append (taken_at side) (history chip events root) front.0) ∙ ap (taken side) (sym front.1) ∙ (plan_is.root root_part.0 root_part.1).takes side)
+
+        by : (o : Option ℕ) → read_cell root side ≡ o → option_map_or (λ cell. taken_words chip events cell) o [] ≡ []
+        by None f = refl
+        by (Some cell) f = takes_ran chip events root cell side g.legal tree.named f ∙ takes_history chip events root cell side g.legal tree.named f ∙ none
+
     parent_alone : (p : Place) (side : Side) → Elem p all → (Begun chip p events → ⊥) → (side ≡ p.side → ⊥) → words_from chip events p.name side ≡ []
     parent_alone p side e not_begun apart = by (read_cell p.name side) refl
       where
@@ -285,6 +331,14 @@ module _ (chip : Chip) (root : ℕ) (image : Option ImageView) (trees : Grove) (
         by (inl (none, unnamed)) = inl unnamed
         by (inr (z, h, rest, did, named, alone)) = inr (named ∙ ap (λ l. p.side ∷ l) (alone (subst (λ l. IsPrefix l (script plan p.name)) did (within p e not_begun))))
 
+    -- what the root has taken of its stream
+    root_takes : IsPrefix (input_words chip events root) (stream_words root image trees)
+    root_takes =
+        let now = part_there (ran chip events) root (legal_ran chip events g.legal) tree.named in
+        let flows = streams_go chip events root root_part.0 now.0 g.legal root_part.1 now.1 in
+        let front = fed_of root_part.0 root_part.1 in
+        (words_left now.0.stream ++ front.0, front.1 ∙ ap (λ l. l ++ front.0) flows ∙ append_assoc (input_words chip events root) (words_left now.0.stream) front.0)
+
     root_sides : (RootBegun chip root image trees events → ⊥) → sides_of chip events root ≡ []
     root_sides not_begun = by (agrees root)
       where
@@ -301,6 +355,11 @@ module _ (chip : Chip) (root : ℕ) (image : Option ImageView) (trees : Grove) (
           holds_inside plan chip plan_is events feeding p.name p.parent p.side part.0 root_part.0 now _ _ (has_parent root image trees tree p e) part.1 root_part.1 there (prepares root image trees tree chip g p part.0 e part.1) (loads taken_all) (λ b. not_begun (along p e b));
       root_begins = root_begins;
       begins = node_begins;
+      root_takes = root_takes;
+      takes = takes;
+      took = took;
+      last_word = λ p. (sent Load p.name p.side p.image (pumps Load p.inner) ++ pumps Start p.inner, sym (append_assoc (sent Load p.name p.side p.image (pumps Load p.inner)) (pumps Start p.inner) (jump_to (start_address p.name p.image) ∷ [])));
+      root_alone = root_alone;
       parent_alone = parent_alone;
       root_sides = root_sides;
       first_side = first_side;

@@ -9,6 +9,7 @@ use Rattle.ga_place.specs.declared.side.Side.{Side}
 use Rattle.ga_node.specs.State.{State}
 use Rattle.ga_chip.specs.Chip.{Chip, part_of, reset_chip, stream_opened, streamed}
 use Rattle.ga_chip.specs.Laws.{IsPrefix}
+use Rattle.ga_chip.specs.Legal.{DifferInBreaks}
 use Rattle.ga_chip.specs.Part.{Part}
 use Rattle.ga_chip.specs.Run.{Event, input_words, ran, taken_words, words_fed}
 use Rattle.ga_boot.specs.Tree.{Place}
@@ -22,12 +23,12 @@ abbrev pub node_words : Place → List ℕ
 node_words p =
     sent Load p.name p.side p.image (pumps Load p.inner) ++ sent Start p.name p.side p.image (pumps Start p.inner)
 
--- A chip after reset whose root was given a front of the words as its stream, or all; or whose root's stream was opened,
--- and the pieces that it is fed in the run are together a front of the words.
+-- A chip after reset, but for breakpoints, whose root was given a prefix of the words as its stream, or all; or whose root's
+-- stream was opened, and the pieces that it is fed in the run are together a prefix of the words.
 abbrev pub IsSupplied : Chip → ℕ → List ℕ → List Event → Type 0
 IsSupplied chip root words events =
-    ((given : List ℕ) × (chip ≡ streamed reset_chip root given) × IsPrefix given words)
-    ⊎ ((chip ≡ stream_opened reset_chip root) × IsPrefix (words_fed chip events root) words)
+    ((given : List ℕ) × DifferInBreaks chip (streamed reset_chip root given) × IsPrefix given words)
+    ⊎ (DifferInBreaks chip (stream_opened reset_chip root) × IsPrefix (words_fed chip events root) words)
 
 -- the words that a node takes at a side in a run
 abbrev pub words_from : Chip → List Event → ℕ → Side → List ℕ

@@ -4,13 +4,14 @@ use Rattle.ga_asm.specs.Image.{ImageView}
 use Rattle.ga_path.specs.Stream.{Images, grove, image_of, tree_load, tree_start}
 use Rattle.ga_path.specs.Tree.{IsSound, TreeView}
 use Rattle.ga_place.specs.Node.{IsNodeName}
-use Rattle.ga_path.specs.Sequences.{Grove, start_address}
+use Rattle.ga_path.specs.Sequences.{Grove, jump_to, start_address}
 use Rattle.ga_place.specs.declared.side.Side.{Side}
 use Rattle.ga_chip.specs.Chip.{Chip, part_of}
-use Rattle.ga_chip.specs.Laws.{Agree}
+use Rattle.ga_chip.specs.Laws.{Agree, IsPrefix}
+use Rattle.ga_chip.specs.Legal.{DifferInBreaks}
 use Rattle.ga_chip.specs.Part.{Part}
-use Rattle.ga_chip.specs.Run.{Event, ran, sides_of}
-use Rattle.ga_boot.specs.Boot.{Begun, CameToBe, Holds, IsSupplied, LoadTaken, RootBegun, stream_words, words_from}
+use Rattle.ga_chip.specs.Run.{Event, input_words, ran, sides_of}
+use Rattle.ga_boot.specs.Boot.{Begun, CameToBe, Holds, IsSupplied, LoadTaken, RootBegun, node_words, stream_words, words_from}
 use Rattle.ga_boot.specs.Tree.{Elem, IsLoadable, IsTree, Place, found, places}
 
 -- What holds at the end of a run that boots a tree, whatever the nodes did in it, and so at each of its moments.
@@ -25,7 +26,17 @@ pub record Boots (chip : Chip) (root : ℕ) (image : Option ImageView) (trees : 
       → CameToBe chip root (RootBegun chip root image trees) events now 0 → now.state.p ≡ start_address root image
   pub begins : (p : Place) (now : Part) → Elem p (places root 1 trees) → part_of (ran chip events) p.name ≡ Some now
       → CameToBe chip p.name (Begun chip p) events now 1 → now.state.p ≡ start_address p.name p.image
-  -- until a node begins it takes words from its parent alone
+  -- the words that the root takes of its stream are a prefix of those that boot the tree
+  pub root_takes : IsPrefix (input_words chip events root) (stream_words root image trees)
+  -- until another node begins, the words that it takes from its parent are a prefix of those that it is sent; from then on
+  -- these are a prefix of them; and the last one that it is sent is its start word, a jump to where it starts
+  pub takes : (p : Place) → Elem p (places root 1 trees) → (Begun chip p events → ⊥)
+      → IsPrefix (words_from chip events p.name p.side) (node_words p)
+  pub took : (p : Place) → Elem p (places root 1 trees) → Begun chip p events
+      → IsPrefix (node_words p) (words_from chip events p.name p.side)
+  pub last_word : (p : Place) → (front : List ℕ) × (node_words p ≡ front ++ jump_to (start_address p.name p.image) ∷ [])
+  -- until the root begins it takes no word from a port, and another node takes words from its parent alone
+  pub root_alone : (side : Side) → (RootBegun chip root image trees events → ⊥) → words_from chip events root side ≡ []
   pub parent_alone : (p : Place) (side : Side) → Elem p (places root 1 trees) → (Begun chip p events → ⊥)
       → (side ≡ p.side → ⊥) → words_from chip events p.name side ≡ []
   -- until it begins the root makes no take of several sides; the first one of another node names its parent's side, and
@@ -54,12 +65,12 @@ abbrev pub later_sides : Chip → ℕ → Grove → List Event → ℕ → List 
 later_sides chip root trees events name =
     if is_some (found name (places root 1 trees)) then drop 1 (sides_of chip events name) else sides_of chip events name
 
--- Two runs that boot a tree go alike as far as both go, where besides what boots it each node takes words by takes of
--- several sides at one side only, the same in both.
+-- Two runs that boot a tree agree on their common steps if, besides what boots it, each node takes words by takes of several
+-- sides at one side only, the same in both. The chips may differ in breakpoints.
 abbrev pub TreeBootsAgree : Type 0
-TreeBootsAgree = (chip : Chip) (root : ℕ) (image : Option ImageView) (trees : Grove) (events others : List Event) (side_of : ℕ → Side)
-    → IsTree root image trees → IsSupplied chip root (stream_words root image trees) events
-    → IsSupplied chip root (stream_words root image trees) others
-    → ((name : ℕ) → All (λ side. side ≡ side_of name) (later_sides chip root trees events name))
-    → ((name : ℕ) → All (λ side. side ≡ side_of name) (later_sides chip root trees others name))
-    → Agree chip chip events others
+TreeBootsAgree = (one two : Chip) (root : ℕ) (image : Option ImageView) (trees : Grove) (events others : List Event) (side_of : ℕ → Side)
+    → IsTree root image trees → DifferInBreaks one two → IsSupplied one root (stream_words root image trees) events
+    → IsSupplied two root (stream_words root image trees) others
+    → ((name : ℕ) → All (λ side. side ≡ side_of name) (later_sides one root trees events name))
+    → ((name : ℕ) → All (λ side. side ≡ side_of name) (later_sides two root trees others name))
+    → Agree one two events others
