@@ -11,3 +11,4 @@ pub mod OneAnswer
 pub mod WorkedImages
 mod WordPlaces
 pub mod PlaceCount
+pub mod Room

@@ -1,5 +1,5 @@
 -- What the words of a node are: the image of its items.
-use Rattle.std.specs.Prelude.{String, ◌≡◌, ◌==◌, ℕ, Bool, List, [], ◌∷◌, ◌++◌, Option, Some, None, codes, length, map, nat_le, if◌then◌else◌}
+use Rattle.std.specs.Prelude.{String, ◌≡◌, ◌==◌, ◌≤◌, ℕ, Bool, List, [], ◌∷◌, ◌++◌, Option, Some, None, codes, length, map, nat_le, if◌then◌else◌}
 use Rattle.std.specs.Fmt.{decimal}
 use Rattle.std.specs.List.{list_all}
 use Rattle.std.specs.Map.{lookup}
@@ -51,6 +51,12 @@ pub record IsImage (items : List Item) (image : ImageView) : Type 0 where
   pub laid : Laid items image.words image.labels image.code_len
   pub entry_is : image.entry ≡ entry_of image.labels
   pub counts_are : image.item_counts ≡ map item_count laid.groups
+
+-- an image that a node has room for: 1 to 64 words, and an entry of at most 64
+pub record IsLoadable (image : ImageView) : Type 0 where
+  pub some : 1 ≤ length image.words
+  pub most : length image.words ≤ 64
+  pub entry_near : image.entry ≤ 64
 
 -- the line of an image: the node, its entry, and how many of its words are code and how many there are
 unfoldable pub image_line : ℕ → ImageView → List ℕ

@@ -114,18 +114,18 @@ tree_boots_agree first second root image trees events others side_of tree differ
     two = tree_boots second root image trees others tree other
 
     sides : (name : ℕ) → AgreesWith (sides_of first events name) (sides_of second others name)
-    sides name = by (found name (places root 1 trees)) refl (later name) (later' name)
+    sides name = by (found name (places root trees)) refl (later name) (later' name)
       where
-        by : (o : Option Place) → found name (places root 1 trees) ≡ o
-            → All (λ side. side ≡ side_of name) (if is_some (found name (places root 1 trees)) then drop 1 (sides_of first events name) else sides_of first events name)
-            → All (λ side. side ≡ side_of name) (if is_some (found name (places root 1 trees)) then drop 1 (sides_of second others name) else sides_of second others name)
+        by : (o : Option Place) → found name (places root trees) ≡ o
+            → All (λ side. side ≡ side_of name) (if is_some (found name (places root trees)) then drop 1 (sides_of first events name) else sides_of first events name)
+            → All (λ side. side ≡ side_of name) (if is_some (found name (places root trees)) then drop 1 (sides_of second others name) else sides_of second others name)
             → AgreesWith (sides_of first events name) (sides_of second others name)
         by None e all all' =
             one_side_agrees (side_of name) (sides_of first events name) (sides_of second others name)
             (subst (λ o. All (λ side. side ≡ side_of name) (if is_some o then drop 1 (sides_of first events name) else sides_of first events name)) e all)
             (subst (λ o. All (λ side. side ≡ side_of name) (if is_some o then drop 1 (sides_of second others name) else sides_of second others name)) e all')
         by (Some p) e all all' =
-            let there = found_there (places root 1 trees) name p e in
+            let there = found_there (places root trees) name p e in
             first_agrees p.side (side_of name) (sides_of first events name) (sides_of second others name)
             (subst (λ n. BeginsBy p.side (sides_of first events n)) there.1 (one.first_side p there.0)) (subst (λ n. BeginsBy p.side (sides_of second others n)) there.1 (two.first_side p there.0))
             (subst (λ o. All (λ side. side ≡ side_of name) (if is_some o then drop 1 (sides_of first events name) else sides_of first events name)) e all)

@@ -102,7 +102,7 @@ module _ (chip : Chip) (root : ℕ) (image : Option ImageView) (trees : Grove) (
   plan = plan_of root image trees
 
   abbrev all : List Place
-  all = places root 1 trees
+  all = places root trees
 
   plan_is : IsPlan plan chip
   plan_is = is_plan root image trees tree chip g

@@ -1,6 +1,6 @@
 -- Lists of the nodes of a tree.
 use Rattle.ga_path.specs.declared.parts.Part.{Part}
-use Rattle.std.proofs.Common.{◌≡◌, ℕ, suc, ◌==◌, Bool, true, false, List, [], ◌∷◌, ◌++◌, ◌⊎◌, inl, inr, flat_map, Some, refl, sym, ap, ap₂, ◌∙◌, subst, append-nil}
+use Rattle.std.proofs.Common.{◌≡◌, ℕ, suc, ◌+◌, ◌==◌, Bool, true, false, List, [], ◌∷◌, ◌++◌, ◌⊎◌, inl, inr, flat_map, Some, refl, sym, ap, ap₂, ◌∙◌, subst, append-nil, arith}
 use Rattle.std.specs.Prelude.{if◌then◌else◌}
 use Rattle.std.proofs.lemmas.Bool.{eqb-true, eq-eqb, ne_eqb}
 use Rattle.std.proofs.lemmas.Option.{same_Some, none-some}
@@ -11,7 +11,7 @@ use Rattle.ga_place.specs.declared.side.Side.{Side}
 use Rattle.ga_place.proofs.Cells.{same_bit}
 use Rattle.ga_path.specs.Sequences.{Grove, Bare, Tree, sent, pumps}
 use Rattle.ga_boot.specs.Tree.{Place, places, Elem, Once, found}
-use Rattle.ga_boot.specs.inner.TreePlan.{children}
+use Rattle.ga_boot.specs.inner.TreePlan.{children, depth_in}
 use Rattle.ga_boot.proofs.Words.{at_side, words_to}
 
 elem_left : (p : Place) (ps qs : List Place) → Elem p ps → Elem p (ps ++ qs)
@@ -41,61 +41,132 @@ once_right [] qs o = o
 once_right (p ∷ ps) qs o = once_right ps qs o.1
 
 -- a child is a node of the tree
-pub child_place : (parent depth : ℕ) (grove : Grove) (p : Place) → Elem p (children parent depth grove) → Elem p (places parent depth grove)
-child_place parent depth Bare p e = e
-child_place parent depth (Tree name side image inner beside) p (inl e) = inl e
-child_place parent depth (Tree name side image inner beside) p (inr e) = inr (elem_right p (places name (suc depth) inner) (places parent depth beside) (child_place parent depth beside p e))
+pub child_place : (parent : ℕ) (grove : Grove) (p : Place) → Elem p (children parent grove) → Elem p (places parent grove)
+child_place parent Bare p e = e
+child_place parent (Tree name side image inner beside) p (inl e) = inl e
+child_place parent (Tree name side image inner beside) p (inr e) = inr (elem_right p (places name inner) (places parent beside) (child_place parent beside p e))
 
--- a child has its parent and its depth
-pub child_of : (parent depth : ℕ) (grove : Grove) (p : Place) → Elem p (children parent depth grove) → (p.parent ≡ parent) × (p.depth ≡ depth)
-child_of parent depth Bare p e = absurd e
-child_of parent depth (Tree name side image inner beside) p (inl e) = (ap (λ q. q.parent) e, ap (λ q. q.depth) e)
-child_of parent depth (Tree name side image inner beside) p (inr e) = child_of parent depth beside p e
+-- a child has its parent
+pub child_of : (parent : ℕ) (grove : Grove) (p : Place) → Elem p (children parent grove) → p.parent ≡ parent
+child_of parent Bare p e = absurd e
+child_of parent (Tree name side image inner beside) p (inl e) = ap (λ q. q.parent) e
+child_of parent (Tree name side image inner beside) p (inr e) = child_of parent beside p e
 
 -- each node of the tree is a child of the root or of another node
-abbrev pub HasOver : ℕ → ℕ → Grove → Place → Type 0
-HasOver parent depth grove p = Elem p (children parent depth grove) ⊎ ((q : Place) × Elem q (places parent depth grove) × Elem p (children q.name (suc q.depth) q.inner))
+abbrev pub HasOver : ℕ → Grove → Place → Type 0
+HasOver parent grove p = Elem p (children parent grove) ⊎ ((q : Place) × Elem q (places parent grove) × Elem p (children q.name q.inner))
 
-pub over_it : (parent depth : ℕ) (grove : Grove) (p : Place) → Elem p (places parent depth grove) → HasOver parent depth grove p
-over_it parent depth Bare p e = absurd e
-over_it parent depth (Tree name side image inner beside) p (inl e) = inl (inl e)
-over_it parent depth (Tree name side image inner beside) p (inr e) = by (elem_cut p (places name (suc depth) inner) (places parent depth beside) e) (over_it name (suc depth) inner p) (over_it parent depth beside p)
+pub over_it : (parent : ℕ) (grove : Grove) (p : Place) → Elem p (places parent grove) → HasOver parent grove p
+over_it parent Bare p e = absurd e
+over_it parent (Tree name side image inner beside) p (inl e) = inl (inl e)
+over_it parent (Tree name side image inner beside) p (inr e) = by (elem_cut p (places name inner) (places parent beside) e) (over_it name inner p) (over_it parent beside p)
   where
-    from_inner : HasOver name (suc depth) inner p → HasOver parent depth (Tree name side image inner beside) p
-    from_inner (inl f) = inr (record { name = name; parent = parent; side = side; image = image; inner = inner; depth = depth }, inl refl, f)
-    from_inner (inr (q, f, g)) = inr (q, inr (elem_left q (places name (suc depth) inner) (places parent depth beside) f), g)
+    from_inner : HasOver name inner p → HasOver parent (Tree name side image inner beside) p
+    from_inner (inl f) = inr (record { name = name; parent = parent; side = side; image = image; inner = inner }, inl refl, f)
+    from_inner (inr (q, f, g)) = inr (q, inr (elem_left q (places name inner) (places parent beside) f), g)
 
-    from_beside : HasOver parent depth beside p → HasOver parent depth (Tree name side image inner beside) p
+    from_beside : HasOver parent beside p → HasOver parent (Tree name side image inner beside) p
     from_beside (inl f) = inl (inr f)
-    from_beside (inr (q, f, g)) = inr (q, inr (elem_right q (places name (suc depth) inner) (places parent depth beside) f), g)
+    from_beside (inr (q, f, g)) = inr (q, inr (elem_right q (places name inner) (places parent beside) f), g)
 
-    by : Elem p (places name (suc depth) inner) ⊎ Elem p (places parent depth beside) → (Elem p (places name (suc depth) inner) → HasOver name (suc depth) inner p) → (Elem p (places parent depth beside) → HasOver parent depth beside p) → HasOver parent depth (Tree name side image inner beside) p
+    by : Elem p (places name inner) ⊎ Elem p (places parent beside) → (Elem p (places name inner) → HasOver name inner p) → (Elem p (places parent beside) → HasOver parent beside p) → HasOver parent (Tree name side image inner beside) p
     by (inl f) inside_it beside_it = from_inner (inside_it f)
     by (inr f) inside_it beside_it = from_beside (beside_it f)
 
 -- the children of a node of the tree are nodes of the tree
-pub inner_place : (parent depth : ℕ) (grove : Grove) (q p : Place) → Elem q (places parent depth grove) → Elem p (children q.name (suc q.depth) q.inner) → Elem p (places parent depth grove)
-inner_place parent depth Bare q p e f = absurd e
-inner_place parent depth (Tree name side image inner beside) q p (inl e) f = inr (elem_left p (places name (suc depth) inner) (places parent depth beside) (child_place name (suc depth) inner p (subst (λ z. Elem p (children z.name (suc z.depth) z.inner)) e f)))
-inner_place parent depth (Tree name side image inner beside) q p (inr e) f = by (elem_cut q (places name (suc depth) inner) (places parent depth beside) e) (λ g. inner_place name (suc depth) inner q p g f) (λ g. inner_place parent depth beside q p g f)
+pub inner_place : (parent : ℕ) (grove : Grove) (q p : Place) → Elem q (places parent grove) → Elem p (children q.name q.inner) → Elem p (places parent grove)
+inner_place parent Bare q p e f = absurd e
+inner_place parent (Tree name side image inner beside) q p (inl e) f = inr (elem_left p (places name inner) (places parent beside) (child_place name inner p (subst (λ z. Elem p (children z.name z.inner)) e f)))
+inner_place parent (Tree name side image inner beside) q p (inr e) f = by (elem_cut q (places name inner) (places parent beside) e) (λ g. inner_place name inner q p g f) (λ g. inner_place parent beside q p g f)
   where
-    by : Elem q (places name (suc depth) inner) ⊎ Elem q (places parent depth beside) → (Elem q (places name (suc depth) inner) → Elem p (places name (suc depth) inner)) → (Elem q (places parent depth beside) → Elem p (places parent depth beside)) → Elem p (places parent depth (Tree name side image inner beside))
-    by (inl g) one two = inr (elem_left p (places name (suc depth) inner) (places parent depth beside) (one g))
-    by (inr g) one two = inr (elem_right p (places name (suc depth) inner) (places parent depth beside) (two g))
+    by : Elem q (places name inner) ⊎ Elem q (places parent beside) → (Elem q (places name inner) → Elem p (places name inner)) → (Elem q (places parent beside) → Elem p (places parent beside)) → Elem p (places parent (Tree name side image inner beside))
+    by (inl g) one two = inr (elem_left p (places name inner) (places parent beside) (one g))
+    by (inr g) one two = inr (elem_right p (places name inner) (places parent beside) (two g))
 
-pub once_children : (parent depth : ℕ) (grove : Grove) → Once (places parent depth grove) → Once (children parent depth grove)
-once_children parent depth Bare o = o
-once_children parent depth (Tree name side image inner beside) o =
-    (λ q e same. o.0 q (elem_right q (places name (suc depth) inner) (places parent depth beside) (child_place parent depth beside q e)) same, once_children parent depth beside (once_right (places name (suc depth) inner) (places parent depth beside) o.1))
+pub once_children : (parent : ℕ) (grove : Grove) → Once (places parent grove) → Once (children parent grove)
+once_children parent Bare o = o
+once_children parent (Tree name side image inner beside) o =
+    (λ q e same. o.0 q (elem_right q (places name inner) (places parent beside) (child_place parent beside q e)) same, once_children parent beside (once_right (places name inner) (places parent beside) o.1))
 
-pub once_inner : (parent depth : ℕ) (grove : Grove) (q : Place) → Once (places parent depth grove) → Elem q (places parent depth grove) → Once (children q.name (suc q.depth) q.inner)
-once_inner parent depth Bare q o e = absurd e
-once_inner parent depth (Tree name side image inner beside) q o (inl e) = subst (λ z. Once (children z.name (suc z.depth) z.inner)) (sym e) (once_children name (suc depth) inner (once_left (places name (suc depth) inner) (places parent depth beside) o.1))
-once_inner parent depth (Tree name side image inner beside) q o (inr e) = by (elem_cut q (places name (suc depth) inner) (places parent depth beside) e) (once_inner name (suc depth) inner q (once_left (places name (suc depth) inner) (places parent depth beside) o.1)) (once_inner parent depth beside q (once_right (places name (suc depth) inner) (places parent depth beside) o.1))
+pub once_inner : (parent : ℕ) (grove : Grove) (q : Place) → Once (places parent grove) → Elem q (places parent grove) → Once (children q.name q.inner)
+once_inner parent Bare q o e = absurd e
+once_inner parent (Tree name side image inner beside) q o (inl e) = subst (λ z. Once (children z.name z.inner)) (sym e) (once_children name inner (once_left (places name inner) (places parent beside) o.1))
+once_inner parent (Tree name side image inner beside) q o (inr e) = by (elem_cut q (places name inner) (places parent beside) e) (once_inner name inner q (once_left (places name inner) (places parent beside) o.1)) (once_inner parent beside q (once_right (places name inner) (places parent beside) o.1))
   where
-    by : Elem q (places name (suc depth) inner) ⊎ Elem q (places parent depth beside) → (Elem q (places name (suc depth) inner) → Once (children q.name (suc q.depth) q.inner)) → (Elem q (places parent depth beside) → Once (children q.name (suc q.depth) q.inner)) → Once (children q.name (suc q.depth) q.inner)
+    by : Elem q (places name inner) ⊎ Elem q (places parent beside) → (Elem q (places name inner) → Once (children q.name q.inner)) → (Elem q (places parent beside) → Once (children q.name q.inner)) → Once (children q.name q.inner)
     by (inl g) one two = one g
     by (inr g) one two = two g
+
+-- ---- how deep a node lies
+
+pick_no : (b : Bool) (x y : ℕ) → b ≡ false → (if b then x else y) ≡ y
+pick_no b x y e = rw e refl
+
+pick_yes : (b : Bool) (x y : ℕ) → b ≡ true → (if b then x else y) ≡ x
+pick_yes b x y e = rw e refl
+
+once_apart : (ps qs : List Place) (p q : Place) → Once (ps ++ qs) → Elem p ps → Elem q qs → q.name ≡ p.name → ⊥
+once_apart [] qs p q o e f same = absurd e
+once_apart (x ∷ ps) qs p q o (inl e) f same = o.0 q (elem_right q ps qs f) (same ∙ ap (λ z. z.name) e)
+once_apart (x ∷ ps) qs p q o (inr e) f same = once_apart ps qs p q o.1 e f same
+
+pub absent : (name parent depth : ℕ) (grove : Grove) → ((p : Place) → Elem p (places parent grove) → p.name ≡ name → ⊥) → depth_in name depth grove ≡ 0
+absent name parent depth Bare none = refl
+absent name parent depth (Tree node side image inner beside) none =
+    pick_no (node == name) _ _ (ne_eqb node name (none (record { name = node; parent = parent; side = side; image = image; inner = inner }) (inl refl)))
+    ∙ ap₂ (λ a b. a + b) (absent name node (suc depth) inner (λ p e. none p (inr (elem_left p (places node inner) (places parent beside) e))))
+    (absent name parent depth beside (λ p e. none p (inr (elem_right p (places node inner) (places parent beside) e))))
+
+-- a child lies as deep as the subtrees
+pub child_deep : (parent depth : ℕ) (grove : Grove) (p : Place) → Once (places parent grove) → Elem p (children parent grove) → depth_in p.name depth grove ≡ depth
+child_deep parent depth Bare p o e = absurd e
+child_deep parent depth (Tree node side image inner beside) p o (inl e) = pick_yes (node == p.name) depth _ (eq-eqb node p.name (sym (ap (λ z. z.name) e)))
+child_deep parent depth (Tree node side image inner beside) p o (inr e) =
+    let there = child_place parent beside p e in
+    let outside : depth_in p.name (suc depth) inner ≡ 0 = absent p.name node (suc depth) inner (λ q f same. once_apart (places node inner) (places parent beside) q p o.1 f there (sym same)) in
+    let deep : depth_in p.name depth beside ≡ depth = child_deep parent depth beside p (once_right (places node inner) (places parent beside) o.1) e in
+    pick_no (node == p.name) _ _ (ne_eqb node p.name (λ same. o.0 p (elem_right p (places node inner) (places parent beside) there) (sym same)))
+    ∙ omega (arith, outside, deep)
+
+-- and the child of a node of the tree by one deeper
+pub inner_deep : (parent depth : ℕ) (grove : Grove) (q p : Place) → Once (places parent grove) → Elem q (places parent grove) → Elem p (children q.name q.inner)
+    → depth_in p.name depth grove ≡ suc (depth_in q.name depth grove)
+inner_deep parent depth Bare q p o e f = absurd e
+inner_deep parent depth (Tree node side image inner beside) q p o (inl e) f =
+    let mine : Elem p (children node inner) = subst (λ z. Elem p (children z.name z.inner)) e f in
+    let there = child_place node inner p mine in
+    let outside : depth_in p.name depth beside ≡ 0 = absent p.name parent depth beside (λ r g same. once_apart (places node inner) (places parent beside) p r o.1 there g same) in
+    let deep : depth_in p.name (suc depth) inner ≡ suc depth = child_deep node (suc depth) inner p (once_left (places node inner) (places parent beside) o.1) mine in
+    pick_no (node == p.name) _ _ (ne_eqb node p.name (λ same. o.0 p (elem_left p (places node inner) (places parent beside) there) (sym same)))
+    ∙ (let both : depth_in p.name (suc depth) inner + depth_in p.name depth beside ≡ suc depth = omega (arith, outside, deep) in both)
+    ∙ ap suc (sym (pick_yes (node == q.name) depth _ (eq-eqb node q.name (sym (ap (λ z. z.name) e)))))
+inner_deep parent depth (Tree node side image inner beside) q p o (inr e) f =
+    by (elem_cut q (places node inner) (places parent beside) e)
+    (λ g. inner_deep node (suc depth) inner q p (once_left (places node inner) (places parent beside) o.1) g f)
+    (λ g. inner_deep parent depth beside q p (once_right (places node inner) (places parent beside) o.1) g f)
+  where
+    here : (r : Place) → Elem r (places node inner ++ places parent beside)
+        → depth_in r.name depth (Tree node side image inner beside) ≡ depth_in r.name (suc depth) inner + depth_in r.name depth beside
+    here r g = pick_no (node == r.name) depth (depth_in r.name (suc depth) inner + depth_in r.name depth beside) (ne_eqb node r.name (λ same. o.0 r g (sym same)))
+
+    by : Elem q (places node inner) ⊎ Elem q (places parent beside)
+        → (Elem q (places node inner) → depth_in p.name (suc depth) inner ≡ suc (depth_in q.name (suc depth) inner))
+        → (Elem q (places parent beside) → depth_in p.name depth beside ≡ suc (depth_in q.name depth beside))
+        → depth_in p.name depth (Tree node side image inner beside) ≡ suc (depth_in q.name depth (Tree node side image inner beside))
+    by (inl g) first second =
+        let there = inner_place node inner q p g f in
+        let deep = first g in
+        let none : (r : Place) → Elem r (places node inner) → depth_in r.name depth beside ≡ 0 = λ r h. absent r.name parent depth beside (λ s i same. once_apart (places node inner) (places parent beside) r s o.1 h i same) in
+        here p (elem_left p (places node inner) (places parent beside) there)
+        ∙ (let both : depth_in p.name (suc depth) inner + depth_in p.name depth beside ≡ suc (depth_in q.name (suc depth) inner + depth_in q.name depth beside) = omega (arith, deep, none p there, none q g) in both)
+        ∙ ap suc (sym (here q e))
+    by (inr g) first second =
+        let there = inner_place parent beside q p g f in
+        let deep = second g in
+        let none : (r : Place) → Elem r (places parent beside) → depth_in r.name (suc depth) inner ≡ 0 = λ r h. absent r.name node (suc depth) inner (λ s i same. once_apart (places node inner) (places parent beside) s r o.1 i h (sym same)) in
+        here p (elem_right p (places node inner) (places parent beside) there)
+        ∙ (let both : depth_in p.name (suc depth) inner + depth_in p.name depth beside ≡ suc (depth_in q.name (suc depth) inner + depth_in q.name depth beside) = omega (arith, deep, none p there, none q g) in both)
+        ∙ ap suc (sym (here q e))
 
 -- a node of the tree is found by its name
 pub finds : (ps : List Place) (p : Place) → Once ps → Elem p ps → found p.name ps ≡ Some p
@@ -125,9 +196,9 @@ sent_to words to ps = flat_map (λ p. at_side p.side to (words p)) ps
 abbrev pub words_of : Part → Place → List ℕ
 words_of part p = sent part p.name p.side p.image (pumps part p.inner)
 
-pub words_sent : (part : Part) (parent depth : ℕ) (to : Side) (grove : Grove) → words_to part to grove ≡ sent_to (words_of part) to (children parent depth grove)
-words_sent part parent depth to Bare = refl
-words_sent part parent depth to (Tree name side image inner beside) = ap (λ l. at_side side to (sent part name side image (pumps part inner)) ++ l) (words_sent part parent depth to beside)
+pub words_sent : (part : Part) (parent : ℕ) (to : Side) (grove : Grove) → words_to part to grove ≡ sent_to (words_of part) to (children parent grove)
+words_sent part parent to Bare = refl
+words_sent part parent to (Tree name side image inner beside) = ap (λ l. at_side side to (sent part name side image (pumps part inner)) ++ l) (words_sent part parent to beside)
 
 pub at_same : (side : Side) (words : List ℕ) → at_side side side words ≡ words
 at_same side words = pick (side_bit side == side_bit side) (eq-eqb (side_bit side) (side_bit side) refl)
@@ -157,17 +228,17 @@ one_sent words (q ∷ ps) parent p o there (inr e) =
     (one_sent words ps parent p o.1 (λ r f. there r (inr f)) e)
 
 -- each node of the tree, and its parent, is a node
-pub named_all : (parent depth : ℕ) (grove : Grove) → IsNodeName parent → ((p : Place) → Elem p (places parent depth grove) → neighbour_of p.parent p.side ≡ Some p.name) → (p : Place) → Elem p (places parent depth grove) → IsNodeName p.name × IsNodeName p.parent
-named_all parent depth Bare named there p e = absurd e
-named_all parent depth (Tree name side image inner beside) named there p (inl e) =
-    let here : neighbour_of parent side ≡ Some name = there (record { name = name; parent = parent; side = side; image = image; inner = inner; depth = depth }) (inl refl) in
+pub named_all : (parent : ℕ) (grove : Grove) → IsNodeName parent → ((p : Place) → Elem p (places parent grove) → neighbour_of p.parent p.side ≡ Some p.name) → (p : Place) → Elem p (places parent grove) → IsNodeName p.name × IsNodeName p.parent
+named_all parent Bare named there p e = absurd e
+named_all parent (Tree name side image inner beside) named there p (inl e) =
+    let here : neighbour_of parent side ≡ Some name = there (record { name = name; parent = parent; side = side; image = image; inner = inner }) (inl refl) in
     subst (λ q. IsNodeName q.name × IsNodeName q.parent) (sym e) (neighbour_of-IsNodeName parent name side named here, named)
-named_all parent depth (Tree name side image inner beside) named there p (inr e) =
-    let here : neighbour_of parent side ≡ Some name = there (record { name = name; parent = parent; side = side; image = image; inner = inner; depth = depth }) (inl refl) in
-    by (elem_cut p (places name (suc depth) inner) (places parent depth beside) e)
-    (λ f. named_all name (suc depth) inner (neighbour_of-IsNodeName parent name side named here) (λ q g. there q (inr (elem_left q (places name (suc depth) inner) (places parent depth beside) g))) p f)
-    (λ f. named_all parent depth beside named (λ q g. there q (inr (elem_right q (places name (suc depth) inner) (places parent depth beside) g))) p f)
+named_all parent (Tree name side image inner beside) named there p (inr e) =
+    let here : neighbour_of parent side ≡ Some name = there (record { name = name; parent = parent; side = side; image = image; inner = inner }) (inl refl) in
+    by (elem_cut p (places name inner) (places parent beside) e)
+    (λ f. named_all name inner (neighbour_of-IsNodeName parent name side named here) (λ q g. there q (inr (elem_left q (places name inner) (places parent beside) g))) p f)
+    (λ f. named_all parent beside named (λ q g. there q (inr (elem_right q (places name inner) (places parent beside) g))) p f)
   where
-    by : Elem p (places name (suc depth) inner) ⊎ Elem p (places parent depth beside) → (Elem p (places name (suc depth) inner) → IsNodeName p.name × IsNodeName p.parent) → (Elem p (places parent depth beside) → IsNodeName p.name × IsNodeName p.parent) → IsNodeName p.name × IsNodeName p.parent
+    by : Elem p (places name inner) ⊎ Elem p (places parent beside) → (Elem p (places name inner) → IsNodeName p.name × IsNodeName p.parent) → (Elem p (places parent beside) → IsNodeName p.name × IsNodeName p.parent) → IsNodeName p.name × IsNodeName p.parent
     by (inl f) one two = one f
     by (inr f) one two = two f

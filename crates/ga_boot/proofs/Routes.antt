@@ -16,7 +16,8 @@ use Rattle.ga_place.specs.Side.{SIDES, is_the_node, neighbour_of, side_to}
 use Rattle.ga_place.specs.declared.side.Side.{Side}
 use Rattle.ga_place.specs.declared.side.Side.TheVariants.{Right}
 use Rattle.ga_boot.specs.Laws.{RoutesAreTree}
-use Rattle.ga_boot.specs.Tree.{Elem, HasRoom, IsLoadable, Once, Place, found, places}
+use Rattle.ga_asm.specs.Image.{IsLoadable}
+use Rattle.ga_boot.specs.Tree.{Elem, HasRoom, Once, Place, found, places}
 use Rattle.ga_boot.proofs.Places.{elem_cut}
 
 -- the image that a node has is one of the images
@@ -41,41 +42,41 @@ next_there from name near = by (side_to from name) (find_passes (λ side. is_the
 
 -- ---- the places of subtrees
 
-abbrev places_of : Images → ℕ → ℕ → Subtrees → List Place
-places_of images parent depth subtrees = places parent depth (grove images parent subtrees)
+abbrev places_of : Images → ℕ → Subtrees → List Place
+places_of images parent subtrees = places parent (grove images parent subtrees)
 
 names_of : List Place → List ℕ
 names_of ps = map (λ (p : Place). p.name) ps
 
-names_are : (images : Images) (parent depth : ℕ) (subtrees : Subtrees) → names_of (places_of images parent depth subtrees) ≡ names_in subtrees
+names_are : (images : Images) (parent : ℕ) (subtrees : Subtrees) → names_of (places_of images parent subtrees) ≡ names_in subtrees
 unfolding names_of
-names_are images parent depth NoMore = refl
-names_are images parent depth (Subtree name inner beside) =
-    ap (λ l. name ∷ l) (map-append (λ (p : Place). p.name) (places_of images name (suc depth) inner) (places_of images parent depth beside)
-    ∙ ap₂ (λ a b. a ++ b) (names_are images name (suc depth) inner) (names_are images parent depth beside))
+names_are images parent NoMore = refl
+names_are images parent (Subtree name inner beside) =
+    ap (λ l. name ∷ l) (map-append (λ (p : Place). p.name) (places_of images name inner) (places_of images parent beside)
+    ∙ ap₂ (λ a b. a ++ b) (names_are images name inner) (names_are images parent beside))
 
-there : (images : Images) (parent depth : ℕ) (subtrees : Subtrees) → AreNear parent subtrees → (p : Place) → Elem p (places_of images parent depth subtrees) → neighbour_of p.parent p.side ≡ Some p.name
-there images parent depth NoMore near p e = absurd e
-there images parent depth (Subtree name inner beside) near p (inl same) = subst (λ q. neighbour_of q.parent q.side ≡ Some q.name) (sym same) (next_there parent name near.0)
-there images parent depth (Subtree name inner beside) near p (inr e) =
-    by (elem_cut p (places_of images name (suc depth) inner) (places_of images parent depth beside) e) (there images name (suc depth) inner near.1 p) (there images parent depth beside near.2 p)
+there : (images : Images) (parent : ℕ) (subtrees : Subtrees) → AreNear parent subtrees → (p : Place) → Elem p (places_of images parent subtrees) → neighbour_of p.parent p.side ≡ Some p.name
+there images parent NoMore near p e = absurd e
+there images parent (Subtree name inner beside) near p (inl same) = subst (λ q. neighbour_of q.parent q.side ≡ Some q.name) (sym same) (next_there parent name near.0)
+there images parent (Subtree name inner beside) near p (inr e) =
+    by (elem_cut p (places_of images name inner) (places_of images parent beside) e) (there images name inner near.1 p) (there images parent beside near.2 p)
   where
-    by : Elem p (places_of images name (suc depth) inner) ⊎ Elem p (places_of images parent depth beside)
-        → (Elem p (places_of images name (suc depth) inner) → neighbour_of p.parent p.side ≡ Some p.name)
-        → (Elem p (places_of images parent depth beside) → neighbour_of p.parent p.side ≡ Some p.name) → neighbour_of p.parent p.side ≡ Some p.name
+    by : Elem p (places_of images name inner) ⊎ Elem p (places_of images parent beside)
+        → (Elem p (places_of images name inner) → neighbour_of p.parent p.side ≡ Some p.name)
+        → (Elem p (places_of images parent beside) → neighbour_of p.parent p.side ≡ Some p.name) → neighbour_of p.parent p.side ≡ Some p.name
     by (inl f) inside other = inside f
     by (inr f) inside other = other f
 
 -- the image of a place is that of its node
-pub image_is : (images : Images) (parent depth : ℕ) (subtrees : Subtrees) (p : Place) → Elem p (places parent depth (grove images parent subtrees)) → p.image ≡ image_of images p.name
-image_is images parent depth NoMore p e = absurd e
-image_is images parent depth (Subtree name inner beside) p (inl same) = subst (λ q. q.image ≡ image_of images q.name) (sym same) refl
-image_is images parent depth (Subtree name inner beside) p (inr e) =
-    by (elem_cut p (places_of images name (suc depth) inner) (places_of images parent depth beside) e) (image_is images name (suc depth) inner p) (image_is images parent depth beside p)
+pub image_is : (images : Images) (parent : ℕ) (subtrees : Subtrees) (p : Place) → Elem p (places parent (grove images parent subtrees)) → p.image ≡ image_of images p.name
+image_is images parent NoMore p e = absurd e
+image_is images parent (Subtree name inner beside) p (inl same) = subst (λ q. q.image ≡ image_of images q.name) (sym same) refl
+image_is images parent (Subtree name inner beside) p (inr e) =
+    by (elem_cut p (places_of images name inner) (places_of images parent beside) e) (image_is images name inner p) (image_is images parent beside p)
   where
-    by : Elem p (places_of images name (suc depth) inner) ⊎ Elem p (places_of images parent depth beside)
-        → (Elem p (places_of images name (suc depth) inner) → p.image ≡ image_of images p.name)
-        → (Elem p (places_of images parent depth beside) → p.image ≡ image_of images p.name) → p.image ≡ image_of images p.name
+    by : Elem p (places_of images name inner) ⊎ Elem p (places_of images parent beside)
+        → (Elem p (places_of images name inner) → p.image ≡ image_of images p.name)
+        → (Elem p (places_of images parent beside) → p.image ≡ image_of images p.name) → p.image ≡ image_of images p.name
     by (inl f) inside other = inside f
     by (inr f) inside other = other f
 
@@ -95,14 +96,14 @@ pub routes_are_tree : RoutesAreTree
 unfolding IsDistinct
 routes_are_tree images tree named sound all =
     let distinct = all_once tree sound in
-    let names = names_are images tree.root 1 tree.subtrees in (
+    let names = names_are images tree.root tree.subtrees in (
       record {
         named = named;
         loads = image_there images tree.root all;
-        images = λ p e. subst HasRoom (sym (image_is images tree.root 1 tree.subtrees p e)) (image_there images p.name all);
-        there = there images tree.root 1 tree.subtrees sound.near;
-        once = once (places_of images tree.root 1 tree.subtrees) (subst (IsDistinct ◌==◌) (sym names) distinct.1);
-        apart = differs tree.root (places_of images tree.root 1 tree.subtrees) (subst (AllByRecursion (λ other. (tree.root == other) ≡ false)) (sym names) distinct.0);
+        images = λ p e. subst HasRoom (sym (image_is images tree.root tree.subtrees p e)) (image_there images p.name all);
+        there = there images tree.root tree.subtrees sound.near;
+        once = once (places_of images tree.root tree.subtrees) (subst (IsDistinct ◌==◌) (sym names) distinct.1);
+        apart = differs tree.root (places_of images tree.root tree.subtrees) (subst (AllByRecursion (λ other. (tree.root == other) ≡ false)) (sym names) distinct.0);
       },
       refl,
     )
@@ -121,10 +122,10 @@ found_among (p ∷ ps) name = by (p.name == name) (found_among ps name)
     by false rest = rest
 
 -- a node of a tree that has no place is the root
-pub stands_there : (images : Images) (tree : TreeView) (name : ℕ) → IsSound tree → is_among name tree.nodes ≡ true → found name (places tree.root 1 (grove images tree.root tree.subtrees)) ≡ None → name ≡ tree.root
+pub stands_there : (images : Images) (tree : TreeView) (name : ℕ) → IsSound tree → is_among name tree.nodes ≡ true → found name (places tree.root (grove images tree.root tree.subtrees)) ≡ None → name ≡ tree.root
 stands_there images tree name sound among none =
     by (tree.root == name) refl
-    (sym (ap is_some none) ∙ found_among (places_of images tree.root 1 tree.subtrees) name ∙ ap (is_among name) (names_are images tree.root 1 tree.subtrees))
+    (sym (ap is_some none) ∙ found_among (places_of images tree.root tree.subtrees) name ∙ ap (is_among name) (names_are images tree.root tree.subtrees))
     (sym (list_any-IsPermutation (λ other. other == name) tree.nodes (tree.root ∷ names_in tree.subtrees) sound.nodes) ∙ among)
   where
     by : (b : Bool) → (tree.root == name) ≡ b → false ≡ is_among name (names_in tree.subtrees) → (b || is_among name (names_in tree.subtrees)) ≡ true → name ≡ tree.root

@@ -37,7 +37,7 @@ use Rattle.ga_boot.proofs.Idle.{idle_apart, idle_low, idle_wants}
 use Rattle.ga_boot.proofs.Node.{loads_node, starts_node}
 use Rattle.ga_boot.proofs.Root.{waiting, sends_frames, loads_root, starts_root}
 use Rattle.ga_boot.proofs.Words.{words_to, taken_loading, taken_starting, posted_loading, posted_starting, posted_root, taken_root, fed_inside}
-use Rattle.ga_boot.proofs.Places.{named_all, child_of, child_place, HasOver, over_it, inner_place, once_children, once_inner, finds, found_there, words_of, words_sent, at_same, at_other, none_sent, one_sent}
+use Rattle.ga_boot.proofs.Places.{absent, child_deep, inner_deep, named_all, child_of, child_place, HasOver, over_it, inner_place, once_children, once_inner, finds, found_there, words_of, words_sent, at_same, at_other, none_sent, one_sent}
 use Rattle.ga_boot.proofs.Wires.{wire}
 use Rattle.ga_boot.proofs.Steps.{fetching}
 
@@ -46,7 +46,7 @@ over_of p = (p.parent, p.side)
 
 module _ (root : ℕ) (image : Option ImageView) (trees : Grove) (is : IsTree root image trees) where
   abbrev all : List Place
-  all = places root 1 trees
+  all = places root trees
 
   abbrev plan : Plan
   plan = plan_of root image trees
@@ -60,9 +60,6 @@ module _ (root : ℕ) (image : Option ImageView) (trees : Grove) (is : IsTree ro
 
   pub has_parent : (p : Place) → Elem p all → plan.parent p.name ≡ Some (p.parent, p.side)
   has_parent p e = ap (option_map over_of) (finds all p is.once e)
-
-  has_depth : (p : Place) → Elem p all → plan.depth p.name ≡ p.depth
-  has_depth p e = ap (λ o. option_map_or (λ q. q.depth) o 0) (finds all p is.once e)
 
   loads_place : (p : Place) → Elem p all → plan.loads p.name ≡ load_script p.side p.image p.inner
   loads_place p e = pick_false (p.name == root) (root_script Load root image trees) (loading_by (found p.name all)) (ne_eqb p.name root (is.apart p e)) ∙ ap loading_by (finds all p is.once e)
@@ -95,21 +92,21 @@ module _ (root : ℕ) (image : Option ImageView) (trees : Grove) (is : IsTree ro
           (p, at.0, at.1, ap (λ z. z.0) same, ap (λ z. z.1) same)
 
   -- what the parent of a node of the tree posts at its side
-  over_posts : (p : Place) → Elem p all → HasOver root 1 trees p → (posted p.side (plan.loads p.parent) ≡ words_of Load p) × (posted p.side (plan.starts p.parent) ≡ words_of Start p)
+  over_posts : (p : Place) → Elem p all → HasOver root trees p → (posted p.side (plan.loads p.parent) ≡ words_of Load p) × (posted p.side (plan.starts p.parent) ≡ words_of Start p)
   over_posts p e (inl f) =
-      let at = (child_of root 1 trees p f).0 in
-      let there : (q : Place) → Elem q (children root 1 trees) → neighbour_of root q.side ≡ Some q.name = λ q g. ap (λ n. neighbour_of n q.side) (sym (child_of root 1 trees q g).0) ∙ is.there q (child_elem q g) in (
-        ap (λ n. posted p.side (plan.loads n)) at ∙ ap (posted p.side) loads_it ∙ posted_root Load p.side root image trees ∙ words_sent Load root 1 p.side trees ∙ one_sent (words_of Load) (children root 1 trees) root p (once_children root 1 trees is.once) there f,
-        ap (λ n. posted p.side (plan.starts n)) at ∙ ap (posted p.side) starts_it ∙ posted_root Start p.side root image trees ∙ words_sent Start root 1 p.side trees ∙ one_sent (words_of Start) (children root 1 trees) root p (once_children root 1 trees is.once) there f,
+      let at = child_of root trees p f in
+      let there : (q : Place) → Elem q (children root trees) → neighbour_of root q.side ≡ Some q.name = λ q g. ap (λ n. neighbour_of n q.side) (sym (child_of root trees q g)) ∙ is.there q (child_elem q g) in (
+        ap (λ n. posted p.side (plan.loads n)) at ∙ ap (posted p.side) loads_it ∙ posted_root Load p.side root image trees ∙ words_sent Load root p.side trees ∙ one_sent (words_of Load) (children root trees) root p (once_children root trees is.once) there f,
+        ap (λ n. posted p.side (plan.starts n)) at ∙ ap (posted p.side) starts_it ∙ posted_root Start p.side root image trees ∙ words_sent Start root p.side trees ∙ one_sent (words_of Start) (children root trees) root p (once_children root trees is.once) there f,
       )
     where
-      child_elem : (q : Place) → Elem q (children root 1 trees) → Elem q all
-      child_elem q g = child_place root 1 trees q g
+      child_elem : (q : Place) → Elem q (children root trees) → Elem q all
+      child_elem q g = child_place root trees q g
   over_posts p e (inr (q, f, g)) =
-      let at = (child_of q.name (suc q.depth) q.inner p g).0 in
-      let there : (r : Place) → Elem r (children q.name (suc q.depth) q.inner) → neighbour_of q.name r.side ≡ Some r.name = λ r h. ap (λ n. neighbour_of n r.side) (sym (child_of q.name (suc q.depth) q.inner r h).0) ∙ is.there r (inner_place root 1 trees q r f h) in (
-        ap (λ n. posted p.side (plan.loads n)) at ∙ ap (posted p.side) (loads_place q f) ∙ posted_loading q.side p.side q.image q.inner ∙ words_sent Load q.name (suc q.depth) p.side q.inner ∙ one_sent (words_of Load) (children q.name (suc q.depth) q.inner) q.name p (once_inner root 1 trees q is.once f) there g,
-        ap (λ n. posted p.side (plan.starts n)) at ∙ ap (posted p.side) (starts_place q f) ∙ posted_starting q.name q.side p.side q.image q.inner ∙ words_sent Start q.name (suc q.depth) p.side q.inner ∙ one_sent (words_of Start) (children q.name (suc q.depth) q.inner) q.name p (once_inner root 1 trees q is.once f) there g,
+      let at = child_of q.name q.inner p g in
+      let there : (r : Place) → Elem r (children q.name q.inner) → neighbour_of q.name r.side ≡ Some r.name = λ r h. ap (λ n. neighbour_of n r.side) (sym (child_of q.name q.inner r h)) ∙ is.there r (inner_place root trees q r f h) in (
+        ap (λ n. posted p.side (plan.loads n)) at ∙ ap (posted p.side) (loads_place q f) ∙ posted_loading q.side p.side q.image q.inner ∙ words_sent Load q.name p.side q.inner ∙ one_sent (words_of Load) (children q.name q.inner) q.name p (once_inner root trees q is.once f) there g,
+        ap (λ n. posted p.side (plan.starts n)) at ∙ ap (posted p.side) (starts_place q f) ∙ posted_starting q.name q.side p.side q.image q.inner ∙ words_sent Start q.name p.side q.inner ∙ one_sent (words_of Start) (children q.name q.inner) q.name p (once_inner root trees q is.once f) there g,
       )
 
   -- A node of the tree, which stands as after reset.
@@ -124,7 +121,7 @@ module _ (root : ℕ) (image : Option ImageView) (trees : Grove) (is : IsTree ro
     starts_end name None h = idle_apart name
 
     pub named_place : (p : Place) → Elem p all → IsNodeName p.name × IsNodeName p.parent
-    named_place p e = named_all root 1 trees is.named is.there p e
+    named_place p e = named_all root trees is.named is.there p e
 
     has_it : (p : Place) → Elem p all → has_side p.name p.side ≡ true
     has_it p e = ap is_some (shared_port p.parent p.name p.side (named_place p e).1 (is.there p e))
@@ -155,13 +152,13 @@ module _ (root : ℕ) (image : Option ImageView) (trees : Grove) (is : IsTree ro
     start_first name side image (Tree n out i inner beside) = (Own ∷ Own ∷ Own ∷ Own ∷ [], SET_A, _, refl, λ to. refl)
 
     -- what stands above it
-    over : (p : Place) → Elem p all → HasOver root 1 trees p → ((p.parent ≡ root) ⊎ ((above : ℕ × Side) × (plan.parent p.parent ≡ Some above))) × (plan.depth p.name ≡ suc (plan.depth p.parent))
+    over : (p : Place) → Elem p all → HasOver root trees p → ((p.parent ≡ root) ⊎ ((above : ℕ × Side) × (plan.parent p.parent ≡ Some above))) × (plan.depth p.name ≡ suc (plan.depth p.parent))
     over p e (inl f) =
-        let at = child_of root 1 trees p f in
-        (inl at.0, has_depth p e ∙ at.1 ∙ ap (λ o. suc (option_map_or (λ q. q.depth) o 0)) (sym root_alone) ∙ ap (λ n. suc (plan.depth n)) (sym at.0))
+        let at = child_of root trees p f in
+        (inl at, child_deep root 1 trees p is.once f ∙ ap suc (sym (absent root root 1 trees is.apart)) ∙ ap (λ n. suc (plan.depth n)) (sym at))
     over p e (inr (q, f, g)) =
-        let at = child_of q.name (suc q.depth) q.inner p g in
-        (inr (over_of q, ap plan.parent at.0 ∙ has_parent q f), has_depth p e ∙ at.1 ∙ ap suc (sym (has_depth q f)) ∙ ap (λ n. suc (plan.depth n)) (sym at.0))
+        let at = child_of q.name q.inner p g in
+        (inr (over_of q, ap plan.parent at ∙ has_parent q f), inner_deep root 1 trees q p is.once f g ∙ ap (λ n. suc (plan.depth n)) (sym at))
 
     idle_sides : (name : ℕ) → IsNodeName name → (sides : Sides) × (wants (reset_state name) ≡ need.Take sides) × (one_side sides ≡ None)
     idle_sides name named = idle_wants name (reset_state name) named
@@ -172,8 +169,8 @@ module _ (root : ℕ) (image : Option ImageView) (trees : Grove) (is : IsTree ro
     inside_place : (p : Place) (part : Part) → Elem p all → part_of chip p.name ≡ Some part → IsInside plan p.name p.parent p.side part
     inside_place p part e there =
         let first : first_of part ≡ reset_state p.name = ap bare (is_given.others p.name part there (is.apart p e)) in
-        let above = over p e (over_it root 1 trees p e) in
-        let posts = over_posts p e (over_it root 1 trees p e) in
+        let above = over p e (over_it root trees p e) in
+        let posts = over_posts p e (over_it root trees p e) in
         let last = load_last p.side p.image p.inner in
         let next = start_first p.name p.side p.image p.inner in
         record {
@@ -248,8 +245,8 @@ module _ (root : ℕ) (image : Option ImageView) (trees : Grove) (is : IsTree ro
         by (Some p) e = absurd (none-some (over_of p) (sym e))
 
     -- A word is posted in the plan to a child alone.
-    posts_at : (name : ℕ) (side : Side) (grove : Grove) (depth : ℕ) → ((p : Place) → Elem p (children name depth grove) → p.side ≡ side → ⊥) → (words_to Load side grove ≡ []) × (words_to Start side grove ≡ [])
-    posts_at name side grove depth apart = (words_sent Load name depth side grove ∙ none_sent (words_of Load) side (children name depth grove) apart, words_sent Start name depth side grove ∙ none_sent (words_of Start) side (children name depth grove) apart)
+    posts_at : (name : ℕ) (side : Side) (grove : Grove) → ((p : Place) → Elem p (children name grove) → p.side ≡ side → ⊥) → (words_to Load side grove ≡ []) × (words_to Start side grove ≡ [])
+    posts_at name side grove apart = (words_sent Load name side grove ∙ none_sent (words_of Load) side (children name grove) apart, words_sent Start name side grove ∙ none_sent (words_of Start) side (children name grove) apart)
 
     child_there : (name other : ℕ) (side : Side) (p : Place) → Elem p all → p.parent ≡ name → p.side ≡ side → neighbour_of name side ≡ Some other → (plan.parent other ≡ Some (name, side) → ⊥) → ⊥
     child_there name other side p e at same there other_parent =
@@ -261,7 +258,7 @@ module _ (root : ℕ) (image : Option ImageView) (trees : Grove) (is : IsTree ro
       where
         by : (name ≡ root) ⊎ (name ≡ root → ⊥) → (o : Option Place) → found name all ≡ o → posted side (script plan name) ≡ []
         by (inl same) o e =
-            let none = posts_at root side trees 1 (λ p f g. child_there name other side p (child_place root 1 trees p f) ((child_of root 1 trees p f).0 ∙ sym same) g there other_parent) in
+            let none = posts_at root side trees (λ p f g. child_there name other side p (child_place root trees p f) (child_of root trees p f ∙ sym same) g there other_parent) in
             ap (λ n. posted side (script plan n)) same ∙ ap (posted side) script_root ∙ flat_map-append (posted_at side) (root_script Load root image trees) (root_script Start root image trees)
             ∙ ap₂ (λ a b. a ++ b) (posted_root Load side root image trees ∙ none.0) (posted_root Start side root image trees ∙ none.1)
         by (inr apart) None e = ap (posted side) (ap₂ (λ a b. a ++ b)
@@ -269,7 +266,7 @@ module _ (root : ℕ) (image : Option ImageView) (trees : Grove) (is : IsTree ro
             (pick_false (name == root) (root_script Start root image trees) (starting_by (found name all)) (ne_eqb name root apart) ∙ ap starting_by e))
         by (inr apart) (Some q) e =
             let at = found_there all name q e in
-            let none = posts_at q.name side q.inner (suc q.depth) (λ p f g. child_there name other side p (inner_place root 1 trees q p at.0 f) ((child_of q.name (suc q.depth) q.inner p f).0 ∙ at.1) g there other_parent) in
+            let none = posts_at q.name side q.inner (λ p f g. child_there name other side p (inner_place root trees q p at.0 f) (child_of q.name q.inner p f ∙ at.1) g there other_parent) in
             ap (λ n. posted side (script plan n)) (sym at.1) ∙ ap (posted side) (script_is q at.0) ∙ flat_map-append (posted_at side) (load_script q.side q.image q.inner) (start_script q.name q.side q.image q.inner)
             ∙ ap₂ (λ a b. a ++ b) (posted_loading q.side side q.image q.inner ∙ none.0) (posted_starting q.name q.side side q.image q.inner ∙ none.1)
 

@@ -20,12 +20,12 @@ abbrev fork : Grove
 fork = Tree 709 Right (Some nops) Bare (Tree 608 Down (Some nops) Bare Bare)
 
 abbrev right_place : Place
-right_place = record { name = 709; parent = 708; side = Right; image = Some nops; inner = Bare; depth = 1 }
+right_place = record { name = 709; parent = 708; side = Right; image = Some nops; inner = Bare }
 
 abbrev down_place : Place
-down_place = record { name = 608; parent = 708; side = Down; image = Some nops; inner = Bare; depth = 1 }
+down_place = record { name = 608; parent = 708; side = Down; image = Some nops; inner = Bare }
 
-fork_places : places 708 1 fork ≡ right_place ∷ down_place ∷ []
+fork_places : places 708 fork ≡ right_place ∷ down_place ∷ []
 fork_places = refl
 
 -- all loads stand before all starts
@@ -57,12 +57,12 @@ fork_is_tree = record {
   apart = λ p e same. away p e same;
 }
   where
-    images_of : (p : Place) → Elem p (places 708 1 fork) → HasRoom p.image
+    images_of : (p : Place) → Elem p (places 708 fork) → HasRoom p.image
     images_of p (inl e) = subst (λ q. HasRoom q.image) (sym e) (record { some = le_refl 1; most = le_by_compare 1 64 tt; entry_near = le_by_compare 0 64 tt })
     images_of p (inr (inl e)) = subst (λ q. HasRoom q.image) (sym e) (record { some = le_refl 1; most = le_by_compare 1 64 tt; entry_near = le_by_compare 0 64 tt })
     images_of p (inr (inr e)) = absurd e
 
-    there_of : (p : Place) → Elem p (places 708 1 fork) → neighbour_of p.parent p.side ≡ Some p.name
+    there_of : (p : Place) → Elem p (places 708 fork) → neighbour_of p.parent p.side ≡ Some p.name
     there_of p (inl e) = subst (λ q. neighbour_of q.parent q.side ≡ Some q.name) (sym e) refl
     there_of p (inr (inl e)) = subst (λ q. neighbour_of q.parent q.side ≡ Some q.name) (sym e) refl
     there_of p (inr (inr e)) = absurd e
@@ -71,7 +71,7 @@ fork_is_tree = record {
     other q (inl e) same = let g : q.name ≡ 608 = ap (λ (z : Place). z.name) e in omega (arith, g, same)
     other q (inr e) same = absurd e
 
-    away : (p : Place) → Elem p (places 708 1 fork) → p.name ≡ 708 → ⊥
+    away : (p : Place) → Elem p (places 708 fork) → p.name ≡ 708 → ⊥
     away p (inl e) same = let g : p.name ≡ 709 = ap (λ (z : Place). z.name) e in omega (arith, g, same)
     away p (inr (inl e)) same = let g : p.name ≡ 608 = ap (λ (z : Place). z.name) e in omega (arith, g, same)
     away p (inr (inr e)) same = absurd e

@@ -1,5 +1,5 @@
 ghost use Rattle.std.specs.Prelude.{All};
-ghost use Rattle.ga_boot.specs.Tree.{IsLoadable};
+ghost use Rattle.ga_asm.specs.Image.{IsLoadable};
 
 use ga_asm::Images;
 

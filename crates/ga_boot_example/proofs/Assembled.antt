@@ -17,7 +17,7 @@ use Rattle.ga_asm.specs.Text.{AtMostOne, HasImages, IsImagesOf}
 use Rattle.ga_asm.proofs.WorkedImages.{is_dots_image}
 use Rattle.ga_path.specs.Stream.{Images}
 use Rattle.ga_path.specs.Tree.{IsSound}
-use Rattle.ga_boot.specs.Tree.{IsLoadable}
+use Rattle.ga_asm.specs.Image.{IsLoadable}
 use Rattle.ga_boot_example.specs.Firmware.{dots, firmware, fork}
 
 abbrev text : List ℕ

@@ -1,12 +1,15 @@
 -- What `booted_tree` gives the root of a tree.
-use Rattle.std.proofs.Common.{◌≡◌, ◌∙◌, ◌++◌, inl, ℕ, true, false, [], Some, None, ap, append-nil, sym}
+use Rattle.std.proofs.Common.{◌≡◌, ◌∙◌, ◌++◌, inl, ℕ, true, false, [], Some, None, ap, append-nil, subst, sym}
 use Rattle.std.specs.Prelude.{if◌then◌else◌}
 use Rattle.std.specs.Option.{option_and_then}
 use Rattle.ga_place.specs.Node.{IsNodeName, is_edge}
 use Rattle.ga_path.specs.Stream.{tree_load, tree_start}
 use Rattle.ga_chip.specs.Chip.{part_refusal, refusal, reset_chip, stream_refusal, streamed, unless_refused}
 use Rattle.ga_chip.specs.declared.error.ChipError.TheVariants as chip_error
+use Rattle.ga_chip.specs.Legal.{DifferInBreaks}
+use Rattle.ga_chip.proofs.Differing.{differ_not}
 use Rattle.ga_boot.proofs.Given.{was}
+use Rattle.ga_debug.specs.Beginning.{booted_tree}
 use Rattle.ga_debug.specs.Laws.{BootedIsSupplied}
 
 -- a node of a chip after reset is given a stream where it stands at an edge
@@ -16,4 +19,6 @@ unrefused root named edge = ap (λ b. if b then refusal reset_chip root else Som
 pub booted_is_supplied : BootedIsSupplied
 booted_is_supplied images tree events named sound =
     let words = tree_load images tree ++ tree_start images tree in
-    inl (words, ap (λ r. unless_refused r (streamed reset_chip tree.root words) reset_chip) (unrefused tree.root named sound.edge), ([], sym (append-nil words)))
+    let given = streamed reset_chip tree.root words in
+    let is : booted_tree images tree ≡ given = ap (λ r. unless_refused r given reset_chip) (unrefused tree.root named sound.edge) in
+    inl (words, subst (λ chip. DifferInBreaks chip given) (sym is) (differ_not given), ([], sym (append-nil words)))

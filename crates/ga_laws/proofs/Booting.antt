@@ -5,8 +5,10 @@ use Rattle.std.specs.List.{find}
 use Rattle.std.specs.Map.{lookup}
 use Rattle.std.specs.Option.{option_map}
 use Rattle.std.proofs.lemmas.Bool.{eqb-true}
+use Rattle.std.proofs.lemmas.List.Elements.{All-from_recursion}
 use Rattle.std.proofs.lemmas.Option.{none-some}
-use Rattle.ga_asm.specs.Image.{ImageView}
+use Rattle.ga_asm.specs.Image.{ImageView, IsLoadable}
+use Rattle.ga_asm.proofs.Room.{images_loadable}
 use Rattle.ga_path.specs.Stream.{Images, grove, image_of, tree_load, tree_start, unreached}
 use Rattle.ga_path.specs.Sequences.{Grove}
 use Rattle.ga_place.specs.Node.{is_among}
@@ -34,21 +36,21 @@ among_nodes (entry ∷ images) nodes name image e f = by (is_among entry.0 nodes
     by true g e false h f rest = rest e f
 
 pub boots_hold : BootsHold
-boots_hold images tree chip events named sound all reached supply name image now has there taken not_begun = by (found name (places tree.root 1 trees)) refl not_begun
+boots_hold text images tree chip events of_text named sound reached supply name image now has there taken not_begun = by (found name (places tree.root trees)) refl not_begun
   where
     trees : Grove
     trees = grove images tree.root tree.subtrees
 
     is_tree : IsTree tree.root (image_of images tree.root) trees × (stream_words tree.root (image_of images tree.root) trees ≡ tree_load images tree ++ tree_start images tree)
-    is_tree = routes_are_tree images tree named sound all
+    is_tree = routes_are_tree images tree named sound (All-from_recursion (λ entry. IsLoadable entry.1) images (images_loadable text images of_text))
 
     boots : Boots chip tree.root (image_of images tree.root) trees events
     boots = tree_boots chip tree.root (image_of images tree.root) trees events is_tree.0 (subst (λ words. IsSupplied chip tree.root words events) (sym is_tree.1) supply)
 
-    by : (o : Option Place) → found name (places tree.root 1 trees) ≡ o → (begun_by o chip images tree events → ⊥) → Holds now.state (Some image)
+    by : (o : Option Place) → found name (places tree.root trees) ≡ o → (begun_by o chip images tree events → ⊥) → Holds now.state (Some image)
     by (Some p) e not_begun =
-        let at = found_there (places tree.root 1 trees) name p e in
-        let same : p.image ≡ Some image = image_is images tree.root 1 tree.subtrees p at.0 ∙ ap (image_of images) at.1 ∙ has in
+        let at = found_there (places tree.root trees) name p e in
+        let same : p.image ≡ Some image = image_is images tree.root tree.subtrees p at.0 ∙ ap (image_of images) at.1 ∙ has in
         subst (Holds now.state) same (boots.holds p now at.0 (ap (part_of (ran chip events)) at.1 ∙ there) taken not_begun)
     by None e not_begun =
         let is_root : name ≡ tree.root = stands_there images tree name sound (among_nodes images tree.nodes name image reached has) e in

@@ -1,5 +1,5 @@
 -- The sentences of the headline that are no clause of another law.
-use Rattle.std.specs.Prelude.{◌≡◌, ◌++◌, ◌∷◌, ℕ, List, [], All, Option, Some, None}
+use Rattle.std.specs.Prelude.{◌≡◌, ◌++◌, ◌∷◌, ℕ, List, [], Option, Some, None}
 use Rattle.ga_pack.specs.Model.Layout.{Laid}
 use Rattle.ga_pack.specs.Model.LayoutFault.{plain_items}
 use Rattle.ga_pack.specs.Model.Program.{PlacedSection}
@@ -18,7 +18,7 @@ use Rattle.ga_chip.specs.Part.{Asks, Feed, Part, Take, asks}
 use Rattle.ga_chip.specs.Run.{Event, ran}
 use Rattle.ga_chip.specs.declared.outcome.Outcome.TheVariants.{Moved}
 use Rattle.ga_boot.specs.Boot.{Begun, Holds, IsSupplied, LoadTaken, RootBegun}
-use Rattle.ga_boot.specs.Tree.{IsLoadable, Place, found, places}
+use Rattle.ga_boot.specs.Tree.{Place, found, places}
 
 -- the word that a step gets from outside: the one that a take found pending, or the next one of the stream
 abbrev pub got : Asks → Option ℕ → Option ℕ
@@ -62,13 +62,13 @@ begun_by None chip images tree events = RootBegun chip tree.root (image_of image
 
 abbrev pub HasBegun : Chip → Images → TreeView → List Event → ℕ → Type 0
 HasBegun chip images tree events name =
-    begun_by (found name (places tree.root 1 (grove images tree.root tree.subtrees))) chip images tree events
+    begun_by (found name (places tree.root (grove images tree.root tree.subtrees))) chip images tree events
 
--- In every run of a chip that boots a tree of routes: once the load part was taken whole, each node with an image holds
--- it until it begins.
+-- In every run of a chip that boots a tree of routes with the images of a text: once the load part was taken whole, each node
+-- with an image holds it until it begins.
 abbrev pub BootsHold : Type 0
-BootsHold = (images : Images) (tree : TreeView) (chip : Chip) (events : List Event) → IsNodeName tree.root → IsSound tree
-    → All (λ entry. IsLoadable entry.1) images → unreached images tree.nodes ≡ None
+BootsHold = (text : List ℕ) (images : Images) (tree : TreeView) (chip : Chip) (events : List Event) → HasImages text images
+    → IsNodeName tree.root → IsSound tree → unreached images tree.nodes ≡ None
     → IsSupplied chip tree.root (tree_load images tree ++ tree_start images tree) events
     → (name : ℕ) (image : ImageView) (now : Part) → image_of images name ≡ Some image → part_of (ran chip events) name ≡ Some now
     → LoadTaken chip tree.root (image_of images tree.root) (grove images tree.root tree.subtrees) events

@@ -1,4 +1,4 @@
-ghost use Rattle.std.specs.Prelude.{◌≡◌, [], ◌∷◌, IfErr, IfOk, None, Ok};
+ghost use Rattle.std.specs.Prelude.{◌≡◌, [], ◌∷◌, IfErr, IfOk, List, None, Ok, ℕ};
 ghost use Rattle.ga_path.specs.Stream.{IsBootFault, load_of, start_of, tree_load, tree_start, unreached};
 ghost use Rattle.ga_path.specs.Tree.{IsSound, TreeView, tree_of};
 
@@ -43,9 +43,11 @@ pub fn boot(alloc: Global, route: &Route, images: &Images) -> Result<Boot, BootE
     ensures start { IfOk result (λ boot. boot.start.items ≡ start_of images.now route.now) }
     ensures reached { IfOk result (λ _. unreached images.now route.now ≡ None) }
     ensures fault { IfErr result (λ error. IsBootFault images.now route.now error) }
-    // what is made of the tree of this one route, whose nodes are those of the route
+    // what is made of the tree of this one route, whose root is where the route begins and whose
+    // nodes are those of the route
     ensures tree { IfOk result (λ boot. (tree : TreeView) × (tree_of (route.now ∷ []) ≡ Ok tree)
-        × IsSound tree × (tree.nodes ≡ route.now)
+        × IsSound tree × ((names : List ℕ) × (route.now ≡ tree.root ∷ names))
+        × (tree.nodes ≡ route.now)
         × (boot.load.items ≡ tree_load images.now tree)
         × (boot.start.items ≡ tree_start images.now tree)) }
 {

@@ -1,6 +1,5 @@
 -- The plan of a tree, and a chip that it is for.
-use Rattle.std.specs.Prelude.{◌≡◌, ℕ, ◌==◌, if◌then◌else◌, List, [], ◌∷◌, Option, Some, None, option_map}
-use Rattle.std.specs.Option.{option_map_or}
+use Rattle.std.specs.Prelude.{◌≡◌, ℕ, suc, ◌+◌, ◌==◌, if◌then◌else◌, List, [], ◌∷◌, Option, Some, None, option_map}
 use Rattle.ga_node.specs.State.{reset_state, booting_state}
 use Rattle.ga_chip.specs.Chip.{Chip, part_of, pending}
 use Rattle.ga_chip.specs.Part.{Part}
@@ -14,11 +13,17 @@ use Rattle.ga_boot.specs.inner.Plan.{Plan}
 use Rattle.ga_boot.specs.Tree.{Place, found, places}
 
 -- the roots of subtrees
-abbrev pub children : ℕ → ℕ → Grove → List Place
-children parent depth Bare = []
-children parent depth (Tree name side image inner beside) =
-    record { name = name; parent = parent; side = side; image = image; inner = inner; depth = depth }
-    ∷ children parent depth beside
+abbrev pub children : ℕ → Grove → List Place
+children parent Bare = []
+children parent (Tree name side image inner beside) =
+    record { name = name; parent = parent; side = side; image = image; inner = inner }
+    ∷ children parent beside
+
+-- how deep a node lies in subtrees of which the roots lie so deep, or 0 where it is none of theirs
+abbrev pub depth_in : ℕ → ℕ → Grove → ℕ
+depth_in name depth Bare = 0
+depth_in name depth (Tree node side image inner beside) =
+    if node == name then depth else depth_in name (suc depth) inner + depth_in name depth beside
 
 abbrev pub loading_by : Option Place → List Local
 loading_by (Some p) = load_script p.side p.image p.inner
@@ -31,10 +36,10 @@ starting_by None = []
 abbrev pub plan_of : ℕ → Option ImageView → Grove → Plan
 plan_of root image trees = record {
   root = root;
-  parent = λ name. option_map (λ p. (p.parent, p.side)) (found name (places root 1 trees));
-  depth = λ name. option_map_or (λ p. p.depth) (found name (places root 1 trees)) 0;
-  loads = λ name. if name == root then root_script Load root image trees else loading_by (found name (places root 1 trees));
-  starts = λ name. if name == root then root_script Start root image trees else starting_by (found name (places root 1 trees));
+  parent = λ name. option_map (λ p. (p.parent, p.side)) (found name (places root trees));
+  depth = λ name. depth_in name 1 trees;
+  loads = λ name. if name == root then root_script Load root image trees else loading_by (found name (places root trees));
+  starts = λ name. if name == root then root_script Start root image trees else starting_by (found name (places root trees));
 }
 
 -- a chip as after reset, but that a root is to load itself from a stream

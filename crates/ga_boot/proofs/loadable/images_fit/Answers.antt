@@ -1,7 +1,7 @@
 use Rattle.std.proofs.Common.{◌∙◌, ◌≤◌, length, sym, subst, arith}
 use Rattle.std.specs.List.{AllByRecursion}
 use Rattle.std.proofs.lemmas.List.Elements.{All-from_recursion}
-use Rattle.ga_boot.specs.Tree.{IsLoadable}
+use Rattle.ga_asm.specs.Image.{IsLoadable}
 use Rattle.ga_boot.proofs.loadable.images_fit.Goals as goal
 
 pub loop-image-init : goal.loop-image-init

@@ -1,5 +1,5 @@
 use Rattle.std.specs.List.{AllByRecursion}
-use Rattle.ga_boot.specs.Tree.{IsLoadable}
+use Rattle.ga_asm.specs.Image.{IsLoadable}
 use Rattle.ga_boot.proofs.loadable.images_fit.Given as goal
 
 -- where those that are left fit, all do
