@@ -1,14 +1,15 @@
-"""Runs a program with each front of some texts: python3 tests/cut_texts.py PROGRAM
+"""Runs a program with each prefix of some texts: python3 tests/cut_texts.py PROGRAM
 
-Each front is answered, or refused by a fault that docs/FORMATS.md lists, as tests/fuzz.py has it. The last line that is
-printed is 'cut texts: N passed, M failed', a run each, and the exit status is 0 where M is 0.
+tests/answers.py judges each answer. The last line that is printed is 'cut texts: N passed, M failed', a prefix each, and
+the exit status is 0 if M is 0.
 """
 import json
 import os
 import sys
 from concurrent.futures import ProcessPoolExecutor
 
-import fuzz
+import answers
+from fuzz import Runner
 
 ROUTE = "708,709,609,608"
 TREE = "708,709,710/708,709,609/708,608/708,707"
@@ -25,14 +26,14 @@ CASES = {"replay-of-three", "debug-of-three"}
 
 
 def recorded_texts():
-    with open(f"{fuzz.ROOT}/tests/cases/worked.jsonl", encoding="utf-8") as lines:
+    with open(f"{answers.ROOT}/tests/cases/worked.jsonl", encoding="utf-8") as lines:
         return [(case["args"], case["stdin"].encode()) for case in map(json.loads, lines) if case["name"] in CASES]
 
 
 def run_fronts(program, args, data):
     """How many runs with a front of these bytes were right, and what is wrong with the others."""
-    runner = fuzz.Runner(program)
-    told = [(length, fuzz.wrong(runner, fuzz.PATTERN, args, data[:length])) for length in range(len(data) + 1)]
+    runner = Runner(program)
+    told = [(length, answers.wrong(runner, args, data[:length])) for length in range(len(data) + 1)]
     wrong = [f"FAILED {args} with {length} bytes: {what}" for length, what in told if what is not None]
     if runner.answer(args, data)[0] != 0:
         wrong.append(f"FAILED {args}: the whole text is refused")
@@ -42,7 +43,7 @@ def run_fronts(program, args, data):
 def main(program):
     runs = recorded_texts()
     for name, lines in TEXTS:
-        with open(f"{fuzz.ROOT}/{name}", "rb") as file:
+        with open(f"{answers.ROOT}/{name}", "rb") as file:
             data = file.read()
         runs += [(args, data) for args in lines]
     passed, failed = 0, 0

@@ -1,25 +1,20 @@
-"""Runs a program with inputs that nobody wrote: python3 tests/fuzz.py PROGRAM [--runs N | --seconds N] [--seed S] [--first NUMBER]
+"""Runs a program with inputs that nobody wrote:
+python3 tests/fuzz.py PROGRAM [--runs N | --seconds N] [--seed S] [--first NUMBER] [--workers N]
 
-Each input is one of a recorded case of tests/cases/, changed by chance: cut, doubled, with other bytes, with lines that
-are swapped or come from another case, with numbers at their limits; its command line may be changed too. An answer is
-right where
-- the status is 0, 1 or 2, and no signal ended the program;
-- with status 0 nothing is on standard error;
-- with status 1 nothing is on standard output, and standard error is one line with a fault that docs/FORMATS.md lists,
-  but neither `read` nor `write`, since the streams don't fail; behind it `list`, `check` and `record` show the text, where the fault has a
-  place there;
-- with status 2 nothing is on standard output, and something on standard error;
-- it comes within 20 seconds, and with at most 256 MiB of memory and 1,024 bytes for each byte of the input.
-A turn costs up to 144 tries, so the turns that an input asks for are at most 2,000 in all. (An input has 1,048,576 bytes at
-most, so it has at most some 110,000 tries; `one` takes 1,000,000 at most.)
+An input is a recorded case of tests/cases/, changed by chance: words replaced by others of their kind; or cut, doubled,
+with other bytes, with lines swapped or taken from another case, with numbers at their limits. Its command line may be
+changed too. A third of the inputs are for `list`, `check` and `record`: their own cases, texts of `asm` and `boot`, and
+sessions of `debug` and `replay` as transcripts. An answer is right if
+- tests/answers.py finds its status, its output and its text on standard error right;
+- it comes within 20 seconds, and takes at most 256 MiB of memory and 1,024 bytes for each byte of the input.
+A turn costs up to 144 tries, so an input asks for at most 2,000 turns in all. (It has at most 1,048,576 bytes, so at
+most some 110,000 tries; `one` takes 1,000,000 at most.)
 
-Without a choice 1,000 inputs are run. A failure is printed with its number: `--seed S --first NUMBER --runs 1` runs it again. The last line that is printed is
-'fuzz: N passed, M failed', and the exit status is 0 where M is 0.
+By default 1,000 inputs are run, by as many workers as there are processors. A failure is printed with its number:
+`--seed S --first NUMBER --runs 1` runs it again. The last line that is printed is 'fuzz: N passed, M failed', an input
+each, and the exit status is 0 if M is 0. tests/fuzz_mutants.py shows that wrong programs fail.
 """
 import argparse
-import base64
-import glob
-import json
 import multiprocessing
 import os
 import random
@@ -30,63 +25,60 @@ import signal
 import sys
 import time
 
-ROOT = os.path.dirname(os.path.dirname(os.path.abspath(__file__)))
+from answers import CASES, Answer, wrong
+from run_cases import stream
+from schedules import neighbours
+
 SECONDS = 20
 MOST_TURNS = 2000
-NUMBERS = ["0", "1", "7", "8", "63", "64", "65", "143", "144", "511", "512", "717", "718", "262143", "262144", "1000000",
-           "1000001", "4294967295", "4294967296", "18446744073709551616", "-1", "$3ffff", "$40000", "$ffffffffff", "1ff", "200",
-           "3FFFF", "40000", "999999999", "0x10", "00000001"]  # fmt: skip
+# How many failures a worker prints.
+MOST_SHOWN = 10
+# A third of the inputs are for the first three. `other` are all other command lines, as those of `explain`.
+THIRD = ["list", "check", "record"]
+OTHERS = ["asm", "dis", "boot", "run", "one", "debug", "replay", "other"]
+NUMBERS = ["0", "1", "7", "8", "63", "64", "65", "143", "144", "511", "512", "717", "718", "262143", "262144",
+           "1000000", "1000001", "4294967295", "4294967296", "18446744073709551616", "-1", "$3ffff", "$40000",
+           "$ffffffffff", "1ff", "200", "3FFFF", "40000", "999999999", "0x10", "00000001"]  # fmt: skip
 # Texts of ROUTE: a route and trees, routes that are no tree, and what is neither.
 ROUTES = ["708,709", "708,709,710/708,608/708,709,609", "708/708", "708,709/000,001", "708,709,609/708,608,609",
           "708,709/708,710", "708//709", "/", "708,709/"]  # fmt: skip
+# Words of one kind each: in place of one of them another may stand.
+KINDS = [kind.encode().split() for kind in (
+    "@p a! ; ex unext @+ @b @ !p !+ !b ! +* 2* 2/ - + and or drop dup pop over a . push b!", "jump call next if -if",
+    "right down left up io rdlu warm", "0 1 2 3 5 10 17 $1D5 $3FFFF", "708 709 710 608 609 017 300", "r d l u",
+    "000 001 002 003 008 03F 041 0A9 175", "moved waits held stopped", "regs mem ports node", "break clear until",
+)]  # fmt: skip
 
 
-def rows_under(page, heading):
-    """The rows of the table under a heading of a page, as lists of cells."""
-    part = page.split(f"# {heading}\n", 1)[1].split("\n#", 1)[0]
-    return [line.strip("| ").split(" | ") for line in part.splitlines() if line.startswith("| `")]
+def as_transcript(name, data, output):
+    """The session of a case of `debug` or `replay` as a transcript, with the replies of its output or of its lines."""
+    head, go, rest = data.partition(b"\ngo\n")
+    replies, lines = output.split(b"\n"), []
+    for line in rest.split(b"\n"):
+        command, _, stated = line.partition(b" = ")
+        lines.append(b"> " + command if line else b"")
+        if line and name == "replay":
+            lines.append(b"moved " + stated if command.startswith(b"turn") else stated or b"ok")
+        elif line and output:
+            is_ports = line.startswith(b"ports ") and not replies[0].startswith(b"refused")
+            count = len(neighbours(int(line[6:9]))) if is_ports else 8 if replies[0].startswith(b"000 ") else 1
+            lines, replies = lines + replies[:count], replies[count:]
+    return head.replace(b"profile 1\n", b"profile 2\n", 1) + go + b"\n".join(lines)
 
 
-def names_of(page, when):
-    """The names of faults that a cell lists, or else those under the heading to which it links."""
-    names = re.findall(r"`([A-Z][A-Za-z]+(?: I)?)`", when)
-    if not names:
-        names = [row[0].strip("`") for row in rows_under(page, re.search(r"\[(.*?)\]", when)[1])]
-    return names
-
-
-def fault_pattern():
-    """The faults that docs/FORMATS.md lists, but `read`, `write` and `memory`."""
-    with open(f"{ROOT}/docs/FORMATS.md", encoding="utf-8") as it:
-        page = it.read()
-    texts = []
-    for cell, _status, when in rows_under(page, "Faults"):
-        for text in re.findall("`ga-bench: (.*?)`", cell):
-            if text.endswith("NAME I"):
-                texts += [text.replace("NAME I", name) for name in names_of(page, when) if name.endswith(" I")]
-            elif text.endswith("NAME"):
-                texts += [text.replace("NAME", name) for name in names_of(page, when) if not name.endswith(" I")]
-            elif text not in ("read", "write", "memory"):
-                texts.append(text)
-    assert len(texts) > 30, "docs/FORMATS.md lists too few faults"
-    texts = [re.sub(r"\b[LCI]\b", r"\\d+", text.replace("NNN", r"\d{3}")) for text in texts]
-    return re.compile("ga-bench: ({})\n".format("|".join(texts)))
-
-
-def recorded_cases():
-    """The command line and the input of each recorded case."""
-    cases = []
-    for file in sorted(glob.glob(f"{ROOT}/tests/cases/*.jsonl")):
-        with open(file, encoding="utf-8") as lines:
-            for case in map(json.loads, lines):
-                data = case.get("stdin", "").encode()
-                if "stdin_base64" in case:
-                    data = base64.b64decode(case["stdin_base64"])
-                if "stdin_file" in case:
-                    with open(f"{ROOT}/{case['stdin_file']}", "rb") as it:
-                        data = it.read()
-                cases.append((case["args"], data))
-    return cases
+def pools():
+    """The command lines and inputs of each subcommand: those of its recorded cases, and those made of others."""
+    recorded, made = ({name: [] for name in THIRD + OTHERS} for _ in range(2))
+    for case in CASES:
+        args, data, output = case["args"], stream(case, "stdin") or b"", stream(case, "stdout") or b""
+        name = args[0] if args[:1] and args[0] in recorded else "other"
+        recorded[name].append((args, data))
+        if name in ("asm", "boot"):
+            made["list"].append((["list"] + ["--labels"] * (name == "boot"), data))
+        if name in ("debug", "replay"):
+            made["check"].append((["check"], as_transcript(name, data, output)))
+            made["record"].append((["record"], as_transcript(name, data, b"")))
+    return {name: [pool for pool in (recorded[name], made[name]) if pool] for name in recorded}
 
 
 def cut(chance, data, other):
@@ -102,8 +94,8 @@ def other_bytes(chance, data, other):
     changed = bytearray(data)
     for _ in range(chance.choice([1, 1, 2, 8])):
         if changed:
-            value = chance.randrange(256) if chance.random() < 0.3 else chance.choice(b" \n\r\t0123789$abfFxu:,[]()\\;-=@!")
-            changed[chance.randrange(len(changed))] = value
+            likely = chance.choice(b" \n\r\t0123789$abfFxu:,[]()\\;-=@!")
+            changed[chance.randrange(len(changed))] = chance.randrange(256) if chance.random() < 0.3 else likely
     return bytes(changed)
 
 
@@ -130,11 +122,25 @@ def other_numbers(chance, data, other):
     return b"".join(words)
 
 
+def words_of_a_kind(chance, data, other):
+    """Other words of the same kinds, so that most texts stay right."""
+    words = re.split(rb"(\s+)", data)
+    for _ in range(chance.choice([2, 4, 8, 16])):
+        at = chance.randrange(0, len(words), 2)
+        if re.fullmatch(b"[0-3][0-9A-Fa-f]{4}", words[at]):
+            words[at] = b"%05X" % chance.getrandbits(18)
+        for kind in KINDS:
+            if words[at] in kind:
+                words[at] = chance.choice(kind)
+                break
+    return b"".join(words)
+
+
 CHANGES = [cut, doubled, other_bytes, swapped_lines, lines_of_another, other_numbers]
 
 
 def few_turns(args, data):
-    """The same with at most so many turns in all, where they are turns of a session or of `run`."""
+    """The same with at most MOST_TURNS turns of sessions in all, and 200 of `run`."""
     left = MOST_TURNS
 
     def fewer(found):
@@ -143,22 +149,32 @@ def few_turns(args, data):
         left -= count
         return found[1] + str(count).encode()
 
+    def fewer_until(found):
+        return fewer([b"", found[1] + b" ", found[2] or b"1000000"])
+
     data = re.sub(rb"(turn[ ])(\d{1,7})(?!\d)", fewer, data)
-    data = re.sub(rb"(until [^ \n]+ [^ \n]+)( \d{1,7})?(?=\n|$)", lambda found: fewer([b"", found[1] + b" ", found[2] or b"1000000"]), data)
-    if args and args[0] == "run":
-        args = [word if not word.isdecimal() or int(word) > 1000000 else str(min(int(word), 200)) for word in args]
+    data = re.sub(rb"(until [^ \n]+ [^ \n]+)( \d{1,7})?(?=\n|$)", fewer_until, data)
+    if args[:1] == ["run"] and len(args) > 3 and args[3].isdecimal() and int(args[3]) <= 1000000:
+        args = [*args[:3], str(min(int(args[3]), 200)), *args[4:]]
     return args, data
 
 
-def input_of(cases, seed, number):
+def any_case(chance):
+    return chance.choice(chance.choice(POOLS[chance.choice(OTHERS + THIRD)]))
+
+
+def input_of(seed, number):
     """The command line and the input with this number."""
     chance = random.Random(f"{seed} {number}")
-    args, data = chance.choice(cases)
-    for _ in range(chance.choice([1, 1, 1, 2, 4])):
-        data = chance.choice(CHANGES)(chance, data, chance.choice(cases)[1])
+    name = chance.choice(THIRD if chance.random() < 1 / 3 else OTHERS)
+    args, data = chance.choice(chance.choice(POOLS[name]))
+    is_kept = chance.random() < 0.5
+    for _ in range(chance.choice([0, 1, 1] if is_kept else [1, 1, 1, 2, 4])):
+        change = words_of_a_kind if is_kept else chance.choice(CHANGES)
+        data = change(chance, data, any_case(chance)[1])
     args = list(args)
-    if args and chance.random() < 0.1:
-        args[chance.randrange(len(args))] = chance.choice([*NUMBERS, *chance.choice(cases)[0], "", *ROUTES, "--", "é"])
+    if args and chance.random() < 0.05:
+        args[chance.randrange(len(args))] = chance.choice([*NUMBERS, *any_case(chance)[0], "", *ROUTES, "--", "é"])
     if chance.random() < 0.001:
         data = data.ljust(1048576 + chance.choice([-1, 0, 1]), b" ")
     return few_turns(args, data)
@@ -168,70 +184,46 @@ class Runner:
     """Runs a program with files in memory as its streams, which are used again for each run."""
 
     def __init__(self, program):
-        self.program = program
-        self.streams = [os.memfd_create(name) for name in ("input", "output", "error")]
-        self.actions = [(os.POSIX_SPAWN_DUP2, stream, number) for number, stream in enumerate(self.streams)]
+        self.program, self.environment = program, dict(os.environ)
+        self.streams = [open(os.memfd_create(name), "r+b", buffering=0) for name in ("input", "output", "error")]
+        self.actions = [(os.POSIX_SPAWN_DUP2, it.fileno(), number) for number, it in enumerate(self.streams)]
 
     def answer(self, args, data):
-        """The status, the number of bytes written, and the text on standard error; no status where it took too long."""
-        for stream in self.streams:
-            os.ftruncate(stream, 0)
-            os.lseek(stream, 0, os.SEEK_SET)
-        os.pwrite(self.streams[0], data, 0)
-        # The bound is this process's own, for the program takes it over.
+        for it in self.streams:
+            it.truncate(0)
+            it.seek(0)
+        os.pwrite(self.streams[0].fileno(), data, 0)
+        # The bound is this process's own for a moment, since the program takes it over.
         most = (256 << 20) + 1024 * len(data)
         resource.setrlimit(resource.RLIMIT_AS, (most, resource.RLIM_INFINITY))
-        child = os.posix_spawn(self.program, [self.program, *args], os.environ, file_actions=self.actions)
+        child = os.posix_spawn(self.program, [self.program, *args], self.environment, file_actions=self.actions)
+        resource.setrlimit(resource.RLIMIT_AS, (resource.RLIM_INFINITY, resource.RLIM_INFINITY))
         ended = os.pidfd_open(child)
         is_done = select.select([ended], [], [], SECONDS)[0]
         if not is_done:
             os.kill(child, signal.SIGKILL)
         os.close(ended)
         status = os.waitstatus_to_exitcode(os.waitpid(child, 0)[1])
-        error = os.pread(self.streams[2], 1 << 22, 0).decode(errors="replace")
-        return status if is_done else None, os.fstat(self.streams[1]).st_size, error
+        return Answer(status if is_done else None, *map(self.written, self.streams[1:]))
 
-
-def is_fault(fault, args, error):
-    """Whether a text is a fault: a line, behind which `list`, `check` and `record` show something of the text."""
-    line, end, rest = error.partition("\n")
-    shown = ""
-    if args[:1] in (["list"], ["check"], ["record"]):
-        if re.match("ga-bench: (source|asm) ", line):
-            shown = "  .{0,100}\n  [ \t]{0,79}[\\^]\n.{1,80}\n"
-        elif re.match("ga-bench: (replay|transcript) ", line):
-            shown = "  .{0,100}\n.{1,80}\n"
-        elif line.startswith("ga-bench: check differs "):
-            shown = "(-.*\n)*([+].*\n)*"
-    return fault.fullmatch(line + end) and re.fullmatch(shown, rest)
-
-
-def wrong(runner, fault, args, data):
-    """What is wrong with the answer to an input, or None."""
-    status, written, error = runner.answer(args, data)
-    if status is None:
-        return f"no answer within {SECONDS} seconds"
-    right = {
-        0: not error,
-        1: not written and is_fault(fault, args, error),
-        2: not written and error,
-    }
-    return None if right.get(status) else f"status {status}, {written} bytes, {error[:200]!r}"
+    def written(self, stream):
+        stream.seek(0)
+        return stream.read().decode(errors="backslashreplace")
 
 
 def run_some(program, seed, numbers, until):
-    """Runs the inputs with these numbers, as long as there is time. Returns how many passed, and how many failed."""
+    """Runs the inputs with these numbers while there is time. Returns how many passed, and how many failed."""
     runner = Runner(program)
     ran, failed = 0, 0
     for number in numbers:
         if until is not None and time.time() > until:
             break
-        args, data = input_of(CASES, seed, number)
-        told = wrong(runner, PATTERN, args, data)
-        ran += 1
-        if told is not None:
-            failed += 1
-            print(f"fuzz: seed {seed} number {number}: {told}: {args} with {data[:120]!r} ({len(data)} bytes)", flush=True)
+        args, data = input_of(seed, number)
+        fault = wrong(runner, args, data)
+        ran, failed = ran + 1, failed + (fault is not None)
+        if fault is not None and failed <= MOST_SHOWN:
+            shown = f"{args} with {data[:120]!r} ({len(data)} bytes)"
+            print(f"fuzz: seed {seed} number {number}: {shown}: {fault}", flush=True)
     return ran - failed, failed
 
 
@@ -242,21 +234,21 @@ def main():
     parser.add_argument("--seconds", type=float)
     parser.add_argument("--seed", type=int, default=time.time_ns() % 1_000_000)
     parser.add_argument("--first", type=int, default=0)
+    parser.add_argument("--workers", type=int, default=os.cpu_count() or 1)
     given = parser.parse_args()
     until = None if given.seconds is None else time.time() + given.seconds
     last = given.first + given.runs if until is None else 1 << 60
-    workers = os.cpu_count() or 1
-    parts = [range(given.first + worker, last, workers) for worker in range(workers)]
+    parts = [range(given.first + worker, last, given.workers) for worker in range(given.workers)]
     print(f"fuzz: seed {given.seed}", flush=True)
-    with multiprocessing.Pool(workers) as pool:
-        told = pool.starmap(run_some, [(os.path.abspath(given.program), given.seed, numbers, until) for numbers in parts])
-    passed, failed = (sum(column) for column in zip(*told))
+    with multiprocessing.Pool(given.workers) as pool:
+        runs = [(os.path.abspath(given.program), given.seed, numbers, until) for numbers in parts]
+        counts = pool.starmap(run_some, runs)
+    passed, failed = (sum(column) for column in zip(*counts))
     print(f"fuzz: {passed} passed, {failed} failed")
     return 1 if failed or not passed else 0
 
 
-CASES = recorded_cases()
-PATTERN = fault_pattern()
+POOLS = pools()
 
 if __name__ == "__main__":
     sys.exit(main())

@@ -1,0 +1,376 @@
+"""What a right answer of the program is: `wrong` judges one, for tests/fuzz.py and tests/cut_texts.py.
+
+A text has one meaning or one first fault, and so have a command line and a command. This file works them out after
+docs/FORMATS.md, with tests/assembler.py, outputs.py and sessions.py, which share nothing with the program. So all
+refusals are compared to the byte, and all outputs of `asm`, `list`, `dis` and `boot`. These files have no chip: the
+output of a run must have its form, and must agree with other runs of the program.
+
+| Of | The relation |
+|---|---|
+| `asm`, `list` | each has the words of the other |
+| `dis` | `asm` makes the same words of its text, with the same length of code |
+| `one` | after as many turns as it made steps, `debug` shows the same node |
+| `run` by one worker | behind the same tries, `record` shows the same nodes |
+| `debug`, `record` | each has the replies of the other |
+| `record` | `check` accepts its transcript, and `record` writes that again as it is |
+| `check` | it compares with the replies of `record` |
+| `replay` of profile 2 | it compares with the replies of `debug` |
+| `replay` of profile 1 | it accepts the lines in front of one that differs, and refuses the last one changed |
+"""
+import glob
+import itertools
+import json
+import os
+import re
+from collections import namedtuple
+
+from assembler import Fault, images_of
+from outputs import (
+    asm_output, boot_output, dis_output, judge_reached, labels_output, list_output, routes_of, rows_of, tree_of,
+)  # fmt: skip
+from sessions import (
+    COMMANDS, IN_REPLAYS, STACKS, Transcript, command_of, has_form, head_of, ledgers, registers, text_of,
+)  # fmt: skip
+
+ROOT = os.path.dirname(os.path.dirname(os.path.abspath(__file__)))
+LIMIT = 1048576
+# A run is compared with one of at most so many turns, or tries.
+MOST_TURNS, MOST_TRIES = 2000, 3000
+HELP = {"-h", "--help", "-V", "--version"}
+# What stands behind the name of a subcommand: numbers of a range, and texts. FILE and NAME may be left out.
+VALUES = {
+    "asm": [], "list": ["FILE"], "dis": [], "boot": ["ROUTE"], "run": ["ROUTE", range(1, 145), range(1000001)],
+    "one": [range(1000001)], "debug": [], "replay": [], "check": ["FILE"], "record": ["FILE"], "explain": ["NAME"],
+}  # fmt: skip
+
+# The status, the output, and the text on standard error; no status if no answer came in time.
+Answer = namedtuple("Answer", "status output error")
+
+
+def recorded_cases():
+    cases = []
+    for file in sorted(glob.glob(f"{ROOT}/tests/cases/*.jsonl")):
+        with open(file, encoding="utf-8") as lines:
+            cases += map(json.loads, lines)
+    return cases
+
+
+def meanings():
+    """What each name of a fault means, as the recorded cases of `list` and `check` show it."""
+    shown = [case.get("stderr", "").splitlines() for case in CASES if case["args"][:1] in (["list"], ["check"])]
+    return {lines[0].split()[-1]: lines[-1] for lines in shown if len(lines) > 2}
+
+
+CASES = recorded_cases()
+MEANINGS = meanings()
+# The recorded texts of `explain`, by the names behind it.
+EXPLAINED = {tuple(it["args"][1:]): it["stdout"] for it in CASES if it["args"][:1] == ["explain"] and it["status"] == 0}
+
+
+class Wrong(Exception):
+    """What is wrong with an answer."""
+
+
+class Job:
+    """What a command line asks for. ValueError: it is wrong."""
+
+    def __init__(self, args):
+        self.name, *rest = args or [""]
+        if self.name not in VALUES:
+            raise ValueError("no such subcommand")
+        self.options, self.values = {}, []
+        while rest:
+            word = rest.pop(0)
+            option, equals, value = word.partition("=")
+            if word == "--":
+                self.values, rest = self.values + rest, []
+            elif option in self.options:
+                raise ValueError("an option stands twice")
+            elif self.name == "dis" and option == "--code":
+                self.options[option] = number_in(range(65), value if equals or not rest else rest.pop(0))
+            elif self.name == "list" and word == "--labels":
+                self.options[option] = True
+            elif word.startswith("-") and word != "-":
+                raise ValueError("no such option")
+            else:
+                self.values.append(word)
+        self.read_values(VALUES[self.name])
+
+    def read_values(self, kinds):
+        least = len(kinds) - ("FILE" in kinds or "NAME" in kinds)
+        if not least <= len(self.values) <= len(kinds):
+            raise ValueError("too few or too many values")
+        pairs = zip(kinds, self.values)
+        self.values = [number_in(kind, word) if isinstance(kind, range) else word for kind, word in pairs]
+        if "NAME" in kinds and self.values and self.values[0] not in EXPLAINED[()].split():
+            raise ValueError("no such name")
+
+    def input_of(self, data):
+        """The text that is read, if standard input has this data."""
+        if VALUES[self.name] == ["FILE"] and self.values not in ([], ["-"], ["/dev/stdin"]):
+            if os.path.isdir(self.values[0]):
+                raise Fault("input Folder")
+            if not os.path.exists(self.values[0]):
+                raise Fault("input NoFile")
+            with open(self.values[0], "rb") as it:
+                data = it.read()
+        if len(data) > LIMIT:
+            raise Fault("input TooLong")
+        try:
+            return data.decode()
+        except UnicodeDecodeError:
+            raise Fault("input BadText") from None
+
+
+def number_in(limits, word):
+    if not re.fullmatch("[+]?[0-9]+", word) or int(word) not in limits:
+        raise ValueError("no number in its range")
+    return int(word)
+
+
+def words_of(text):
+    words = [word for word in re.split("[ \t\r\n]+", text) if word]
+    for number, word in enumerate(words):
+        if not re.fullmatch("[0-3][0-9A-Fa-f]{4}", word):
+            raise Fault(f"words {number} BadWord")
+    if not 0 < len(words) <= 64:
+        raise Fault("words TooLong" if words else "words Empty")
+    return [int(word, 16) for word in words]
+
+
+def reported(job, fault, text):
+    """What stands on standard error: the fault, and behind it what `list`, `check` and `record` show of the text."""
+    shown = fault.behind
+    if VALUES[job.name] == ["FILE"] and fault.place:
+        line, column = fault.place
+        rows = [*text.split("\n"), ""]
+        row = rows[line - 1].removesuffix("\r" if line < len(rows) - 1 else "")
+        begin = column - 41 if column and column > 80 else 0
+        shown = "  " + re.sub("[\0-\x08\n-\x1f\x7f-\x9f]", " ", row[begin : begin + 100]) + "\n"
+        if column:
+            shown += "  " + re.sub("[^\t]", " ", row[begin : column - 1]) + "^\n"
+        shown += MEANINGS.get(fault.text.split()[-1], "no recorded case shows what this means") + "\n"
+    return f"ga-bench: {fault.text}\n{shown}"
+
+
+# What each subcommand has to write for a text, or the Fault that it has to report. What a chip does is taken from other
+# runs: `ask` gives the output of one, which must be the stated one, or None if its input would be too long. What no
+# other run shows is taken from the answer.
+
+
+def asm(ask, job, text, answer):
+    images = images_of(text)
+    ask(["list"], text, list_output(images))
+    return asm_output(images)
+
+
+def list_(ask, job, text, answer):
+    images = images_of(text)
+    ask(["asm"], text, asm_output(images))
+    return labels_output(images) if job.options else list_output(images)
+
+
+def dis(ask, job, text, answer):
+    words = words_of(text)
+    code = job.options.get("--code", len(words))
+    if code > len(words):
+        raise Fault("words BadCode")
+    source = dis_output(words, code)
+    ask(["asm"], source, f"node 000 entry 000 code {code} words {len(words)}\n{rows_of(words)}")
+    return source
+
+
+def boot(ask, job, text, answer):
+    return boot_output(*tree_and_images(job.values[0], text))
+
+
+def tree_and_images(route, text):
+    images = images_of(text)
+    parents = tree_of(routes_of(route))
+    judge_reached(parents, images)
+    return parents, images
+
+
+def one(ask, job, text, answer):
+    words = words_of(text)
+    must_have_form(answer, [registers(0)])
+    steps, need = re.search("steps ([0-9]+) need ([a-z]+)", answer.output).groups()
+    steps, tries = int(steps), job.values[0]
+    if steps > tries or steps < tries and need == "own" or need in ("check", "input"):
+        raise Wrong("no node alone has these steps and this need")
+    if steps > MOST_TURNS:
+        return answer.output
+    session = f"profile 2\nplace\n{dis_output(words, len(words))}go\nturn {steps}\nregs 000\n"
+    return ask(["debug"], session).partition("\n")[2]
+
+
+def run(ask, job, text, answer):
+    route, workers, turns = job.values
+    parents, _ = tree_and_images(route, text)
+    if workers > len(parents):
+        raise Fault(f"plan Empty {len(parents)}")
+    must_have_form(answer, [form for node in parents for form in (registers(node), STACKS, ledgers(node))])
+    if workers > 1 or turns * len(parents) > MOST_TRIES:
+        return answer.output
+    source = re.sub("^go$", " go", text, flags=re.M)
+    tries = [f"> try {node:03} {'rdlu'[turn % 4]}" for turn in range(turns) for node in parents]
+    views = [f"> {view} {node:03}" for node in parents for view in ("node", "ports")]
+    session = ask(["record"], f"profile 2\nroute {route}\n{source}\ngo\n{text_of(tries + views)}")
+    if session is None:
+        return answer.output
+    return "".join(text_of(it.reply) for it in transcript_of(session).exchanges[len(tries) :])
+
+
+def debug(ask, job, text, answer):
+    head = head_of(text)
+    lines = [line for line in head.lines if line]
+    refusals = [command_of(line, COMMANDS).refusal for line in lines]
+    good = [f"> {line}" for line, refusal in zip(lines, refusals) if not refusal]
+    session = ask(["record"], head.text + text_of(good))
+    if session is None:
+        return answer.output
+    replies = (text_of(it.reply) for it in transcript_of(session).exchanges)
+    wanted = [f"refused {refusal}\n" if refusal else next(replies, "") for refusal in refusals]
+    return "".join("ok\n" if reply.startswith("ok, ") else reply for reply in wanted)
+
+
+def record(ask, job, text, answer):
+    old, new = Transcript(text), transcript_of(answer.output)
+    ask(["check"], answer.output, f"same {len(old.exchanges)}\n")
+    ask(["record"], answer.output, answer.output)
+    commands = list(new.as_debug())
+    replies = ask(["debug"], new.head.text + text_of(command for command, _ in commands))
+    if replies is not None:
+        wanted, came = [line for _, reply in commands for line in reply], replies.splitlines()
+        if len(came) != len(wanted) or any(one not in (None, other) for one, other in zip(wanted, came)):
+            raise Wrong("debug has other replies")
+    return old.with_replies([it.reply for it in new.exchanges])
+
+
+def check(ask, job, text, answer):
+    old, new = Transcript(text), transcript_of(ask(["record"], text))
+    for one, other in zip(old.exchanges, new.exchanges):
+        if one.reply != other.reply:
+            raise Fault(f"check differs {one.line}", behind=text_of(one.reply, "-") + text_of(other.reply, "+"))
+    return f"same {len(old.exchanges)}\n"
+
+
+# A line of a replay text behind `go`, with its number and its command.
+Step = namedtuple("Step", "line text command")
+
+
+def replay(ask, job, text, answer):
+    head = head_of(text, ["profile 2", "profile 1"])
+    steps = [Step(line, it, command_of(it, IN_REPLAYS)) for line, it in enumerate(head.lines, head.go + 1) if it]
+    good = list(itertools.takewhile(lambda it: not it.command.refusal, steps))
+    if head.text.startswith("profile 2\n"):
+        judge_outcomes(ask, head, good)
+    else:
+        judge_old(ask, text, good, answer)
+    if len(good) < len(steps):
+        raise Fault(f"replay line {steps[len(good)].line} {steps[len(good)].command.refusal}")
+    return f"same {count_of(good)}\n"
+
+
+def count_of(steps):
+    """How many of these lines state an outcome."""
+    return sum(it.command.verb in ("try", "turn") for it in steps)
+
+
+def judge_outcomes(ask, head, steps):
+    """Compares what the lines state with the replies of `debug`."""
+    session = head.text + text_of(it.text.partition(" = ")[0] for it in steps)
+    for it, reply in zip(steps, ask(["debug"], session[:-1]).splitlines()):
+        if reply == "refused NotHeld":
+            raise Fault(f"replay line {it.line} NotHeld")
+        if it.command.verb in ("try", "turn") and str(it.command.operands[-1]) != reply.removeprefix("moved "):
+            raise Fault(f"replay differs {it.line}")
+
+
+def judge_old(ask, text, steps, answer):
+    """Judges a text of profile 1, whose chip `debug` doesn't have. It is believed that a line differs if the lines in
+    front of it hold, and that all lines hold if another outcome of the last one differs."""
+    lines = text.split("\n")
+    found = re.fullmatch("ga-bench: replay (differs ([0-9]+)|line ([0-9]+) NotHeld)\n", answer.error)
+    for at, it in enumerate(steps if found else []):
+        if it.line == int(found[2] or found[3]) and it.command.verb in (("try", "turn") if found[2] else ("pass",)):
+            ask(["replay"], text_of(lines[: it.line - 1]), f"same {count_of(steps[:at])}\n")
+            raise Fault(f"replay {found[1]}")
+    last = next((it for it in reversed(steps) if count_of([it])), None)
+    if last and answer.status == 0:
+        outcome = last.command.operands[-1]
+        other = int(outcome == 0) if last.command.verb == "turn" else "waits" if outcome == "moved" else "moved"
+        front = [*lines[: last.line - 1], f"{last.text.partition(' = ')[0]} = {other}"]
+        ask(["replay"], text_of(front), error=f"ga-bench: replay differs {last.line}\n")
+
+
+def explain(ask, job, text, answer):
+    if tuple(job.values) in EXPLAINED:
+        return EXPLAINED[tuple(job.values)]
+    must_have_form(answer, [f"{job.values[0]}: (?:.{{0,80}}\n)+"])
+    return answer.output
+
+
+ANSWERS = {
+    "asm": asm, "list": list_, "dis": dis, "boot": boot, "run": run, "one": one, "debug": debug, "replay": replay,
+    "check": check, "record": record, "explain": explain,
+}  # fmt: skip
+
+
+def must_have_form(answer, forms):
+    if answer.status != 0 or not has_form(answer.output, forms):
+        raise Wrong("no output of the right form")
+
+
+def transcript_of(output):
+    """The transcript that `record` wrote, if each reply has its form."""
+    try:
+        transcript = Transcript(output)
+    except Fault as fault:
+        raise Wrong(f"record wrote a text with the fault {fault}") from None
+    if not transcript.has_forms():
+        raise Wrong("a reply of record hasn't its form")
+    return transcript
+
+
+def judge(ask, args, data, answer):
+    if HELP & {*args} and answer.status == 0 and answer.output and not answer.error:
+        return
+    try:
+        job, text = Job(args), ""
+    except ValueError:
+        if answer.status != 2 or answer.output or not answer.error:
+            raise Wrong("status 2 is wanted") from None
+        return
+    try:
+        text = job.input_of(data) if job.name != "explain" else ""
+        wanted = Answer(0, ANSWERS[job.name](ask, job, text, answer), "")
+    except Fault as fault:
+        wanted = Answer(1, "", reported(job, fault, text))
+    if answer != wanted:
+        raise Wrong(f"wanted {shortened(wanted)}")
+
+
+def shortened(answer):
+    return " ".join(it if len(it) < 300 else f"{it[:200]} .. {it[-80:]}" for it in map(repr, answer))
+
+
+def wrong(runner, args, data):
+    """What is wrong with the answer to an input, or None."""
+
+    def ask(args, text, output=None, error=""):
+        if len(text.encode()) > LIMIT:
+            return None
+        other = runner.answer(args, text.encode())
+        if other.status != int(error != "") or other.error != error or output not in (None, other.output):
+            raise Wrong(f"{args} with {text[:300]!r} came to {shortened(other)}")
+        return other.output
+
+    answer = runner.answer(args, data)
+    try:
+        if answer.status is None:
+            raise Wrong("no answer in time")
+        judge(ask, args, data, answer)
+    except Wrong as fault:
+        return f"{fault}; came {shortened(answer)}"
+    return None
