@@ -47,7 +47,7 @@ members_some : (g : Group) → 0 < length (members g)
 members_some (Shared i is) = omega arith
 members_some (Alone i) = omega arith
 
-items_append : (fs gs : List Group) → items_of (fs ++ gs) ≡ items_of fs ++ items_of gs
+pub items_append : (fs gs : List Group) → items_of (fs ++ gs) ≡ items_of fs ++ items_of gs
 items_append [] gs = refl
 items_append (Shared i is ∷ fs) gs = ap (λ t. i ∷ t) (ap (λ t. is ++ t) (items_append fs gs) ∙ sym (append_assoc is (items_of fs) (items_of gs)))
 items_append (Alone i ∷ fs) gs = ap (λ t. i ∷ t) (items_append fs gs)
@@ -119,7 +119,7 @@ reach_snoc labels address (f ∷ front) g near here =
     let parts = and_parts (group_in_reach labels address f) (all_in_reach labels (address + size f) front) near in
     and_from (group_in_reach labels address f) (all_in_reach labels (address + size f) (front ++ g ∷ [])) parts.0 (reach_snoc labels (address + size f) front g parts.1 here)
 
-front_within : (address : ℕ) (front back : List Group) → address_after address front ≤ address_after address (front ++ back)
+pub front_within : (address : ℕ) (front back : List Group) → address_after address front ≤ address_after address (front ++ back)
 front_within address [] back = address_grows address back
 front_within address (g ∷ front) back = front_within (address + size g) front back
 

@@ -53,7 +53,7 @@ fault_same names before l laying x =
     ∙ ap (λ t. fault_at names t (address_after 0 laying.groups) (joins_open (labels_of l.labels.entries) (open_of l) x) x) (sym laying.labels_are)
     ∙ ap (λ t. fault_at names (labels_of l.labels.entries) t (joins_open (labels_of l.labels.entries) (open_of l) x) x) (sym laying.address_is)
 
-not_long : (names : List (List ℕ)) (labels : Labels) (address : ℕ) (joined : Bool) (x : Item) → fault_at names labels address joined x ≡ None → address + words_added joined x ≤ 64
+pub not_long : (names : List (List ℕ)) (labels : Labels) (address : ℕ) (joined : Bool) (x : Item) → fault_at names labels address joined x ≡ None → address + words_added joined x ≤ 64
 not_long names labels address joined x h = grind (arith, common_steps)
 
 -- what laying an item does

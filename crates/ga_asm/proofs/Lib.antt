@@ -1,12 +1,13 @@
-mod LabelLists
+pub mod LabelLists
 mod Loose
 mod Names
 mod Summary
-mod RightItems
+pub mod RightItems
 mod LayingSteps
 mod MakingSteps
-mod Groups
+pub mod Groups
 mod Sections
+pub mod RightNodes
 pub mod OneAnswer
 pub mod WorkedImages
 mod WordPlaces

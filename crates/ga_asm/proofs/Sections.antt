@@ -141,7 +141,7 @@ assembled_snoc [] [] section image all name is = (name, is, tt)
 assembled_snoc (s ∷ sections) (i ∷ images) section image all name is = (all.0, all.1, assembled_snoc sections images section image all.2 name is)
 assembled_snoc _ _ section image all name is = absurd all
 
-right_snoc : (sections : List PlacedSection) (section : PlacedSection) → AllRight sections → IsRight (plain_items section) → AllRight (sections ++ section ∷ [])
+pub right_snoc : (sections : List PlacedSection) (section : PlacedSection) → AllRight sections → IsRight (plain_items section) → AllRight (sections ++ section ∷ [])
 unfolding AllRight
 right_snoc [] section all right = (right, tt)
 right_snoc (s ∷ sections) section all right = (all.0, right_snoc sections section all.1 right)

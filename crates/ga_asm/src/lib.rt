@@ -16,4 +16,5 @@ pub use assembling::{Images, assemble};
 pub use error::{AsmError, AsmErrorKind};
 pub use image::{Image, label_at};
 pub use places::word_places;
+pub use reach::p_behind;
 pub use text::{TextError, assemble_text};

@@ -1,3 +1,6 @@
 pub mod OneListing
+mod Targets
+mod Names
+mod Listed
 mod Rows
 mod Writing

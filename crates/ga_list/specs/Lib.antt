@@ -2,3 +2,4 @@ pub mod Reading
 pub mod Row
 pub mod Listing
 pub mod Labels
+pub mod Laws

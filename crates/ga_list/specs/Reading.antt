@@ -3,19 +3,16 @@ use Rattle.std.specs.Prelude.{ℕ, ◌+◌, ◌-◌, ◌*◌, ◌/◌, List, [],
 use Rattle.std.specs.Option.{option_map_or}
 use Rattle.ga_word.specs.declared.op.Op.{Op}
 use Rattle.ga_word.specs.Op.{name_of}
-use Rattle.ga_pack.specs.Decoded.{Reading}
-use Rattle.ga_pack.specs.Followers.{followers}
 use Rattle.ga_pack.specs.Slots.{dest_bound}
-use Rattle.ga_pack.specs.Model.Layout.{Labels}
+use Rattle.ga_pack.specs.Model.Layout.{Labels, p_behind}
 use Rattle.ga_asm.specs.Image.{label_at}
 use Rattle.ga_disasm.specs.Disassembling.{ItemView, Code}
 use Rattle.ga_disasm.specs.Printing.{item_line, line, number_text, spare_texts}
 
--- The address that a destination means which the last of these opcodes of the word at an address takes. P is behind
--- the word and its followers, and the destination replaces its low bits, as many as it has.
+-- The address that a destination means which the last of these opcodes of the word at an address takes: the destination
+-- replaces the low bits of P, as many as it has. The last opcode is no `@p` or `!p`, so P behind it is P in its slot.
 abbrev pub target : ℕ → List Op → ℕ → ℕ
-target address ops dest =
-    let bound = dest_bound (length ops - 1) in (address + 1 + followers ops) / bound * bound + dest
+target address ops dest = let bound = dest_bound (length ops - 1) in p_behind address ops / bound * bound + dest
 
 -- a destination: the label of the address that it means, or else its field
 abbrev pub dest_text : Labels → ℕ → ℕ → List ℕ

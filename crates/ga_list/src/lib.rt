@@ -2,6 +2,7 @@
 #![tactic(auto)]
 
 mod labels;
+pub mod laws;
 mod listing;
 mod reading;
 mod row;

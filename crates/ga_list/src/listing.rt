@@ -15,9 +15,9 @@ use std::alloc::{AllocError, Global};
 /// For each node it has the line that `asm` writes for the node, and then a line for each of its
 /// words: the address in three hex digits, the word in five, `code`, `follower` or `data`, the line
 /// of the text in which its first item stands, and what the word reads as, in source text. A
-/// destination that is the address of a label is told by the label. Each label stands on a line of
-/// its own in front of its word. (The text is this project's own: profile.) It fails as `Memory`
-/// only where memory is refused.
+/// destination that means the address of a label is written as the first such label. Each label
+/// stands on a line of its own in front of its word. (The text is this project's own: profile.) It
+/// fails as `Memory` only where memory is refused.
 #[tactic(auto, using(crate::proofs::OneListing::one_listing))]
 pub fn list(alloc: Global, text: &str) -> Result<String, TextError>
     ensures listing { IfOk result (λ listing. HasListing text.now (string_bytes listing)) }

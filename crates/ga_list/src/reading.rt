@@ -6,9 +6,9 @@ ghost use Rattle.ga_disasm.specs.Printing.{behind_spaces, spare_texts};
 ghost use Rattle.ga_list.specs.Reading as spec;
 ghost use Rattle.ga_list.specs.Reading.{reading_line};
 
-use ga_asm::label_at;
+use ga_asm::{label_at, p_behind};
 use ga_disasm::{Item, push_ops};
-use ga_pack::{Packed, dest_bound, followers};
+use ga_pack::{Packed, dest_bound};
 use indexmap::IndexMap;
 use std::alloc::AllocError;
 use std::fmt::Write;
@@ -81,13 +81,13 @@ fn push_spare(text: &mut String, spare: u8) -> Result<(), AllocError>
     Ok(())
 }
 
-/// The address that a destination of the word at an address means: P behind the word's followers, of
-/// which it replaces the low bits, as many as it has.
+/// The address that a destination of the word at an address means: P in its slot, of which it
+/// replaces the low bits, as many as it has.
 fn target(address: usize, packed: &Packed, dest: u16) -> u32
     requires { address < 64 }
     ensures { result ≡ spec.target address packed.now.ops.items dest }
 {
     let bound = u32::from(dest_bound(packed.ops.len().saturating_sub(1)));
-    let p = address as u32 + 1 + u32::from(followers(packed));
+    let p = u32::from(p_behind(address as u8, packed.ops.as_slice()));
     p / bound * bound + u32::from(dest)
 }

@@ -1,5 +1,6 @@
 pub mod Largest
 pub mod Rings
+pub mod RingRows
 pub mod Writing
 pub mod Lines
 pub mod Plain

@@ -1,5 +1,5 @@
 -- What the lines are made of: no line is empty, has an LF in it, or begins with `>` or `\`.
-use Rattle.std.proofs.Common.{◌≡◌, ◌≢◌, ◌∙◌, ℕ, zero, suc, ◌+◌, ◌-◌, ◌/◌, ◌%◌, ◌<◌, ◌==◌, Bool, true, false, List, [], ◌∷◌, ◌++◌, Option, Some, None, refl, ap, arith}
+use Rattle.std.proofs.Common.{map, ◌≡◌, ◌≢◌, ◌∙◌, ℕ, zero, suc, ◌+◌, ◌-◌, ◌/◌, ◌%◌, ◌<◌, ◌==◌, Bool, true, false, List, [], ◌∷◌, ◌++◌, Option, Some, None, refl, ap, arith}
 use Rattle.std.specs.Prelude.{codes, cond, nat_lt, not, if◌then◌else◌}
 use Rattle.std.specs.Fmt.{decimal, digit_glyph, digits, digits_onto}
 use Rattle.std.specs.List.{concat, flat_map, list_all, range_with_len}
@@ -37,7 +37,7 @@ use Rattle.ga_waits.specs.Begun.{has_begun}
 use Rattle.ga_waits.specs.Closed.{stuck_in}
 use Rattle.ga_waits.specs.Label.{distance_text, label_in, label_text, name_text, nearest, text_at}
 use Rattle.ga_waits.specs.Line.{if_so, node_lines, op_text, state_lines, wait_line}
-use Rattle.ga_waits.specs.Ring.{begins_ring, names_behind, names_of_ring, next_of, ring_line, ring_lines}
+use Rattle.ga_waits.specs.Ring.{names_text, next_of, ring_line, rings_of}
 use Rattle.ga_waits.specs.Sides.{act_text, doing_text, end_text, joined, other_doing, other_text, told_end, told_need}
 use Rattle.ga_waits.specs.Waits.{all_node_lines, all_ring_lines, text_of, waits_lines as lines_of, waits_text}
 use Rattle.ga_waits.specs.inner.Plain.{are_labels_plain, is_plain, is_plain_line}
@@ -326,31 +326,19 @@ plain_state images chip stuck name (Some state) row p = by (has_begun name state
     by false = refl
 plain_state images chip stuck name None row p = refl
 
-plain_names : (next : ℕ → Option ℕ) (first fuel : ℕ) (name : Option ℕ) → IsPlain (names_behind next first fuel name)
-plain_names next first fuel None = refl
-plain_names next first zero (Some name) = refl
-plain_names next first (suc fuel) (Some name) = by (name == first) (plain_names next first fuel (next name))
-  where
-    by : (b : Bool) → IsPlain (names_behind next first fuel (next name)) → IsPlain (if b then [] else 32 ∷ node_text name ++ names_behind next first fuel (next name))
-    by true behind = refl
-    by false behind =
-        one_more 32 (node_text name ++ names_behind next first fuel (next name)) (omega arith) (both (node_text name) (names_behind next first fuel (next name)) (plain_node name) behind)
+plain_names : (names : List ℕ) → IsPlain (names_text names)
+plain_names [] = refl
+plain_names (name ∷ names) =
+    one_more 32 (node_text name ++ names_text names) (omega arith)
+    (both (node_text name) (names_text names) (plain_node name) (plain_names names))
 
-plain_ring_names : (next : ℕ → Option ℕ) (first : ℕ) → IsPlain (names_of_ring next first)
-unfolding names_of_ring
-plain_ring_names next first = plain_names next first 144 (next first)
-
-plain_ring : (next : ℕ → Option ℕ) (first : ℕ) → is_plain_line (ring_line next first) ≡ true
+plain_ring : (row : List ℕ) → is_plain_line (ring_line row) ≡ true
 unfolding ring_line
-plain_ring next first =
-    both (codes "ring " ++ node_text first) (names_of_ring next first) (both (codes "ring ") (node_text first) refl (plain_node first)) (plain_ring_names next first)
+plain_ring row = both (codes "ring") (names_text row) refl (plain_names row)
 
-plain_rings : (next : ℕ → Option ℕ) (first : ℕ) → ArePlainLines (ring_lines next first)
-plain_rings next first = by (begins_ring next first)
-  where
-    by : (b : Bool) → ArePlainLines (if b then ring_line next first ∷ [] else [])
-    by true = and_from _ _ (plain_ring next first) refl
-    by false = refl
+plain_rings : (rows : List (List ℕ)) → ArePlainLines (map ring_line rows)
+plain_rings [] = refl
+plain_rings (row ∷ rows) = and_from _ _ (plain_ring row) (plain_rings rows)
 
 pub plain_all : (lines : ℕ → List (List ℕ)) (start n : ℕ) → ((index : ℕ) → index < start + n → ArePlainLines (lines index)) → ArePlainLines (flat_map lines (range_with_len start n))
 plain_all lines start zero each = refl
@@ -371,7 +359,7 @@ node_lines_plain images chip p =
 
 ring_lines_plain : (chip : Chip) → ArePlainLines (all_ring_lines chip)
 unfolding all_ring_lines
-ring_lines_plain chip = plain_all (λ index. ring_lines (next_of chip) (name_at index)) 0 144 (λ index below. plain_rings (next_of chip) (name_at index))
+ring_lines_plain chip = plain_rings (rings_of (next_of chip))
 
 -- No line is empty, has an LF in it, or begins with `>` or `\`.
 pub waits_lines : (images : List (ℕ × ImageView)) (chip : Chip) → are_labels_plain images ≡ true → list_all is_plain_line (lines_of images chip) ≡ true

@@ -5,9 +5,9 @@ use Rattle.ga_node.specs.Need.{need_of}
 use Rattle.ga_asm.specs.Image.{ImageView}
 use Rattle.ga_chip.specs.Part.{asks}
 use Rattle.ga_chip.specs.Chip.{reset_chip}
-use Rattle.ga_waits.specs.Ring.{begins_ring, next_of}
+use Rattle.ga_waits.specs.Ring.{begins_ring, next_of, rings_of}
 use Rattle.ga_waits.specs.Waits.{all_node_lines, all_ring_lines, waits_lines, waits_text}
 
 pub after_reset : (images : List (ℕ × ImageView)) → waits_text images reset_chip ≡ []
-unfolding waits_text waits_lines all_node_lines all_ring_lines begins_ring next_of need_of asks reset_chip cell_of all_cells
+unfolding waits_text waits_lines all_node_lines all_ring_lines rings_of begins_ring next_of need_of asks reset_chip cell_of all_cells
 after_reset images = refl

@@ -15,7 +15,7 @@ use Rattle.ga_chip.specs.Chip.{reset_chip}
 use Rattle.ga_waits.specs.Begun.{has_begun}
 use Rattle.ga_waits.specs.Label.{label_text}
 use Rattle.ga_waits.specs.Line.{op_text}
-use Rattle.ga_waits.specs.Ring.{awaits, begins_ring, names_of_ring, ring_line, ring_lines}
+use Rattle.ga_waits.specs.Ring.{awaits, begins_ring, ring_line, rings_of, row_behind}
 use Rattle.ga_waits.specs.Sides.{act_text, end_text, told_need}
 
 -- after reset no node has begun, and it has where it was given words or a stream
@@ -86,19 +86,15 @@ was_read : awaits reset_chip.cells 708 (need.Check Right) ≡ None
 unfolding reset_chip cell_of all_cells
 was_read = refl
 
--- A ring is told at its least name, and a node that waits for one of the ring begins none: 1, 3 and 2 wait for one
--- another, and 0 waits for 1.
+-- A ring is written from its least name on, and a node that waits for one of the ring begins none: 1, 3 and 2 wait for
+-- one another, and 0 waits for 1.
 abbrev round : ℕ → Option ℕ
 round name = if name == 0 then Some 1 else if name == 1 then Some 3 else if name == 3 then Some 2 else if name == 2 then Some 1 else None
 
-ring_1 : ring_lines round 1 ≡ codes "ring 001 003 002" ∷ []
-unfolding begins_ring names_of_ring ring_line
-ring_1 = refl
+round_rings : rings_of round ≡ (1 ∷ 3 ∷ 2 ∷ []) ∷ []
+unfolding rings_of begins_ring row_behind
+round_rings = refl
 
-ring_2 : ring_lines round 2 ≡ []
-unfolding begins_ring
-ring_2 = refl
-
-ring_0 : ring_lines round 0 ≡ []
-unfolding begins_ring
-ring_0 = refl
+round_line : ring_line (1 ∷ 3 ∷ 2 ∷ []) ≡ codes "ring 001 003 002"
+unfolding ring_line
+round_line = refl

@@ -1,6 +1,7 @@
 -- Rings of nodes, each of which waits for the next.
-use Rattle.std.specs.Prelude.{ℕ, zero, suc, ◌==◌, nat_lt, Bool, true, false, List, [], ◌∷◌, ◌++◌, codes, Option, Some, None, if◌then◌else◌}
-use Rattle.ga_place.specs.Cell.{cell_of, read_cell}
+use Rattle.std.specs.Prelude.{◌≡◌, ◌≢◌, ◌<◌, ◌≤◌, ℕ, zero, suc, ◌==◌, nat_lt, Bool, true, false, List, [], ◌∷◌, ◌++◌, All, AllPairs, codes, drop, length, map, slice_index, take, Option, Some, None, if◌then◌else◌}
+use Rattle.std.specs.List.{flat_map, range_with_len}
+use Rattle.ga_place.specs.Cell.{cell_of, name_at, read_cell}
 use Rattle.ga_place.specs.Node.{node_text}
 use Rattle.ga_place.specs.Side.{neighbour_of, one_side}
 use Rattle.ga_place.specs.declared.side.Side.{Side}
@@ -35,30 +36,53 @@ awaits_in false cells name None = None
 unfoldable pub next_of : Chip → ℕ → Option ℕ
 next_of chip name = awaits_in (stands_held chip name) chip.cells name (state_of chip name)
 
--- Whether each of a row of nodes waits for the next, the last for the first, and no name is less than that of the first,
--- from a node of the row on, where so many may follow.
+-- A ring: a row of nodes, written from its least name on, in which none stands twice, each waits
+-- for the next, and the last for the first.
+pub record IsRing (next : ℕ → Option ℕ) (row : List ℕ) : Type 0 where
+  pub some : 0 < length row
+  pub least : All (λ name. slice_index row 0 ≤ name) row
+  pub distinct : AllPairs (λ one other. one ≢ other) row
+  -- in the row a, b, c: a waits for b, b for c, and c for a
+  pub waits : map next row ≡ map Some (drop 1 row ++ take 1 row)
+
+-- ---- how rings are found: from each node on, by the nodes that each wait for the next
+
+-- Whether these come back to the first, with no name on the way that is less, where so many may
+-- follow.
 abbrev pub comes_back : (ℕ → Option ℕ) → ℕ → ℕ → Option ℕ → Bool
 comes_back next first fuel None = false
 comes_back next first zero (Some name) = false
 comes_back next first (suc fuel) (Some name) =
-    if name == first then true else if nat_lt name first then false else comes_back next first fuel (next name)
+    if name == first then true
+    else if nat_lt name first then false else comes_back next first fuel (next name)
 
--- the names behind the first
+-- their names, up to the first
 abbrev pub names_behind : (ℕ → Option ℕ) → ℕ → ℕ → Option ℕ → List ℕ
 names_behind next first fuel None = []
 names_behind next first zero (Some name) = []
 names_behind next first (suc fuel) (Some name) =
-    if name == first then [] else 32 ∷ node_text name ++ names_behind next first fuel (next name)
+    if name == first then [] else name ∷ names_behind next first fuel (next name)
 
--- a ring stands at its least name
+-- No row has more names than there are nodes.
 unfoldable pub begins_ring : (ℕ → Option ℕ) → ℕ → Bool
 begins_ring next first = comes_back next first 144 (next first)
 
-unfoldable pub names_of_ring : (ℕ → Option ℕ) → ℕ → List ℕ
-names_of_ring next first = names_behind next first 144 (next first)
+unfoldable pub row_behind : (ℕ → Option ℕ) → ℕ → List ℕ
+row_behind next first = names_behind next first 144 (next first)
 
-unfoldable pub ring_line : (ℕ → Option ℕ) → ℕ → List ℕ
-ring_line next first = codes "ring " ++ node_text first ++ names_of_ring next first
+-- the ring that begins at a node, where one does
+abbrev pub ring_at : (ℕ → Option ℕ) → ℕ → List (List ℕ)
+ring_at next first = if begins_ring next first then (first ∷ row_behind next first) ∷ [] else []
 
-abbrev pub ring_lines : (ℕ → Option ℕ) → ℕ → List (List ℕ)
-ring_lines next first = if begins_ring next first then ring_line next first ∷ [] else []
+-- all rings
+unfoldable pub rings_of : (ℕ → Option ℕ) → List (List ℕ)
+rings_of next = flat_map (λ index. ring_at next (name_at index)) (range_with_len 0 144)
+
+-- ---- how they are written
+
+-- names, each behind a blank
+abbrev pub names_text : List ℕ → List ℕ
+names_text names = flat_map (λ name. 32 ∷ node_text name) names
+
+unfoldable pub ring_line : List ℕ → List ℕ
+ring_line row = codes "ring" ++ names_text row

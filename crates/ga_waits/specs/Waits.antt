@@ -1,21 +1,21 @@
 -- Who waits for whom, and what will never move.
-use Rattle.std.specs.Prelude.{ℕ, List, [], ◌∷◌, ◌++◌}
+use Rattle.std.specs.Prelude.{ℕ, List, [], ◌∷◌, ◌++◌, map}
 use Rattle.std.specs.List.{flat_map, range_with_len}
 use Rattle.ga_place.specs.Cell.{name_at}
 use Rattle.ga_asm.specs.Image.{ImageView}
 use Rattle.ga_chip.specs.Chip.{Chip}
 use Rattle.ga_waits.specs.Closed.{stuck_in}
 use Rattle.ga_waits.specs.Line.{node_lines}
-use Rattle.ga_waits.specs.Ring.{next_of, ring_lines}
+use Rattle.ga_waits.specs.Ring.{next_of, ring_line, rings_of}
 
 -- the lines of nodes, in order of name
 unfoldable pub all_node_lines : List (ℕ × ImageView) → Chip → List (List ℕ)
 all_node_lines images chip =
     flat_map (λ index. node_lines images chip (stuck_in chip (name_at index)) (name_at index)) (range_with_len 0 144)
 
--- the lines of rings, in the order of the least name of each
+-- the lines of rings
 unfoldable pub all_ring_lines : Chip → List (List ℕ)
-all_ring_lines chip = flat_map (λ index. ring_lines (next_of chip) (name_at index)) (range_with_len 0 144)
+all_ring_lines chip = map ring_line (rings_of (next_of chip))
 
 unfoldable pub waits_lines : List (ℕ × ImageView) → Chip → List (List ℕ)
 waits_lines images chip = all_node_lines images chip ++ all_ring_lines chip

@@ -1,9 +1,9 @@
 //! Rings of nodes, each of which waits for the next.
-ghost use Rattle.std.specs.Prelude.{◌≡◌, ◌++◌, OnOk, Some, length, string_bytes};
+ghost use Rattle.std.specs.Prelude.{◌≡◌, ◌++◌, OnOk, Some, length, map, string_bytes};
 ghost use Rattle.ga_chip.specs.Stuck as chip_spec;
 ghost use Rattle.ga_waits.specs.inner.Next as inner;
 ghost use Rattle.ga_waits.specs.Ring as spec;
-ghost use Rattle.ga_waits.specs.Ring.{awaits, names_of_ring, ring_lines};
+ghost use Rattle.ga_waits.specs.Ring.{awaits, names_text, ring_at, ring_line, row_behind};
 ghost use Rattle.ga_waits.specs.Waits.{text_of};
 
 use ga_chip::Chip;
@@ -29,7 +29,8 @@ pub fn next_nodes(chip: &Chip) -> [Option<Node>; 144]
 pub fn push_ring(text: &mut String, nexts: &[Option<Node>], first: Node) -> Result<(), AllocError>
     requires { length nexts.now ≡ 144 }
     ensures { OnOk result (string_bytes text.new
-        ≡ string_bytes text.old ++ text_of (ring_lines (inner.next_in nexts.now) first)) }
+        ≡ string_bytes text.old
+        ++ text_of (map ring_line (ring_at (inner.next_in nexts.now) first))) }
 {
     if !begins_ring(nexts, first) {
         return Ok(());
@@ -40,7 +41,8 @@ pub fn push_ring(text: &mut String, nexts: &[Option<Node>], first: Node) -> Resu
     Ok(())
 }
 
-/// Whether nodes each wait for the next from a node on, and at last for that node, which has the least name of them.
+/// Whether nodes each wait for the next from a node on, and at last for that node, which has the
+/// least name of them.
 fn begins_ring(nexts: &[Option<Node>], first: Node) -> bool
     requires { length nexts.now ≡ 144 }
     ensures { result ≡ spec.begins_ring (inner.next_in nexts.now) first }
@@ -65,7 +67,7 @@ fn begins_ring(nexts: &[Option<Node>], first: Node) -> bool
 fn push_names(text: &mut String, nexts: &[Option<Node>], first: Node) -> Result<(), AllocError>
     requires { length nexts.now ≡ 144 }
     ensures { OnOk result (string_bytes text.new
-        ≡ string_bytes text.old ++ names_of_ring (inner.next_in nexts.now) first) }
+        ≡ string_bytes text.old ++ names_text (row_behind (inner.next_in nexts.now) first)) }
 {
     let mut next = next_in(nexts, first);
     for _walked in 0..144_u8 {

@@ -1,6 +1,8 @@
-ghost use Rattle.std.specs.Prelude.{◌≡◌, ℕ, ◌++◌, IfOk, OnOk, string_bytes};
+ghost use Rattle.std.specs.Prelude.{◌≡◌, ◌↔◌, ℕ, ◌++◌, Contains, IfOk, List, OnOk, map, slice_index, string_bytes};
+ghost use Rattle.std.specs.List.Sorted.{IsStrictlyIncreasing};
 ghost use Rattle.ga_chip.specs.Stuck.{HoldsEachClosed, IsClosed, has_node};
 ghost use Rattle.ga_waits.specs.Closed.{stuck_in};
+ghost use Rattle.ga_waits.specs.Ring.{IsRing, next_of, rings_of};
 ghost use Rattle.ga_waits.specs.Waits.{all_node_lines, all_ring_lines, text_of, waits_text};
 
 use crate::line::push_line;
@@ -10,19 +12,27 @@ use ga_chip::{Chip, StuckNodes};
 use ga_place::Node;
 use std::alloc::{AllocError, Global};
 
-/// Who waits for whom, as text: a line for each node that has begun, in order of name, and behind these a line for
-/// each ring of nodes in which each waits for the next at one side, in the order of the least name of each.
+/// Who waits for whom, as text: a line for each node that has begun, in order of name, and behind
+/// these a line for each ring of nodes in which each waits for the next at one side, in the order
+/// of the least name of each.
 ///
-/// The line of a node tells where it stands, with the label of its image that is at P or the last before it; what it
-/// needs, and of whom; and what that neighbour does. A node whose tries are held is told to be `held`, and one of the
-/// largest closed set of nodes, which no tries in any order move, `stuck`. The call takes memory for its text alone, and
-/// fails only where that is refused. (The text is this project's own: profile.)
+/// The line of a node tells where it stands, with the label of its image that is at P or the last
+/// before it; what it needs, and of whom; and what that neighbour does. A node whose tries are held
+/// is told to be `held`, and one of the largest closed set of nodes, which no tries in any order
+/// move, `stuck`. The call takes memory for its text alone, and fails only where that is refused.
+/// (The text is this project's own: profile.)
 #[tactic(auto, unfolding(crate::specs::Waits::waits_text, crate::specs::Waits::waits_lines), using(crate::proofs::Largest::closed))]
 pub fn waits(alloc: Global, chip: &Chip, images: &Images) -> Result<String, AllocError>
     ensures text { IfOk result (λ text. string_bytes text ≡ waits_text images.now chip.now) }
     // the nodes that are told to be stuck are the largest closed set
     ensures closed { IsClosed chip.now (stuck_in chip.now) }
     ensures largest { HoldsEachClosed chip.now (stuck_in chip.now) }
+    // each ring has a line, and nothing else has,
+    ensures rings { (row : List ℕ)
+        → Contains (rings_of (next_of chip.now)) row ↔ IsRing (next_of chip.now) row }
+    // in the order of their least names
+    ensures ring_order { IsStrictlyIncreasing
+        (map (λ row. slice_index row 0) (rings_of (next_of chip.now))) }
 {
     let mut text = String::new(alloc);
     chip.legal();
