@@ -66,7 +66,8 @@ Mended:
 
 const TOO_LONG: &str = "\
 TooLong: an item of a node would need its 65th word (asm); there are more than
-64 words (words); or the input has more than 1,048,576 bytes (input).
+64 words (words); the input has more than 1,048,576 bytes (input); or what
+'record' would write has more than 268,435,456 (output).
 
   $ printf 'node 711%065d' 0 | sed 's/0/ [ . ]/g' | ga-bench asm
   ga-bench: asm 711 1:394 TooLong

@@ -104,9 +104,9 @@ Mended:
 
 const BAD_PROFILE: &str = "\
 BadProfile: the first line of a session or of a replay text isn't 'profile 2',
-to the character: no blank and no CR stands behind it. For 'replay' it may also
-be 'profile 1', of older texts: there a node that is about to fetch with bit 9
-of P set counts as stopped.
+to the character: no blank and no CR stands behind it, and no byte order mark in
+front of it. For 'replay' it may also be 'profile 1', of older texts: there a
+node that is about to fetch with bit 9 of P set counts as stopped.
 
   $ printf 'place\\nnode 000 .\\ngo\\nturn 1\\n' | ga-bench debug
   ga-bench: replay BadProfile

@@ -1,5 +1,5 @@
 -- What the jobs write for inputs that were worked out by hand.
-use Rattle.std.proofs.Common.{◌≡◌, [], ◌∷◌, Some, None, Ok, Err, refl}
+use Rattle.std.proofs.Common.{◌≡◌, ℕ, true, false, List, [], ◌∷◌, ◌++◌, map, Some, None, Ok, Err, refl}
 use Rattle.std.specs.Prelude.{codes}
 use Rattle.std.specs.Fmt.{digits}
 use Rattle.std.specs.Str.{chars, is_utf8}
@@ -30,6 +30,9 @@ use Rattle.ga_jobs.specs.declared.fault.ServeError.TheVariants.{Boot, Input, Pla
 use Rattle.ga_jobs.specs.declared.fault.InputFault.TheVariants.{BadText}
 use Rattle.ga_jobs.specs.declared.fault.WordsFault.TheVariants as words
 use Rattle.ga_jobs.specs.Boot.{part_text, text_by}
+use Rattle.ga_jobs.specs.Meaning.{profile_meaning}
+use Rattle.ga_jobs.specs.Shown.{numbered_line, shown_char}
+use Rattle.ga_jobs.specs.TranscriptFault.{end_column, is_source_end}
 use Rattle.ga_jobs.specs.Dis.{dis_output, dis_text}
 use Rattle.ga_jobs.specs.One.{one_output, one_text}
 use Rattle.ga_jobs.specs.Tree.{tree_in}
@@ -113,3 +116,31 @@ too_many_workers = refl
 replies_to_three : replies_to reset_chip (codes "pass 709" ∷ [] ∷ codes "halt" ∷ codes "break 709 003" ∷ []) ≡ codes "refused NotHeld\nrefused BadCommand\nok\n"
 unfolding command_in command_first arguments happened tried after asks need_of reset_chip cell_of all_cells
 replies_to_three = refl
+
+-- ---- what is shown of a text
+
+-- a control character is a blank, but for the tab, and so is one that isn't drawn
+shown_alike : map shown_char (27 ∷ 9 ∷ 0x7F ∷ 0x200A ∷ 0x200B ∷ 0x200F ∷ 0x2010 ∷ 0x202E ∷ 0x202F ∷ 0x2066 ∷ 0x206A ∷ [])
+    ≡ 32 ∷ 9 ∷ 32 ∷ 0x200A ∷ 32 ∷ 32 ∷ 0x2010 ∷ 32 ∷ 0x202F ∷ 32 ∷ 0x206A ∷ []
+shown_alike = refl
+
+-- `go` is the fourth line, and the source lines end there
+cut_off : List ℕ
+cut_off = codes "profile 2\nplace\nnode 000 jump\ngo\n"
+
+source_ends : (is_source_end cut_off 4 1 ≡ true)
+    × (is_source_end cut_off 4 2 ≡ false)
+    × (is_source_end cut_off 3 1 ≡ false)
+    -- without a source line there is none to go back to
+    × (is_source_end (codes "profile 2\nplace\ngo\n") 3 1 ≡ false)
+    × (end_column (numbered_line cut_off 3) ≡ 14)
+unfolding cut_off chars
+source_ends = (refl, refl, refl, refl, refl)
+
+-- the mark is told before the CR
+profiles : (profile_meaning (codes "profile 1\n") ≡ codes "the first line isn't 'profile 2'")
+    × (profile_meaning (codes "profile 2" ++ 13 ∷ 10 ∷ []) ≡ codes "the first line isn't 'profile 2': a CR stands at its end")
+    × (profile_meaning (0xEF ∷ 0xBB ∷ 0xBF ∷ codes "profile 2" ++ 13 ∷ 10 ∷ [])
+    ≡ codes "the first line isn't 'profile 2': a byte order mark stands in front of it")
+unfolding profile_meaning
+profiles = (refl, refl, refl)

@@ -30,6 +30,14 @@ pub enum InputFault {
     Folder,
 }
 
+/// Why an output isn't written.
+#[derive(Debug, PartialEq, Eq, Drop, Error)]
+pub enum OutputFault {
+    /// It would have more bytes than it may.
+    #[error("TooLong")]
+    TooLong,
+}
+
 /// Why an input was refused as words.
 #[derive(Debug, PartialEq, Eq, Drop, Error)]
 pub enum WordsFault {
@@ -99,6 +107,8 @@ pub enum ServeError {
     /// The fault of a text together with what is shown of the text, behind it.
     #[error("{fault}\n{shown}")]
     Shown { fault: TextFault, shown: ShownText },
+    #[error("output {0}")]
+    Output(OutputFault),
     /// A read failed, or the input came in too many pieces.
     #[error("read")]
     Read,

@@ -20,5 +20,5 @@ mod text_fault;
 mod transcript_fault;
 mod tree;
 
-pub use crate::fault::{InputFault, RouteFault, ServeError, TextFault, WordsFault};
+pub use crate::fault::{InputFault, OutputFault, RouteFault, ServeError, TextFault, WordsFault};
 pub use crate::shown::ShownText;

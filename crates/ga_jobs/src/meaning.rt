@@ -1,6 +1,7 @@
 ghost use Rattle.std.specs.Prelude.{◌≡◌};
-ghost use Rattle.ga_jobs.specs.Meaning.{asm_meaning, head_meaning, source_meaning};
+ghost use Rattle.ga_jobs.specs.Meaning.{asm_meaning, ends_by_cr, head_meaning, profile_meaning, source_meaning};
 
+use crate::shown::whole_line;
 use ga_asm::AsmErrorKind;
 use ga_debug::ReplayError;
 use ga_source::SourceErrorKind;
@@ -39,13 +40,13 @@ pub fn asm_meaning(kind: AsmErrorKind) -> &'static str
     }
 }
 
-/// What a fault of the head of a transcript means, in one line.
+/// What a fault of the head of a transcript, which is this text, means, in one line.
 #[tactic(auto, unfolding(crate::specs::Meaning::head_meaning))]
-pub fn head_meaning(error: &ReplayError) -> &'static str
-    ensures { result.now ≡ head_meaning error.now }
+pub fn head_meaning(text: &str, error: &ReplayError) -> &'static str
+    ensures { result.now ≡ head_meaning text.now error.now }
 {
     match error {
-        ReplayError::BadProfile => BAD_PROFILE,
+        ReplayError::BadProfile => profile_meaning(text),
         ReplayError::BadRoute => BAD_ROUTE,
         ReplayError::NoGo => NO_GO,
         ReplayError::Route(_) => NO_ROUTE,
@@ -55,10 +56,36 @@ pub fn head_meaning(error: &ReplayError) -> &'static str
     }
 }
 
+/// What it means that the first line isn't the one of the profile, also if what is beside it can't
+/// be seen.
+#[tactic(auto, unfolding(crate::specs::Meaning::profile_meaning))]
+fn profile_meaning(text: &str) -> &'static str
+    ensures { result.now ≡ profile_meaning text.now }
+{
+    if text.starts_with("\u{FEFF}") {
+        MARK_BEFORE_PROFILE
+    } else if ends_by_cr(whole_line(text, 1)) {
+        CR_BEHIND_PROFILE
+    } else {
+        BAD_PROFILE
+    }
+}
+
+fn ends_by_cr(line: &str) -> bool
+    ensures { result ≡ ends_by_cr line.now }
+{
+    line.as_bytes().last() == Some(&b'\r')
+}
+
 /// What it means that a line of a reply stands in front of all commands.
 pub const EARLY_REPLY: &str = "a line that is no command or comment, with no command before it";
 
 const BAD_PROFILE: &str = "the first line isn't 'profile 2'";
+
+const MARK_BEFORE_PROFILE: &str =
+    "the first line isn't 'profile 2': a byte order mark stands in front of it";
+
+const CR_BEHIND_PROFILE: &str = "the first line isn't 'profile 2': a CR stands at its end";
 
 const BAD_ROUTE: &str = "the second line is neither 'place' nor 'route' and names of nodes";
 

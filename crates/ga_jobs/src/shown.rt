@@ -1,7 +1,7 @@
 ghost use Rattle.std.specs.Prelude.{◌≡◌, ℕ, IfOk, List, Some, bytes_eq, string_bytes};
 ghost use Rattle.std.proofs.Common.{rules};
 ghost use Rattle.std.specs.Cmp.Rules.{comparing};
-ghost use Rattle.ga_jobs.specs.Shown.{char_under, left_out, numbered_line, line_under, shown_char, shown_line, shown_text};
+ghost use Rattle.ga_jobs.specs.Shown.{char_under, is_undrawn, left_out, numbered_line, line_under, shown_char, shown_line, shown_lines, shown_text, whole_line};
 
 use std::alloc::{AllocError, Global};
 use std::fmt;
@@ -32,11 +32,12 @@ impl Model for ShownText {
 }
 
 impl ShownText {
-    /// Lines of another kind, with LF between them.
-    pub fn of_lines(text: String) -> ShownText
-        ensures { result ≡ string_bytes text }
+    /// Lines of another kind, with LF between them. It fails only where memory is refused.
+    pub fn of_lines(alloc: Global, lines: &str) -> Result<ShownText, AllocError>
+        ensures { IfOk result (λ shown. shown ≡ shown_lines lines.now) }
     {
-        ShownText { text }
+        let text = shown_lines(alloc, lines)?;
+        Ok(ShownText { text })
     }
 
     /// What is shown at a line of a text, from 1, and at a column of it, from 1, which counts characters. Without a column
@@ -93,10 +94,20 @@ impl Eq for ShownText {
 }
 
 /// The line of a text with this number, from 1; an empty one where the text has none.
-fn numbered_line(text: &str, line: usize) -> &str
+pub fn numbered_line(text: &str, line: usize) -> &str
     ensures { result.now ≡ numbered_line text.now line }
 {
     match text.lines().nth(line.saturating_sub(1)) {
+        Some(found) => found,
+        None => "",
+    }
+}
+
+/// The same line up to the LF alone: a CR in front of that is part of it.
+pub fn whole_line(text: &str, line: usize) -> &str
+    ensures { result.now ≡ whole_line text.now line }
+{
+    match text.split('\n').nth(line.saturating_sub(1)) {
         Some(found) => found,
         None => "",
     }
@@ -113,6 +124,24 @@ fn left_out(column: usize) -> usize
     }
 }
 
+/// A character as it is shown: as a blank where a terminal would obey it, or draw nothing.
+fn shown_char(c: char) -> char
+    ensures { result ≡ shown_char c }
+{
+    if (c.is_control() && c != '\t') || is_undrawn(c) {
+        ' '
+    } else {
+        c
+    }
+}
+
+/// Whether a character has no width, or sets the direction of writing.
+fn is_undrawn(c: char) -> bool
+    ensures { result ≡ is_undrawn c }
+{
+    matches!(c, '\u{200B}'..='\u{200F}' | '\u{202A}'..='\u{202E}' | '\u{2066}'..='\u{2069}')
+}
+
 /// The characters of a line that are shown, behind so many of them.
 fn shown_line(alloc: Global, line: &str, skipped: usize) -> Result<String, AllocError>
     ensures { IfOk result (λ shown. string_bytes shown ≡ shown_line line.now skipped) }
@@ -120,7 +149,18 @@ fn shown_line(alloc: Global, line: &str, skipped: usize) -> Result<String, Alloc
     line.chars()
         .skip(skipped)
         .take(WIDTH)
-        .map(|c| if c.is_control() && c != '\t' { ' ' } else { c })
+        .map(shown_char)
+        .collect(alloc)
+}
+
+/// Lines with LF between them, each character of them as it is shown.
+#[tactic(auto, unfolding(crate::specs::Shown::shown_lines))]
+fn shown_lines(alloc: Global, lines: &str) -> Result<String, AllocError>
+    ensures { IfOk result (λ shown. string_bytes shown ≡ shown_lines lines.now) }
+{
+    lines
+        .chars()
+        .map(|c| if c == '\n' { c } else { shown_char(c) })
         .collect(alloc)
 }
 

@@ -3,9 +3,9 @@ ghost use Rattle.ga_transcript.specs.Check.{fault_of};
 ghost use Rattle.ga_jobs.specs.TranscriptFault as spec;
 ghost use Rattle.ga_jobs.specs.TranscriptFault.{shown_head_fault, shown_transcript_fault};
 
-use crate::fault::{ServeError, TextFault};
+use crate::fault::{OutputFault, ServeError, TextFault};
 use crate::meaning::{EARLY_REPLY, head_meaning};
-use crate::shown::ShownText;
+use crate::shown::{ShownText, numbered_line, whole_line};
 use crate::text_fault::shown_fault;
 use ga_asm::{AsmError, TextError};
 use ga_debug::ReplayError;
@@ -30,9 +30,10 @@ pub fn shown_transcript_fault(
         }
         TranscriptError::Differs(line, lines) => {
             let fault = TextFault::Differs(line);
-            let shown = ShownText::of_lines(lines);
+            let shown = ShownText::of_lines(alloc, &lines)?;
             Ok(ServeError::Shown { fault, shown })
         }
+        TranscriptError::TooLong => Ok(ServeError::Output(OutputFault::TooLong)),
         TranscriptError::Memory => Ok(ServeError::Memory),
     }
 }
@@ -43,13 +44,17 @@ fn shown_head_fault(alloc: Global, text: &str, error: ReplayError) -> Result<Ser
 {
     match error {
         ReplayError::Source(fault) => {
-            shown_fault(alloc, text, TextError::Source(source_behind_head(&fault)))
+            shown_fault(
+                alloc,
+                text,
+                TextError::Source(source_behind_head(text, &fault)),
+            )
         }
         ReplayError::Asm(fault) => {
             shown_fault(alloc, text, TextError::Asm(asm_behind_head(&fault)))
         }
         _ => {
-            let (line, meaning) = (head_line(text, &error), head_meaning(&error));
+            let (line, meaning) = (head_line(text, &error), head_meaning(text, &error));
             let shown = ShownText::new(alloc, text, line, None, meaning)?;
             let fault = TextFault::Replay(error);
             Ok(ServeError::Shown { fault, shown })
@@ -57,15 +62,33 @@ fn shown_head_fault(alloc: Global, text: &str, error: ReplayError) -> Result<Ser
     }
 }
 
-/// A fault of source lines, with its line of the whole text.
-fn source_behind_head(error: &SourceError) -> SourceError
-    ensures { result ≡ record error.now { line = spec.behind_head error.now.line } }
+/// A fault of source lines, with its place in the whole text. One at their end is reported behind the
+/// last of them.
+fn source_behind_head(text: &str, error: &SourceError) -> SourceError
+    ensures { result ≡ spec.reported_at text.now error.now (spec.behind_head error.now.line) }
 {
+    let line = behind_head(error.line);
+    if is_source_end(text, line, error.column) {
+        let last = numbered_line(text, line - 1);
+        return SourceError {
+            kind: error.kind,
+            line: line - 1,
+            column: last.chars().count() + 1,
+        };
+    }
     SourceError {
         kind: error.kind,
-        line: behind_head(error.line),
+        line,
         column: error.column,
     }
+}
+
+/// Whether a place is the end of the source lines: the line `go` begins there, and there is a source
+/// line in front of it.
+fn is_source_end(text: &str, line: usize, column: usize) -> bool
+    ensures { result ≡ spec.is_source_end text.now line column }
+{
+    column == 1 && line > 3 && whole_line(text, line) == "go"
 }
 
 /// A fault of the program of source lines, with its line of the whole text.

@@ -9,4 +9,5 @@ pub mod Comparing
 pub mod Letters
 pub mod Whole
 pub mod WholeReplies
+pub mod WholeSessions
 mod WorkedTranscripts

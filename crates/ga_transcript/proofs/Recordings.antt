@@ -1,16 +1,17 @@
 -- A recording holds, and is recorded again as it is.
-use Rattle.std.proofs.Common.{◌≡◌, ◌∙◌, ℕ, ◌+◌, List, [], ◌∷◌, ◌++◌, Option, Some, None, Ok, ap, arith, length, refl, subst, sym, take}
+use Rattle.std.proofs.Common.{◌≡◌, ◌∙◌, ℕ, ◌+◌, Bool, true, false, List, [], ◌∷◌, ◌++◌, Option, Some, None, Result, Ok, Err, ap, arith, length, refl, subst, sym, take}
+use Rattle.std.specs.Prelude.{nat_lt, if◌then◌else◌}
 use Rattle.std.proofs.lemmas.List.Elements.{All-append, All-cons, All-head, All-nil, All-tail}
 use Rattle.ga_pack.specs.Model.Text.{lines_of}
 use Rattle.ga_chip.specs.Chip.{Chip}
 use Rattle.ga_path.specs.Stream.{Images}
 use Rattle.ga_debug.specs.Beginning.{IsLoaded, Start}
 use Rattle.ga_debug.specs.Pieces.{pieces}
-use Rattle.ga_transcript.specs.Check.{checked_by, checked_from, unless_early}
+use Rattle.ga_transcript.specs.Check.{Fault, TooLong, checked_by, checked_from, unless_early}
 use Rattle.ga_transcript.specs.Following.{Lines, Step, checked, early_reply, is_reply, recorded}
 use Rattle.ga_transcript.specs.inner.Counting.{command_count}
 use Rattle.ga_transcript.specs.Line.{Kind, Command, Note, Reply, kind_of}
-use Rattle.ga_transcript.specs.Record.{Holds, IsRecorded, lines_text, recorded_from, recording_of}
+use Rattle.ga_transcript.specs.Record.{Holds, IsRecorded, lines_text, recorded_from, recording_of, unless_too_long}
 use Rattle.ga_transcript.specs.Reply.{reply_text, step_of}
 use Rattle.ga_transcript.proofs.Following.{RepliesOnly, recorded_again, recorded_holds, recorded_not_early}
 use Rattle.ga_transcript.proofs.Fronts.{head_front, with_commands}
@@ -58,12 +59,21 @@ take_front (line ∷ front) back n size = ap (λ k. take k (line ∷ (front ++ b
 pub record Recording (text recording : List ℕ) : Type 0 where
   pub start : Start
   pub loaded : IsLoaded recording (Ok start)
-  -- nothing is left to be recorded
+  -- it isn't too long, and nothing is left to be recorded
+  pub short : unless_too_long recording ≡ Ok recording
   pub settled : (lines : Lines) × (start.commands ≡ recorded (step_of start.images) start.chip lines)
   pub is : recording_of recording start ≡ recording
 
-not_early : (found : Option ℕ) (made recording : List ℕ) → unless_early found (Ok made) ≡ Ok recording → made ≡ recording
-not_early None made recording e = cc e
+not_too_long : (made recording : List ℕ) → unless_too_long made ≡ Ok recording → made ≡ recording
+not_too_long made recording e = by (nat_lt 268435456 (length made)) e
+  where
+    by : (long : Bool) → (if long then Err TooLong else Ok made) ≡ Ok recording → made ≡ recording
+    by true e = absurd (cc e)
+    by false e = cc e
+
+not_early : (found : Option ℕ) (made : Result (List ℕ) Fault) (recording : List ℕ)
+    → unless_early found made ≡ Ok recording → made ≡ Ok recording
+not_early None made recording e = e
 not_early (Some line) made recording e = absurd (cc e)
 
 recording_leads : (text recording : List ℕ) → IsRecorded text (Ok recording) → Recording text recording
@@ -72,7 +82,10 @@ recording_leads text recording (start, (head, head_is, images, chip_is, line_is,
     let step = step_of start.images in
     let rec = recorded step start.chip start.commands in
     let f = head_front text head head_is in
-    let made : recording_of text start ≡ recording = not_early _ _ recording is in
+    let kept : unless_too_long (recording_of text start) ≡ Ok recording =
+    not_early _ _ recording is in
+    let made : recording_of text start ≡ recording =
+    not_too_long (recording_of text start) recording kept in
     let lines : lines_of text ≡ (f.first ∷ f.front) ++ start.commands = f.is ∙ ap (λ (cs : Lines). f.first ∷ (f.front ++ cs)) commands_is in
     let size : length (f.first ∷ f.front) ≡ start.line = omega (arith, f.size, line_is) in
     let all_clean : AreClean ((f.first ∷ f.front) ++ start.commands) = subst AreClean lines (split_clean text) in
@@ -87,6 +100,7 @@ recording_leads text recording (start, (head, head_is, images, chip_is, line_is,
     record {
       start = record start { commands = rec };
       loaded = (with_commands head rec, f.others recording rec cut, images, chip_is, line_is, refl);
+      short = sym (ap unless_too_long made) ∙ kept;
       settled = (start.commands, refl);
       is = ap (λ ls. lines_text (take start.line ls ++ recorded step start.chip rec)) cut
           ∙ ap (λ (ls : Lines). lines_text (ls ++ recorded step start.chip rec)) (take_front (f.first ∷ f.front) rec start.line size)
@@ -116,4 +130,5 @@ recording_again text recording recorded_is =
     let step = step_of start.images in
     let (lines, is) = r.settled in
     let none : early_reply (start.line + 1) start.commands ≡ None = ap (early_reply (start.line + 1)) is ∙ recorded_not_early step start.chip lines (start.line + 1) in
-    (start, r.loaded, ap (λ e. unless_early e (Ok (recording_of recording start))) none ∙ ap Ok r.is)
+    let same = ap (λ e. unless_early e (unless_too_long (recording_of recording start))) none in
+    (start, r.loaded, same ∙ ap unless_too_long r.is ∙ r.short)

@@ -1,5 +1,5 @@
 -- No line of a reply is left out of a transcript: none would be a command, a comment or an empty line there.
-use Rattle.std.proofs.Common.{◌≡◌, ◌∙◌, ◌⊎◌, inl, inr, ℕ, suc, ◌-◌, ◌==◌, Bool, true, false, List, [], ◌∷◌, ◌++◌, ap, append-nil, append_assoc, arith, drop, get_or, length, refl, subst, sym, take}
+use Rattle.std.proofs.Common.{◌≡◌, ◌∙◌, ℕ, suc, ◌-◌, ◌==◌, Bool, true, false, List, [], ◌∷◌, ◌++◌, ap, append-nil, append_assoc, arith, drop, get_or, length, refl, subst, sym, take}
 use Rattle.std.proofs.Math.Seq.{take-append_seam}
 use Rattle.std.proofs.lemmas.Bool.{and_from, and_parts, eq-eqb, eqb-true, false≢true}
 use Rattle.std.proofs.lemmas.Grind.{flat_map-append}
@@ -11,11 +11,13 @@ use Rattle.std.specs.List.{list_all}
 use Rattle.ga_waits.specs.Waits.{text_of}
 use Rattle.ga_waits.specs.inner.Plain.{is_plain, is_plain_line}
 use Rattle.ga_waits.proofs.Lines.{ArePlainLines, IsPlain}
+use Rattle.ga_debug.specs.Pieces.{pieces}
 use Rattle.ga_debug.specs.Session.{without_line_end}
 use Rattle.ga_transcript.specs.Following.{Lines, by_kind, is_reply}
 use Rattle.ga_transcript.specs.Line.{Command, Kind, Note, Reply, begins, kind_of}
 use Rattle.ga_transcript.specs.Record.{behind_ends, lines_text}
 use Rattle.ga_transcript.specs.Reply.{reply_lines}
+use Rattle.ga_transcript.specs.Whole.{lines_in, without_empty_end}
 use Rattle.ga_transcript.proofs.Comparing.{not_true}
 use Rattle.ga_transcript.proofs.Joined.{AreClean, IsClean, lines_of_text}
 
@@ -53,19 +55,27 @@ kept_first : (line : List ℕ) (lines kept : Lines) → is_plain_line line ≡ t
 kept_first line lines kept plain others =
     ap (λ b. cond b (line ∷ filter is_reply lines) (filter is_reply lines)) (is_reply_plain line plain) ∙ ap (λ (ls : Lines). line ∷ ls) others
 
-kept_all : (lines : Lines) → ArePlainLines lines → filter is_reply lines ≡ lines
+kept_more : (line : List ℕ) (lines : Lines) → is_plain_line line ≡ true
+    → filter is_reply lines ≡ without_empty_end lines
+    → filter is_reply (line ∷ lines) ≡ without_empty_end (line ∷ lines)
+kept_more [] lines plain others = absurd (false≢true plain)
+kept_more (first ∷ rest) lines plain others =
+    kept_first (first ∷ rest) lines (without_empty_end lines) plain others
+
+kept_all : (lines : Lines) → ArePlainLines lines → filter is_reply lines ≡ without_empty_end lines
 kept_all [] plain = refl
 kept_all (line ∷ lines) plain =
     let parts = and_parts (is_plain_line line) (list_all is_plain_line lines) plain in
-    kept_first line lines lines parts.0 (kept_all lines parts.1)
+    kept_more line lines parts.0 (kept_all lines parts.1)
 
 -- an empty line at the end isn't kept
-kept_ended : (lines : Lines) → ArePlainLines lines → filter is_reply (lines ++ [] ∷ []) ≡ lines
+kept_ended : (lines : Lines) → ArePlainLines lines
+    → filter is_reply (lines ++ [] ∷ []) ≡ without_empty_end (lines ++ [] ∷ [])
 unfolding kind_of
 kept_ended [] plain = refl
 kept_ended (line ∷ lines) plain =
     let parts = and_parts (is_plain_line line) (list_all is_plain_line lines) plain in
-    kept_first line (lines ++ [] ∷ []) lines parts.0 (kept_ended lines parts.1)
+    kept_more line (lines ++ [] ∷ []) parts.0 (kept_ended lines parts.1)
 
 -- ---- texts of such lines have these lines
 
@@ -85,14 +95,23 @@ clean_lines (line ∷ lines) more plain clean =
     let parts = and_parts (is_plain_line line) (list_all is_plain_line lines) plain in
     All-cons IsClean line (lines ++ more) (clean_line line parts.0) (clean_lines lines more parts.1 clean)
 
+-- A text is whole in a transcript where all its lines are lines of the reply that the text is.
+abbrev pub IsWhole : List ℕ → Type 0
+IsWhole text = reply_lines text ≡ lines_in text
+
+whole_by : (text : List ℕ) (lines : Lines) → pieces 10 text ≡ lines
+    → filter is_reply lines ≡ without_empty_end lines → IsWhole text
+whole_by text lines cut kept = ap (filter is_reply) cut ∙ kept ∙ sym (ap without_empty_end cut)
+
 -- with an LF between two
-pub lines_back : (lines : Lines) → ArePlainLines lines → reply_lines (lines_text lines) ≡ lines
+between : (lines : Lines) → ArePlainLines lines → IsWhole (lines_text lines)
 unfolding kind_of
-lines_back [] plain = refl
-lines_back (line ∷ lines) plain =
+between [] plain = refl
+between (line ∷ lines) plain =
     let parts = and_parts (is_plain_line line) (list_all is_plain_line lines) plain in
     let clean = subst AreClean (append-nil lines) (clean_lines lines [] parts.1 (All-nil IsClean)) in
-    ap (filter is_reply) (lines_of_text line lines (clean_line line parts.0) clean) ∙ kept_all (line ∷ lines) plain
+    let cut = lines_of_text line lines (clean_line line parts.0) clean in
+    whole_by (lines_text (line ∷ lines)) (line ∷ lines) cut (kept_all (line ∷ lines) plain)
 
 -- and with one behind each
 turned : (lines : Lines) → behind_ends lines ++ 10 ∷ [] ≡ 10 ∷ text_of lines
@@ -108,15 +127,17 @@ ends_more : (line : List ℕ) (lines : Lines) → lines_text (line ∷ lines) ++
 ends_more line lines =
     append_assoc line (behind_ends lines) (10 ∷ []) ∙ ap (λ t. line ++ t) (sym (flat_map-append (λ (l : List ℕ). 10 ∷ l) lines ([] ∷ [])))
 
-pub ended_back : (lines : Lines) → ArePlainLines lines → reply_lines (text_of lines) ≡ lines
+behind_each : (lines : Lines) → ArePlainLines lines → IsWhole (text_of lines)
 unfolding kind_of
-ended_back [] plain = refl
-ended_back (line ∷ lines) plain =
+behind_each [] plain = refl
+behind_each (line ∷ lines) plain =
     let parts = and_parts (is_plain_line line) (list_all is_plain_line lines) plain in
     let empty = All-cons IsClean [] [] (All-nil (λ c. (c == 10) ≡ false)) (All-nil IsClean) in
-    ap reply_lines (text_ends line lines ∙ ends_more line lines)
-    ∙ ap (filter is_reply) (lines_of_text line (lines ++ [] ∷ []) (clean_line line parts.0) (clean_lines lines ([] ∷ []) parts.1 empty))
-    ∙ kept_ended (line ∷ lines) plain
+    let clean = clean_lines lines ([] ∷ []) parts.1 empty in
+    let cut = lines_of_text line (lines ++ [] ∷ []) (clean_line line parts.0) clean in
+    let same = ap (pieces 10) (text_ends line lines ∙ ends_more line lines) in
+    whole_by (text_of (line ∷ lines)) (line ∷ (lines ++ [] ∷ [])) (same ∙ cut)
+    (kept_ended (line ∷ lines) plain)
 
 -- a text of lines that are no command, comment or empty line, each ended by LF
 pub record AreLines (text : List ℕ) : Type 0 where
@@ -124,22 +145,13 @@ pub record AreLines (text : List ℕ) : Type 0 where
   pub made : text ≡ text_of lines
   pub plain : ArePlainLines lines
 
--- A text of lines of which each is a line of the reply that the text is.
-pub record IsWhole (text : List ℕ) : Type 0 where
-  pub lines : Lines
-  -- with an LF between two of them, or behind each
-  pub made : (text ≡ lines_text lines) ⊎ (text ≡ text_of lines)
-  pub plain : ArePlainLines lines
-  pub kept : reply_lines text ≡ lines
-
-between : (text : List ℕ) (lines : Lines) → text ≡ lines_text lines → ArePlainLines lines → IsWhole text
-between text lines is plain = record { lines = lines; made = inl is; plain = plain; kept = ap reply_lines is ∙ lines_back lines plain }
-
 pub ended : (text : List ℕ) → AreLines text → IsWhole text
-ended text are = record { lines = are.lines; made = inr are.made; plain = are.plain; kept = ap reply_lines are.made ∙ ended_back are.lines are.plain }
+ended text are = subst IsWhole (sym are.made) (behind_each are.lines are.plain)
 
 pub one_line : (text : List ℕ) → is_plain_line text ≡ true → IsWhole text
-one_line text plain = between text (text ∷ []) (sym (append-nil text)) (and_from (is_plain_line text) true plain refl)
+one_line text plain =
+    subst IsWhole (append-nil text)
+    (between (text ∷ []) (and_from (is_plain_line text) true plain refl))
 
 -- a text that loses its last LF
 last_is : (text : List ℕ) → get_or (text ++ 10 ∷ []) (length text) 0 ≡ 10
@@ -158,6 +170,8 @@ pub shown : (text : List ℕ) → AreLines text → IsWhole (without_line_end te
 shown text are = by are.lines are.made are.plain
   where
     by : (lines : Lines) → text ≡ text_of lines → ArePlainLines lines → IsWhole (without_line_end text)
-    by [] is plain = between (without_line_end text) [] (ap without_line_end is) refl
+    by [] is plain = subst IsWhole (sym (ap without_line_end is)) (between [] refl)
     by (line ∷ lines) is plain =
-        between (without_line_end text) (line ∷ lines) (ap without_line_end (is ∙ text_ends line lines) ∙ without_end (lines_text (line ∷ lines))) plain
+        let same = ap without_line_end (is ∙ text_ends line lines) in
+        let cut = without_end (lines_text (line ∷ lines)) in
+        subst IsWhole (sym (same ∙ cut)) (between (line ∷ lines) plain)

@@ -94,8 +94,8 @@ texts_line : (first text : List ℕ) (texts : List (List ℕ)) → is_plain_line
 texts_line first text texts begins plain last = one first (concat (text ∷ texts)) begins (texts_end text texts plain last)
 
 -- the texts of several
-none : AreLines []
-none = record { lines = []; made = refl; plain = refl }
+pub no_lines : AreLines []
+no_lines = record { lines = []; made = refl; plain = refl }
 
 joined : (text more : List ℕ) → AreLines text → AreLines more → AreLines (text ++ more)
 joined text more these those = record {
@@ -106,14 +106,14 @@ joined text more these those = record {
 
 if_so : (b : Bool) (text : List ℕ) → AreLines text → AreLines (if b then text else [])
 if_so true text are = are
-if_so false text are = none
+if_so false text are = no_lines
 
 each : {X : Type 0} (text : X → List ℕ) → ((x : X) → AreLines (text x)) → (xs : List X) → AreLines (flat_map text xs)
-each text are [] = none
+each text are [] = no_lines
 each text are (x ∷ xs) = joined (text x) (flat_map text xs) (are x) (each text are xs)
 
 each_below : (text : ℕ → List ℕ) (start n : ℕ) → ((index : ℕ) → index < start + n → AreLines (text index)) → AreLines (flat_map text (range_with_len start n))
-each_below text start zero are = none
+each_below text start zero are = no_lines
 each_below text start (suc n) are =
     joined (text start) (flat_map text (range_with_len (start + 1) n)) (are start (omega arith)) (each_below text (start + 1) n (λ index below. are index (omega (arith, below))))
 
@@ -253,7 +253,7 @@ until_whole None = one_line (codes "not reached") refl
 
 state_whole : (state : Option State) → IsWhole (option_map_or node_dump state [])
 state_whole (Some state) = ended (node_dump state) (node_lines state)
-state_whole None = ended [] none
+state_whole None = ended [] no_lines
 
 pub refusal_whole : (fault : DebugError) → IsWhole (codes "refused " ++ fault_name fault)
 refusal_whole refused.BadCommand = one_line (codes "refused BadCommand") refl
@@ -278,8 +278,7 @@ ports_whole chip name row = shown (ledger_dump chip name) (each (side_line chip 
 
 -- ---- all of them
 
--- The text of each reply has lines of which all are lines of the reply, where the images are those of a text, and where
--- this is so of what sessions reply.
+-- Each reply is whole, where the images are those of a text, and where those of sessions are.
 command_whole : (images : List (ℕ × ImageView)) (line : List ℕ) (c : TranscriptCommand) (chip : Chip) → are_labels_plain images ≡ true
     → IsWhole (text_or_refusal (reply_to line chip)) → IsWhole (command_text images line c chip)
 command_whole images line (command.Break node at) chip plain session = break_whole images node at
@@ -297,8 +296,9 @@ found_whole : (images : List (ℕ × ImageView)) (line : List ℕ) (found : Resu
 found_whole images line (Ok c) chip plain session = command_whole images line c chip plain session
 found_whole images line (Err fault) chip plain session = refusal_whole fault
 
-pub replies_whole : (source : List ℕ) (images : List (ℕ × ImageView)) (line : List ℕ) (chip : Chip) → HasImages source images
+pub reply_whole : (source : List ℕ) (images : List (ℕ × ImageView)) (line : List ℕ) (chip : Chip)
+    → HasImages source images
     → IsWhole (text_or_refusal (reply_to line chip)) → IsWhole (reply_text images line chip)
 unfolding reply_text
-replies_whole source images line chip has session =
+reply_whole source images line chip has session =
     found_whole images line (command_in images line) chip (labels_plain source images has) session

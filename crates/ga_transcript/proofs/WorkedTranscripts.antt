@@ -20,6 +20,7 @@ use Rattle.ga_transcript.specs.Command.{arguments, command_in}
 use Rattle.ga_transcript.specs.Line.{Command, Note, Reply, kind_of}
 use Rattle.ga_transcript.specs.Record.{recorded_from}
 use Rattle.ga_transcript.specs.Reply.{chip_behind, reply_text}
+use Rattle.ga_transcript.specs.Whole.{lines_in}
 
 -- ---- lines
 
@@ -32,6 +33,13 @@ kinds : (kind_of (codes "> turn 4") ≡ Command (codes "turn 4"))
     × (kind_of (codes "moved 4") ≡ Reply)
 unfolding kind_of
 kinds = (refl, refl, refl, refl, refl, refl)
+
+-- the lines of a text: an empty one counts, but not what is behind the last LF
+lines : (lines_in (codes "moved 4") ≡ codes "moved 4" ∷ [])
+    × (lines_in (codes "ds\n\nrs\n") ≡ codes "ds" ∷ [] ∷ codes "rs" ∷ [])
+    × (lines_in (codes "\n") ≡ [] ∷ [])
+    × (lines_in [] ≡ [])
+lines = (refl, refl, refl, refl)
 
 -- ---- commands
 

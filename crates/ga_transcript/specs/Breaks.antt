@@ -13,11 +13,10 @@ use Rattle.ga_disasm.specs.Disassembling.{ItemView, Code, Follower, Data, items_
 use Rattle.ga_path.specs.Stream.{Images}
 use Rattle.ga_chip.specs.Chip.{Chip, state_of}
 use Rattle.ga_chip.specs.Run.{has_break, stands_held}
-use Rattle.ga_transcript.specs.declared.breaks.TheConstants.{ADDRESS_COUNT, NODE_COUNT}
 
--- a node is held at an address
+-- a node is held at an address of nine bits: its tries are held, and these are the low bits of its P
 abbrev pub is_held_at : Chip → ℕ → ℕ → Bool
-is_held_at chip name address = stands_held chip name && (option_map_or (λ state. state.p % ADDRESS_COUNT) (state_of chip name) 0 == address)
+is_held_at chip name address = stands_held chip name && (option_map_or (λ state. state.p % 512) (state_of chip name) 0 == address)
 
 -- the first label of a node that has an address
 abbrev pub label_of : Images → ℕ → ℕ → Option (List ℕ)
@@ -36,12 +35,12 @@ break_line images chip name address =
 abbrev pub break_at : Images → Chip → ℕ → ℕ → List ℕ
 break_at images chip name address = if has_break chip name address then break_line images chip name address else []
 
--- the breakpoints of a node by their addresses, and of all nodes in order of name
+-- the breakpoints of a node, by its 512 addresses, and those of all 144 nodes in order of name
 unfoldable pub node_breaks : Images → Chip → ℕ → List ℕ
-node_breaks images chip name = flat_map (break_at images chip name) (range_with_len 0 ADDRESS_COUNT)
+node_breaks images chip name = flat_map (break_at images chip name) (range_with_len 0 512)
 
 unfoldable pub breaks_text : Images → Chip → List ℕ
-breaks_text images chip = flat_map (λ index. node_breaks images chip (name_at index)) (range_with_len 0 NODE_COUNT)
+breaks_text images chip = flat_map (λ index. node_breaks images chip (name_at index)) (range_with_len 0 144)
 
 -- no instruction begins at a word that is a follower or data
 abbrev pub is_no_code : ItemView → Bool

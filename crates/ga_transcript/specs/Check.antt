@@ -19,6 +19,8 @@ pub data Fault : Type 0 where
   EarlyReply : ℕ → Fault
   -- a command replies something else: the number of its line, and the wanted lines and those that came, as text
   Differs : ℕ → List ℕ → Fault
+  -- of what would be recorded: it has more bytes than a recording may have
+  TooLong : Fault
   -- want of memory, which no text has by itself
   Memory : Fault
 
@@ -30,6 +32,7 @@ abbrev pub fault_of : TranscriptError → Fault
 fault_of (error.Head fault) = Head fault
 fault_of (error.EarlyReply line) = EarlyReply line
 fault_of (error.Differs line lines) = Differs line (string_bytes lines)
+fault_of error.TooLong = TooLong
 fault_of error.Memory = Memory
 
 -- lines, each behind a sign and ended by LF

@@ -9,7 +9,6 @@ use Rattle.ga_debug.specs.declared.error.DebugError.{DebugError}
 use Rattle.ga_debug.specs.declared.error.DebugError.TheVariants.{BadAddress, BadCount}
 use Rattle.ga_debug.specs.Command.{First, Words, first_word, node_first, then_with, whole, words_of}
 use Rattle.ga_debug.specs.Word.{address_of, count_of}
-use Rattle.ga_transcript.specs.declared.command.TheConstants.{MOST_TURNS}
 use Rattle.ga_transcript.specs.declared.command.TranscriptCommand.{TranscriptCommand}
 use Rattle.ga_transcript.specs.declared.command.TranscriptCommand.TheVariants as command
 use Rattle.ga_transcript.specs.declared.command.TranscriptVerb.{TranscriptVerb}
@@ -40,9 +39,9 @@ address_in images node word = option_or (address_of word) (label_address images 
 abbrev pub address_first : Images → ℕ → Words → First ℕ
 address_first images node words = first_word (address_in images node) BadAddress words
 
--- a count of turns, where a word is left, and else the most
+-- a count of turns, where a word is left, and else the most, 1000000
 abbrev pub count_first : Words → First ℕ
-count_first [] = Ok (MOST_TURNS, [])
+count_first [] = Ok (1000000, [])
 count_first (word ∷ words) = first_word count_of BadCount (word ∷ words)
 
 -- a node and an address of it, and what is made of them and of the words behind them

@@ -4,6 +4,7 @@ pub mod Command
 pub mod Breaks
 pub mod Until
 pub mod Reply
+pub mod Whole
 pub mod Check
 pub mod Record
 pub mod inner

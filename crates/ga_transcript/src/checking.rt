@@ -3,6 +3,7 @@ ghost use Rattle.ga_asm.specs.Text.{AtMostOne};
 ghost use Rattle.ga_transcript.specs.Check.{Answers, Differs, IsChecked, checked_by, difference_text, fault_of, signed};
 ghost use Rattle.ga_transcript.specs.Following.{checked, early_reply, wanted};
 ghost use Rattle.ga_transcript.specs.Reply.{reply_lines, step_of};
+ghost use Rattle.ga_transcript.specs.Whole.{RepliesAreWhole};
 
 use crate::error::TranscriptError;
 use crate::lines::{LinesLeft, command_behind, early_reply, reply_lines, wanted};
@@ -17,11 +18,13 @@ use std::alloc::{AllocError, Global};
 /// of a reply in front of all commands, as [`TranscriptError::EarlyReply`]; the first command that has another reply, as
 /// [`TranscriptError::Differs`]. It fails as [`TranscriptError::Memory`] only where memory is refused. (The texts are this
 /// project's own: profile.)
-#[tactic(auto, using(crate::proofs::OneTranscript::one_checked))]
+#[tactic(auto, using(crate::proofs::OneTranscript::one_checked, crate::proofs::WholeSessions::replies_whole))]
 pub fn check(alloc: Global, text: &str) -> Result<u64, TranscriptError>
     ensures checked { Answers (λ count. count) (IsChecked text.now) result }
     // a text has one count, or one first fault
     ensures only { AtMostOne (IsChecked text.now) }
+    // no line of a reply is left out
+    ensures whole { RepliesAreWhole text.now }
 {
     let loaded = load(alloc, text)?;
     let left = LinesLeft {

@@ -20,6 +20,9 @@ pub enum TranscriptError {
     /// those of the one that came, each behind `+`.
     #[error("differs {0}\n{1}")]
     Differs(u64, String),
+    /// What would be recorded has more bytes than a recording may have.
+    #[error("TooLong")]
+    TooLong,
     /// Memory ran out.
     #[error("Memory")]
     Memory,

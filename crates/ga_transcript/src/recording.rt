@@ -2,9 +2,10 @@ ghost use Rattle.std.specs.Prelude.{◌≡◌, ◌<◌, ◌++◌, ◌∷◌, IfO
 ghost use Rattle.ga_asm.specs.Text.{AtMostOne};
 ghost use Rattle.ga_pack.specs.Model.Text.{lines_of};
 ghost use Rattle.ga_transcript.specs.Check.{Answers};
-ghost use Rattle.ga_transcript.specs.Record.{Holds, IsRecorded, behind_ends, lines_text};
+ghost use Rattle.ga_transcript.specs.Record.{Holds, IsRecorded, behind_ends, lines_text, unless_too_long};
 ghost use Rattle.ga_transcript.specs.Following.{recorded};
 ghost use Rattle.ga_transcript.specs.Reply as spec;
+ghost use Rattle.ga_transcript.specs.Whole.{RepliesAreWhole};
 
 use crate::error::TranscriptError;
 use crate::line::{Line, line_of};
@@ -15,11 +16,17 @@ use ga_chip::Chip;
 use ga_debug::{Pieces, load};
 use std::alloc::{AllocError, Global};
 
-/// A transcript with the replies that come: each stands behind its command, and the lines of the one that stood there are
-/// left out. All other lines stay as they are. Or the first fault: of the head, as [`TranscriptError::Head`], or a line of
-/// a reply in front of all commands, as [`TranscriptError::EarlyReply`]. It fails as [`TranscriptError::Memory`] only where
-/// memory is refused. (The texts are this project's own: profile.)
-#[tactic(auto, using(crate::proofs::OneTranscript::one_recorded, crate::proofs::Recordings::recording_holds, crate::proofs::Recordings::recording_again))]
+/// The most bytes that a recording may have.
+const RECORDING_LIMIT: usize = 268_435_456;
+
+/// A transcript with the replies that come: each stands behind its command, and the lines of the
+/// one that stood there are left out. All other lines stay as they are. Or the first fault: of the
+/// head, as [`TranscriptError::Head`]; a line of a reply in front of all commands, as
+/// [`TranscriptError::EarlyReply`]; a recording of more than 268,435,456 bytes, as
+/// [`TranscriptError::TooLong`], and no command is done behind the one that makes it too long. It
+/// fails as [`TranscriptError::Memory`] only where memory is refused. (The texts are this project's
+/// own: profile.)
+#[tactic(auto, using(crate::proofs::OneTranscript::one_recorded, crate::proofs::WholeSessions::replies_whole))]
 pub fn record(alloc: Global, text: &str) -> Result<String, TranscriptError>
     ensures recorded { Answers string_bytes (IsRecorded text.now) result }
     // a text has one recording, or one first fault
@@ -29,6 +36,8 @@ pub fn record(alloc: Global, text: &str) -> Result<String, TranscriptError>
     // and it is recorded again as it is
     ensures again { IfOk result (λ recording. IsRecorded (string_bytes recording)
         (Ok (string_bytes recording))) }
+    // no line of a reply is left out
+    ensures whole { RepliesAreWhole text.now }
 {
     let loaded = load(alloc, text)?;
     let lines = loaded.lines;
@@ -44,19 +53,23 @@ pub fn record(alloc: Global, text: &str) -> Result<String, TranscriptError>
     Ok(recording)
 }
 
-/// Adds what is recorded of lines, each behind an LF.
+/// Adds what is recorded of lines, each behind an LF, until the text is too long.
 fn push_recorded(
     alloc: Global,
     text: &mut String,
     mut chip: Chip,
     images: &Images,
-    lines: Pieces<'_>,
-) -> Result<(), AllocError>
-    ensures { OnOk result (string_bytes text.new ≡ string_bytes text.old
-        ++ behind_ends (recorded (spec.step_of images.now) chip lines.entry)) }
+    mut lines: Pieces<'_>,
+) -> Result<(), TranscriptError>
+    ensures { Answers (λ done. string_bytes text.new) (λ answer. unless_too_long
+        (string_bytes text.old ++ behind_ends (recorded (spec.step_of images.now) chip lines.entry))
+        ≡ answer) result }
 {
     let mut came = String::new(alloc);
-    for line in lines {
+    while text.len() <= RECORDING_LIMIT {
+        let Some(line) = lines.next() else {
+            return Ok(());
+        };
         match line_of(line) {
             Line::Command(command) => {
                 push_line(text, line)?;
@@ -66,7 +79,7 @@ fn push_recorded(
             Line::Reply => {}
         }
     }
-    Ok(())
+    Err(TranscriptError::TooLong)
 }
 
 /// Does a command, puts its reply in the place of what came before, and adds the lines of the reply, each behind an LF.
