@@ -1,15 +1,18 @@
 -- The nodes of a worker, by an index in the nodes of a route.
-use Rattle.std.proofs.Common.{◌≡◌, ◌∙◌, ℕ, ◌==◌, ◌+◌, ◌%◌, ◌<◌, suc, Bool, true, false, List, [], ◌∷◌, ◌++◌, length, map, drop, slice_index_or, Vec, Option, Some, None, Err, append-nil, append_assoc, sym, ap, ap₂, arith, ◌≤◌}
+use Rattle.std.proofs.Common.{◌≡◌, ◌∙◌, ℕ, ◌==◌, ◌+◌, ◌%◌, ◌<◌, suc, Bool, true, false, List, [], ◌∷◌, ◌++◌, length, map, drop, slice_index_or, Vec, Option, Some, None, Err, append-nil, append_assoc, refl, sym, ap, ap₂, arith, ◌≤◌}
 use Rattle.std.specs.Prelude.{if◌then◌else◌}
 use Rattle.std.proofs.Math.Seq.{drop-cons}
 use Rattle.std.proofs.lemmas.Bool.{eq-eqb, ne_eqb}
 use Rattle.std.specs.List.{range_with_len}
 use Rattle.std.proofs.lemmas.List.{drop_all, map-append}
+use Rattle.ga_chip.specs.Chip.{Chip}
+use Rattle.ga_chip.specs.Run.{ran, tries_of}
 use Rattle.ga_chip.proofs.Turns.{places_next}
 use Rattle.ga_group.specs.Plan.{Groups, groups_of, plan_fault, planned}
 use Rattle.ga_group.specs.declared.error.PlanError.{PlanError}
+use Rattle.ga_group.specs.Workers.{rounds_of}
 use Rattle.ga_jobs.specs.declared.fault.ServeError.TheVariants.{Plan}
-use Rattle.ga_jobs.specs.Run.{nodes_for, plan_by, plan_if}
+use Rattle.ga_jobs.specs.Run.{dealt, nodes_for, plan_by, plan_if}
 
 -- the nodes of a worker among those that are left, by the next
 next_node : (workers worker at node : ℕ) (nodes : List ℕ) (b : Bool) → at < length nodes → node ≡ slice_index_or nodes at node → (at % workers == worker) ≡ b
@@ -48,3 +51,18 @@ refused groups here back e = by (plan_fault groups) e
     by : (o : Option PlanError) → planned o groups here ≡ Err back → plan_if o groups ≡ Err (Plan back.0)
     by None e = absurd cc
     by (Some fault) e = let is : fault ≡ back.0 = cc in ap (λ f. Err (Plan f)) is
+
+-- a single worker gets all nodes
+all_dealt : (at : ℕ) (nodes : List ℕ) → nodes_for 1 0 at nodes ≡ nodes
+all_dealt at [] = refl
+all_dealt at (name ∷ nodes) =
+    let rest = all_dealt (at + 1) nodes in
+    let none : at % 1 ≡ 0 = omega arith in
+    ap (λ b. if b then name ∷ nodes_for 1 0 (at + 1) nodes else nodes_for 1 0 (at + 1) nodes) (eq-eqb (at % 1) 0 none) ∙ ap (λ l. name ∷ l) rest
+
+-- so the run of a single worker is known
+pub alone : (chip next : Chip) (plan : Groups) (nodes : List ℕ) (workers turns : ℕ) → plan ≡ dealt workers nodes
+    → ((group : List ℕ) → plan ≡ group ∷ [] → next ≡ ran chip (tries_of (rounds_of group turns)))
+    → workers ≡ 1 → next ≡ ran chip (tries_of (rounds_of nodes turns))
+alone chip next plan nodes workers turns is single one =
+    single nodes (is ∙ ap (λ n. dealt n nodes) one ∙ ap (λ group. group ∷ []) (all_dealt 0 nodes))

@@ -4,5 +4,6 @@ mod Replies
 mod Dealing
 mod Faults
 pub mod OneOutput
+mod OneRun
 mod Again
 mod WorkedOutputs

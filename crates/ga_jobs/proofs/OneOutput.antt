@@ -41,7 +41,7 @@ module _ {A E : Type 0} (told : List ℕ → E → ServeError) (Is : List ℕ �
   one_in (Err one) (Err other) (inr (text, error, p, is, t)) (inl q) = cc
   one_in (Err one) (Err other) (inr (text, error, p, is, t)) (inr (text', error', q, is', t')) = cc (one_text input text text' p q, same text text' (Err error) (Err error') p q is is')
 
-one_images : (input : List ℕ) → AtMostOne (IsImagesIn input)
+pub one_images : (input : List ℕ) → AtMostOne (IsImagesIn input)
 one_images input = one_in (λ text. fault_of_text) IsImagesOf one_answer input
 
 pub one_asm_output : (input : List ℕ) → AtMostOne (IsAsmOutput input)

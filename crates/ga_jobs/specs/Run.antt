@@ -3,11 +3,13 @@ use Rattle.std.specs.Prelude.{ℕ, ◌≡◌, ◌⊎◌, ◌+◌, ◌%◌, ◌==
 use Rattle.std.specs.List.{flat_map, range_with_len}
 use Rattle.std.specs.Option.{option_map_or}
 use Rattle.ga_chip.specs.Chip.{Chip, state_of}
+use Rattle.ga_chip.specs.Run.{ran, tries_of}
 use Rattle.ga_dump.specs.Ledger.{ledger_dump}
 use Rattle.ga_dump.specs.Node.{node_dump}
 use Rattle.ga_group.specs.Plan.{Groups, plan_fault}
-use Rattle.ga_group.specs.Workers.{IsWorkersRun}
+use Rattle.ga_group.specs.Workers.{IsWorkersRun, rounds_of}
 use Rattle.ga_group.specs.declared.error.PlanError.{PlanError}
+use Rattle.ga_asm.specs.Text.{AtMostOne}
 use Rattle.ga_path.specs.Stream.{Images, unreached}
 use Rattle.ga_path.specs.Tree.{TreeView}
 use Rattle.ga_path.specs.declared.error.BootError.TheVariants.{Unreached}
@@ -43,10 +45,12 @@ node_report chip name = option_map_or node_dump (state_of chip name) [] ++ ledge
 abbrev pub node_reports : Chip → List ℕ → List ℕ
 node_reports chip names = flat_map (node_report chip) names
 
--- The text tells nodes at the end of a run of a chip, in which so many workers share the nodes and make so many turns.
+-- The text tells nodes at the end of a run of a chip, in which so many workers share the nodes and make so many turns. A
+-- single worker tries all nodes in their order, one round behind another.
 pub record IsRunText (chip : Chip) (nodes : List ℕ) (workers turns : ℕ) (text : List ℕ) : Type 0 where
   pub next : Chip
   pub ran : IsWorkersRun chip (dealt workers nodes) turns next
+  pub alone : workers ≡ 1 → next ≡ ran chip (tries_of (rounds_of nodes turns))
   pub text_is : text ≡ node_reports next nodes
 
 -- what comes of a chip and nodes, or what is wrong with these as a plan
@@ -72,3 +76,13 @@ IsRunOutput routes workers turns input (Ok text) =
 IsRunOutput routes workers turns input (Err fault) =
     IsImagesIn input (Err fault)
     ⊎ ((images : Images) × IsImagesIn input (Ok images) × IsRunOf images workers turns (tree_in routes) (Err fault))
+
+-- two answers are both texts, or they are equal
+abbrev pub AreTextsOrEqual : Result (List ℕ) ServeError → Result (List ℕ) ServeError → Type 0
+AreTextsOrEqual (Ok text) (Ok other) = Unit {0}
+AreTextsOrEqual answer other = answer ≡ other
+
+-- Two answers of so many workers to one input are both texts, or they are equal. Those of a single worker are equal.
+pub record HasRuns (workers : ℕ) (Is : Result (List ℕ) ServeError → Type 0) : Type 0 where
+  pub texts : (answer other : Result (List ℕ) ServeError) → Is answer → Is other → AreTextsOrEqual answer other
+  pub alone : workers ≡ 1 → AtMostOne Is

@@ -1,10 +1,11 @@
-ghost use Rattle.std.specs.Prelude.{◌≡◌, ◌<◌, IfErr, IfOk, string_bytes};
+ghost use Rattle.std.specs.Prelude.{◌≡◌, ◌<◌, ◌∷◌, [], IfErr, IfOk, List, ℕ, string_bytes};
 ghost use Rattle.ga_jobs.specs.declared.fault.ServeError.TheVariants.{Memory};
+ghost use Rattle.ga_chip.specs.Run.{ran, tries_of};
 ghost use Rattle.ga_group.specs.Plan.{groups_of};
-ghost use Rattle.ga_group.specs.Workers.{IsWorkersRun};
+ghost use Rattle.ga_group.specs.Workers.{IsWorkersRun, rounds_of};
 ghost use Rattle.ga_jobs.specs.Fault.{Answers, Gives};
 ghost use Rattle.ga_jobs.specs.Tree.{tree_in};
-ghost use Rattle.ga_jobs.specs.Run.{IsRunFrom, IsRunOf, IsRunOutput, dealt, nodes_for, node_reports, plan_by};
+ghost use Rattle.ga_jobs.specs.Run.{HasRuns, IsRunFrom, IsRunOf, IsRunOutput, dealt, nodes_for, node_reports, plan_by};
 
 use crate::fault::ServeError;
 use crate::source::images_of;
@@ -20,6 +21,7 @@ use std::thread::Threads;
 
 /// The nodes of a tree of routes after a run, as text: they boot from the input, which is source text, and so many workers
 /// make so many turns.
+#[tactic(auto, using(crate::proofs::OneRun::run_outputs))]
 pub fn output<Rt: AllocGlobal + Threads + Sync>(
     rt: &Rt,
     routes: &str,
@@ -27,7 +29,9 @@ pub fn output<Rt: AllocGlobal + Threads + Sync>(
     turns: u32,
     input: &[u8],
 ) -> Result<String, ServeError>
-    ensures { Answers string_bytes (IsRunOutput routes.now workers turns input.now) result }
+    ensures output { Answers string_bytes (IsRunOutput routes.now workers turns input.now) result }
+    // the order of tries is free, but for a single worker
+    ensures only { HasRuns workers (IsRunOutput routes.now workers turns input.now) }
 {
     let images = images_of(rt.alloc(), input)?;
     run_text(rt, routes, workers, turns, &images)
@@ -50,6 +54,7 @@ fn run_text<Rt: AllocGlobal + Threads + Sync>(
 }
 
 /// Nodes of a chip as text, after so many workers, who share them, have made so many turns.
+#[tactic(auto, using(crate::proofs::Dealing::alone))]
 fn run_chip<Rt: AllocGlobal + Threads + Sync>(
     rt: &Rt,
     chip: Chip,
@@ -113,6 +118,8 @@ fn after_run<Rt: AllocGlobal + Threads + Sync>(
     turns: u32,
 ) -> Result<Chip, ServeError>
     ensures run { IfOk result (λ next. IsWorkersRun chip plan.now turns next) }
+    ensures alone { IfOk result (λ next. (group : List ℕ) → plan.now ≡ group ∷ []
+        → next ≡ ran chip (tries_of (rounds_of group turns))) }
     ensures memory { IfErr result (λ fault. fault ≡ Memory) }
 {
     match run_workers(rt, rt.alloc(), chip, plan, u64::from(turns), &Open) {

@@ -4,8 +4,8 @@ use Rattle.ga_jobs.specs.Run.{IsRunOf, IsRunOutput}
 use Rattle.ga_jobs.proofs.Faults.{answers, ran_from}
 use Rattle.ga_jobs.proofs.run.output.Goals as goal
 
-pub returns : goal.returns
-returns g c =
+pub returns-clause-output : goal.returns-clause-output
+returns-clause-output g c =
     let images = c.in_ok-images.images in
     answers string_bytes (IsRunOf images c.args.workers c.args.turns (tree_in c.args.routes.now)) (IsRunOutput c.args.routes.now c.args.workers c.args.turns c.args.input.now) c.run_text.result
     (ran_from images c.args.routes.now c.args.workers c.args.turns c.args.input.now c.in_ok-images.ensures) c.run_text.ensures
