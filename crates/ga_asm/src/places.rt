@@ -1,7 +1,7 @@
 //! Where the words of an image begin in the text of its program.
 ghost use Rattle.std.specs.Prelude.{◌≡◌, ◌+◌, ◌++◌, ◌≤◌, IfOk, OnOk, drop, length, map, take};
 ghost use Rattle.ga_pack.specs.Model.Program as model;
-ghost use Rattle.ga_source.specs.Program.{items_at};
+ghost use Rattle.ga_source.specs.Program.{item_place, item_place_of, items_at};
 ghost use Rattle.ga_source.specs.Token.{place_of};
 ghost use Rattle.ga_asm.specs.Image.{IsImage};
 ghost use Rattle.ga_asm.specs.Places as spec;
@@ -14,14 +14,18 @@ use std::alloc::{AllocError, Global};
 
 /// The place in the text of the first item of each word of an image, in the order of the words: a
 /// word that items share begins with the first of them, and a follower with the number that it is.
-/// The image is that of the program's section with this number, from 0, and there are as many
-/// places as it has words. It fails only where memory is refused.
+/// The image is that of the program's section with this number, from 0, whose items stand at these
+/// places, and there are as many places as it has words. It fails only where memory is refused.
 pub fn word_places(
     alloc: Global,
     program: &Program<'_>,
     section: usize,
+    found: &[ItemPlace],
     image: &Image,
 ) -> Result<Vec<Place>, AllocError>
+    // as `places` of the program answers, or `section_places` for the section
+    requires { map item_place_of found.now
+        ≡ map item_place (items_at program.now section) }
     ensures places { IfOk result (λ places. map place_of places.items
         ≡ spec.word_places image.now.item_counts (items_at program.now section)) }
     // as many as words, where it is the image of that section
@@ -29,12 +33,11 @@ pub fn word_places(
         IsImage (map (λ placed. placed.item) (items_at program.now section)) image.now
         → length places.items ≡ length image.now.words) }
 {
-    let found = program.places(alloc, section)?;
     let items = items_of(program, section);
     let indices = first_items(alloc, image.item_counts(), items)?;
     let mut places = Vec::with_capacity(alloc, indices.len())?;
     for index in &indices {
-        places.push(place_at(&found, *index))?;
+        places.push(place_at(found, *index))?;
     }
     Ok(places)
 }

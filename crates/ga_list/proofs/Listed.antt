@@ -1,5 +1,5 @@
 -- Each word of a text that goes to a name is listed with a label of that name's address.
-use Rattle.std.proofs.Common.{◌≡◌, ◌∙◌, ◌≤◌, ℕ, zero, suc, ◌+◌, true, false, List, [], ◌∷◌, ◌++◌, drop, length, map, Option, Some, refl, sym, ap, subst, arith}
+use Rattle.std.proofs.Common.{◌≡◌, ◌∙◌, ◌≤◌, ℕ, zero, suc, ◌+◌, true, false, List, [], ◌∷◌, ◌++◌, length, map, Option, Some, sym, ap, subst, arith}
 use Rattle.std.specs.Prelude.{All, codes}
 use Rattle.std.specs.List.{list_all, slice_get, zip}
 use Rattle.std.specs.Option.{option_map_or}
@@ -8,15 +8,16 @@ use Rattle.ga_pack.specs.Decoded.{Reading}
 use Rattle.ga_pack.specs.Model.Layout.{Group, Arrangement, Laid, address_after, address_of, all_in_reach, dest_in, is_defined, labels_after, names_in}
 use Rattle.ga_pack.specs.Model.Layout as layout
 use Rattle.ga_pack.specs.Model.LayoutFault.{AllPass, AllRight, plain_items}
-use Rattle.ga_pack.specs.Model.Program.{IsProgram, PlacedSection, placed_items, placed_sections}
-use Rattle.ga_pack.specs.Model.Source.{Item, Items, Label, Section, Sections, Source, is_among, is_item, item_tokens, items_tokens, start}
+use Rattle.ga_pack.specs.Model.Program.{IsProgram, PlacedSection}
+use Rattle.ga_pack.specs.Model.Source.{Item, Items, Label, Sections, Source, is_among, is_item, start}
 use Rattle.ga_disasm.specs.Disassembling.{items_of}
 use Rattle.ga_disasm.specs.Instructions as named
 use Rattle.ga_disasm.specs.Instructions.{named_items}
 use Rattle.ga_disasm.specs.Printing.{line, number_text, spare_texts}
 use Rattle.ga_disasm.proofs.NamedItems.{items_named}
-use Rattle.ga_pack.specs.Model.Text.{Place, places_of}
+use Rattle.ga_pack.specs.Model.Text.{places_of}
 use Rattle.ga_source.specs.Program.{sections_in}
+use Rattle.ga_source.proofs.ItemPlaces.{sections_erased}
 use Rattle.ga_asm.specs.Assembling.{IsAssembled}
 use Rattle.ga_asm.specs.Image.{ImageView, label_at}
 use Rattle.ga_asm.proofs.Groups.{front_within}
@@ -108,22 +109,6 @@ module _ (items : List Item) (image : ImageView) (right : Items start items)
       }
 
 -- ---- the nodes of a text
-
-items_erased : (places : List Place) (items : List Item)
-    → map (λ placed. placed.item) (placed_items places items) ≡ items
-unfolding placed_items
-items_erased places [] = refl
-items_erased places (item ∷ items) =
-    ap (λ t. item ∷ t) (items_erased (drop (length (item_tokens item [])) places) items)
-
-sections_erased : (places : List Place) (sections : List Section)
-    → sections_in (placed_sections places sections) ≡ sections
-unfolding placed_sections
-sections_erased places [] = refl
-sections_erased places (s ∷ sections) =
-    let rest = drop (2 + length (items_tokens s.items [])) places in
-    ap (λ t. record { name = s.name; items = t } ∷ sections_in (placed_sections rest sections))
-    (items_erased (drop 2 places) s.items) ∙ ap (λ t. s ∷ t) (sections_erased rest sections)
 
 -- the sections of a text's program are right
 sections_right : (text : List ℕ) (program : List PlacedSection) → IsProgram text program

@@ -2,6 +2,7 @@
 use Rattle.std.proofs.Common.{◌≡◌, ◌∙◌, ◌<◌, ◌≤◌, ℕ, zero, suc, ◌+◌, List, [], ◌∷◌, ◌++◌, length, map, drop, drop-cons, get_or, Some, None, refl, sym, ap, append_assoc, append-nil, arith}
 use Rattle.std.proofs.lemmas.List.{drop-map, drop_all}
 use Rattle.std.specs.List.{slice_get}
+use Rattle.std.specs.Option.{option_map_or}
 use Rattle.ga_asm.specs.Image.{ImageView}
 use Rattle.ga_asm.specs.Places.{word_places}
 use Rattle.ga_disasm.specs.declared.item.Item.{Item}
@@ -11,7 +12,8 @@ use Rattle.ga_list.specs.Row.{label_lines, line_at, row_text, rows_from}
 use Rattle.ga_pack.specs.Model.Layout.{Labels}
 use Rattle.ga_pack.specs.Model.Program.{PlacedSection}
 use Rattle.ga_pack.specs.Model.Text.{Place}
-use Rattle.ga_source.specs.Program.{items_at}
+use Rattle.ga_source.specs.Program.{item_place, item_place_of, items_at}
+use Rattle.ga_source.specs.declared.places.ItemPlace as found
 use Rattle.ga_pack.specs.Decoded.{reading_of}
 use Rattle.ga_pack.specs.Followers.{followers}
 
@@ -69,6 +71,22 @@ listing_next program images section image old new total at inv new_is =
     cut_at [] n x e = absurd (cc)
     cut_at (y ∷ l) zero x e = let same : x ≡ y = cc in ap (λ t. t ∷ l) (sym same)
     cut_at (y ∷ l) (suc n) x e = cut_at l n x e
+
+-- of the places of all sections' items those of a section
+pub section_found : {V : Type 0} (items : V → List found.ItemPlace) (all : List V)
+    (program : List PlacedSection) (n : ℕ)
+    → map (λ places. map item_place_of (items places)) all
+    ≡ map (λ section. map item_place section.items) program
+    → map item_place_of (option_map_or items (slice_get all n) [])
+    ≡ map item_place (items_at program n)
+section_found items [] [] n same = refl
+section_found items [] (section ∷ program) n same = absurd (cc)
+section_found items (places ∷ all) [] n same = absurd (cc)
+section_found items (places ∷ all) (section ∷ program) zero same = cc
+section_found items (places ∷ all) (section ∷ program) (suc n) same =
+    let others : map (λ places. map item_place_of (items places)) all
+    ≡ map (λ section. map item_place section.items) program = cc in
+    section_found items all program n others
 
 -- an image is found below their number
 pub is_found : (images : List (ℕ × ImageView)) (section : ℕ) → section < length images → None ≡ slice_get images section → ⊥

@@ -1,4 +1,5 @@
-ghost use Rattle.std.specs.Prelude.{◌≡◌, ◌≢◌, ◌++◌, IfErr, IfOk, OnOk, map, string_bytes};
+ghost use Rattle.std.specs.Prelude.{◌≡◌, ◌≢◌, ◌++◌, [], IfErr, IfOk, OnOk, map, slice_get, string_bytes};
+ghost use Rattle.std.specs.Option.{option_map_or};
 ghost use Rattle.ga_asm.specs.Text.{AtMostOne, IsTextFault};
 ghost use Rattle.ga_asm.specs.declared.text.TextError.TheVariants.{Memory};
 ghost use Rattle.ga_list.specs.Listing.{HasListing, IsListingOf, listing_from, node_listing};
@@ -7,7 +8,7 @@ ghost use Rattle.ga_source.specs.Token.{place_of};
 use crate::row::push_rows;
 use ga_asm::{Image, Images, TextError, assemble, word_places};
 use ga_place::Node;
-use ga_source::{Place, Program, parse};
+use ga_source::{ItemPlace, Place, Program, parse};
 use std::alloc::{AllocError, Global};
 
 /// The listing of a source text, or its first fault, as `assemble_text` tells it.
@@ -38,14 +39,27 @@ fn listing_of(alloc: Global, program: &Program<'_>, images: &Images) -> Result<S
     ensures { IfOk result (λ text. string_bytes text ≡ listing_from program.now 0 images.now) }
 {
     let mut text = String::new(alloc);
+    let found = program.section_places(alloc)?;
     let images = images.images();
     for section in 0..images.len() {
         if let Some((node, image)) = images.get_index(section) {
-            let places = word_places(alloc, program, section, image)?;
+            let own = places_at(found.as_slice(), section);
+            let places = word_places(alloc, program, section, own, image)?;
             push_node(alloc, &mut text, *node, image, &places)?;
         }
     }
     Ok(text)
+}
+
+/// The places of the items of a section, by its number.
+fn places_at(found: &[Vec<ItemPlace>], section: usize) -> &[ItemPlace]
+    ensures { result.now
+        ≡ option_map_or (λ places. places.items) (slice_get found.now section) [] }
+{
+    match found.get(section) {
+        Some(places) => places.as_slice(),
+        None => &[],
+    }
 }
 
 /// Adds the listing of a node's image, whose words begin at these places of the text.

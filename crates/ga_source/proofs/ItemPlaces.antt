@@ -5,7 +5,7 @@ use Rattle.ga_word.specs.declared.op.Op.{Op}
 use Rattle.ga_pack.specs.Model.Text.{Lexeme, Place, end_of, lexemes, places_of}
 use Rattle.ga_pack.specs.Model.Token.{Token, op, close_mark}
 use Rattle.ga_pack.specs.Model.Source.{Value, Item, Word, WordTo, Section, item_tokens, items_tokens, op_tokens, spare_tokens, value_token}
-use Rattle.ga_pack.specs.Model.Program.{PlacedItem, placed, placed_items, placed_sections}
+use Rattle.ga_pack.specs.Model.Program.{PlacedItem, PlacedSection, placed, placed_items, placed_sections}
 use Rattle.ga_source.specs.Item.{item_of}
 use Rattle.ga_source.specs.Program.{item_place, item_place_of, items_at, sections_in}
 use Rattle.ga_source.specs.Token.{place_of, token_of}
@@ -126,6 +126,43 @@ section_past rest first next s ss at left whole so_far more e f =
     let n = length (items_tokens s.items []) in
     let places : map place_of next ≡ drop (2 + n) (map place_of rest) = ap (map place_of) (f ∙ ap (drop n) e ∙ drop-drop n 2 rest) ∙ sym (drop-map place_of (2 + n) rest) in
     ap (λ ps. items_at (placed_sections ps ss) left) places ∙ ap (items_at (placed_sections (map place_of rest) (s ∷ ss))) (sym more) ∙ so_far
+
+-- the places of the items of a section
+abbrev pub places_in : PlacedSection → List (Place × Option Place)
+places_in section = map item_place section.items
+
+-- a section more, behind those that are found
+pub section_next : (rest first next : List here.Place) (s : Section) (ss : List Section)
+    (before : List (List (Place × Option Place))) (own : List (Place × Option Place))
+    (whole : List (List (Place × Option Place)))
+    → before ++ map places_in (placed_sections (map place_of rest) (s ∷ ss)) ≡ whole
+    → own ≡ map item_place (placed_items (map place_of first) s.items) → first ≡ drop 2 rest
+    → next ≡ drop (length (items_tokens s.items [])) first
+    → (before ++ own ∷ []) ++ map places_in (placed_sections (map place_of next) ss) ≡ whole
+unfolding placed_sections
+section_next rest first next s ss before own whole so_far own_is e f =
+    let n = length (items_tokens s.items []) in
+    let here : map place_of first ≡ drop 2 (map place_of rest) =
+    ap (map place_of) e ∙ sym (drop-map place_of 2 rest) in
+    let places : map place_of next ≡ drop (2 + n) (map place_of rest) =
+    ap (map place_of) (f ∙ ap (drop n) e ∙ drop-drop n 2 rest)
+    ∙ sym (drop-map place_of (2 + n) rest) in
+    append_assoc before (own ∷ []) (map places_in (placed_sections (map place_of next) ss))
+    ∙ ap (λ o. before ++ o ∷ map places_in (placed_sections (map place_of next) ss)) own_is
+    ∙ ap (λ ps. before ++ map item_place (placed_items ps s.items)
+    ∷ map places_in (placed_sections (map place_of next) ss)) here
+    ∙ ap (λ ps. before ++ map item_place (placed_items (drop 2 (map place_of rest)) s.items)
+    ∷ map places_in (placed_sections ps ss)) places
+    ∙ so_far
+
+-- all sections are found
+pub all_sections : (places : List Place) (ss : List Section)
+    (before whole : List (List (Place × Option Place)))
+    → before ++ map places_in (placed_sections places ss) ≡ whole → ss ≡ [] → before ≡ whole
+unfolding placed_sections
+all_sections places ss before whole so_far none =
+    sym (append-nil before) ∙ sym (ap (λ t. before ++ map places_in (placed_sections places t)) none)
+    ∙ so_far
 
 pub no_section : (places : List Place) (ss : List Section) (at : ℕ) (whole : List PlacedItem) → items_at (placed_sections places ss) at ≡ whole → ss ≡ [] → whole ≡ []
 unfolding placed_sections

@@ -6,7 +6,7 @@ mod Hex
 mod Whole
 mod Consistent
 pub mod ParserSteps
-mod ItemPlaces
+pub mod ItemPlaces
 mod Reading
 pub mod Lines
 mod Slices

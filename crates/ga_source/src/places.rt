@@ -46,6 +46,26 @@ impl<'a> Program<'a> {
         }
         Ok(Vec::new(alloc))
     }
+
+    /// Where the items of each section stand in the text: for the sections in the text's order what
+    /// `places` answers, by one pass over the text. It fails only where memory is refused.
+    pub fn section_places(&self, alloc: Global) -> Result<Vec<Vec<ItemPlace>>, AllocError>
+        ensures { IfOk result (λ found. map (λ places. map item_place_of places.items) found.items
+            ≡ map (λ section. map item_place section.items) self.now) }
+    {
+        let places = all_places(alloc, self.text)?;
+        let mut rest = places.as_slice();
+        let mut found = Vec::new(alloc);
+        for (_, part) in &self.sections {
+            let items = part.items.as_slice();
+            // `node` and the name stand in front of them.
+            let first = behind(rest, 2);
+            let own = places_from(alloc, first, items)?;
+            found.push(own)?;
+            rest = behind_items(first, items);
+        }
+        Ok(found)
+    }
 }
 
 /// The place of a token, by its number from 0, or of the text's end behind the last one.

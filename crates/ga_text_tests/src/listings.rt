@@ -54,7 +54,8 @@ fn places_of(alloc: Global, text: &str) -> Result<Vec<Place>, Fail> {
 /// The places in which the words of node 001 begin, which is the second one of its program.
 fn places_in(alloc: Global, program: &Program<'_>, images: &Images) -> Result<Vec<Place>, Fail> {
     let image = images.image_of(node(1)?).ok_or("no image")?;
-    Ok(word_places(alloc, program, 1, image)?)
+    let found = program.places(alloc, 1)?;
+    Ok(word_places(alloc, program, 1, &found, image)?)
 }
 
 #[test]

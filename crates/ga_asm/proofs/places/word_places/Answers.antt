@@ -15,7 +15,7 @@ returns-clause-places c =
     let items = items_at c.args.program.now c.args.section in
     let indices = c.deref-index-items.result.now in
     let all = take_all c.loop-index.index-index indices (omega (arith, c.loop-index-test.false)) in
-    let own = own_places c.in_ok-found.found.items items c.in_ok-found.ensures in
+    let own = own_places c.args.found.now items c.requires in
     c.loop-index.invariant
     ∙ ap (λ ps. map (place_at ps) (take c.loop-index.index-index indices)) own
     ∙ ap (map (place_at (map (λ (i : PlacedItem). i.place) items))) (all ∙ c.deref-index-items.ensures.value ∙ c.in_ok-indices.ensures

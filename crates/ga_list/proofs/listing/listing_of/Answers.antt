@@ -1,9 +1,17 @@
-use Rattle.std.proofs.Common.{◌≡◌, ◌∙◌, ◌<◌, ◌++◌, ℕ, length, map, ap, subst, string_bytes}
+use Rattle.std.proofs.Common.{◌∙◌, ◌<◌, ◌++◌, ℕ, map, ap, subst, string_bytes}
 use Rattle.ga_list.specs.Listing.{node_listing}
-use Rattle.ga_list.proofs.Rows.{is_found, listing_next}
+use Rattle.ga_list.proofs.Rows.{is_found, listing_next, section_found}
+use Rattle.ga_source.specs.Program.{item_place_of}
 use Rattle.ga_source.specs.Token.{place_of}
 use Rattle.ga_list.proofs.listing.listing_of.Goals as goal
 use Rattle.ga_list.proofs.listing.listing_of.Goals.{in-Some+in_ok-places+in_ok-push_node, in_default}
+
+pub word_places-requires : goal.word_places-requires
+word_places-requires c =
+    let all = ap (map (λ places. map item_place_of places.items)) c.as_slice.ensures.value in
+    ap (map item_place_of) c.places_at-own.ensures
+    ∙ section_found (λ places. places.items) c.as_slice.result.now c.args.program.now
+    c.loop-section.section (all ∙ c.in_ok-found.ensures)
 
 pub loop-section-preserved : goal.loop-section-preserved
 loop-section-preserved c =
