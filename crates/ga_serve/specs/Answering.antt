@@ -1,5 +1,5 @@
 -- What a job may answer to the bytes that it reads: a text, or the first fault.
-use Rattle.std.specs.Prelude.{◌≡◌, ◌&&◌, ℕ, Bool, List, length, nat_lt, MatchBool, Result, Ok, Err, string_bytes}
+use Rattle.std.specs.Prelude.{◌≡◌, ◌&&◌, ℕ, Bool, true, false, List, length, nat_lt, MatchBool, Result, Ok, Err, string_bytes}
 use Rattle.ga_asm.specs.Text.{AtMostOne}
 use Rattle.ga_command_line.specs.declared.request.Job.{Job}
 use Rattle.ga_command_line.specs.declared.request.Job.TheVariants.{One, Asm, Dis, Boot, Run, Debug, Replay, Explain}
@@ -44,6 +44,11 @@ is_too_long job input = reads_input job && nat_lt INPUT_LIMIT (length input)
 -- what the program may answer to an input
 abbrev pub IsOutput : Job → List ℕ → Result (List ℕ) ServeError → Type 0
 IsOutput job input answer = MatchBool (is_too_long job input) (answer ≡ Err (Input TooLong)) (IsJobOutput job input answer)
+
+-- the jobs that start threads
+abbrev pub starts_threads : Job → Bool
+starts_threads (Run route workers turns) = true
+starts_threads job = false
 
 -- Two outputs of a job for one input are equal, but for the job `run`, where the order of tries is free.
 abbrev pub HasOneOutput : Job → List ℕ → Type 0

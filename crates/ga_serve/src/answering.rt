@@ -1,12 +1,16 @@
-ghost use Rattle.std.specs.Prelude.{string_bytes};
+ghost use Rattle.std.specs.Prelude.{◌≡◌, Err, IfSome, Ok, not, if◌then◌else◌, is_some, string_bytes};
+ghost use Rattle.ga_explain.specs.Output.{explain_output};
+ghost use Rattle.ga_jobs.specs.declared.fault.InputFault.TheVariants.{TooLong};
+ghost use Rattle.ga_jobs.specs.declared.fault.ServeError.TheVariants.{Input};
 ghost use Rattle.ga_jobs.specs.Fault.{Answers};
-ghost use Rattle.ga_serve.specs.Answering.{HasOneOutput, IsJobOutput, IsOutput};
+ghost use Rattle.ga_serve.specs.Answering.{HasOneOutput, IsJobOutput, IsOutput, is_too_long, starts_threads};
 
 use ga_command_line::Job;
-use ga_explain::explain;
+use ga_explain::{Topic, explain};
 use ga_jobs::{
     InputFault, ServeError, asm, boot, check, debug, dis, list, one, record, replay, run,
 };
+use std::alloc::Global;
 use std::thread::Threads;
 
 /// The most bytes that an input may have.
@@ -23,39 +27,74 @@ pub fn answer<Rt: AllocGlobal + Threads + Sync>(
     input: &[u8],
 ) -> Result<String, ServeError>
     ensures answer { Answers string_bytes (IsOutput job.now input.now) result }
-    // in a run the order of tries is free; every other job has one output for an input, or one first fault
+    // of two answers to one input only those of a run may be two texts
     ensures only { HasOneOutput job.now input.now }
 {
-    if job.reads_input() && input.len() > INPUT_LIMIT {
-        return Err(ServeError::Input(InputFault::TooLong));
-    }
-    output(rt, job, input)
-}
-
-/// What a job writes for an input that is not too long.
-#[tactic(auto, unfolding(crate::specs::Answering::IsJobOutput))]
-fn output<Rt: AllocGlobal + Threads + Sync>(
-    rt: &Rt,
-    job: &Job,
-    input: &[u8],
-) -> Result<String, ServeError>
-    ensures { Answers string_bytes (IsJobOutput job.now input.now) result }
-{
     match job {
-        Job::One { tries } => one::output(rt.alloc(), *tries, input),
-        Job::Asm => asm::output(rt.alloc(), input),
-        Job::Dis { code } => dis::output(rt.alloc(), *code, input),
-        Job::Boot { route } => boot::output(rt.alloc(), route, input),
         Job::Run {
             route,
             workers,
             turns,
-        } => run::output(rt, route, *workers, *turns, input),
-        Job::Debug => debug::output(rt.alloc(), input),
-        Job::Replay => replay::output(rt.alloc(), input),
-        Job::List { labels, .. } => list::output(rt.alloc(), *labels, input),
-        Job::Check { .. } => check::output(rt.alloc(), input),
-        Job::Record { .. } => record::output(rt.alloc(), input),
-        Job::Explain { topic } => Ok(explain(rt.alloc(), *topic)?),
+        } => {
+            within_limit(job, input)?;
+            run::output(rt, route, *workers, *turns, input)
+        }
+        _ => match answer_alone(rt.alloc(), job, input) {
+            Some(answer) => answer,
+            None => unreachable!(),
+        },
     }
+}
+
+/// What [`answer`] answers, by a call that starts no thread and so waits for none: `None` for the job `run` alone, which
+/// starts some.
+#[tactic(auto, using(crate::proofs::OneOutput::one_output))]
+pub fn answer_alone(alloc: Global, job: &Job, input: &[u8]) -> Option<Result<String, ServeError>>
+    ensures answer { IfSome result (Answers string_bytes (IsOutput job.now input.now)) }
+    ensures none { is_some result ≡ not (starts_threads job.now) }
+    ensures only { HasOneOutput job.now input.now }
+{
+    match within_limit(job, input) {
+        Ok(()) => output(alloc, job, input),
+        Err(_) if matches!(job, Job::Run { .. }) => None,
+        Err(fault) => Some(Err(fault)),
+    }
+}
+
+/// Refuses more bytes than a job may read.
+fn within_limit(job: &Job, input: &[u8]) -> Result<(), ServeError>
+    ensures { result ≡ if is_too_long job.now input.now then Err (Input TooLong) else Ok tt }
+{
+    if job.reads_input() && input.len() > INPUT_LIMIT {
+        return Err(ServeError::Input(InputFault::TooLong));
+    }
+    Ok(())
+}
+
+/// What a job writes for an input that is not too long: `None` for the job `run` alone.
+#[tactic(auto, unfolding(crate::specs::Answering::IsJobOutput))]
+fn output(alloc: Global, job: &Job, input: &[u8]) -> Option<Result<String, ServeError>>
+    ensures answer { IfSome result (Answers string_bytes (IsJobOutput job.now input.now)) }
+    ensures none { is_some result ≡ not (starts_threads job.now) }
+{
+    match job {
+        Job::One { tries } => Some(one::output(alloc, *tries, input)),
+        Job::Asm => Some(asm::output(alloc, input)),
+        Job::Dis { code } => Some(dis::output(alloc, *code, input)),
+        Job::Boot { route } => Some(boot::output(alloc, route, input)),
+        Job::Run { .. } => None,
+        Job::Debug => Some(debug::output(alloc, input)),
+        Job::Replay => Some(replay::output(alloc, input)),
+        Job::List { labels, .. } => Some(list::output(alloc, *labels, input)),
+        Job::Check { .. } => Some(check::output(alloc, input)),
+        Job::Record { .. } => Some(record::output(alloc, input)),
+        Job::Explain { topic } => Some(text_of(alloc, *topic)),
+    }
+}
+
+/// The text of a topic.
+fn text_of(alloc: Global, topic: Option<Topic>) -> Result<String, ServeError>
+    ensures { Answers string_bytes (λ answer. answer ≡ Ok (explain_output topic)) result }
+{
+    Ok(explain(alloc, topic)?)
 }

@@ -7,6 +7,7 @@ ghost use Rattle.ga_serve.specs.Engine.{Serves, status_of};
 
 use crate::answering::answer;
 use crate::reading::read_input;
+use crate::reads::Reads;
 use crate::writing::write_output;
 use ga_command_line::Job;
 use ga_jobs::ServeError;
@@ -46,7 +47,7 @@ pub fn serve<Rt: AllocGlobal + Threads + Sync, R: Read, W: Write>(
     if !job.reads_input() {
         return respond(rt, writer, job, &[]);
     }
-    let input = read_input(rt.alloc(), reader)?;
+    let input = read_input(rt.alloc(), reader, &mut Reads::default())?;
     respond(rt, writer, job, &input)
 }
 

@@ -4,7 +4,10 @@
 mod answering;
 mod engine;
 mod reading;
+mod reads;
 mod writing;
 
-pub use crate::answering::answer;
+pub use crate::answering::{answer, answer_alone};
 pub use crate::engine::{serve, status};
+pub use crate::reading::read_input;
+pub use crate::reads::Reads;

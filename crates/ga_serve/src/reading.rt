@@ -1,39 +1,48 @@
-ghost use Rattle.std.specs.Prelude.{◌≡◌, ℕ, ◌+◌, ◌<◌, ◌≤◌, List, length, vec_len, IfOk, IfErr, IfSome, OnOk, Err};
+ghost use Rattle.std.specs.Prelude.{◌≡◌, ℕ, ◌+◌, ◌<◌, ◌≤◌, ◌⊎◌, List, length, vec_len, IfOk, IfErr, IfSome, OnOk, Err, true};
 ghost use Rattle.std.specs.Io.KnownBytes.{Consumes, IsAtEnd};
 ghost use Rattle.ga_serve.specs.Answering as limits;
 ghost use Rattle.ga_serve.specs.Reading.{ConsumesUpTo};
 ghost use Rattle.ga_serve.specs.inner.Reading.{ReadFails};
 
 use crate::answering::INPUT_LIMIT;
+use crate::reads::{Reads, tried_again};
 use ga_jobs::{InputFault, ServeError};
 use std::alloc::Global;
-use std::io::{ErrorKind, Read};
+use std::io::Read;
 
 /// The most calls of `read` that one input may take.
 const READS_LIMIT: u32 = 2_097_152;
 
-/// Reads all that there is, up to the limit and one byte more, by which an input is too long.
-///
-/// A read that was interrupted is tried again.
-pub fn read_input<R: Read>(alloc: Global, reader: &mut R) -> Result<Vec<u8>, ServeError>
+/// Reads all that there is, up to the limit and one byte more, by which an input is too long, with at most 2,097,152
+/// calls of `read`. A call that was interrupted is tried again.
+pub fn read_input<R: Read>(
+    alloc: Global,
+    reader: &mut R,
+    reads: &mut Reads,
+) -> Result<Vec<u8>, ServeError>
     ensures input { IfOk result (λ input.
         Consumes (R.remaining reader.old) (R.remaining reader.new) input.items) }
     ensures end { OnOk result (IsAtEnd (R.remaining reader.new)) }
     ensures limit { IfOk result (λ input. vec_len input ≤ limits.INPUT_LIMIT) }
     ensures fault { IfErr result (ReadFails (R.remaining reader.old)) }
-    ensures no_more { ConsumesUpTo (limits.INPUT_LIMIT + 1) (R.remaining reader.old)
-        (R.remaining reader.new) }
+    ensures no_more { ConsumesUpTo (limits.INPUT_LIMIT + 1) (R.remaining reader.old) (R.remaining reader.new) }
+    // where none was made before
+    ensures calls { reads.old.calls ≡ 0 → reads.new.calls ≤ 2097152 }
+    ensures failed { reads.old.calls ≡ 0 → IfErr result (λ fault. fault ≡ ServeError.Read
+        → (reads.new.has_failed ≡ true) ⊎ (reads.new.calls ≡ 2097152)) }
 {
     // The system gives a page of the room where it is touched.
     let mut input = Vec::with_capacity(alloc, INPUT_LIMIT + 1)?;
     let mut buffer = [0; 8192];
     for _ in 0..READS_LIMIT {
         let most = buffer.len().min(INPUT_LIMIT + 1 - input.len());
-        match reader.read(&mut buffer[..most]) {
+        match reads.read(reader, &mut buffer[..most]) {
             Ok(0) => return Ok(input),
             Ok(count) => input.extend_from_slice(&buffer[..count])?,
-            Err(error) if error.kind() == ErrorKind::Interrupted => {}
-            Err(_) => return Err(ServeError::Read),
+            Err(error) => {
+                tried_again(&error)?;
+                continue;
+            }
         }
         if input.len() > INPUT_LIMIT {
             return Err(ServeError::Input(InputFault::TooLong));

@@ -1,20 +1,12 @@
 use Rattle.std.proofs.Common.{string_bytes, subst, sym}
 use Rattle.ga_jobs.specs.Boot.{IsBootOutput}
 use Rattle.ga_jobs.specs.Fault.{Answers}
-use Rattle.ga_jobs.specs.Run.{IsRunOutput}
 use Rattle.ga_serve.specs.Answering.{IsJobOutput}
 use Rattle.ga_serve.proofs.answering.output.Goals as goal
 
-pub returns-in-Boot : goal.returns-in-Boot
+pub returns-in-Boot-clause-answer : goal.returns-in-Boot-clause-answer
 unfolding IsJobOutput
-returns-in-Boot g c =
+returns-in-Boot-clause-answer c =
     let boot = c.in-Boot in
     subst (λ job. Answers string_bytes (IsJobOutput job c.args.input.now) c.output-in-Boot.result) (sym boot.is)
     (subst (λ route. Answers string_bytes (IsBootOutput route c.args.input.now) c.output-in-Boot.result) c.deref.ensures c.output-in-Boot.ensures.output)
-
-pub returns-in-Run : goal.returns-in-Run
-unfolding IsJobOutput
-returns-in-Run g c =
-    let run = c.in-Run in
-    subst (λ job. Answers string_bytes (IsJobOutput job c.args.input.now) c.output-in-Run.result) (sym run.is)
-    (subst (λ route. Answers string_bytes (IsRunOutput route run.workers run.turns c.args.input.now) c.output-in-Run.result) c.deref-in-Run.ensures c.output-in-Run.ensures)

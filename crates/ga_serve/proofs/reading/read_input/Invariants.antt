@@ -1,4 +1,4 @@
-use Rattle.std.proofs.Common.{◌≤◌, vec_len}
+use Rattle.std.proofs.Common.{◌≡◌, ◌≤◌, vec_len}
 use Rattle.std.specs.Io.KnownBytes.{Consumes}
 use Rattle.ga_serve.specs.Answering.{INPUT_LIMIT}
 use Rattle.ga_serve.proofs.reading.read_input.Given as goal
@@ -8,4 +8,5 @@ abbrev pub invariant-loop : goal.invariant-loop
 invariant-loop g l = record {
   limit : vec_len l.input ≤ INPUT_LIMIT;
   consumed : Consumes (g.R.Read.remaining l.initial.reader) (g.R.Read.remaining l.reader) l.input.items;
+  counted : l.initial.reads.calls ≡ 0 → l.reads.calls ≡ l.counter;
 }
