@@ -10,7 +10,7 @@ Each line of a FILE is one case, a JSON object with the keys
   status          the exit status that is wanted
   stdout, stderr  what it must write there, as text, to the byte
   stdout_file     a file that holds what it must write to standard output
-A status or output that a case leaves out is not compared. The last line that is printed is
+A status or output that a case leaves out is not compared. The program runs with a stack of 128 KiB. The last line that is printed is
 'cases: N passed, M failed', and the exit status is 0 where M is 0.
 """
 import base64
@@ -23,6 +23,8 @@ from concurrent.futures import ThreadPoolExecutor
 
 SECONDS = 60
 ROOT = os.path.dirname(os.path.dirname(os.path.abspath(__file__)))
+# The program has to run with the stack that docs/FORMATS.md names, in KiB.
+WITH_STACK = ["bash", "-c", 'ulimit -S -s 128 && exec "$0" "$@"']
 KEYS = {"name", "args", "stdin", "stdin_base64", "stdin_file", "pad_to", "status", "stdout", "stdout_file", "stderr"}
 
 
@@ -45,7 +47,7 @@ def differences(program, folder, line):
     """Returns the name of the case in this line, and what came that was not wanted."""
     try:
         case = json.loads(line)
-        name, command = case["name"], [program, *case["args"]]
+        name, command = case["name"], [*WITH_STACK, program, *case["args"]]
         data = (stream(case, "stdin") or b"").ljust(case.get("pad_to", 0), b" ")
         wanted = {"status": case.get("status"), "stdout": stream(case, "stdout"), "stderr": stream(case, "stderr")}
         wanted = {key: value for key, value in wanted.items() if value is not None}

@@ -167,6 +167,38 @@ fn break_and_pass(rt: HostRuntime) -> Result<(), Fail> {
     Ok(())
 }
 
+/// A gate that keeps how many tries of each worker were Moved, as it is told in the last turn.
+#[derive(Drop)]
+struct LastMoved {
+    moved: [AtomicU64; 2],
+}
+
+impl Gate for LastMoved {
+    fn turn(&self, worker: u32, _turn: u64, moved: u64) {
+        self.moved[worker as usize % 2].store(moved, Ordering::SeqCst);
+    }
+}
+
+#[test]
+fn held_tries_are_not_counted_as_moved(rt: HostRuntime) -> Result<(), Fail> {
+    let node_000 = node(0)?;
+    for groups in [&[&[1_u16][..], &[0]][..], &[&[0]]] {
+        let mut chip = chip_with(rt.alloc(), node_000, &[0x048B2, 0x00003, 0x2D1B2, 0x10000])?;
+        chip.set_break(node_000, 0x003);
+        let gate = LastMoved {
+            moved: [AtomicU64::new(0), AtomicU64::new(0)],
+        };
+        let plan = plan(rt.alloc(), groups)?;
+        let chip = after_run(&rt, rt.alloc(), chip, &plan, 101, &gate)?;
+        // Node 000 makes 16 steps, and is held from then on; node 001 makes none.
+        assert!(rt; chip.state(node_000).steps() == 16);
+        let worker = groups.len() - 1;
+        assert!(rt; gate.moved[worker].load(Ordering::SeqCst) == 16);
+        assert!(rt; gate.moved[1 - worker].load(Ordering::SeqCst) == 0);
+    }
+    Ok(())
+}
+
 /// A gate that counts its calls, and those in which the worker, which tries 708 alone, hasn't made a step in each turn
 /// before.
 #[derive(Drop)]

@@ -203,8 +203,8 @@ fn happen(chip: &mut Chip, node: Node, chance: &mut Chance) {
     match chance.next() {
         0 => chip.set_break(node, port),
         1..=9 => chip.clear_break(node, port),
-        10..=15 => {
-            let _held = chip.pass_break(node);
+        10..=15 if chip.is_held(node) => {
+            let _passed = chip.pass_break(node);
         }
         _ => {
             for side in SIDES {
@@ -263,8 +263,8 @@ fn start_posted(alloc: Global, stream: &[u32]) -> Result<Chip, Fail> {
     chip.set_break(node_709, 0x1D5);
     for _ in 0..400 {
         let _moved = chip.turns(4);
-        if chip.ledger(node_708, Side::Right).read < 12 {
-            let _held = chip.pass_break(node_709);
+        if chip.is_held(node_709) && chip.ledger(node_708, Side::Right).read < 12 {
+            chip.pass_break(node_709)?;
         }
     }
     Ok(chip)

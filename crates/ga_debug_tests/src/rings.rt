@@ -124,12 +124,12 @@ fn ring_of_four(rt: HostRuntime) -> Result<(), Fail> {
     Ok(())
 }
 
-/// A gate at which each worker waits in its first turn until it has seen the flags of all others.
+/// A gate at which each worker waits in its first turn until all others have come to theirs.
 #[derive(Drop)]
 struct Meeting {
     workers: u32,
-    // A flag for each worker, which it sets when it comes, and how many workers have seen all flags.
-    flags: [AtomicBool; 4],
+    // How many workers have come, and how many have seen that all have.
+    come: AtomicU32,
     met: AtomicU32,
     // Whether a worker has given up waiting: then all do.
     given_up: AtomicBool,
@@ -139,36 +139,21 @@ impl Meeting {
     fn new(workers: u32) -> Self {
         Meeting {
             workers,
-            flags: [
-                AtomicBool::new(false),
-                AtomicBool::new(false),
-                AtomicBool::new(false),
-                AtomicBool::new(false),
-            ],
+            come: AtomicU32::new(0),
             met: AtomicU32::new(0),
             given_up: AtomicBool::new(false),
         }
     }
-
-    /// Whether the flags of all workers are set.
-    fn all_have_come(&self) -> bool {
-        for worker in 0..4 {
-            if worker < self.workers && !self.flags[worker as usize].load(Ordering::SeqCst) {
-                return false;
-            }
-        }
-        true
-    }
 }
 
 impl Gate for Meeting {
-    fn turn(&self, worker: u32, turn: u64, _moved: u64) {
-        if turn > 0 || worker >= 4 {
+    fn turn(&self, _worker: u32, turn: u64, _moved: u64) {
+        if turn > 0 {
             return;
         }
-        self.flags[worker as usize].store(true, Ordering::SeqCst);
+        self.come.fetch_add(1, Ordering::SeqCst);
         for _ in 0..10_000_000 {
-            if self.all_have_come() {
+            if self.come.load(Ordering::SeqCst) == self.workers {
                 self.met.fetch_add(1, Ordering::SeqCst);
                 return;
             }
@@ -181,25 +166,26 @@ impl Gate for Meeting {
     }
 }
 
-/// Whether so many workers run at once: each comes to its first turn while the others wait in theirs.
-fn overlap<R: Threads + Sync>(
-    rt: &R,
-    alloc: Global,
-    nodes: &[Node; 4],
-    workers: u32,
-) -> Result<bool, Fail> {
-    let plan = plan_by(alloc, nodes, workers)?;
+/// Whether as many workers run at once as there are nodes, of which each has one: each comes to its first turn while the
+/// others wait in theirs.
+fn overlap<R: Threads + Sync>(rt: &R, alloc: Global, nodes: &[Node]) -> Result<bool, Fail> {
+    let mut groups = Vec::new(alloc);
+    for node in nodes {
+        groups.push(Vec::from_slice(alloc, &[*node])?)?;
+    }
+    let plan = Plan::new(groups).map_err(|_| "no plan")?;
+    let workers = nodes.len() as u32;
     let gate = Meeting::new(workers);
-    let _chip = after_run(rt, alloc, ring(alloc, nodes)?, &plan, 2, &gate)?;
+    let _chip = after_run(rt, alloc, Chip::reset(alloc)?, &plan, 2, &gate)?;
     Ok(gate.met.load(Ordering::SeqCst) == workers)
 }
 
 #[test]
 fn workers_overlap(rt: HostRuntime) -> Result<(), Fail> {
     let alloc = rt.alloc();
-    let ring = nodes(&[708, 709, 609, 608])?;
-    for workers in [2, 4] {
-        assert!(rt; overlap(&rt, alloc, &ring, workers)?);
+    let nodes = nodes(&[708, 709, 609, 608, 0, 17, 300, 717, 401])?;
+    for workers in [2, 3, 4, 5, 9] {
+        assert!(rt; overlap(&rt, alloc, &nodes[..workers])?, "{workers} workers");
     }
     Ok(())
 }

@@ -4,6 +4,6 @@ mod Replies
 mod Dealing
 mod Faults
 pub mod OneOutput
-mod OneRun
+pub mod OneRun
 mod Again
 mod WorkedOutputs

@@ -1,5 +1,5 @@
 -- Two outputs of one job for one input are equal.
-use Rattle.std.proofs.Common.{◌≡◌, ℕ, Bool, true, false, List, Err}
+use Rattle.std.proofs.Common.{◌≡◌, ◌∙◌, sym, ℕ, Bool, true, false, List, Result, Ok, Err}
 use Rattle.std.specs.Prelude.{MatchBool, string_bytes}
 use Rattle.ga_asm.specs.Text.{AtMostOne}
 use Rattle.ga_command_line.specs.declared.request.Job.{Job}
@@ -8,15 +8,29 @@ use Rattle.ga_command_line.specs.declared.request.Job.TheVariants as job
 use Rattle.ga_jobs.specs.declared.fault.ServeError.TheVariants.{Input}
 use Rattle.ga_jobs.specs.declared.fault.InputFault.TheVariants.{TooLong}
 use Rattle.ga_jobs.proofs.OneOutput.{one_asm_output, one_boot_output, one_check_output, one_debug_output, one_list_output, one_record_output, one_replay_output}
+use Rattle.ga_jobs.proofs.OneRun.{run_outputs}
+use Rattle.ga_jobs.specs.Run.{AreTextsOrEqual}
+use Rattle.ga_jobs.specs.declared.fault.ServeError.{ServeError}
 use Rattle.ga_serve.specs.Answering.{HasOneOutput, IsJobOutput, IsOutput, is_too_long}
 
--- an input that is too long has one fault
-within_limit : (job : Job) (input : List ℕ) → AtMostOne (IsJobOutput job input) → AtMostOne (IsOutput job input)
-within_limit job input only one other = by (is_too_long job input)
+-- Answers to one input are alike, where those to one that is not too long are.
+alike_within : (job : Job) (input : List ℕ) (Alike : Result (List ℕ) ServeError → Result (List ℕ) ServeError → Type 0)
+    → ((one other : Result (List ℕ) ServeError) → one ≡ Err (Input TooLong) → other ≡ Err (Input TooLong) → Alike one other)
+    → ((one other : Result (List ℕ) ServeError) → IsJobOutput job input one → IsJobOutput job input other → Alike one other)
+    → (one other : Result (List ℕ) ServeError) → IsOutput job input one → IsOutput job input other → Alike one other
+alike_within job input Alike refused alike one other = by (is_too_long job input)
   where
-    by : (b : Bool) → MatchBool b (one ≡ Err (Input TooLong)) (IsJobOutput job input one) → MatchBool b (other ≡ Err (Input TooLong)) (IsJobOutput job input other) → one ≡ other
-    by true p q = cc
-    by false p q = only one other p q
+    by : (b : Bool) → MatchBool b (one ≡ Err (Input TooLong)) (IsJobOutput job input one) → MatchBool b (other ≡ Err (Input TooLong)) (IsJobOutput job input other) → Alike one other
+    by true p q = refused one other p q
+    by false p q = alike one other p q
+
+refused_alike : (one other : Result (List ℕ) ServeError) → one ≡ Err (Input TooLong) → other ≡ Err (Input TooLong) → AreTextsOrEqual one other
+refused_alike (Ok one) other p q = absurd cc
+refused_alike (Err one) (Ok other) p q = absurd cc
+refused_alike (Err one) (Err other) p q = cc
+
+within_limit : (job : Job) (input : List ℕ) → AtMostOne (IsJobOutput job input) → AtMostOne (IsOutput job input)
+within_limit job input only = alike_within job input (λ one other. one ≡ other) (λ one other p q. p ∙ sym q) only
 
 pub one_output : (job : Job) (input : List ℕ) → HasOneOutput job input
 unfolding IsJobOutput
@@ -24,7 +38,9 @@ one_output (One tries) input = within_limit (One tries) input (λ one other p q.
 one_output Asm input = within_limit Asm input (one_asm_output input)
 one_output (Dis code) input = within_limit (Dis code) input (λ one other p q. cc)
 one_output (Boot route) input = within_limit (Boot route) input (one_boot_output (string_bytes route) input)
-one_output (Run route workers turns) input = tt
+one_output (Run route workers turns) input =
+    let runs = run_outputs (string_bytes route) input workers turns in
+    record { texts = alike_within (Run route workers turns) input AreTextsOrEqual refused_alike runs.texts; alone = λ single. within_limit (Run route workers turns) input (runs.alone single) }
 one_output Debug input = within_limit Debug input (one_debug_output input)
 one_output Replay input = within_limit Replay input (one_replay_output input)
 one_output (job.List labels file) input = within_limit (job.List labels file) input (one_list_output labels input)

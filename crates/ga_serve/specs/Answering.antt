@@ -16,7 +16,7 @@ use Rattle.ga_jobs.specs.Dis.{dis_output}
 use Rattle.ga_jobs.specs.List.{IsListOutput}
 use Rattle.ga_jobs.specs.One.{one_output}
 use Rattle.ga_jobs.specs.Replay.{IsReplayOutput}
-use Rattle.ga_jobs.specs.Run.{IsRunOutput}
+use Rattle.ga_jobs.specs.Run.{HasRuns, IsRunOutput}
 use Rattle.ga_jobs.specs.Transcript.{IsCheckOutput, IsRecordOutput}
 
 -- what a job may answer to an input that is not too long
@@ -50,7 +50,8 @@ abbrev pub starts_threads : Job → Bool
 starts_threads (Run route workers turns) = true
 starts_threads job = false
 
--- Two outputs of a job for one input are equal, but for the job `run`, where the order of tries is free.
+-- Two answers of a job to one input are equal, but for the job `run`, where the order of tries is free: two answers of
+-- that are both texts or equal, and those of a single worker are equal.
 abbrev pub HasOneOutput : Job → List ℕ → Type 0
-HasOneOutput (Run route workers turns) input = Unit {0}
+HasOneOutput (Run route workers turns) input = HasRuns workers (IsOutput (Run route workers turns) input)
 HasOneOutput job input = AtMostOne (IsOutput job input)

@@ -1,4 +1,4 @@
-ghost use Rattle.std.specs.Prelude.{◌≡◌, ◌≢◌, ◌+◌, ◌<◌, ◌≤◌, Err, IfErr, IfOk, IfSome, Ok, false, length, true};
+ghost use Rattle.std.specs.Prelude.{◌≡◌, ◌≢◌, ◌+◌, ◌<◌, Err, IfErr, IfOk, Ok, true};
 ghost use Rattle.std.specs.Io.KnownBytes.{ReadConsumes};
 ghost use Rattle.std.specs.IoError.{error_kind};
 ghost use Rattle.std.specs.Io.{ReadsAtMost};
@@ -7,7 +7,7 @@ use ga_jobs::ServeError;
 use std::io;
 use std::io::{ErrorKind, Read};
 
-/// How many calls of `read` an input took, and whether one failed. Each goes through it.
+/// How many calls of `read` an input took, and whether one failed. Each call goes through it.
 #[derive(Default, Drop)]
 pub struct Reads {
     /// How many calls were made.
@@ -23,6 +23,7 @@ impl Reads {
         ensures bytes { ReadConsumes (R.remaining reader.old) (R.remaining reader.new)
             result buffer.new }
         ensures counted { self.old.calls < 2097152 → self.new.calls ≡ self.old.calls + 1 }
+        ensures kept { IfOk result (λ _. self.new.has_failed ≡ self.old.has_failed) }
         ensures failed { IfErr result (λ error. error_kind error ≢ ErrorKind.Interrupted
             → self.new.has_failed ≡ true) }
     {

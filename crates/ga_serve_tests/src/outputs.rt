@@ -5,7 +5,7 @@ ghost use Rattle.ga_serve.specs.Answering.{IsOutput};
 use crate::streams::{LINE, WORDS, boot_of, run_of, sink_of, source_of};
 use ga_command_line::Job;
 use ga_jobs::{InputFault, ServeError};
-use ga_serve::{answer, serve, status};
+use ga_serve::{answer, answer_alone, serve, status};
 use std::test::Fail;
 use std::thread::Threads;
 
@@ -174,6 +174,20 @@ fn composes(rt: HostRuntime) {
 fn answers_bytes_in_memory(rt: HostRuntime) -> Result<(), Fail> {
     let text = answer(&rt, &Job::One { tries: 5 }, WORDS.as_bytes())?;
     assert!(rt; text.as_str() == LINE);
+    Ok(())
+}
+
+#[test]
+fn answers_without_threads(rt: HostRuntime) -> Result<(), Fail> {
+    let alloc = rt.alloc();
+    let one = Job::One { tries: 5 };
+    let text = match answer_alone(alloc, &one, WORDS.as_bytes()) {
+        Some(answer) => answer?,
+        None => String::new(alloc),
+    };
+    assert!(rt; text.as_str() == LINE);
+    let run = run_of(alloc, "708", 1, 1)?;
+    assert!(rt; answer_alone(alloc, &run, b"node 708 dup").is_none());
     Ok(())
 }
 

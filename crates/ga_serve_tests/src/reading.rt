@@ -3,7 +3,7 @@ use crate::streams::{LINE, Restless, WORDS, sink_of, source_of};
 use ga_command_line::Job;
 use ga_explain::Topic;
 use ga_jobs::{ServeError, WordsFault};
-use ga_serve::serve;
+use ga_serve::{Reads, read_input, serve};
 use std::alloc::{AllocError, Global};
 use std::io::ErrorKind;
 use std::test::Fail;
@@ -73,6 +73,33 @@ fn fails_at_each_read(rt: HostRuntime) {
             assert!(rt; outcome == expected, "at read {call}");
             assert!(rt; writer.taken.as_slice() == written.as_bytes());
         }
+    }
+}
+
+#[test]
+fn counts_reads(rt: HostRuntime) -> Result<(), Fail> {
+    // 23 bytes, 6 at a call, and a read at the end.
+    let mut reader = source_of(WORDS.as_bytes(), 6);
+    let mut reads = Reads::default();
+    let input = read_input(rt.alloc(), &mut reader, &mut reads)?;
+    assert!(rt; input.as_slice() == WORDS.as_bytes());
+    assert!(rt; reader.calls == 5 && reads.calls == 5 && !reads.has_failed);
+    Ok(())
+}
+
+#[test]
+fn keeps_that_a_read_failed(rt: HostRuntime) {
+    for (kind, has_failed, calls) in [
+        (ErrorKind::Other, true, 2),
+        (ErrorKind::Interrupted, false, 6),
+    ] {
+        let mut reader = source_of(WORDS.as_bytes(), 6);
+        reader.fails_at = Some(1);
+        reader.kind = kind;
+        let mut reads = Reads::default();
+        let input = read_input(rt.alloc(), &mut reader, &mut reads);
+        assert!(rt; input.is_err() == has_failed && reads.has_failed == has_failed);
+        assert!(rt; reads.calls == calls);
     }
 }
 
