@@ -138,6 +138,22 @@ def words_of(text):
     return [int(word, 16) for word in words]
 
 
+def drawn(text):
+    """A text as it is shown: without what a terminal would obey or not draw."""
+    return re.sub("[\0-\x08\x0b-\x1f\x7f-\x9f\u200b-\u200f\u202a-\u202e\u2066-\u2069]", " ", text)
+
+
+def meaning_of(name, text):
+    if name != "BadProfile":
+        return MEANINGS.get(name, "no recorded case shows what this means")
+    beside = ""
+    if text.startswith("\ufeff"):
+        beside = ": a byte order mark stands in front of it"
+    elif text.split("\n")[0].endswith("\r"):
+        beside = ": a CR stands at its end"
+    return f"the first line isn't 'profile 2'{beside}"
+
+
 def reported(job, fault, text):
     """What stands on standard error: the fault, and behind it what `list`, `check` and `record` show of the text."""
     shown = fault.behind
@@ -146,10 +162,10 @@ def reported(job, fault, text):
         rows = [*text.split("\n"), ""]
         row = rows[line - 1].removesuffix("\r" if line < len(rows) - 1 else "")
         begin = column - 41 if column and column > 80 else 0
-        shown = "  " + re.sub("[\0-\x08\n-\x1f\x7f-\x9f]", " ", row[begin : begin + 100]) + "\n"
+        shown = f"  {drawn(row[begin : begin + 100])}\n"
         if column:
             shown += "  " + re.sub("[^\t]", " ", row[begin : column - 1]) + "^\n"
-        shown += MEANINGS.get(fault.text.split()[-1], "no recorded case shows what this means") + "\n"
+        shown += meaning_of(fault.text.split()[-1], text) + "\n"
     return f"ga-bench: {fault.text}\n{shown}"
 
 
@@ -251,7 +267,8 @@ def check(ask, job, text, answer):
     old, new = Transcript(text), transcript_of(ask(["record"], text))
     for one, other in zip(old.exchanges, new.exchanges):
         if one.reply != other.reply:
-            raise Fault(f"check differs {one.line}", behind=text_of(one.reply, "-") + text_of(other.reply, "+"))
+            differing = text_of(one.reply, "-") + text_of(other.reply, "+")
+            raise Fault(f"check differs {one.line}", behind=drawn(differing))
     return f"same {len(old.exchanges)}\n"
 
 

@@ -85,9 +85,17 @@ def head_of(text, profiles=("profile 2",), shows_source=False):
     except Fault as fault:
         kind = fault.text.split()[0]
         if shows_source and kind in ("source", "asm"):
-            raise
+            raise in_front_of_go(fault, lines, go) from None
         raise Fault(f"replay {kind.capitalize()}", (2, None)) from None
     return Head(images, text_of(lines[: go + 1]), go + 1, lines[go + 1 :])
+
+
+def in_front_of_go(fault, lines, go):
+    """The fault, if it is at the end of the source lines, behind the last of them; else as it is."""
+    if fault.place != (go + 1, 1) or go == 2:
+        return fault
+    place = go, len(lines[go - 1].removesuffix("\r")) + 1
+    return Fault(f"source {place[0]}:{place[1]} {fault.text.split()[-1]}", place)
 
 
 def command_of(line, commands, images=None):
