@@ -1,1 +1,4 @@
+pub mod Unfed
+pub mod Joined
 pub mod OneSide
+pub mod StateKept
