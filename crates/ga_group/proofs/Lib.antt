@@ -2,7 +2,6 @@ pub mod Plans
 pub mod Rounds
 pub mod Counting
 pub mod Walk
-pub mod Tries
 pub mod Gains
 pub mod Shared
 pub mod Grouped

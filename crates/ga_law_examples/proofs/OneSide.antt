@@ -4,7 +4,7 @@ use Rattle.std.specs.Prelude.{if◌then◌else◌}
 use Rattle.std.proofs.lemmas.Bool.{cases_lt}
 use Rattle.std.proofs.lemmas.List.{append-nil, replicate-append-replicate}
 use Rattle.std.proofs.lemmas.List.Concat.{flat_map-append}
-use Rattle.std.proofs.lemmas.List.Elements.{All-tail}
+use Rattle.std.proofs.lemmas.List.Elements.{All-tail, filter-append}
 use Rattle.ga_place.specs.Side.{one_side}
 use Rattle.ga_place.specs.declared.side.Side.{Side}
 use Rattle.ga_node.specs.Need.{need_of}
@@ -17,7 +17,6 @@ use Rattle.ga_chip.specs.Part.{Part, after, asks, picked_by, picked_of}
 use Rattle.ga_chip.specs.Chip.{Chip, found_by, part_of}
 use Rattle.ga_chip.specs.Laws.{AgreesWith, IsPrefix}
 use Rattle.ga_chip.specs.Run.{Event, Move, Try, happened, if_moved, move_at, move_in, moves, moves_of, sides_of, tries_of}
-use Rattle.ga_chip.proofs.Runs.{moves_of-append}
 
 -- so many times one side, and nothing else
 abbrev pub IsOnly : Side → List Side → Type 0
@@ -86,5 +85,5 @@ sides_named chip (one ∷ tries) name side all =
     let first : IsOnly side (picked name (move_in chip event)) = subst (λ s. IsOnly s (picked name (move_in chip event))) here (one_try chip one.node name one.side) in
     let rest : IsOnly side (sides_of (happened chip event) (tries_of tries) name) = sides_named (happened chip event) tries name side (All-tail (λ one. one.side ≡ side) one tries all) in
     subst (IsOnly side)
-    (sym (ap (flat_map (λ move. move.picked)) (moves_of-append name (move_in chip event) (moves (happened chip event) (tries_of tries))) ∙ flat_map-append (λ move. move.picked) (moves_of name (move_in chip event)) (moves_of name (moves (happened chip event) (tries_of tries)))))
+    (sym (ap (flat_map (λ move. move.picked)) (filter-append (λ move. move.node == name) (move_in chip event) (moves (happened chip event) (tries_of tries))) ∙ flat_map-append (λ move. move.picked) (moves_of name (move_in chip event)) (moves_of name (moves (happened chip event) (tries_of tries)))))
     (both side _ _ first rest)

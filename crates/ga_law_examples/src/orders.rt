@@ -6,7 +6,7 @@ ghost use Rattle.ga_chip.specs.Legal.{DifferInBreaks};
 ghost use Rattle.ga_chip.specs.Run.{ran, sides_of, taken_words, tries_of, written_words};
 ghost use Rattle.ga_group.specs.Laws.{LeaveAlike};
 
-use ga_chip::laws::confluence;
+use ga_chip::laws::{confluence, runs};
 use ga_chip::{Chip, Try};
 
 /// Makes tries of two chips that differ in breakpoints at most, of each in an order of its own. Takes of several sides
@@ -30,6 +30,7 @@ pub fn two_orders(one: &mut Chip, two: &mut Chip, order: &[Try], another: &[Try]
     one.legal();
     two.legal();
     confluence();
+    runs();
     one.run(order);
     two.run(another);
 }
@@ -60,6 +61,7 @@ pub fn two_parts(one: &mut Chip, two: &mut Chip, front: &[Try], rest: &[Try], or
     one.legal();
     two.legal();
     confluence();
+    runs();
     one.run(front);
     one.run(rest);
     two.run(order);

@@ -8,7 +8,7 @@ ghost use Rattle.ga_group.specs.Laws.{LeaveAlike};
 ghost use Rattle.ga_group.specs.Workers.{IsWorkersRun};
 ghost use Rattle.ga_group.specs.declared.error.RunError.TheVariants.{TooManyTurns};
 
-use ga_chip::laws::confluence;
+use ga_chip::laws::{confluence, runs};
 use ga_chip::{Chip, Try};
 use ga_group::laws::plans_agree;
 use ga_group::{Gate, Plan, RunError, run_workers};
@@ -101,6 +101,7 @@ pub fn plan_behind_plan<R: Threads + Sync, G: Gate>(
 {
     two.legal();
     confluence();
+    runs();
     let next = after_run(rt, alloc, one, plan, turns, gate)?;
     let last = after_run(rt, alloc, next, another, turns, gate)?;
     two.run(tries);

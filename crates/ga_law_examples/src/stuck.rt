@@ -3,7 +3,7 @@ ghost use Rattle.std.specs.Prelude.{◌≡◌, [], true};
 ghost use Rattle.ga_chip.specs.Chip.{state_of};
 ghost use Rattle.ga_chip.specs.Run.{moves, moves_of, ran, tries_of};
 
-use ga_chip::laws::stuck;
+use ga_chip::laws::{runs, stuck};
 use ga_chip::{Chip, Try};
 use ga_place::Node;
 
@@ -16,6 +16,7 @@ pub fn tries_beside_stuck(chip: &mut Chip, node: Node, tries: &[Try]) -> bool
 {
     chip.legal();
     stuck();
+    runs();
     let is_stuck = chip.stuck().contains(node);
     chip.run(tries);
     is_stuck

@@ -1,0 +1,57 @@
+//! Runs of workers on chips whose nodes read no port.
+ghost use Rattle.std.specs.Prelude.{◌≡◌, ◌≤◌, ◌^◌, IfErr, IfOk};
+ghost use Rattle.ga_group.specs.Laws.{LeaveAlike};
+ghost use Rattle.ga_group.specs.Workers.{IsWorkersRun};
+ghost use Rattle.ga_group.specs.declared.error.RunError.TheVariants.{TooManyTurns};
+ghost use Rattle.ga_law_examples.specs.Spinning as model;
+
+use crate::plans::two_plans;
+use ga_chip::Chip;
+use ga_chip::laws::one_port;
+use ga_group::{Gate, Plan, RunError};
+use ga_place::Node;
+use ga_word::Word18;
+use std::alloc::{AllocError, Global};
+use std::thread::Threads;
+
+/// The chip in which each node runs an endless loop in its own memory: all is as after reset, but each node has the word
+/// `jump 000` at address 000, and P there. An error where memory runs out.
+pub fn spinning_chip(alloc: Global) -> Result<Chip, AllocError>
+    ensures { IfOk result (λ chip. chip ≡ model.spinning_chip) }
+{
+    let words = [jump_000()];
+    let mut chip = Chip::reset(alloc)?;
+    for index in 0..144 {
+        chip.place(Node::at(index), &words, 0).unwrap();
+    }
+    Ok(chip)
+}
+
+/// The word `jump 000`, by which a node goes on at address 000.
+fn jump_000() -> Word18
+    ensures { result ≡ model.JUMP_000 }
+{
+    Word18::new(0x1_0000).unwrap()
+}
+
+/// Runs two such chips over so many turns, each by a plan of its own. Nothing has to be known of takes of several sides:
+/// no node makes one. Then a node that has made equally many steps ends alike. A refusal is that of `run_workers`, or
+/// `Memory`.
+pub fn spinning_plans<R: Threads + Sync, G: Gate>(
+    rt: &R,
+    alloc: Global,
+    plan: &Plan,
+    another: &Plan,
+    turns: u64,
+    gate: &G,
+) -> Result<(Chip, Chip), RunError>
+    ensures first { IfOk result (λ ends. IsWorkersRun model.spinning_chip plan.now turns ends.0) }
+    ensures second { IfOk result (λ ends. IsWorkersRun model.spinning_chip another.now turns ends.1) }
+    ensures nodes { IfOk result (λ ends. LeaveAlike ends.0 ends.1) }
+    ensures turns { IfErr result (λ fault. fault ≡ TooManyTurns → 2 ^ 40 ≤ turns) }
+{
+    one_port();
+    let one = spinning_chip(alloc).map_err(|_| RunError::Memory)?;
+    let two = spinning_chip(alloc).map_err(|_| RunError::Memory)?;
+    two_plans(rt, alloc, one, two, plan, another, turns, gate)
+}
