@@ -82,7 +82,8 @@ abbrev pub AreTextsOrEqual : Result (List ℕ) ServeError → Result (List ℕ) 
 AreTextsOrEqual (Ok text) (Ok other) = Unit {0}
 AreTextsOrEqual answer other = answer ≡ other
 
--- Two answers of so many workers to one input are both texts, or they are equal. Those of a single worker are equal.
+-- What is said of two answers of so many workers to one input: both are texts, or they are equal. Those of a single
+-- worker are equal.
 pub record HasRuns (workers : ℕ) (Is : Result (List ℕ) ServeError → Type 0) : Type 0 where
   pub texts : (answer other : Result (List ℕ) ServeError) → Is answer → Is other → AreTextsOrEqual answer other
   pub alone : workers ≡ 1 → AtMostOne Is

@@ -11,7 +11,7 @@ ghost use Rattle.ga_laws.specs.Laws.{BootsHold, StepsAreRows, WordsGiveBack};
 /// It speaks of the definitions that the calls answer with: `attempt` and `run` of `ga_chip`; `parse` of `ga_source`,
 /// `assemble` of `ga_asm` and `items` of `ga_disasm`; `Route::new` and `boot`, and `Tree::new` and `boot_tree`, of
 /// `ga_path`, with `give_stream`, or `open_stream` and `feed`, of a chip after reset, or `booted_tree` of `ga_debug`;
-/// `run_workers` of `ga_group`. That the images have room is told by `images_fit` of `ga_boot`.
+/// `run_workers` of `ga_group`. The images are those of a text, as `assemble_text` says.
 pub fn headline()
     ensures steps { StepsAreRows }
     ensures instructions { WordsGiveBack }

@@ -45,10 +45,10 @@ is_too_long job input = reads_input job && nat_lt INPUT_LIMIT (length input)
 abbrev pub IsOutput : Job → List ℕ → Result (List ℕ) ServeError → Type 0
 IsOutput job input answer = MatchBool (is_too_long job input) (answer ≡ Err (Input TooLong)) (IsJobOutput job input answer)
 
--- the jobs that start threads
-abbrev pub starts_threads : Job → Bool
-starts_threads (Run route workers turns) = true
-starts_threads job = false
+-- the job that is handed the means to start threads
+abbrev pub needs_threads : Job → Bool
+needs_threads (Run route workers turns) = true
+needs_threads job = false
 
 -- Two answers of a job to one input are equal, but for the job `run`, where the order of tries is free: two answers of
 -- that are both texts or equal, and those of a single worker are equal.

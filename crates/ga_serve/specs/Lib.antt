@@ -2,4 +2,3 @@ pub mod Answering
 pub mod Reading
 pub mod Writing
 pub mod Engine
-pub mod inner

@@ -1,11 +1,13 @@
 -- What is read of an input.
-use Rattle.std.specs.Prelude.{ℕ, ◌≤◌, List, length, Option, Result, Err, MatchBool}
+use Rattle.std.specs.Prelude.{ℕ, ◌<◌, ◌≤◌, Bool, List, length, Option, Result, Err, IfSome, MatchBool}
 use Rattle.std.specs.Io.KnownBytes.{Consumes, IsAtEnd, Keeps}
 use Rattle.ga_command_line.specs.Request.{reads_input}
 use Rattle.ga_command_line.specs.declared.request.Job.{Job}
 use Rattle.ga_jobs.specs.declared.fault.ServeError.{ServeError}
 use Rattle.ga_jobs.specs.declared.fault.ServeError.TheVariants.{Input, Read, Memory}
 use Rattle.ga_jobs.specs.declared.fault.InputFault.TheVariants.{TooLong}
+use Rattle.ga_serve.specs.declared.reads.Reads.{Reads}
+use Rattle.ga_serve.specs.Answering.{INPUT_LIMIT}
 
 -- no more than so many of the bytes that a reader has left were taken from it
 abbrev pub ConsumesUpTo : ℕ → Option (List ℕ) → Option (List ℕ) → Type 0
@@ -22,3 +24,17 @@ ReadsToEnd answer left = IsAtEnd left
 -- So it is of a job that reads its input. Of any other no byte is read.
 abbrev pub ReadsFirst : {Done : Type 0} → Job → Result Done ServeError → Option (List ℕ) → Option (List ℕ) → Type 0
 ReadsFirst job answer old new = MatchBool (reads_input job) (ReadsToEnd answer new) (Keeps old new)
+
+-- Why an input was not read: a read failed, memory ran out, or it has more bytes than it may.
+abbrev pub ReadFails : Option (List ℕ) → ServeError → Type 0
+ReadFails old (Input TooLong) = IfSome old (λ input. INPUT_LIMIT < length input)
+ReadFails old Read = Unit {0}
+ReadFails old Memory = Unit {0}
+ReadFails old fault = ⊥
+
+-- how many calls of `read` were made, and whether one failed that was not interrupted
+abbrev pub calls_of : Reads → ℕ
+calls_of reads = reads.calls
+
+abbrev pub has_failed : Reads → Bool
+has_failed reads = reads.has_failed

@@ -3,7 +3,7 @@ ghost use Rattle.ga_explain.specs.Output.{explain_output};
 ghost use Rattle.ga_jobs.specs.declared.fault.InputFault.TheVariants.{TooLong};
 ghost use Rattle.ga_jobs.specs.declared.fault.ServeError.TheVariants.{Input};
 ghost use Rattle.ga_jobs.specs.Fault.{Answers};
-ghost use Rattle.ga_serve.specs.Answering.{HasOneOutput, IsJobOutput, IsOutput, is_too_long, starts_threads};
+ghost use Rattle.ga_serve.specs.Answering.{HasOneOutput, IsJobOutput, IsOutput, is_too_long, needs_threads};
 
 use ga_command_line::Job;
 use ga_explain::{Topic, explain};
@@ -46,12 +46,12 @@ pub fn answer<Rt: AllocGlobal + Threads + Sync>(
     }
 }
 
-/// What [`answer`] answers, by a call that starts no thread and so waits for none: `None` for the job `run` alone, which
-/// starts some.
+/// What [`answer`] answers, by a call that is handed no means to start threads, and so waits for
+/// none: `None` for the job `run` alone, which needs them.
 #[tactic(auto, using(crate::proofs::OneOutput::one_output))]
 pub fn answer_alone(alloc: Global, job: &Job, input: &[u8]) -> Option<Result<String, ServeError>>
     ensures answer { IfSome result (Answers string_bytes (IsOutput job.now input.now)) }
-    ensures none { is_some result ≡ not (starts_threads job.now) }
+    ensures none { is_some result ≡ not (needs_threads job.now) }
     ensures only { HasOneOutput job.now input.now }
 {
     match within_limit(job, input) {
@@ -75,7 +75,7 @@ fn within_limit(job: &Job, input: &[u8]) -> Result<(), ServeError>
 #[tactic(auto, unfolding(crate::specs::Answering::IsJobOutput))]
 fn output(alloc: Global, job: &Job, input: &[u8]) -> Option<Result<String, ServeError>>
     ensures answer { IfSome result (Answers string_bytes (IsJobOutput job.now input.now)) }
-    ensures none { is_some result ≡ not (starts_threads job.now) }
+    ensures none { is_some result ≡ not (needs_threads job.now) }
 {
     match job {
         Job::One { tries } => Some(one::output(alloc, *tries, input)),

@@ -1,8 +1,7 @@
-ghost use Rattle.std.specs.Prelude.{◌≡◌, ℕ, ◌+◌, ◌<◌, ◌≤◌, ◌⊎◌, List, length, vec_len, IfOk, IfErr, IfSome, OnOk, Err, true};
+ghost use Rattle.std.specs.Prelude.{◌≡◌, ◌+◌, ◌≤◌, ◌⊎◌, vec_len, IfErr, IfOk, OnOk, false, true};
 ghost use Rattle.std.specs.Io.KnownBytes.{Consumes, IsAtEnd};
 ghost use Rattle.ga_serve.specs.Answering as limits;
-ghost use Rattle.ga_serve.specs.Reading.{ConsumesUpTo};
-ghost use Rattle.ga_serve.specs.inner.Reading.{ReadFails};
+ghost use Rattle.ga_serve.specs.Reading.{ConsumesUpTo, ReadFails, calls_of, has_failed};
 
 use crate::answering::INPUT_LIMIT;
 use crate::reads::{Reads, tried_again};
@@ -13,8 +12,12 @@ use std::io::Read;
 /// The most calls of `read` that one input may take.
 const READS_LIMIT: u32 = 2_097_152;
 
-/// Reads all that there is, up to the limit and one byte more, by which an input is too long, with at most 2,097,152
-/// calls of `read`. A call that was interrupted is tried again.
+/// Reads all that there is, up to the limit and one byte more, by which an input is too long, with
+/// at most 2,097,152 calls of `read`. A call that was interrupted is made again.
+///
+/// It fails as `Input(TooLong)` for an input of more than 1,048,576 bytes, as `Read` where a call
+/// failed or so many were made, and as `Memory` only where memory is refused. (The limits are this
+/// project's own: profile.)
 pub fn read_input<R: Read>(
     alloc: Global,
     reader: &mut R,
@@ -25,11 +28,13 @@ pub fn read_input<R: Read>(
     ensures end { OnOk result (IsAtEnd (R.remaining reader.new)) }
     ensures limit { IfOk result (λ input. vec_len input ≤ limits.INPUT_LIMIT) }
     ensures fault { IfErr result (ReadFails (R.remaining reader.old)) }
-    ensures no_more { ConsumesUpTo (limits.INPUT_LIMIT + 1) (R.remaining reader.old) (R.remaining reader.new) }
-    // where none was made before
-    ensures calls { reads.old.calls ≡ 0 → reads.new.calls ≤ 2097152 }
-    ensures failed { reads.old.calls ≡ 0 → IfErr result (λ fault. fault ≡ ServeError.Read
-        → (reads.new.has_failed ≡ true) ⊎ (reads.new.calls ≡ 2097152)) }
+    ensures no_more { ConsumesUpTo (limits.INPUT_LIMIT + 1)
+        (R.remaining reader.old) (R.remaining reader.new) }
+    // where no call was made before, and so none failed
+    ensures calls { calls_of reads.old ≡ 0 → calls_of reads.new ≤ 2097152 }
+    ensures failed { calls_of reads.old ≡ 0 → has_failed reads.old ≡ false
+        → IfErr result (λ fault. fault ≡ ServeError.Read
+        → (has_failed reads.new ≡ true) ⊎ (calls_of reads.new ≡ 2097152)) }
 {
     // The system gives a page of the room where it is touched.
     let mut input = Vec::with_capacity(alloc, INPUT_LIMIT + 1)?;

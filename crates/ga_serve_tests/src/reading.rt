@@ -83,7 +83,7 @@ fn counts_reads(rt: HostRuntime) -> Result<(), Fail> {
     let mut reads = Reads::default();
     let input = read_input(rt.alloc(), &mut reader, &mut reads)?;
     assert!(rt; input.as_slice() == WORDS.as_bytes());
-    assert!(rt; reader.calls == 5 && reads.calls == 5 && !reads.has_failed);
+    assert!(rt; reader.calls == 5 && reads.calls() == 5 && !reads.has_failed());
     Ok(())
 }
 
@@ -98,8 +98,8 @@ fn keeps_that_a_read_failed(rt: HostRuntime) {
         reader.kind = kind;
         let mut reads = Reads::default();
         let input = read_input(rt.alloc(), &mut reader, &mut reads);
-        assert!(rt; input.is_err() == has_failed && reads.has_failed == has_failed);
-        assert!(rt; reads.calls == calls);
+        assert!(rt; input.is_err() == has_failed && reads.has_failed() == has_failed);
+        assert!(rt; reads.calls() == calls);
     }
 }
 
