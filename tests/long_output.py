@@ -3,7 +3,7 @@
 A transcript sets 20,000 breakpoints, and shows them so often that its recording has 268,435,456 bytes: a comment fills it
 up. This recording is written, to the byte. With one byte more, at its end or in front of its commands, with twice as many,
 and with as many commands as an input may have, it is refused as `output TooLong`, and nothing is written. A fault of the
-head and an early reply are told before that. Each run has at most 1,200 MiB of memory, and a minute of a processor.
+head and an early reply are reported before that. Each run has at most 1,200 MiB of memory, and a minute of a processor.
 
 The last line that is printed is 'long output: N passed, M failed', and the exit status is 0 where M is 0.
 """
@@ -65,11 +65,11 @@ def wrong(program, data, parts, error):
         streams = {"stdin": file, "stdout": subprocess.PIPE, "stderr": subprocess.PIPE}
         with subprocess.Popen([program, "record"], **streams, preexec_fn=bound) as child:
             is_written = all([child.stdout.read(len(part)) == part for part in parts]) and not child.stdout.read()
-            told = child.stderr.read().decode(errors="replace")
+            reported = child.stderr.read().decode(errors="replace")
             status = child.wait()
-    if is_written and (status, told) == ((1, f"ga-bench: {error}") if error else (0, "")):
+    if is_written and (status, reported) == ((1, f"ga-bench: {error}") if error else (0, "")):
         return None
-    return f"status {status}, {told[:200]!r}, and the output is {'as' if is_written else 'not what is'} wanted"
+    return f"status {status}, {reported[:200]!r}, and the output is {'as' if is_written else 'not what is'} wanted"
 
 
 def main(program):

@@ -137,7 +137,7 @@ source_ends : (is_source_end cut_off 4 1 ≡ true)
 unfolding cut_off chars
 source_ends = (refl, refl, refl, refl, refl)
 
--- the mark is told before the CR
+-- the mark comes before the CR
 profiles : (profile_meaning (codes "profile 1\n") ≡ codes "the first line isn't 'profile 2'")
     × (profile_meaning (codes "profile 2" ++ 13 ∷ 10 ∷ []) ≡ codes "the first line isn't 'profile 2': a CR stands at its end")
     × (profile_meaning (0xEF ∷ 0xBB ∷ 0xBF ∷ codes "profile 2" ++ 13 ∷ 10 ∷ [])

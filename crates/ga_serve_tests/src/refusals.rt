@@ -1,7 +1,7 @@
 //! Inputs and routes that are refused, and why; nothing is written then.
 use crate::streams::{boot_of, run_of, sink_of, source_of};
 use ga_command_line::Job;
-use ga_jobs::ServeError;
+use ga_jobs::{OutputFault, ServeError};
 use ga_serve::{serve, status};
 use std::process::Abort;
 use std::test::Fail;
@@ -194,6 +194,11 @@ fn refuses_runs(rt: HostRuntime) -> Result<(), Fail> {
 #[test]
 fn tells_faults(rt: HostRuntime) -> Result<(), Fail> {
     let table = [
+        (
+            Err(ServeError::Output(OutputFault::TooLong)),
+            "output TooLong",
+            1,
+        ),
         (Err(ServeError::Read), "read", 1),
         (Err(ServeError::Write), "write", 1),
         (Err(ServeError::Memory), "memory", 3),
