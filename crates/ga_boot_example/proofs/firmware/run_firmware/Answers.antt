@@ -4,7 +4,7 @@ use Rattle.ga_chip.specs.Chip.{part_of}
 use Rattle.ga_chip.specs.Run.{tries_of}
 use Rattle.ga_boot.specs.Boot.{IsSupplied}
 use Rattle.ga_boot_example.specs.Firmware.{firmware, fork}
-use Rattle.ga_boot_example.proofs.Assembled.{first_named, fork_sound, loadable}
+use Rattle.ga_boot_example.proofs.Assembled.{first_named, fork_sound, has_firmware, text}
 use Rattle.ga_boot_example.proofs.firmware.run_firmware.Goals as goal
 
 pub returns-clause-memory : goal.returns-clause-memory
@@ -12,4 +12,4 @@ returns-clause-memory c = λ now there taken not_begun.
     let tries = tries_of c.args.tries.now in
     let words = tree_load firmware fork ++ tree_start firmware fork in
     let supply = subst (λ chip. IsSupplied chip 708 words tries) (sym c.requires.booted) (c.boot_any_schedule.ensures.supplied firmware fork tries first_named fork_sound) in
-    c.headline.ensures.boot firmware fork c.args.chip.now tries first_named fork_sound loadable refl supply 608 _ now refl (ap (λ chip. part_of chip 608) (sym c.run.ensures.chip) ∙ there) taken not_begun
+    c.headline.ensures.boot text firmware fork c.args.chip.now tries has_firmware first_named fork_sound refl supply 608 _ now refl (ap (λ chip. part_of chip 608) (sym c.run.ensures.chip) ∙ there) taken not_begun
