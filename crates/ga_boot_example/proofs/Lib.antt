@@ -1,1 +1,3 @@
 pub mod Assembled
+pub mod Fed
+pub mod Leaf

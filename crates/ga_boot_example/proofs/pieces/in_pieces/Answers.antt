@@ -1,0 +1,13 @@
+use Rattle.std.proofs.Common.{◌≡◌, ◌++◌, [], rules, subst}
+use Rattle.std.proofs.lemmas.Option.{IfSome_then}
+use Rattle.ga_boot_example.specs.Pieces.{IsFed}
+use Rattle.ga_boot_example.proofs.pieces.in_pieces.Goals as goal
+
+pub returns : goal.returns
+returns g c =
+    let root : c.in_ok-root.root ≡ 708 = search rules in
+    let load = c.args.load.items in
+    let one : IsFed c.in_ok-chip.chip c.in_ok-root.root load = c.in_ok-chip.ensures [] c.in_ok-opened.ensures in
+    let other = c.released-chip.ensures _ load (c.in_ok-worked.ensures _ load one) in
+    let all = c.in_ok-chip-2.ensures load (c.in_ok-worked-2.ensures _ load other) in
+    IfSome_then c.worked-3.result c.worked-3.ensures (λ last then. subst (λ name. IsFed last name (load ++ c.args.start.items)) root (then _ (load ++ c.args.start.items) all))
