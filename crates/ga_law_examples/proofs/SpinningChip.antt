@@ -36,7 +36,8 @@ put f g (suc count) from (suc i) at below is same =
     ap₂ (λ x xs. x ∷ xs) (same from (omega arith))
     (put f g count (from + 1) i at (omega arith) (omega arith) same)
 
-at_index : (count from i : ℕ) → i < count → slice_get (range_with_len from count) i ≡ Some (from + i)
+at_index : (count from i : ℕ) → i < count
+    → slice_get (range_with_len from count) i ≡ Some (from + i)
 at_index zero from i below = absurd (omega arith)
 at_index (suc count) from zero below = ap Some (omega arith)
 at_index (suc count) from (suc i) below =

@@ -1,4 +1,5 @@
--- Where all nodes of a chip spin they do so along every run of tries: so each reads one port at most.
+-- If all nodes of a chip spin, they do so along every run of tries. So no node makes a multiport
+-- read.
 use Rattle.std.proofs.Common.{◌≡◌, ◌∙◌, ap, ℕ, zero, suc, Bool, true, false, List, [], ◌∷◌}
 use Rattle.std.proofs.Common.{◌++◌, ◌⊎◌, inl, inr, Option, Some, None, refl, sym, subst}
 use Rattle.std.proofs.lemmas.Bool.{cases_eq}
@@ -54,8 +55,8 @@ abbrev pub AllSpin : Chip → Type 0
 AllSpin chip = (name : ℕ) (part : Part) → part_of chip name ≡ Some part → Spins part.state
 
 -- what a write leaves at an index: the new part, or the old one
-put_from : (parts : List Part) (i j : ℕ) (next part : Part) → slice_get (set parts i next) j ≡ Some part
-    → (part ≡ next) ⊎ (slice_get parts j ≡ Some part)
+put_from : (parts : List Part) (i j : ℕ) (next part : Part)
+    → slice_get (set parts i next) j ≡ Some part → (part ≡ next) ⊎ (slice_get parts j ≡ Some part)
 put_from [] i j next part there = inr there
 put_from (first ∷ parts) zero zero next part there = inl (sym (same_Some next part there))
 put_from (first ∷ parts) zero (suc j) next part there = inr there
@@ -97,7 +98,8 @@ one_sided n (inr is) = subst IsOneSided (sym is) tt
 reads_one_port : (chip : Chip) (tries : List asked.Try) (name : ℕ) → AllSpin chip
     → ReadsOnePort chip (tries_of tries) name
 reads_one_port chip tries name all before part front there =
-    one_sided _ (need_own part.state (moment_spins chip tries before front.0 all front.1 name part there))
+    let spins = moment_spins chip tries before front.0 all front.1 name part there in
+    one_sided _ (need_own part.state spins)
 
 -- ---- the chip at hand
 
@@ -116,9 +118,9 @@ all_spin_first name part there =
     subst (λ p. Spins p.state) (sym found.1)
     (record { unposted = refl; jump = refl; stands = inl (refl, refl) })
 
--- so no run of tries names a side, and two agree
-pub spinning_agree : OnePortNamesNoSide → (one two : Chip) (tries others : List asked.Try) (name : ℕ)
-    → one ≡ spinning_chip → two ≡ spinning_chip
+-- so no run of tries names a side, and any two runs agree
+pub spinning_agree : OnePortNamesNoSide → (one two : Chip) (tries others : List asked.Try)
+    (name : ℕ) → one ≡ spinning_chip → two ≡ spinning_chip
     → AgreesWith (sides_of one (tries_of tries) name) (sides_of two (tries_of others) name)
 spinning_agree law one two tries others name first second =
     inl (

@@ -89,7 +89,8 @@ step_spins state spins = by spins.stands
         (record {
           unposted = spins.unposted;
           jump = spins.jump;
-          stands = inl (refl, ap (λ pl. target_of pl state.p (dest_of state)) at ∙ its_dest state word);
+          stands = inl
+              (refl, ap (λ pl. target_of pl state.p (dest_of state)) at ∙ its_dest state word);
         })
         (ap (λ pl. step_at pl state None) at
         ∙ ap (λ post. slot_step post state None) spins.unposted

@@ -9,9 +9,9 @@ ghost use Rattle.ga_group.specs.Laws.{LeaveAlike};
 use ga_chip::laws::{confluence, runs};
 use ga_chip::{Chip, Try};
 
-/// Makes tries of two chips that differ in breakpoints at most, of each in an order of its own. Takes of several sides
-/// are to name the same sides, as far as both go. Then a node that has made equally many steps ends alike, and each
-/// cell passes the same words, as far as both go.
+/// Makes tries of two chips that differ in breakpoints at most, of each in an order of its own.
+/// Takes of several sides are to name the same sides, as far as both go. Then a node that has
+/// made equally many steps ends alike, and each cell passes the same words, as far as both go.
 pub fn two_orders(one: &mut Chip, two: &mut Chip, order: &[Try], another: &[Try])
     requires chips { DifferInBreaks one.old two.old }
     requires sides { (name : ℕ)
@@ -47,8 +47,8 @@ pub fn one_side(one: &mut Chip, two: &mut Chip, order: &[Try], another: &[Try])
     two_orders(one, two, order, another);
 }
 
-/// The same as `two_orders`, where the first chip is run in two parts: runs one behind the other are one run along the
-/// tries of both.
+/// The same as `two_orders`, where the first chip is run in two parts: runs one behind the other
+/// are one run along the tries of both.
 pub fn two_parts(one: &mut Chip, two: &mut Chip, front: &[Try], rest: &[Try], order: &[Try])
     requires chips { DifferInBreaks one.old two.old }
     requires sides { (name : ℕ)

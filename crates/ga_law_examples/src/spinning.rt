@@ -14,8 +14,9 @@ use ga_word::Word18;
 use std::alloc::{AllocError, Global};
 use std::thread::Threads;
 
-/// The chip in which each node runs an endless loop in its own memory: all is as after reset, but each node has the word
-/// `jump 000` at address 000, and P there. An error where memory runs out.
+/// The chip in which each node spins: it runs an endless loop in its own memory. All is as after
+/// reset, but each node has the word `jump 000` at address 000, and P there. An error if memory
+/// runs out.
 pub fn spinning_chip(alloc: Global) -> Result<Chip, AllocError>
     ensures { IfOk result (λ chip. chip ≡ model.spinning_chip) }
 {
@@ -34,9 +35,10 @@ fn jump_000() -> Word18
     Word18::new(0x1_0000).unwrap()
 }
 
-/// Runs two such chips over so many turns, each by a plan of its own. Nothing has to be known of takes of several sides:
-/// no node makes one. Then a node that has made equally many steps ends alike. A refusal is that of `run_workers`, or
-/// `Memory`.
+/// Builds two chips whose nodes spin, and runs each over so many turns by a plan of its own. Then a
+/// node that has made equally many steps ends alike. There is no condition on the sides that takes
+/// of several sides name, since no node makes such a take. A refusal is that of `run_workers`; it
+/// is `Memory` too if there is no memory for the chips.
 pub fn spinning_plans<R: Threads + Sync, G: Gate>(
     rt: &R,
     alloc: Global,
@@ -46,7 +48,8 @@ pub fn spinning_plans<R: Threads + Sync, G: Gate>(
     gate: &G,
 ) -> Result<(Chip, Chip), RunError>
     ensures first { IfOk result (λ ends. IsWorkersRun model.spinning_chip plan.now turns ends.0) }
-    ensures second { IfOk result (λ ends. IsWorkersRun model.spinning_chip another.now turns ends.1) }
+    ensures second { IfOk result
+        (λ ends. IsWorkersRun model.spinning_chip another.now turns ends.1) }
     ensures nodes { IfOk result (λ ends. LeaveAlike ends.0 ends.1) }
     ensures turns { IfErr result (λ fault. fault ≡ TooManyTurns → 2 ^ 40 ≤ turns) }
 {

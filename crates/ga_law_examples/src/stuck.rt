@@ -7,8 +7,8 @@ use ga_chip::laws::{runs, stuck};
 use ga_chip::{Chip, Try};
 use ga_place::Node;
 
-/// Makes tries of a chip, and answers whether a node was stuck before. Then none of its tries was `Moved`, and it ends
-/// as it was.
+/// Makes tries of a chip, and answers whether a node was stuck before. Then none of its tries was
+/// `Moved`, and it ends as it was.
 pub fn tries_beside_stuck(chip: &mut Chip, node: Node, tries: &[Try]) -> bool
     ensures chip { chip.new ≡ ran chip.old (tries_of tries.now) }
     ensures moves { result ≡ true → moves_of node (moves chip.old (tries_of tries.now)) ≡ [] }
