@@ -1,5 +1,5 @@
 -- The nodes of a worker, by an index in the nodes of a route.
-use Rattle.std.proofs.Common.{◌≡◌, ◌∙◌, ℕ, ◌==◌, ◌+◌, ◌%◌, ◌<◌, suc, Bool, true, false, List, [], ◌∷◌, ◌++◌, length, map, drop, slice_index_or, Vec, Option, Some, None, Err, append-nil, append_assoc, refl, sym, ap, ap₂, arith, ◌≤◌}
+use Rattle.std.proofs.Common.{◌≡◌, ◌∙◌, ℕ, ◌==◌, ◌+◌, ◌%◌, ◌<◌, suc, Bool, true, false, List, [], ◌∷◌, ◌++◌, length, map, drop, slice_index_or, Vec, Option, Some, None, Err, Ok, append-nil, append_assoc, refl, sym, ap, ap₂, arith, ◌≤◌}
 use Rattle.std.specs.Prelude.{if◌then◌else◌}
 use Rattle.std.proofs.Math.Seq.{drop-cons}
 use Rattle.std.proofs.lemmas.Bool.{eq-eqb, ne_eqb}
@@ -66,3 +66,8 @@ pub alone : (chip next : Chip) (plan : Groups) (nodes : List ℕ) (workers turns
     → workers ≡ 1 → next ≡ ran chip (tries_of (rounds_of nodes turns))
 alone chip next plan nodes workers turns is single one =
     single nodes (is ∙ ap (λ n. dealt n nodes) one ∙ ap (λ group. group ∷ []) (all_dealt 0 nodes))
+
+-- a plan that is made has these groups, with which nothing is wrong
+pub accepted : (o : Option PlanError) (groups plan : Groups) → plan_if o groups ≡ Ok plan → (o ≡ None) × (groups ≡ plan)
+accepted None groups plan e = (refl, cc)
+accepted (Some fault) groups plan e = absurd cc

@@ -7,7 +7,7 @@ use Rattle.ga_group.specs.Plan.{Groups, plan_fault}
 use Rattle.ga_group.specs.declared.error.PlanError.{PlanError}
 use Rattle.ga_path.specs.Stream.{Images, unreached}
 use Rattle.ga_path.specs.Tree.{TreeView}
-use Rattle.ga_jobs.specs.Run.{AreTextsOrEqual, HasRuns, IsRunFrom, IsRunIn, IsRunOf, IsRunOutput, dealt, node_reports, plan_if}
+use Rattle.ga_jobs.specs.Run.{AreTextsOrEqual, HasRuns, IsRunFrom, IsRunIn, IsRunOf, IsRunOutput, dealt, node_reports, plan_by, plan_if}
 use Rattle.ga_jobs.specs.Source.{IsImagesIn}
 use Rattle.ga_jobs.specs.Tree.{tree_in}
 use Rattle.ga_jobs.specs.declared.fault.ServeError.{ServeError}
@@ -20,6 +20,13 @@ Answer = Result (List ℕ) ServeError
 not_refused : (o : Option PlanError) (groups : Groups) (fault : ServeError) → o ≡ None → plan_if o groups ≡ Err fault → ⊥
 not_refused None groups fault accepted e = absurd cc
 not_refused (Some found) groups fault accepted e = absurd cc
+
+-- and is refused by one fault
+abbrev refusal : ServeError → Answer
+refusal fault = Err fault
+
+same_refusal : (groups : Groups) (one other : ServeError) → plan_by groups ≡ Err one → plan_by groups ≡ Err other → refusal one ≡ refusal other
+same_refusal groups one other p q = let same : one ≡ other = cc (sym p ∙ q) in ap refusal same
 
 module _ (workers turns : ℕ) where
   -- a relation of answers that holds of equal ones and of those to one chip holds of all to one input
@@ -43,10 +50,9 @@ module _ (workers turns : ℕ) where
       alike (Ok one) (Err other) (images, p, is) (inr (images', q, is')) = both images images' (Ok one) (Err other) (cc (one_images input (Ok images) (Ok images') p q)) is is'
       alike (Err one) (Ok other) (inl p) (images, q, is) = absurd (cc (one_images input (Err one) (Ok images) p q))
       alike (Err one) (Ok other) (inr (images, p, is)) (images', q, is') = both images images' (Err one) (Ok other) (cc (one_images input (Ok images) (Ok images') p q)) is is'
-      alike (Err one) (Err other) (inl p) (inl q) = equal (Err one) (Err other) (one_images_fault one other p q)
-        where
-          one_images_fault : (one other : ServeError) → IsImagesIn input (Err one) → IsImagesIn input (Err other) → Err one ≡ Err other
-          one_images_fault one other p q = cc (one_images input (Err one) (Err other) p q)
+      alike (Err one) (Err other) (inl p) (inl q) =
+          let same : one ≡ other = cc (one_images input (Err one) (Err other) p q) in
+          equal (Err one) (Err other) (ap Err same)
       alike (Err one) (Err other) (inl p) (inr (images, q, is)) = absurd (cc (one_images input (Err one) (Ok images) p q))
       alike (Err one) (Err other) (inr (images, p, is)) (inl q) = absurd (cc (one_images input (Ok images) (Err other) p q))
       alike (Err one) (Err other) (inr (images, p, is)) (inr (images', q, is')) = both images images' (Err one) (Err other) (cc (one_images input (Ok images) (Ok images') p q)) is is'
@@ -61,14 +67,14 @@ module _ (workers turns : ℕ) where
   texts_from chip nodes (Ok one) (Ok other) p q = tt
   texts_from chip nodes (Ok one) (Err other) p q = absurd (not_refused (plan_fault (dealt workers nodes)) (dealt workers nodes) other p.0 q)
   texts_from chip nodes (Err one) (Ok other) p q = absurd (not_refused (plan_fault (dealt workers nodes)) (dealt workers nodes) one q.0 p)
-  texts_from chip nodes (Err one) (Err other) p q = sym p ∙ q
+  texts_from chip nodes (Err one) (Err other) p q = same_refusal (dealt workers nodes) one other p q
 
   equal_from : workers ≡ 1 → (chip : Chip) (nodes : List ℕ) (one other : Answer) → IsRunFrom chip nodes workers turns one → IsRunFrom chip nodes workers turns other → one ≡ other
   equal_from single chip nodes (Ok one) (Ok other) p q =
       ap Ok (p.1.text_is ∙ ap (λ next. node_reports next nodes) (p.1.alone single ∙ sym (q.1.alone single)) ∙ sym q.1.text_is)
   equal_from single chip nodes (Ok one) (Err other) p q = absurd (not_refused (plan_fault (dealt workers nodes)) (dealt workers nodes) other p.0 q)
   equal_from single chip nodes (Err one) (Ok other) p q = absurd (not_refused (plan_fault (dealt workers nodes)) (dealt workers nodes) one q.0 p)
-  equal_from single chip nodes (Err one) (Err other) p q = sym p ∙ q
+  equal_from single chip nodes (Err one) (Err other) p q = same_refusal (dealt workers nodes) one other p q
 
 pub run_outputs : (routes input : List ℕ) (workers turns : ℕ) → HasRuns workers (IsRunOutput routes workers turns input)
 run_outputs routes input workers turns = record {

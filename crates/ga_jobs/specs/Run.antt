@@ -3,7 +3,7 @@ use Rattle.std.specs.Prelude.{ℕ, ◌≡◌, ◌⊎◌, ◌+◌, ◌%◌, ◌==
 use Rattle.std.specs.List.{flat_map, range_with_len}
 use Rattle.std.specs.Option.{option_map_or}
 use Rattle.ga_chip.specs.Chip.{Chip, state_of}
-use Rattle.ga_chip.specs.Run.{ran, tries_of}
+use Rattle.ga_chip.specs.Run as run
 use Rattle.ga_dump.specs.Ledger.{ledger_dump}
 use Rattle.ga_dump.specs.Node.{node_dump}
 use Rattle.ga_group.specs.Plan.{Groups, plan_fault}
@@ -50,7 +50,7 @@ node_reports chip names = flat_map (node_report chip) names
 pub record IsRunText (chip : Chip) (nodes : List ℕ) (workers turns : ℕ) (text : List ℕ) : Type 0 where
   pub next : Chip
   pub ran : IsWorkersRun chip (dealt workers nodes) turns next
-  pub alone : workers ≡ 1 → next ≡ ran chip (tries_of (rounds_of nodes turns))
+  pub alone : workers ≡ 1 → next ≡ run.ran chip (run.tries_of (rounds_of nodes turns))
   pub text_is : text ≡ node_reports next nodes
 
 -- what comes of a chip and nodes, or what is wrong with these as a plan

@@ -21,7 +21,6 @@ use std::thread::Threads;
 
 /// The nodes of a tree of routes after a run, as text: they boot from the input, which is source text, and so many workers
 /// make so many turns.
-#[tactic(auto, using(crate::proofs::OneRun::run_outputs))]
 pub fn output<Rt: AllocGlobal + Threads + Sync>(
     rt: &Rt,
     routes: &str,
@@ -54,7 +53,6 @@ fn run_text<Rt: AllocGlobal + Threads + Sync>(
 }
 
 /// Nodes of a chip as text, after so many workers, who share them, have made so many turns.
-#[tactic(auto, using(crate::proofs::Dealing::alone))]
 fn run_chip<Rt: AllocGlobal + Threads + Sync>(
     rt: &Rt,
     chip: Chip,

@@ -17,5 +17,5 @@ returns-in_ok-within_limit-in-Run-clause-answer g c =
     let run = c.in-Run in
     let short : is_too_long c.args.job.now c.args.input.now ≡ false = not_refused (is_too_long c.args.job.now c.args.input.now) tt c.in_ok-within_limit-in-Run.field-0 (search rules) in
     let of_run = subst (λ job. Answers string_bytes (IsJobOutput job c.args.input.now) c.output.result) (sym run.is)
-    (subst (λ route. Answers string_bytes (IsRunOutput route run.workers run.turns c.args.input.now) c.output.result) c.deref.ensures c.output.ensures) in
+    (subst (λ route. Answers string_bytes (IsRunOutput route run.workers run.turns c.args.input.now) c.output.result) c.deref.ensures c.output.ensures.output) in
     subst (λ (b : Bool). Answers string_bytes (λ answer. MatchBool b (answer ≡ Err (Input TooLong)) (IsJobOutput c.args.job.now c.args.input.now answer)) c.output.result) (sym short) of_run
