@@ -2,7 +2,7 @@
 use Rattle.std.proofs.Common.{◌≡◌, ◌≤◌, ◌<◌, ◌+◌, ◌∙◌, ◌++◌, inr, ℕ, List, [], Option, Some}
 use Rattle.std.proofs.Common.{None, length, length-append, refl, sym, ap, subst, append-nil, arith}
 use Rattle.std.specs.Option.{option_map_or}
-use Rattle.ga_place.specs.Cell.{cell_of}
+use Rattle.ga_place.specs.Cell.{all_cells, cell_of}
 use Rattle.ga_place.specs.declared.side.Side.TheVariants.{Left}
 use Rattle.ga_asm.specs.Image.{ImageView, image_of}
 use Rattle.ga_asm.specs.Text.{HasImages}
@@ -15,7 +15,7 @@ use Rattle.ga_chip.specs.Grow.{Growing, StreamsGo}
 use Rattle.ga_chip.specs.Ledger.{ledger_of}
 use Rattle.ga_chip.specs.Legal.{IsLegal}
 use Rattle.ga_chip.specs.Part.{Part}
-use Rattle.ga_chip.specs.Run.{input_words, taken_words, words_left}
+use Rattle.ga_chip.specs.Run.{input_words, words_left}
 use Rattle.ga_chip.specs.Stream.{left_of}
 use Rattle.ga_boot.specs.Boot.{Holds, IsSupplied, words_from}
 use Rattle.ga_laws.specs.Laws.{BootsHold, HasBegun}
@@ -42,15 +42,11 @@ taken chip load start fed streams legal left =
 -- how many words 710 has taken
 few_taken : (chip : Chip) (words : List ℕ) (fed : IsFed chip 708 words) (few : ℕ) → Growing
     → (ledger_of chip 709 Left).read < few → length (words_from fed.first fed.events 710 Left) < few
-few_taken chip words fed few growing read = by (cell_of 709 Left) refl
-  where
-    by : (o : Option ℕ) → cell_of 709 Left ≡ o
-        → length (option_map_or (λ cell. taken_words fed.first fed.events cell) o []) < few
-    by None e = omega arith
-    by (Some cell) e =
-        let more = (growing fed.first fed.events fed.legal).read 709 cell Left e in
-        let less = subst (λ c. (ledger_of c 709 Left).read < few) fed.leads read in
-        omega (arith, more, less)
+unfolding cell_of all_cells
+few_taken chip words fed few growing read =
+    let more = (growing fed.first fed.events fed.legal).read 709 _ Left refl in
+    let less = subst (λ c. (ledger_of c 709 Left).read < few) fed.leads read in
+    omega (arith, more, less)
 
 -- how many it is sent
 all_sent : (o : Option ImageView) (image : ImageView) → o ≡ Some image

@@ -1,5 +1,5 @@
-use Rattle.std.proofs.Common.{◌≡◌, ◌∙◌, [], ◌∷◌, refl, sym, ap, subst}
-use Rattle.ga_chip.specs.Run.{ClearBreak, PassBreak, happened, ran}
+use Rattle.std.proofs.Common.{◌∙◌, [], ◌∷◌, refl, sym, ap, subst}
+use Rattle.ga_chip.specs.Run.{ClearBreak, PassBreak, happened}
 use Rattle.ga_boot_example.specs.Pieces.{IsFed}
 use Rattle.ga_boot_example.proofs.Fed.{fed_none}
 use Rattle.ga_boot_example.proofs.pieces.released.Goals as goal
