@@ -1,2 +1,3 @@
 pub mod Firmware
 pub mod Pieces
+pub mod inner

@@ -1,25 +1,16 @@
--- A tree that is booted in pieces.
-use Rattle.std.specs.Prelude.{◌≡◌, ℕ, List, [], ◌∷◌, Some}
+-- A node that is fed its stream in pieces, and one that is loaded.
+use Rattle.std.specs.Prelude.{◌≡◌, ℕ, List, Some}
 use Rattle.ga_asm.specs.Image.{ImageView, image_of}
 use Rattle.ga_asm.specs.Text.{HasImages}
 use Rattle.ga_path.specs.Stream.{Images}
-use Rattle.ga_path.specs.Tree.{NoMore, Subtree, TreeView}
 use Rattle.ga_chip.specs.Chip.{Chip, part_of, reset_chip, stream_opened}
 use Rattle.ga_chip.specs.Legal.{DifferInBreaks, IsLegal}
 use Rattle.ga_chip.specs.Part.{Part}
 use Rattle.ga_chip.specs.Run.{Event, ran, words_fed}
 use Rattle.ga_boot.specs.Boot.{Holds}
 
--- the routes 708, 709, 710 and 708, 709, 609
-abbrev pub far_fork : TreeView
-far_fork = record {
-  root = 708;
-  subtrees = Subtree 709 (Subtree 710 NoMore (Subtree 609 NoMore NoMore)) NoMore;
-  nodes = 708 ∷ 709 ∷ 710 ∷ 609 ∷ [];
-}
-
--- The chip at the end of a run that feeds a node's stream these words. The run begins at a chip after
--- reset, but for breakpoints, of which that stream was opened.
+-- The chip at the end of a run that feeds a node's stream these words. The run begins at a chip
+-- after reset, but for breakpoints, of which that stream was opened.
 pub record IsFed (chip : Chip) (name : ℕ) (words : List ℕ) : Type 0 where
   pub first : Chip
   pub legal : IsLegal first

@@ -17,7 +17,8 @@ use ga_path::{Route, Tree};
 use ga_place::Node;
 use std::alloc::Global;
 
-/// The firmware: nodes 708, 709 and 608 have the word `. . . .`. There is none only where memory is refused.
+/// The firmware: nodes 708, 709 and 608 have the word `. . . .`. There is none only if memory is
+/// refused.
 pub fn assemble_firmware(alloc: Global) -> Option<Images>
     ensures { IfSome result (λ images. images ≡ the.firmware) }
 {
@@ -27,7 +28,7 @@ pub fn assemble_firmware(alloc: Global) -> Option<Images>
     Some(images)
 }
 
-/// The routes 708, 709 and 708, 608 as a tree. There is none only where memory is refused.
+/// The routes 708, 709 and 708, 608 as a tree. There is none only if memory is refused.
 fn fork(alloc: Global) -> Option<Tree>
     ensures { IfSome result (λ tree. tree ≡ the.fork) }
 {
@@ -44,7 +45,7 @@ fn fork(alloc: Global) -> Option<Tree>
     Some(tree)
 }
 
-/// A chip that boots the firmware by the tree of [`fork`]. There is none only where memory is refused.
+/// A chip that boots the firmware by the tree of [`fork`]. There is none only if memory is refused.
 pub fn boot_firmware(alloc: Global) -> Option<Chip>
     ensures { IfSome result (λ chip. chip ≡ begun.booted_tree the.firmware the.fork) }
 {
@@ -56,8 +57,9 @@ pub fn boot_firmware(alloc: Global) -> Option<Chip>
     Some(chip)
 }
 
-/// Makes tries of a chip that boots the firmware: of whichever nodes, in whatever order. Where 708 has taken the whole
-/// load part then, and 608 hasn't begun, the memory of 608 is its image, and zeros behind it.
+/// Makes tries of a chip that boots the firmware: of whichever nodes, in whatever order. If 708 has
+/// taken the whole load part then, and 608 hasn't begun, the memory of 608 is its image, and zeros
+/// behind it.
 pub fn run_firmware(chip: &mut Chip, tries: &[Try])
     requires booted { chip.old ≡ begun.booted_tree the.firmware the.fork }
     ensures chip { chip.new ≡ ran chip.old (tries_of tries.now) }

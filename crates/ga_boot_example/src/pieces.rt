@@ -2,6 +2,7 @@ ghost use Rattle.std.specs.Prelude.{◌≡◌, ◌++◌, ℕ, List, [], IfSome};
 ghost use Rattle.ga_place.specs.Node.{IsNodeName};
 ghost use Rattle.ga_path.specs.Tree.{IsSound};
 ghost use Rattle.ga_boot_example.specs.Pieces as the;
+ghost use Rattle.ga_boot_example.specs.inner.FarFork.{far_fork};
 
 use ga_asm::assemble_text;
 use ga_chip::Chip;
@@ -23,7 +24,9 @@ const SENT_BESIDE: u64 = 8;
 /// A run of workers: their plan, and the number of turns.
 #[derive(Drop)]
 pub struct PlannedRun {
+    /// The nodes of each worker.
     pub plan: Plan,
+    /// Fewer than 2^40.
     pub turns: u64,
 }
 
@@ -85,9 +88,10 @@ fn released(mut chip: Chip, held: Node) -> Chip
     chip
 }
 
-/// Boots a chip in two pieces. 709 gets a breakpoint, and 708 is fed the load part. Workers run by one
-/// plan; the breakpoint is passed and cleared; workers run by another plan; 708 is fed the start part;
-/// and workers run by the first plan again. There is no chip if a piece or a run is refused.
+/// Boots a chip in two pieces. 709 gets a breakpoint, and 708 is fed the load part. Workers run by
+/// one plan; the breakpoint is passed and cleared; workers run by the other plan; 708 is fed the
+/// start part; and workers run by the first plan again. There is no chip if a piece or a run is
+/// refused.
 pub fn in_pieces<R: Threads + Sync, G: Gate>(
     rt: &R,
     alloc: Global,
@@ -107,9 +111,9 @@ pub fn in_pieces<R: Threads + Sync, G: Gate>(
     worked(rt, alloc, chip, one, gate)
 }
 
-/// The routes 708, 709, 710 and 708, 709, 609 as a tree. There is none only if memory runs out.
+/// The routes 708, 709, 710 and 708, 709, 609 as a tree. There is none only if memory is refused.
 fn far_fork(alloc: Global) -> Option<Tree>
-    ensures tree { IfSome result (λ tree. tree ≡ the.far_fork) }
+    ensures tree { IfSome result (λ tree. tree ≡ far_fork) }
     ensures sound { IfSome result (λ tree. IsSound tree) }
 {
     let root = Node::new(708)?;
@@ -126,8 +130,9 @@ fn far_fork(alloc: Global) -> Option<Tree>
     Some(tree)
 }
 
-/// Boots the images of a text in pieces, by the routes 708, 709, 710 and 708, 709, 609. There is a chip
-/// if 708 has taken the load part in the end, and 710 hasn't begun: then 710 has its image in memory.
+/// Boots the images of a text in pieces, by the routes 708, 709, 710 and 708, 709, 609. It answers the
+/// chip if 708 has taken the load part in the end and 710 hasn't begun: then 710 has its image in
+/// memory. There is no chip either if the text has no image of 710, or one of the calls is refused.
 pub fn leaf_is_loaded<R: Threads + Sync, G: Gate>(
     rt: &R,
     alloc: Global,

@@ -26,8 +26,8 @@ fn loaded<R: Threads + Sync>(rt: &R, alloc: Global, turns: u64) -> Result<Option
     Ok(leaf_is_loaded(rt, alloc, TEXT, &one, &other, &Open))
 }
 
-/// Whether 708 has taken some of the 19 words that start nodes, and 710 has taken the eight words that
-/// load it, and has its image.
+/// Whether 708 has taken some of the 19 words that start nodes, and 710 has taken the eight words
+/// that load it, and has its image.
 fn is_held(chip: &Chip) -> Result<bool, Fail> {
     let [node_708, node_709, node_710]: [Node; 3] = nodes(&[708, 709, 710])?;
     let image = array::<64>(&[0x2C9B2])?;
@@ -38,8 +38,8 @@ fn is_held(chip: &Chip) -> Result<bool, Fail> {
     )
 }
 
-// One worker may have made all its turns before the other one starts. The load part isn't taken then,
-// and the next boot may do better.
+// One worker may have made all its turns before the other one starts. The load part isn't taken
+// then, and the next boot may do better.
 #[test]
 fn a_leaf_is_loaded_in_pieces(rt: HostRuntime) -> Result<(), Fail> {
     for _ in 0..20 {

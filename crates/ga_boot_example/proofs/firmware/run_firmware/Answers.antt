@@ -11,5 +11,8 @@ pub returns-clause-memory : goal.returns-clause-memory
 returns-clause-memory c = λ now there taken not_begun.
     let tries = tries_of c.args.tries.now in
     let words = tree_load firmware fork ++ tree_start firmware fork in
-    let supply = subst (λ chip. IsSupplied chip 708 words tries) (sym c.requires.booted) (c.boot_any_schedule.ensures.supplied firmware fork tries first_named fork_sound) in
-    c.headline.ensures.boot text firmware fork c.args.chip.now tries has_firmware first_named fork_sound refl supply 608 _ now refl (ap (λ chip. part_of chip 608) (sym c.run.ensures.chip) ∙ there) taken not_begun
+    let given = c.boot_any_schedule.ensures.supplied firmware fork tries first_named fork_sound in
+    let supply = subst (λ chip. IsSupplied chip 708 words tries) (sym c.requires.booted) given in
+    c.headline.ensures.boot text firmware fork c.args.chip.now tries has_firmware first_named
+    fork_sound refl supply 608 _ now refl
+    (ap (λ chip. part_of chip 608) (sym c.run.ensures.chip) ∙ there) taken not_begun

@@ -11,8 +11,10 @@ returns-in-Ok c = λ given fed.
     let chip = c.args.chip in
     let root = c.args.root in
     let words = c.args.words.items in
+    let runs = c.runs.ensures in
     let accepted : feed_refusal chip root ≡ None = search rules in
     let leads : c.feed.new.self ≡ happened chip (Piece root words) = search rules in
-    let legal : IsLegal chip = subst IsLegal (sym fed.leads) (c.runs.ensures.legal fed.first fed.events fed.legal) in
+    let legal = subst IsLegal (sym fed.leads) (runs.legal fed.first fed.events fed.legal) in
+    let more = piece_fed chip root words legal c.requires accepted in
     subst (λ next. IsFed next root (given ++ words)) (sym leads)
-    (fed_more c.runs.ensures.joined chip root given words (Piece root words ∷ []) fed (piece_fed chip root words legal c.requires accepted))
+    (fed_more runs.joined chip root given words (Piece root words ∷ []) fed more)

@@ -8,5 +8,6 @@ pub returns-in-Ok : goal.returns-in-Ok
 returns-in-Ok g c = λ name given fed.
     let run = c.in-Ok.ensures.run in
     let runs = c.runs.ensures in
+    let none = runs.unfed c.args.chip run.tries name in
     subst (λ chip. IsFed chip name given) (sym run.leads)
-    (fed_none runs.joined c.args.chip name given (tries_of run.tries) fed (runs.unfed c.args.chip run.tries name))
+    (fed_none runs.joined c.args.chip name given (tries_of run.tries) fed none)
