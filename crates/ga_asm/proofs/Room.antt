@@ -69,7 +69,7 @@ few_words (i ∷ items) groups stands passed =
     let again = add_stands names l.last judged.stand_in judged.fault_is in
     let same : add [] 0 judged.groups l.last ≡ groups = one_standing again (subst (λ t. StandIn t groups) l.is stands) in
     let long : address_after 0 (add [] 0 judged.groups l.last) ≤ 64 =
-        subst (λ n. n ≤ 64) (sym (address_add [] 0 judged.groups l.last)) (judged_within names judged.groups l.last judged.fault_is) in
+    subst (λ n. n ≤ 64) (sym (address_add [] 0 judged.groups l.last)) (judged_within names judged.groups l.last judged.fault_is) in
     subst (λ gs. address_after 0 gs ≤ 64) same long
 
 -- as many words as the groups take
@@ -201,7 +201,7 @@ sections_loadable program before seen places (section ∷ sections) (image ∷ i
     let is_right = section_right program before (placed_sections others sections) placed none split all (items_right start (plain_items placed) items) in (
       loadable (plain_items placed) image.1 items is_right.passed assembled.1,
       sections_loadable program (before ++ placed ∷ []) (seen ++ section.name ∷ []) others sections images none
-      (split ∙ sym (append_assoc before (placed ∷ []) (placed_sections others sections))) (right_more before placed all is_right) right.2 assembled.2,
+          (split ∙ sym (append_assoc before (placed ∷ []) (placed_sections others sections))) (right_more before placed all is_right) right.2 assembled.2,
     )
 
 source_sections : (text : List ℕ) (sections : List Section) → Source (tokens_of text) sections → Sections [] sections

@@ -54,11 +54,12 @@ pub(crate) fn word_reaches(labels: &IndexMap<String, u8>, address: u8, word: &Tr
     }
 }
 
-/// P in the slot behind these opcodes of the word at an address, of which a destination replaces the
-/// low bits: the next address, and one more for each `@p` and `!p` among them. Those behind `;` or
-/// `ex` count too, though no slot there is run. (The advance of P: the F18A reference, DB001. That
-/// these count: profile.)
+/// P in the slot behind these opcodes of the word at an address, of which a destination replaces
+/// the low bits: the next address, and one more for each `@p` and `!p` among them. Those behind `;`
+/// or `ex` count too, though no slot there is run. (The advance of P: the F18A reference, DB001.
+/// That these count: profile.)
 pub fn p_behind(address: u8, ops: &[Op]) -> u8
+    // the address of a word, or the one behind the last; and a word has four slots
     requires near { address ≤ 64 }
     requires few { length ops.now ≤ 4 }
     ensures { result ≡ laid.p_behind address ops.now }

@@ -130,9 +130,10 @@ fn far_fork(alloc: Global) -> Option<Tree>
     Some(tree)
 }
 
-/// Boots the images of a text in pieces, by the routes 708, 709, 710 and 708, 709, 609. It answers the
-/// chip if 708 has taken the load part in the end and 710 hasn't begun: then 710 has its image in
-/// memory. There is no chip either if the text has no image of 710, or one of the calls is refused.
+/// Boots the images of a text in pieces, by the routes 708, 709, 710 and 708, 709, 609. It answers
+/// the chip if 708 has taken the load part in the end and 710 hasn't begun: then 710 has its image
+/// in memory. There is no chip either if the text has no image of 710, or one of the calls is
+/// refused.
 pub fn leaf_is_loaded<R: Threads + Sync, G: Gate>(
     rt: &R,
     alloc: Global,

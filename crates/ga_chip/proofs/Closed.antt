@@ -362,12 +362,3 @@ stuck chip inside [] legal closed unfed = record {
 stuck chip inside (event ∷ events) legal closed unfed =
     let first = first_leaves chip inside event events legal closed unfed in
     leaves_more chip inside event events first (stuck (happened chip event) inside events (legal_kept chip event legal) first.closed (still_unfed chip inside event events closed first unfed))
-
--- What the law says of a node's state, for those who use it.
-pub state_kept : (chip : Chip) (events : List Event) (inside : ℕ → Bool) (name : ℕ) → IsClosed chip inside → LeavesStuck chip events inside → inside name ≡ true → state_of (ran chip events) name ≡ state_of chip name
-state_kept chip events inside name closed left member =
-    let old = in_closed chip inside name closed member in
-    let new = in_closed (ran chip events) inside name left.closed member in
-    ap (option_map (λ part. part.state)) new.there
-    ∙ ap Some (left.parts name old.part new.part member old.there new.there).state
-    ∙ sym (ap (option_map (λ part. part.state)) old.there)

@@ -4,34 +4,39 @@ ghost use Rattle.ga_chip.specs.Joining.{OnePortNamesNoSide, OpenedIsOpen, RunsAr
 ghost use Rattle.ga_chip.specs.Laws.{Commuting, Confluence};
 ghost use Rattle.ga_chip.specs.Stuck.{Stuck};
 
-/// Where the takes of several sides name the same sides and the streams are fed the same words, as far as both runs go, two
-/// runs of legal chips go alike as far as both go, whatever the order of their tries. The chips may differ in
-/// breakpoints. And tries of two nodes that would each be `Moved` commute.
+/// Where the takes of several sides name the same sides and the streams are fed the same words, as
+/// far as both runs go, two runs of legal chips go alike as far as both go, whatever the order of
+/// their tries. The chips may differ in breakpoints. And tries of two nodes that would each be
+/// `Moved` commute.
 pub fn confluence()
     ensures agree { Confluence }
     ensures commuting { Commuting }
 {}
 
-/// The nodes of a closed set are stuck. A set is closed where each of its nodes has stopped; or takes a word at sides at
-/// none of which one is pending, and whose neighbours are in the set; or has posted a word that is pending still, and
-/// its reader is in the set; or waits at sides without a neighbour alone; or waits for a stream of which no word is
-/// left. From a legal chip no run of events changes such a node, or makes one of its tries `Moved`, where it feeds
-/// nothing to the streams of the set's nodes: other nodes are tried in any order, and breakpoints are used anywhere.
+/// The nodes of a closed set are stuck. A set is closed where each of its nodes has stopped; or
+/// takes a word at sides at none of which one is pending, and whose neighbours are in the set; or
+/// has posted a word that is pending still, and its reader is in the set; or waits at sides without
+/// a neighbour alone; or waits for a stream of which no word is left. From a legal chip no run of
+/// events changes such a node, or makes one of its tries `Moved`, where it feeds nothing to the
+/// streams of the set's nodes: other nodes are tried in any order, and breakpoints are used
+/// anywhere.
 pub fn stuck()
     ensures stuck { Stuck }
 {}
 
-/// Ledgers are exact over every run of a legal chip, whatever happens to it, pieces of streams among that: each cell's
-/// numbers of words written and read grow by those of the words that its two nodes write and take. And the words that a
-/// node's stream had and was fed are those that the node took of it and those that are left.
+/// Ledgers are exact over every run of a legal chip, whatever happens to it, pieces of streams
+/// among that: each cell's numbers of words written and read grow by those of the words that its
+/// two nodes write and take. And the words that a node's stream had and was fed are those that the
+/// node took of it and those that are left.
 pub fn ledgers()
     ensures grow { Growing }
     ensures streams { StreamsGo }
 {}
 
-/// Runs one behind the other. A run of a legal chip leads to a legal chip. A run and one behind it are one run: it leads to
-/// the same chip, has the moves of both, and feeds each stream what both feed it; tries feed nothing. A stream that was
-/// opened is open. So a proof that makes several calls joins what they promise into one run, of which the laws speak.
+/// Runs one behind the other. A run of a legal chip leads to a legal chip. A run and one behind it
+/// are one run: it leads to the same chip, has the moves of both, and feeds each stream what both
+/// feed it; tries feed nothing. A stream that was opened is open. So a proof that makes several
+/// calls joins what they promise into one run, of which the laws speak.
 pub fn runs()
     ensures legal { RunsAreLegal }
     ensures joined { RunsJoin }
@@ -40,8 +45,8 @@ pub fn runs()
     ensures opened { OpenedIsOpen }
 {}
 
-/// A node whose need is at no moment of a run a take of several sides names no side: for it the condition of
-/// [`confluence`] holds.
+/// A node whose need is at no moment of a run a take of several sides names no side: for it the
+/// condition of [`confluence`] holds, if this is so in both runs.
 pub fn one_port()
     ensures { OnePortNamesNoSide }
 {}

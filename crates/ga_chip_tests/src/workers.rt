@@ -96,7 +96,8 @@ fn a_pending_word_is_taken_in_every_schedule(rt: HostRuntime) -> Result<(), Fail
 /// A gate that lets a worker into a turn only when the other one has come to it too.
 #[derive(Drop)]
 struct InStep {
-    // How many turns each worker has come to, and how many of its tries were Moved when it came to the last one.
+    // How many turns each worker has come to, and how many of its tries were Moved when it came to
+    // the last one.
     turns: [AtomicU64; 2],
     moved: [AtomicU64; 2],
     // How often a worker has given up waiting.
@@ -199,8 +200,8 @@ fn held_tries_are_not_counted_as_moved(rt: HostRuntime) -> Result<(), Fail> {
     Ok(())
 }
 
-/// A gate that counts its calls, and those in which the worker, which tries 708 alone, hasn't made a step in each turn
-/// before.
+/// A gate that counts its calls, and those in which the worker, which tries 708 alone, hasn't made
+/// a step in each turn before.
 #[derive(Drop)]
 struct Watching {
     calls: AtomicU64,

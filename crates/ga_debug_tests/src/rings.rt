@@ -166,8 +166,8 @@ impl Gate for Meeting {
     }
 }
 
-/// Whether as many workers run at once as there are nodes, of which each has one: each comes to its first turn while the
-/// others wait in theirs.
+/// Whether as many workers run at once as there are nodes, of which each has one: each comes to its
+/// first turn while the others wait in theirs.
 fn overlap<R: Threads + Sync>(rt: &R, alloc: Global, nodes: &[Node]) -> Result<bool, Fail> {
     let mut groups = Vec::new(alloc);
     for node in nodes {

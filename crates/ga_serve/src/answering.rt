@@ -16,10 +16,10 @@ use std::thread::Threads;
 /// The most bytes that an input may have.
 pub const INPUT_LIMIT: usize = 1_048_576;
 
-/// What a job answers to bytes in memory: its output, or the first fault of the input. An input of more than 1,048,576
-/// bytes is refused as `Input(TooLong)`; `explain` looks at none. It reads nothing and writes nothing, so it fails
-/// neither as `Read` nor as `Write`, and as `Memory` only where memory is refused. (The jobs are this project's own:
-/// profile.)
+/// What a job answers to bytes in memory: its output, or the first fault of the input. An input of
+/// more than 1,048,576 bytes is refused as `Input(TooLong)`; `explain` looks at none. It reads
+/// nothing and writes nothing, so it fails neither as `Read` nor as `Write`, and as `Memory` only
+/// where memory is refused. (The jobs are this project's own: profile.)
 #[tactic(auto, using(crate::proofs::OneOutput::one_output))]
 pub fn answer<Rt: AllocGlobal + Threads + Sync>(
     rt: &Rt,

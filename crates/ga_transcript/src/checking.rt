@@ -13,11 +13,12 @@ use ga_chip::Chip;
 use ga_debug::load;
 use std::alloc::{AllocError, Global};
 
-/// Does the commands of a transcript, and compares the reply to each with the lines behind it: answers how many commands
-/// there are, where all replies are those that came. Or the first fault: of the head, as [`TranscriptError::Head`]; a line
-/// of a reply in front of all commands, as [`TranscriptError::EarlyReply`]; the first command that has another reply, as
-/// [`TranscriptError::Differs`]. It fails as [`TranscriptError::Memory`] only where memory is refused. (The texts are this
-/// project's own: profile.)
+/// Does the commands of a transcript, and compares the reply to each with the lines behind it:
+/// answers how many commands there are, where all replies are those that came. Or the first fault:
+/// of the head, as [`TranscriptError::Head`]; a line of a reply in front of all commands, as
+/// [`TranscriptError::EarlyReply`]; the first command that has another reply, as
+/// [`TranscriptError::Differs`]. It fails as [`TranscriptError::Memory`] only where memory is
+/// refused. (The texts are this project's own: profile.)
 #[tactic(auto, using(crate::proofs::OneTranscript::one_checked, crate::proofs::WholeSessions::replies_whole))]
 pub fn check(alloc: Global, text: &str) -> Result<u64, TranscriptError>
     ensures checked { Answers (λ count. count) (IsChecked text.now) result }
@@ -37,8 +38,8 @@ pub fn check(alloc: Global, text: &str) -> Result<u64, TranscriptError>
     }
 }
 
-/// Does the commands of lines, and compares the reply to each with the lines behind it. No line of a reply stands in front
-/// of the first one.
+/// Does the commands of lines, and compares the reply to each with the lines behind it. No line of
+/// a reply stands in front of the first one.
 fn follow(
     alloc: Global,
     mut chip: Chip,
@@ -65,7 +66,8 @@ fn follow(
     }
 }
 
-/// What is told of a command with another reply than the one that stands behind it, where these lines are left.
+/// What is told of a command with another reply than the one that stands behind it, where these
+/// lines are left.
 fn difference(
     alloc: Global,
     behind: LinesLeft<'_>,

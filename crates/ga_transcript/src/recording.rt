@@ -82,7 +82,8 @@ fn push_recorded(
     Err(TranscriptError::TooLong)
 }
 
-/// Does a command, puts its reply in the place of what came before, and adds the lines of the reply, each behind an LF.
+/// Does a command, puts its reply in the place of what came before, and adds the lines of the
+/// reply, each behind an LF.
 fn push_came(
     alloc: Global,
     text: &mut String,
