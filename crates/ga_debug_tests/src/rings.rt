@@ -166,15 +166,19 @@ impl Gate for Meeting {
     }
 }
 
-/// Whether as many workers run at once as there are nodes, of which each has one: each comes to its
-/// first turn while the others wait in theirs.
-fn overlap<R: Threads + Sync>(rt: &R, alloc: Global, nodes: &[Node]) -> Result<bool, Fail> {
+/// Whether so many workers, who have a node each, run at once: each comes to its first turn while the
+/// others wait in theirs.
+fn overlap<R: Threads + Sync>(
+    rt: &R,
+    alloc: Global,
+    nodes: &[Node],
+    workers: u32,
+) -> Result<bool, Fail> {
     let mut groups = Vec::new(alloc);
-    for node in nodes {
+    for node in nodes.iter().take(workers as usize) {
         groups.push(Vec::from_slice(alloc, &[*node])?)?;
     }
     let plan = Plan::new(groups).map_err(|_| "no plan")?;
-    let workers = nodes.len() as u32;
     let gate = Meeting::new(workers);
     let _chip = after_run(rt, alloc, Chip::reset(alloc)?, &plan, 2, &gate)?;
     Ok(gate.met.load(Ordering::SeqCst) == workers)
