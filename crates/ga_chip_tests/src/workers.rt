@@ -9,6 +9,7 @@ use std::alloc::Global;
 use std::sync::atomic::{AtomicU64, Ordering};
 use std::test::Fail;
 use std::thread;
+use std::thread::Threads;
 
 /// Groups of nodes, by their names.
 fn groups(alloc: Global, names: &[&[u16]]) -> Result<Vec<Vec<Node>>, Fail> {
@@ -180,23 +181,30 @@ impl Gate for LastMoved {
     }
 }
 
+/// The moves that a gate is told of two workers in the last of 101 turns, by a plan in which node 000
+/// makes 16 steps and is held from then on.
+fn last_moved<R: Threads + Sync>(
+    rt: &R,
+    alloc: Global,
+    names: &[&[u16]],
+) -> Result<[u64; 2], Fail> {
+    let node_000 = node(0)?;
+    let mut chip = chip_with(alloc, node_000, &[0x048B2, 0x00003, 0x2D1B2, 0x10000])?;
+    chip.set_break(node_000, 0x003);
+    let gate = LastMoved {
+        moved: [AtomicU64::new(0), AtomicU64::new(0)],
+    };
+    let _chip = after_run(rt, alloc, chip, &plan(alloc, names)?, 101, &gate)?;
+    let [first, second] = gate.moved;
+    Ok([first.load(Ordering::SeqCst), second.load(Ordering::SeqCst)])
+}
+
 #[test]
 fn held_tries_are_not_counted_as_moved(rt: HostRuntime) -> Result<(), Fail> {
-    let node_000 = node(0)?;
-    for groups in [&[&[1_u16][..], &[0]][..], &[&[0]]] {
-        let mut chip = chip_with(rt.alloc(), node_000, &[0x048B2, 0x00003, 0x2D1B2, 0x10000])?;
-        chip.set_break(node_000, 0x003);
-        let gate = LastMoved {
-            moved: [AtomicU64::new(0), AtomicU64::new(0)],
-        };
-        let plan = plan(rt.alloc(), groups)?;
-        let chip = after_run(&rt, rt.alloc(), chip, &plan, 101, &gate)?;
-        // Node 000 makes 16 steps, and is held from then on; node 001 makes none.
-        assert!(rt; chip.state(node_000).steps() == 16);
-        let worker = groups.len() - 1;
-        assert!(rt; gate.moved[worker].load(Ordering::SeqCst) == 16);
-        assert!(rt; gate.moved[1 - worker].load(Ordering::SeqCst) == 0);
-    }
+    let alloc = rt.alloc();
+    assert!(rt; last_moved(&rt, alloc, &[&[0]])? == [16, 0]);
+    assert!(rt; last_moved(&rt, alloc, &[&[1], &[0]])? == [0, 16]);
+    assert!(rt; last_moved(&rt, alloc, &[&[1, 0], &[708]])? == [16, 0]);
     Ok(())
 }
 

@@ -189,10 +189,7 @@ fn workers_overlap(rt: HostRuntime) -> Result<(), Fail> {
     let alloc = rt.alloc();
     let nodes = nodes(&[708, 709, 609, 608, 0, 17, 300, 717, 401])?;
     for workers in [2, 3, 4, 5, 9] {
-        assert!(rt;
-            overlap(&rt, alloc, &nodes[..workers])?,
-            "{workers} workers"
-        );
+        assert!(rt; overlap(&rt, alloc, &nodes, workers)?, "{workers} workers");
     }
     Ok(())
 }
