@@ -205,6 +205,11 @@ def followers(ops):
     return count
 
 
+def p_behind(address, ops):
+    """P behind these opcodes of the word at an address, whether or not one of them ends the word."""
+    return address + 1 + sum(op in LITERALS for op in ops)
+
+
 def encoded(ops, destination, spare):
     """The word of some opcodes, filled with `.`. A destination keeps as many low bits as its slot has room for."""
     word = spare << 10
@@ -263,7 +268,7 @@ class Layout:
         return encoded(ops, self.destination(item), item.spare) if ops else self.destination(item)
 
     def judge_reach(self, ops, item, address):
-        destination, p = self.destination(item), address + 1 + followers(ops)
+        destination, p = self.destination(item), p_behind(address, ops)
         if item.name and destination is not None and not fits(ops[-1], len(ops) - 1, destination, p):
             self.refuse(item, "OutOfReach")
 
@@ -289,7 +294,7 @@ class Layout:
         """Puts an opcode outside brackets into the next slot, if it fits there, or else into a new word."""
         if self.open is not None:
             ops, _, kind, line = self.words[self.open]
-            if fits(op, len(ops), self.destination(item), self.open + 1 + followers(ops)):
+            if fits(op, len(ops), self.destination(item), p_behind(self.open, ops)):
                 self.words[self.open] = ([*ops, op], item, kind, line)
                 self.open = None if op in ENDS else self.open
                 return

@@ -1,7 +1,7 @@
 """What the program has to write of words, images and routes, after docs/FORMATS.md and docs/CHIP.md."""
 import re
 
-from assembler import NODE, NUMBERS, SLOTS, Fault, decoded, followers
+from assembler import NODE, NUMBERS, SLOTS, Fault, decoded, followers, p_behind
 from schedules import neighbours
 
 ROUTES = re.compile(f"{NODE.pattern}([,/]{NODE.pattern})*")
@@ -57,7 +57,7 @@ def listing(image):
 
         def name_of(ops, field):
             width = SLOTS[len(ops) - 1][2]
-            return first.get(at + 1 + followers(ops) >> width << width | field)
+            return first.get(p_behind(at, ops) >> width << width | field)
 
         yield from (f"{name}:\n" for name, address in image.labels.items() if address == at)
         if kind:
