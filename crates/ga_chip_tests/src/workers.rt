@@ -194,9 +194,11 @@ fn last_moved<R: Threads + Sync>(
     let gate = LastMoved {
         moved: [AtomicU64::new(0), AtomicU64::new(0)],
     };
-    let _chip = after_run(rt, alloc, chip, &plan(alloc, names)?, 101, &gate)?;
-    let [first, second] = gate.moved;
-    Ok([first.load(Ordering::SeqCst), second.load(Ordering::SeqCst)])
+    let plan = plan(alloc, names)?;
+    let _chip = after_run(rt, alloc, chip, &plan, 101, &gate)?;
+    let first = gate.moved[0].load(Ordering::SeqCst);
+    let second = gate.moved[1].load(Ordering::SeqCst);
+    Ok([first, second])
 }
 
 #[test]
