@@ -1,4 +1,5 @@
-"""What a right answer of the program is: `wrong` judges one, for tests/fuzz.py and tests/cut_texts.py.
+"""What a right answer of the program is: `wrong` judges one, for tests/fuzz.py and tests/cut_texts.py. A subcommand is a
+function here, under `@subcommand`; what the other tests do with each of SUBCOMMANDS they do by its recorded cases.
 
 A text has one meaning or one first fault, and so have a command line and a command. This file works them out after
 docs/FORMATS.md, with tests/assembler.py, outputs.py and sessions.py, which share nothing with the program. So all
@@ -37,12 +38,6 @@ LIMIT = 1048576
 # A run is compared with one of at most so many turns, or tries.
 MOST_TURNS, MOST_TRIES = 2000, 3000
 HELP = {"-h", "--help", "-V", "--version"}
-# What stands behind the name of a subcommand: numbers of a range, and texts. FILE and NAME may be left out.
-VALUES = {
-    "asm": [], "list": ["FILE"], "dis": [], "boot": ["ROUTE"], "run": ["ROUTE", range(1, 145), range(1000001)],
-    "one": [range(1000001)], "debug": [], "replay": [], "check": ["FILE"], "record": ["FILE"], "explain": ["NAME"],
-}  # fmt: skip
-
 # The status, the output, and the text on standard error; no status if no answer came in time.
 Answer = namedtuple("Answer", "status output error")
 
@@ -71,30 +66,46 @@ class Wrong(Exception):
     """What is wrong with an answer."""
 
 
+# What stands behind the name of a subcommand: values, which are numbers of a range, and texts; and options, which have a
+# number of a range, or stand alone. FILE and NAME may be left out. `answer` gives what it has to write.
+Subcommand = namedtuple("Subcommand", "values options answer")
+SUBCOMMANDS = {}
+
+
+def subcommand(*values, **options):
+    def add(answer):
+        SUBCOMMANDS[answer.__name__.rstrip("_")] = Subcommand([*values], options, answer)
+        return answer
+
+    return add
+
+
 class Job:
     """What a command line asks for. ValueError: it is wrong."""
 
     def __init__(self, args):
         self.name, *rest = args or [""]
-        if self.name not in VALUES:
+        if self.name not in SUBCOMMANDS:
             raise ValueError("no such subcommand")
+        self.kind = SUBCOMMANDS[self.name]
         self.options, self.values = {}, []
         while rest:
             word = rest.pop(0)
             option, equals, value = word.partition("=")
+            option = option.removeprefix("--")
             if word == "--":
                 self.values, rest = self.values + rest, []
-            elif option in self.options:
-                raise ValueError("an option stands twice")
-            elif self.name == "dis" and option == "--code":
-                self.options[option] = number_in(range(65), value if equals or not rest else rest.pop(0))
-            elif self.name == "list" and word == "--labels":
-                self.options[option] = True
-            elif word.startswith("-") and word != "-":
-                raise ValueError("no such option")
-            else:
+            elif not word.startswith("-") or word == "-":
                 self.values.append(word)
-        self.read_values(VALUES[self.name])
+            elif word[:2] != "--" or option in self.options or option not in self.kind.options:
+                raise ValueError("no such option, or it stands twice")
+            elif self.kind.options[option]:
+                self.options[option] = number_in(self.kind.options[option], value if equals or not rest else rest.pop(0))
+            elif equals:
+                raise ValueError("an option with a value that has none")
+            else:
+                self.options[option] = True
+        self.read_values(self.kind.values)
 
     def read_values(self, kinds):
         least = len(kinds) - ("FILE" in kinds or "NAME" in kinds)
@@ -107,7 +118,7 @@ class Job:
 
     def input_of(self, data):
         """The text that is read, if standard input has this data."""
-        if VALUES[self.name] == ["FILE"] and self.values not in ([], ["-"], ["/dev/stdin"]):
+        if self.kind.values == ["FILE"] and self.values not in ([], ["-"], ["/dev/stdin"]):
             if os.path.isdir(self.values[0]):
                 raise Fault("input Folder")
             if not os.path.exists(self.values[0]):
@@ -157,7 +168,7 @@ def meaning_of(name, text):
 def reported(job, fault, text):
     """What stands on standard error: the fault, and behind it what `list`, `check` and `record` show of the text."""
     shown = fault.behind
-    if VALUES[job.name] == ["FILE"] and fault.place:
+    if job.kind.values == ["FILE"] and fault.place:
         line, column = fault.place
         rows = [*text.split("\n"), ""]
         row = rows[line - 1].removesuffix("\r" if line < len(rows) - 1 else "")
@@ -174,21 +185,24 @@ def reported(job, fault, text):
 # other run shows is taken from the answer.
 
 
+@subcommand()
 def asm(ask, job, text, answer):
     images = images_of(text)
     ask(["list"], text, list_output(images))
     return asm_output(images)
 
 
+@subcommand("FILE", labels=None)
 def list_(ask, job, text, answer):
     images = images_of(text)
     ask(["asm"], text, asm_output(images))
     return labels_output(images) if job.options else list_output(images)
 
 
+@subcommand(code=range(65))
 def dis(ask, job, text, answer):
     words = words_of(text)
-    code = job.options.get("--code", len(words))
+    code = job.options.get("code", len(words))
     if code > len(words):
         raise Fault("words BadCode")
     source = dis_output(words, code)
@@ -196,6 +210,7 @@ def dis(ask, job, text, answer):
     return source
 
 
+@subcommand("ROUTE")
 def boot(ask, job, text, answer):
     return boot_output(*tree_and_images(job.values[0], text))
 
@@ -207,6 +222,7 @@ def tree_and_images(route, text):
     return parents, images
 
 
+@subcommand(range(1000001))
 def one(ask, job, text, answer):
     words = words_of(text)
     must_have_form(answer, [registers(0)])
@@ -220,6 +236,7 @@ def one(ask, job, text, answer):
     return ask(["debug"], session).partition("\n")[2]
 
 
+@subcommand("ROUTE", range(1, 145), range(1000001))
 def run(ask, job, text, answer):
     route, workers, turns = job.values
     parents, _ = tree_and_images(route, text)
@@ -237,6 +254,7 @@ def run(ask, job, text, answer):
     return "".join(text_of(it.reply) for it in transcript_of(session).exchanges[len(tries) :])
 
 
+@subcommand()
 def debug(ask, job, text, answer):
     head = head_of(text)
     lines = [line for line in head.lines if line]
@@ -250,6 +268,7 @@ def debug(ask, job, text, answer):
     return "".join("ok\n" if reply.startswith("ok, ") else reply for reply in wanted)
 
 
+@subcommand("FILE")
 def record(ask, job, text, answer):
     old, new = Transcript(text), transcript_of(answer.output)
     ask(["check"], answer.output, f"same {len(old.exchanges)}\n")
@@ -263,6 +282,7 @@ def record(ask, job, text, answer):
     return old.with_replies([it.reply for it in new.exchanges])
 
 
+@subcommand("FILE")
 def check(ask, job, text, answer):
     old, new = Transcript(text), transcript_of(ask(["record"], text))
     for one, other in zip(old.exchanges, new.exchanges):
@@ -276,6 +296,7 @@ def check(ask, job, text, answer):
 Step = namedtuple("Step", "line text command")
 
 
+@subcommand()
 def replay(ask, job, text, answer):
     head = head_of(text, ["profile 2", "profile 1"])
     steps = [Step(line, it, command_of(it, IN_REPLAYS)) for line, it in enumerate(head.lines, head.go + 1) if it]
@@ -321,17 +342,12 @@ def judge_old(ask, text, steps, answer):
         ask(["replay"], text_of(front), error=f"ga-bench: replay differs {last.line}\n")
 
 
+@subcommand("NAME")
 def explain(ask, job, text, answer):
     if tuple(job.values) in EXPLAINED:
         return EXPLAINED[tuple(job.values)]
     must_have_form(answer, [f"{job.values[0]}: (?:.{{0,80}}\n)+"])
     return answer.output
-
-
-ANSWERS = {
-    "asm": asm, "list": list_, "dis": dis, "boot": boot, "run": run, "one": one, "debug": debug, "replay": replay,
-    "check": check, "record": record, "explain": explain,
-}  # fmt: skip
 
 
 def must_have_form(answer, forms):
@@ -361,7 +377,7 @@ def judge(ask, args, data, answer):
         return
     try:
         text = job.input_of(data) if job.name != "explain" else ""
-        wanted = Answer(0, ANSWERS[job.name](ask, job, text, answer), "")
+        wanted = Answer(0, job.kind.answer(ask, job, text, answer), "")
     except Fault as fault:
         wanted = Answer(1, "", reported(job, fault, text))
     if answer != wanted:

@@ -1,8 +1,9 @@
 """Runs a program with each prefix of some texts: python3 tests/cut_texts.py PROGRAM
 
-tests/answers.py judges each answer. The last line that is printed is 'cut texts: N passed, M failed', a prefix each, and
-the exit status is 0 if M is 0.
+The texts are those of recorded cases, one of each file and subcommand. tests/answers.py judges each answer. The last
+line that is printed is 'cut texts: N passed, M failed', a prefix each, and the exit status is 0 if M is 0.
 """
+import glob
 import json
 import os
 import sys
@@ -10,24 +11,20 @@ from concurrent.futures import ProcessPoolExecutor
 
 import answers
 from fuzz import Runner
+from run_cases import stream
 
-ROUTE = "708,709,609,608"
-TREE = "708,709,710/708,709,609/708,608/708,707"
-# A text, and the command lines that read such a text.
-TEXTS = [
-    ("examples/ring/ring.source", [["asm"], ["list"], ["boot", ROUTE], ["run", ROUTE, "1", "600"]]),
-    ("examples/ring/ring.transcript", [["debug"], ["check"], ["record"]]),
-    ("examples/ring/ring.replay", [["replay"]]),
-    ("examples/tree_sum/tree_sum.source", [["boot", TREE], ["run", TREE, "1", "600"]]),
-    ("examples/tree_sum/tree_sum.replay", [["replay"]]),
-]
-# Recorded cases whose texts are read too: the one of profile 1, the other of profile 2.
-CASES = {"replay-of-three", "debug-of-three"}
+MOST = 800
 
 
-def recorded_texts():
-    with open(f"{answers.ROOT}/tests/cases/worked.jsonl", encoding="utf-8") as lines:
-        return [(case["args"], case["stdin"].encode()) for case in map(json.loads, lines) if case["name"] in CASES]
+def texts_of(file):
+    """For each subcommand the command line and the text of the accepted case with the most bytes, up to MOST."""
+    longest = {}
+    with open(file, encoding="utf-8") as lines:
+        for case in map(json.loads, lines):
+            args, data = case["args"], stream(case, "stdin") or b""
+            if case["status"] == 0 and args[0] in answers.SUBCOMMANDS and len(data) <= MOST:
+                longest[args[0]] = max((args, data), longest.get(args[0], (args, data)), key=lambda run: len(run[1]))
+    return longest.values()
 
 
 def run_fronts(program, args, data):
@@ -41,11 +38,7 @@ def run_fronts(program, args, data):
 
 
 def main(program):
-    runs = recorded_texts()
-    for name, lines in TEXTS:
-        with open(f"{answers.ROOT}/{name}", "rb") as file:
-            data = file.read()
-        runs += [(args, data) for args in lines]
+    runs = [run for file in sorted(glob.glob(f"{answers.ROOT}/tests/cases/*.jsonl")) for run in texts_of(file)]
     passed, failed = 0, 0
     with ProcessPoolExecutor() as pool:
         for right, wrong in pool.map(run_fronts, [program] * len(runs), *zip(*runs)):

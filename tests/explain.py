@@ -2,7 +2,8 @@
 """Compares what `explain` tells with the pages and with the recorded cases: tests/explain.py PROGRAM
 
 - Its names are those of the tables of faults, needs, stops, outcomes and the carry in docs/FORMATS.md and docs/CHIP.md,
-  but for what comes up in the library alone. The pages have no name that it lacks.
+  but for rows that say that they come up in the library alone. The pages have no name that it lacks.
+- A fault of source text or of layout has a meaning, which a recorded case of `list` shows.
 - A text is 24 lines of 80 columns at most, that of BadToken longer, and begins with its name.
 - A text has an example that shows its name, or what stands for it (SHOWN), and a mended one that doesn't, but for the
   names of which no example can be recorded (UNRECORDED) and those that need no mending (HARMLESS).
@@ -21,13 +22,12 @@ import shlex
 import subprocess
 import sys
 
+from answers import MEANINGS
+
 ROOT = os.path.dirname(os.path.dirname(os.path.abspath(__file__)))
 CASES = f"{ROOT}/tests/cases/explain.jsonl"
 SECONDS = 60
 LINES, COLUMNS = 24, 80
-
-# Faults of tables that no subcommand tells: they come up in the library alone.
-LIBRARY_ALONE = {"NoWorker", "CutHeader", "CutBody", "AfterEnd"}
 
 # No recorded case can make a read, a write or an allocation fail, or a node step 2^64 times.
 UNRECORDED = {"read", "write", "memory", "Counted"}
@@ -37,18 +37,19 @@ SHOWN = {"carry": "C 1"}
 
 
 def rows(page, heading):
-    """Yields the first cell of each row of the tables in one section of a page."""
+    """Yields the first cell of each row of the tables in one section of a page, but for faults of the library alone."""
     with open(f"{ROOT}/docs/{page}", encoding="utf-8") as text:
         sections = re.split(r"^#+ (.*)$", text.read(), flags=re.M)
     body = dict(zip(sections[1::2], sections[2::2]))[heading]
-    for row in re.findall(r"^\| *(.*?) *\|.*\|$", body, flags=re.M):
-        yield row
+    for cell, others in re.findall(r"^\| *(.*?) *\|(.*)\|$", body, flags=re.M):
+        if "comes up in the library alone" not in others:
+            yield cell
 
 
 def names_of_pages():
     """Returns the names that the pages have in their tables of faults, needs, stops, outcomes and the carry."""
     names = set()
-    headings = ["Faults of source text", "Faults of layout", "Frames", "Routes", "Trees", "Plans", "Sessions", "Replay texts"]
+    headings = ["Faults of source text", "Faults of layout", "Routes", "Trees", "Plans", "Sessions", "Replay texts"]
     for heading in headings:
         for cell in rows("FORMATS.md", heading):
             names.update(re.findall(r"^`([A-Z][a-z]\w*)(?: [A-Z]+)?`$", cell))
@@ -61,7 +62,7 @@ def names_of_pages():
         for cell in rows("CHIP.md", heading):
             if cell not in heads and not cell.startswith("--"):
                 names.add(re.match(r"\w+", cell)[0] if heading == "Stops" else re.match(r"\w+", cell)[0].lower())
-    return names - LIBRARY_ALONE
+    return names
 
 
 def examples(text):
@@ -137,6 +138,9 @@ def main():
     names, wanted = explain(program).split(), names_of_pages()
     checks.append(("names that no page has", sorted(set(names) - wanted)))
     checks.append(("names of the pages that are missing", sorted(wanted - set(names))))
+    of_texts = {*rows("FORMATS.md", "Faults of source text"), *rows("FORMATS.md", "Faults of layout")}
+    of_texts = {cell.strip("`") for cell in of_texts if re.fullmatch(r"`[A-Z]\w+`", cell)}
+    checks.append(("faults without a meaning", sorted(name for name in of_texts if not MEANINGS.get(name))))
     with open(CASES, encoding="utf-8") as lines:
         cases = [json.loads(line) for line in lines]
     recorded = {key_of_case(case): case["name"] for case in cases if case["args"][0] != "explain"}

@@ -25,7 +25,7 @@ import signal
 import sys
 import time
 
-from answers import CASES, Answer, wrong
+from answers import CASES, SUBCOMMANDS, Answer, wrong
 from run_cases import stream
 from schedules import neighbours
 
@@ -33,9 +33,9 @@ SECONDS = 20
 MOST_TURNS = 2000
 # How many failures a worker prints.
 MOST_SHOWN = 10
-# A third of the inputs are for the first three. `other` are all other command lines, as those of `explain`.
+# A third of the inputs are for the first three. `other` are all other command lines, and those of `explain`.
 THIRD = ["list", "check", "record"]
-OTHERS = ["asm", "dis", "boot", "run", "one", "debug", "replay", "other"]
+OTHERS = [*sorted({*SUBCOMMANDS} - {*THIRD, "explain"}), "other"]
 NUMBERS = ["0", "1", "7", "8", "63", "64", "65", "143", "144", "511", "512", "717", "718", "262143", "262144",
            "1000000", "1000001", "4294967295", "4294967296", "18446744073709551616", "-1", "$3ffff", "$40000",
            "$ffffffffff", "1ff", "200", "3FFFF", "40000", "999999999", "0x10", "00000001"]  # fmt: skip

@@ -11,7 +11,7 @@ import re
 import shutil
 import sys
 
-from answers import Answer, wrong
+from answers import CASES, SUBCOMMANDS, Answer, wrong
 from fuzz import Runner, input_of
 
 INPUTS = 5000
@@ -85,8 +85,7 @@ def finds_all_the_same(run, args, data, answer):
 
 
 # Whose answers each change changes: those of a subcommand, or all.
-LONG = ["asm", "list", "dis", "boot", "run", "debug", "record"]
-SUBCOMMANDS = [*LONG, "one", "replay", "check", "explain"]
+LONG = sorted({case["args"][0] for case in CASES if case.get("stdout", "").count("\n") > 1} & {*SUBCOMMANDS})
 CHANGES = {
     empty: ["all", *SUBCOMMANDS],
     lacks_last_line: ["all", *SUBCOMMANDS],

@@ -1,83 +1,62 @@
 """Refuses each allocation of the program in turn: python3 tests/refuse_memory.py PROGRAM [CALLER]
 
-With one allocation refused a run must tell `ga-bench: memory`, with status 3 and nothing on standard
-output, or answer as it does with ample memory. CALLER is the program of the crate ga_refused_calls: the call that it
-makes must answer what it answers with ample memory, or be refused with what it was lent as it was before, unless memory
-runs out outside the call; and at least one is refused. The last line that is printed is 'memory: N passed, M failed', a
-run each, and the exit status is 0 where M is 0. It needs a C compiler, the command in the variable CC or else cc.
+With one allocation refused a run must tell `ga-bench: memory`, with status 3 and nothing on standard output, or answer
+as it does with ample memory. The runs are those of recorded cases, and SESSIONS. CALLER is the program of the crate
+ga_refused_calls: the call that it makes must answer what it answers with ample memory, or be refused with what it was
+lent as it was before, unless memory runs out outside the call; and at least one is refused. The last line that is
+printed is 'memory: N passed, M failed', a run each, and the exit status is 0 where M is 0. It needs a C compiler, the
+command in the variable CC or else cc.
 """
 import os
+import re
 import subprocess
 import sys
 import tempfile
 from concurrent.futures import ThreadPoolExecutor
 from functools import partial
 
+from answers import CASES, SUBCOMMANDS
+from run_cases import stream
+
 FOLDER = os.path.dirname(os.path.abspath(__file__))
-WORDS = b"04A12 00005 00003 2C9B2"
+MOST_BYTES = 200
 HEAD = b"profile 2\nplace\nnode 000 . align 5 x: jump x\ngo\n"
 ROUTE = b"profile 2\nroute 708,709\nnode 709 5 .\ngo\n"
 TREE = b"profile 2\nroute 708,709/708,608\nnode 709 5 .\nnode 608 .\ngo\n"
-RUNS = [
-    (["one", "5"], WORDS),
-    (["one", "5"], b"3FFFF " * 64),
-    (["one", "5"], b"04A12 5"),
-    (["one", "5"], b""),
-    (["asm"], b"node 709 . node 000 x: [ @p a! @p ] , 5 , x jump x data y: , x"),
-    (["asm"], b"node 000 jump x"),
-    (["asm"], b"node 000 x: jump y y: . node 001 jump y x: . y: ."),
-    (["asm"], b"node 000 ]"),
-    (["boot", "708,709,710"], b"node 710 5 x: . node 708 ."),
-    (["boot", "708,709"], b"node 710 ."),
-    (["boot", "708,708"], b"node 708 ."),
-    (["boot", ""], b"node 708 ."),
-    (["boot", "708,709,710/708,709,609"], b"node 710 5 x: . node 609 ."),
-    (["boot", "708,709/708,608"], b"node 707 ."),
-    (["boot", "708,709/000,001"], b"node 709 ."),
-    (["boot", "708,709,609/708,608,609"], b"node 709 ."),
-    (["boot", "708,709/708,710"], b"node 709 ."),
-    (["boot", "708//709"], b"node 709 ."),
-    (["run", "708,709", "1", "200"], b"node 709 main: $5 $7 + @b"),
-    # With no turns two workers leave the same chip each time.
+# Runs beside those of recorded cases: each command of a session, and workers that leave the same chip each time.
+SESSIONS = [
     (["run", "708,709", "2", "0"], b"node 709 main: $5 $7 + @b"),
-    (["run", "708,709", "3", "200"], b"node 709 main: $5 $7 + @b"),
     (["run", "708,709/708,608", "2", "0"], b"node 709 main: $5 $7 + @b"),
-    (["run", "708,709,609/708,608,609", "1", "0"], b"node 709 main: $5 $7 + @b"),
-    (["dis", "--code", "2"], b"05872 2C9B2 00001"),
-    (["dis"], b"3FFFF " * 64),
-    (["dis", "--code", "4"], b"05872 2C9B2 00001"),
     (["debug"], HEAD + b"break 000 001\nturn 9\nregs 000\nmem 000\nports 000\npass 000\npass 000\nstep\n"),
     (["debug"], ROUTE + b"turn 40\ntry 709 r\n"),
     (["debug"], TREE + b"turn 40\ntry 608 d\n"),
-    (["debug"], b"profile 2\nroute 708,709/000,001\nnode 709 .\ngo\n"),
-    (["debug"], b"profile 2\nplace\n"),
     (["replay"], HEAD + b"break 000 001\nturn 9 = 5\ntry 000 r = held\n"),
     (["replay"], ROUTE + b"turn 1 = 1\n"),
     (["replay"], TREE + b"turn 1 = 1\n"),
-    (["replay"], b"profile 1\nroute 708,709,609/708,608,609\nnode 709 .\ngo\n"),
-    (["replay"], b"profile 2\nroute 708,709/708,710\nnode 709 .\ngo\n"),
     (["replay"], b"profile 1\nplace\nnode 000 jump $200\ngo\nturn 4 = 2\ntry 000 r = stopped\n"),
-    (["replay"], HEAD + b"turn 1 = 2\n"),
-    (["replay"], HEAD + b"regs 000\n"),
-    (["replay"], b"profile 2\nroute 708\nnode 709 .\ngo\n"),
-    (["replay"], b"profile 2\nroute 710,708\nnode 709 .\ngo\n"),
-    (["replay"], b"profile 2\nplace\nnode 000 jump x\ngo\n"),
-    (["list"], b"node 709 main: $5 $7 + @b\ndata x: , main"),
     (["list", "--labels", "-"], b"node 709 main: $5 $7 + @b\ndata x: , main"),
-    (["list"], b"node 709 jump x"),
     (["check"], HEAD + b"> break 000 x\nok\n> until 000 x 9\nturns 5 moved 5\n> breaks\n000 001 x, held\n> node x\n"),
     (["check"], HEAD + b"> where\n> node 000\n> mem 000\n> step\nrefused BadCommand\n"),
-    (["check"], HEAD + b"turn 4\n"),
-    (["check"], b"profile 2\nplace\nnode 000 jump x\ngo\n"),
     (["check"], TREE + b"> turn 1\nmoved 1\n"),
-    (["check"], b"profile 2\nroute 708,709/000,001\nnode 709 .\ngo\n"),
     (["record"], HEAD + b"> break 000 002\n> until 000 x 9\n> breaks\n> where\n> pass 000\n> regs 000\nold\n\\ end\n"),
     (["record"], ROUTE + b"> turn 40\n> until 709 1D5\n> where\n> try 709 r\n"),
     (["record"], TREE + b"> turn 40\n> until 608 115\n> where\n"),
-    (["record"], b"profile 2\nplace\n"),
-    (["explain"], b""),
-    (["explain", "NotHeld"], b""),
 ]
+
+
+def recorded_runs():
+    """Of each subcommand the accepted case with the most bytes, up to MOST_BYTES, and of each fault that it reports the
+    refused case with the fewest."""
+    runs = {}
+    for data, case in sorted(((stream(case, "stdin") or b"", case) for case in CASES), key=lambda it: len(it[0])):
+        name, is_told = (case["args"] or [""])[0], {"stdout", "stderr"} & {*case}
+        if name in SUBCOMMANDS and case.get("status") in (0, 1) and is_told and len(data) <= MOST_BYTES:
+            fault = re.sub("[0-9]", "", case.get("stderr", "").partition("\n")[0])
+            runs[name, fault] = runs[name, fault] if fault and (name, fault) in runs else (case["args"], data)
+    return [*runs.values()]
+
+
+RUNS = recorded_runs() + SESSIONS
 # Command lines that name no job.
 LINES = [
     (["dis", "--code", "65"], b""),
@@ -95,6 +74,7 @@ CALLS = [
     (["feed"], b""),
     (["boot"], b""),
     (["chip_text"], b""),
+    (["begin"], b""),
     (["run_workers"], b""),
     *[
         (["command", line], b"")

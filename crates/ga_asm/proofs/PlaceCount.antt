@@ -23,12 +23,13 @@ loose_makes (Literal n) loose = refl
 loose_makes i loose = absurd (cc)
 
 -- the words of a group
-group_count : (before : Labels) (address at : ℕ) (g : Group) (back : List Group) → Arrangement before address (g ∷ back)
-    → length (indices_in_group at (members g)) ≡ size g
+group_count : (before : Labels) (address at : ℕ) (g : Group) (back : List Group)
+    → Arrangement before address (g ∷ back) → length (indices_in_group at (members g)) ≡ size g
 unfolding Arrangement
 group_count before address at (Shared i is) back arranged =
     let makes = loose_makes i (shared_loose before address i is arranged.0) in
-    let first = ap (λ b. length ((if b then at ∷ [] else []) ++ literal_indices at (i ∷ is))) makes in
+    let first =
+    ap (λ b. length ((if b then at ∷ [] else []) ++ literal_indices at (i ∷ is))) makes in
     let others = literal_count at (i ∷ is) in
     omega arith
 group_count before address at (Alone (Word ops)) back arranged = refl
@@ -40,14 +41,16 @@ group_count before address at (Alone Data) back arranged = refl
 group_count before address at (Alone i) back arranged = absurd (let alone = arranged.0 in cc)
 
 -- the groups behind one are arranged
-behind : (before : Labels) (address : ℕ) (g : Group) (groups : List Group) → Arrangement before address (g ∷ groups)
+behind : (before : Labels) (address : ℕ) (g : Group) (groups : List Group)
+    → Arrangement before address (g ∷ groups)
     → Arrangement (labels_behind before address g) (address + size g) groups
 unfolding Arrangement
 behind before address (Shared i is) groups arranged = arranged.2
 behind before address (Alone i) groups arranged = arranged.1
 
 -- the words of groups
-groups_count : (before labels : Labels) (address at : ℕ) (groups : List Group) (words : List ℕ) → Arrangement before address groups → Words labels groups words
+groups_count : (before labels : Labels) (address at : ℕ) (groups : List Group) (words : List ℕ)
+    → Arrangement before address groups → Words labels groups words
     → length (first_items at (map item_count groups) (items_of groups)) ≡ length words
 unfolding Words
 groups_count before labels address at [] words arranged none = sym (ap length none)
@@ -55,27 +58,39 @@ groups_count before labels address at (g ∷ groups) words arranged (front, back
     let counts = map item_count groups in
     let items = items_of (g ∷ groups) in
     let first : take (item_count g) items ≡ members g =
-    ap (λ n. take n items) (count_members g) ∙ ap (take (length (members g))) (items_cons g groups) ∙ take-append_seam (members g) (items_of groups) in
+    ap (λ n. take n items) (count_members g) ∙ ap (take (length (members g))) (items_cons g groups)
+    ∙ take-append_seam (members g) (items_of groups) in
     let others : drop (item_count g) items ≡ items_of groups =
-    ap (λ n. drop n items) (count_members g) ∙ ap (drop (length (members g))) (items_cons g groups) ∙ drop-append_seam (members g) (items_of groups) in
-    let split : first_items at (item_count g ∷ counts) items ≡ indices_in_group at (members g) ++ first_items (at + length (members g)) counts (items_of groups) =
-    ap (λ group. indices_in_group at group ++ first_items (at + length group) counts (drop (item_count g) items)) first
-    ∙ ap (λ rest. indices_in_group at (members g) ++ first_items (at + length (members g)) counts rest) others in
-    let sum = length-append (indices_in_group at (members g)) (first_items (at + length (members g)) counts (items_of groups)) in
+    ap (λ n. drop n items) (count_members g) ∙ ap (drop (length (members g))) (items_cons g groups)
+    ∙ drop-append_seam (members g) (items_of groups) in
+    let split : first_items at (item_count g ∷ counts) items ≡ indices_in_group at (members g)
+    ++ first_items (at + length (members g)) counts (items_of groups) =
+    ap (λ group. indices_in_group at group
+    ++ first_items (at + length group) counts (drop (item_count g) items)) first
+    ∙ ap (λ rest. indices_in_group at (members g)
+    ++ first_items (at + length (members g)) counts rest) others in
+    let sum = length-append (indices_in_group at (members g))
+    (first_items (at + length (members g)) counts (items_of groups)) in
     let group = group_count before address at g groups arranged in
     let made = group_length before labels address g groups front arranged here in
-    let rest = groups_count (labels_behind before address g) labels (address + size g) (at + length (members g)) groups back (behind before address g groups arranged) more in
+    let rest = groups_count (labels_behind before address g) labels (address + size g)
+    (at + length (members g)) groups back (behind before address g groups arranged) more in
     let whole = ap length e ∙ length-append front back in
-    ap length split ∙ sum ∙ ap (λ n. n + length (first_items (at + length (members g)) counts (items_of groups))) (group ∙ sym made)
+    ap length split ∙ sum
+    ∙ ap (λ n. n + length (first_items (at + length (members g)) counts (items_of groups)))
+    (group ∙ sym made)
     ∙ ap (λ n. length front + n) rest ∙ sym whole
 
-pub as_many : (items : List PlacedItem) (image : ImageView) → IsImage (map (λ placed. placed.item) items) image
+pub as_many : (items : List PlacedItem) (image : ImageView)
+    → IsImage (map (λ placed. placed.item) items) image
     → length (word_places image.item_counts items) ≡ length image.words
 unfolding word_places
 as_many items image is =
     let laid = is.laid in
     let own = map (λ (placed : PlacedItem). placed.item) items in
-    length-map (first_items 0 image.item_counts own) (place_at (map (λ (placed : PlacedItem). placed.place) items))
+    length-map (first_items 0 image.item_counts own)
+    (place_at (map (λ (placed : PlacedItem). placed.place) items))
     ∙ ap (λ counts. length (first_items 0 counts own)) is.counts_are
-    ∙ ap (λ items. length (first_items 0 (map item_count laid.groups) items)) (sym laid.stand_in.in_order)
+    ∙ ap (λ items. length (first_items 0 (map item_count laid.groups) items))
+    (sym laid.stand_in.in_order)
     ∙ groups_count [] image.labels 0 0 laid.groups image.words laid.stand_in.arranged laid.words_are

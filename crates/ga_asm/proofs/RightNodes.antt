@@ -5,7 +5,7 @@ use Rattle.std.proofs.lemmas.List.{length-map}
 use Rattle.std.proofs.lemmas.List.Folds.{list_all-append}
 use Rattle.std.specs.Prelude.{◌&&◌, nat_le, Bool}
 use Rattle.ga_pack.specs.Model.Layout.{Labels, Group, Shared, Alone, Arrangement, Laid, StandIn, address_after, items_of, labels_after, names_in, size}
-use Rattle.ga_pack.specs.Model.LayoutFault.{AllPass, AllRight, AsmFault, AsmKind, fault_behind, joins_last, plain_items}
+use Rattle.ga_pack.specs.Model.LayoutFault.{AllPass, AllRight, AsmFault, fault_behind, joins_last, plain_items}
 use Rattle.ga_pack.specs.Model.Program.{PlacedItem, PlacedSection}
 use Rattle.ga_pack.specs.Model.Source.{Item, Here, Sections, start}
 use Rattle.ga_pack.proofs.Laying.{right_or_fault}
@@ -19,6 +19,7 @@ use Rattle.ga_asm.proofs.LayingSteps.{not_long}
 use Rattle.ga_asm.proofs.RightItems.{items_right}
 use Rattle.ga_asm.proofs.Sections.{right_snoc}
 use Rattle.ga_asm.proofs.Summary.{address_add, address_grows}
+use Rattle.ga_pack.specs.declared.error_kind.AsmErrorKind.{AsmErrorKind}
 
 -- ---- the words and labels of a node
 
@@ -116,7 +117,7 @@ spot (i ∷ items) (suc at) h =
     }
 
 -- a fault is that of an item
-fault_within : (items : List Item) (at : ℕ) (kind : AsmKind) → AsmFault items at kind
+fault_within : (items : List Item) (at : ℕ) (kind : AsmErrorKind) → AsmFault items at kind
     → at < length items
 fault_within items at kind (inl p) =
     omega (arith, p.at_is, ap length p.split, length-append p.before (p.item ∷ p.rest))

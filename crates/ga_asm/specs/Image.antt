@@ -10,8 +10,8 @@ use Rattle.ga_pack.specs.Model.Source.{Item}
 use Rattle.ga_place.specs.Node.{node_text}
 use Rattle.ga_word.specs.Hex.{hex_digits}
 
--- the words, how many of them are code, the address where the node begins, the labels with their addresses, and how
--- many items each group has
+-- the words, how many of them are code, the address where the node begins, the labels with their
+-- addresses, and how many items each group has
 pub record ImageView : Type 0 where
   pub words : List ℕ
   pub code_len : ℕ
@@ -26,7 +26,8 @@ labels_of entries = map (λ entry. (string_bytes entry.0, entry.1)) entries
 -- the first label that has this address
 abbrev pub label_at : Labels → ℕ → Option (List ℕ)
 label_at [] address = None
-label_at (label ∷ labels) address = if label.1 == address then Some label.0 else label_at labels address
+label_at (label ∷ labels) address =
+    if label.1 == address then Some label.0 else label_at labels address
 
 -- the address of the label `main`, or 0 where no label is `main`
 abbrev pub entry_of : Labels → ℕ
@@ -45,8 +46,8 @@ item_count (Alone i) = 1
 abbrev pub image_of : List (ℕ × ImageView) → ℕ → Option ImageView
 image_of images name = lookup (λ other. name == other) images
 
--- The items are laid as the words, the labels and the length of code of an image. Its entry is that of its labels, and
--- its groups of items are those of the layout.
+-- The items are laid as the words, the labels and the length of code of an image. Its entry is that
+-- of its labels, and its groups of items are those of the layout.
 pub record IsImage (items : List Item) (image : ImageView) : Type 0 where
   pub laid : Laid items image.words image.labels image.code_len
   pub entry_is : image.entry ≡ entry_of image.labels
@@ -58,8 +59,10 @@ pub record IsLoadable (image : ImageView) : Type 0 where
   pub most : length image.words ≤ 64
   pub entry_near : image.entry ≤ 64
 
--- the line of an image: the node, its entry, and how many of its words are code and how many there are
+-- the line of an image: the node, its entry, and how many of its words are code and how many there
+-- are
 unfoldable pub image_line : ℕ → ImageView → List ℕ
 image_line node image =
-    codes "node " ++ node_text node ++ codes " entry " ++ hex_digits 3 image.entry ++ codes " code " ++ decimal image.code_len
+    codes "node " ++ node_text node ++ codes " entry " ++ hex_digits 3 image.entry ++ codes " code "
+    ++ decimal image.code_len
     ++ codes " words " ++ decimal (length image.words) ++ 10 ∷ []

@@ -1,15 +1,14 @@
 -- The images of a source text, or its first fault.
-use Rattle.std.specs.Prelude.{◌≡◌, ℕ, List, Some, Result, Ok, Err}
-use Rattle.ga_pack.specs.Model.LayoutFault.{AsmKind, ProgramFault}
+use Rattle.std.specs.Prelude.{◌≡◌, ℕ, List, Result, Ok, Err}
+use Rattle.ga_pack.specs.Model.LayoutFault.{ProgramFault}
 use Rattle.ga_pack.specs.Model.Program.{IsFault, IsProgram, PlacedSection}
-use Rattle.ga_pack.specs.Model.Token.{SourceKind}
 use Rattle.ga_source.specs.declared.error.SourceError.{SourceError}
-use Rattle.ga_source.specs.declared.error.SourceErrorKind.{SourceErrorKind}
-use Rattle.ga_source.specs.declared.error.SourceErrorKind.TheVariants as source_kind
+use Rattle.ga_pack.specs.declared.error_kind.SourceErrorKind.{SourceErrorKind}
+use Rattle.ga_pack.specs.declared.error_kind.SourceErrorKind.TheVariants as source_kind
 use Rattle.ga_source.specs.Error as source
 use Rattle.ga_asm.specs.declared.error.AsmError.{AsmError}
-use Rattle.ga_asm.specs.declared.error.AsmErrorKind.{AsmErrorKind}
-use Rattle.ga_asm.specs.declared.error.AsmErrorKind.TheVariants as asm_kind
+use Rattle.ga_pack.specs.declared.error_kind.AsmErrorKind.{AsmErrorKind}
+use Rattle.ga_pack.specs.declared.error_kind.AsmErrorKind.TheVariants as asm_kind
 use Rattle.ga_asm.specs.declared.text.TextError.{TextError}
 use Rattle.ga_asm.specs.declared.text.TextError.TheVariants.{Source, Asm, Memory}
 use Rattle.ga_asm.specs.Assembling.{HasNoFault, IsAssembled}
@@ -23,24 +22,13 @@ pub record HasImages (text : List ℕ) (images : List (ℕ × ImageView)) : Type
   pub faultless : HasNoFault program
   pub assembled : IsAssembled program images
 
--- the first fault of a text
-pub record IsSourceFault (text : List ℕ) (error : SourceError) : Type 0 where
-  pub kind : SourceKind
-  pub kind_is : source.kind_of error.kind ≡ Some kind
-  pub first : IsFault text kind (source.error_place error)
-
--- the first fault of a text's program
-pub record IsAsmFault (text : List ℕ) (error : AsmError) : Type 0 where
-  pub program : List PlacedSection
-  pub program_is : IsProgram text program
-  pub kind : AsmKind
-  pub kind_is : assembly.kind_of error.kind ≡ Some kind
-  pub first : ProgramFault program error.node (assembly.error_place error) kind
-
--- the first fault of a text or, where it has none, of its program; want of memory is a fault of no text
+-- The first fault of a text or, if it has none, of its program. That memory is refused is a fault
+-- of no text.
 abbrev pub IsTextFault : List ℕ → TextError → Type 0
-IsTextFault text (Source error) = IsSourceFault text error
-IsTextFault text (Asm error) = IsAsmFault text error
+IsTextFault text (Source error) = IsFault text error.kind (source.error_place error)
+IsTextFault text (Asm error) =
+    (program : List PlacedSection) × IsProgram text program
+    × ProgramFault program error.node (assembly.error_place error) error.kind
 IsTextFault text Memory = ⊥
 
 -- the images of a text, or its first fault

@@ -1,22 +1,24 @@
 //! The images of a program.
-ghost use Rattle.std.specs.Prelude.{◌≡◌, ◌<◌, ℕ, ◌++◌, ◌∷◌, [], IfErr, IfOk, List, None, OnOk, false, length, map};
+ghost use Rattle.std.specs.Prelude.{◌≡◌, ◌≢◌, ◌<◌, ℕ, ◌++◌, ◌∷◌, [], IfErr, IfOk, List, OnOk, false, length, map};
 ghost use Rattle.std.specs.Option.{option_copied};
+ghost use Rattle.ga_pack.specs.Model.LayoutFault.{AsmFault, ProgramFault};
 ghost use Rattle.ga_pack.specs.Model.Source.{Items, is_named, start};
 ghost use Rattle.ga_source.specs.Program.{items_at};
 ghost use Rattle.ga_source.specs.Token.{place_of};
-ghost use Rattle.ga_asm.specs.Assembling.{HasNoFault, IsAssembled, IsFirstFault};
-ghost use Rattle.ga_asm.specs.inner.Assembling.{IsFaultless, IsNodeFault, IsPlaceOf, IsTold};
-ghost use Rattle.ga_asm.specs.Error.{error_place, kind_of};
+ghost use Rattle.ga_asm.specs.Assembling.{HasNoFault, IsAssembled};
+ghost use Rattle.ga_asm.specs.inner.Assembling.{IsFaultless, IsPlaceOf, IsReported};
+ghost use Rattle.ga_asm.specs.Error.{error_place};
 ghost use Rattle.ga_asm.specs.Image as spec;
 ghost use Rattle.ga_asm.specs.Image.{ImageView};
 ghost use Rattle.ga_asm.specs.inner.Layout.{plain};
-ghost use Rattle.ga_asm.specs.declared.error.AsmErrorKind.TheVariants.{Memory};
+ghost use Rattle.ga_pack.specs.declared.error_kind.AsmErrorKind.TheVariants.{Memory};
 
-use crate::error::{AsmError, AsmErrorKind};
+use crate::error::AsmError;
 use crate::image::Image;
 use crate::layout::{Refusal, first_pass};
 use crate::making::second_pass;
 use crate::reach::address_of;
+use ga_pack::AsmErrorKind;
 use ga_place::Node;
 use ga_source::{Place, Program, Section};
 use indexmap::IndexMap;
@@ -56,8 +58,8 @@ impl Images {
 fn image_of(alloc: Global, section: &Section) -> Result<Image, Refusal>
     requires { Items start (plain section.now.items.items) }
     ensures ok { IfOk result (λ image. IsFaultless (plain section.now.items.items) image) }
-    ensures err { IfErr result (λ refusal. IsNodeFault (plain section.now.items.items) refusal.at
-        (kind_of refusal.kind)) }
+    ensures err { IfErr result (λ refusal. refusal.kind ≢ Memory
+        → AsmFault (plain section.now.items.items) refusal.at refusal.kind) }
     ensures at { IfErr result (λ refusal. refusal.at < length section.now.items.items) }
 {
     let items = section.items.as_slice();
@@ -115,8 +117,8 @@ fn error_at(
 ) -> AsmError
     requires { refusal.at < length (items_at program.now section) }
     ensures node { result.node ≡ node }
-    ensures told { IsTold (items_at program.now section) refusal.at (kind_of refusal.kind)
-        (kind_of result.kind) (error_place result) }
+    ensures reported { IsReported (items_at program.now section) refusal.at refusal.kind
+        result.kind (error_place result) }
 {
     if refusal.kind != AsmErrorKind::Memory {
         if let Ok(place) = fault_place(alloc, program, section, refusal.at) {
@@ -133,7 +135,7 @@ fn error_at(
 
 // Memory was refused: the place says nothing.
 fn no_memory(node: Node) -> AsmError
-    ensures kind { kind_of result.kind ≡ None }
+    ensures kind { result.kind ≡ Memory }
     ensures node { result.node ≡ node }
 {
     AsmError {
@@ -158,9 +160,9 @@ pub fn assemble(alloc: Global, program: &Program<'_>) -> Result<Images, AsmError
         → IsAssembled program.now other → other ≡ images) }
     // and the program has no fault
     ensures none { IfOk result (λ _. HasNoFault program.now) }
-    // each fault but `Memory` is the first one, told with its node and at its place
-    ensures fault { IfErr result (λ error. IsFirstFault program.now error.node (error_place error)
-        (kind_of error.kind)) }
+    // each fault but `Memory` is the first one, with its node and its place
+    ensures fault { IfErr result (λ error. error.kind ≢ Memory
+        → ProgramFault program.now error.node (error_place error) error.kind) }
 {
     let mut images = IndexMap::new(alloc);
     for (node, section) in program.sections() {

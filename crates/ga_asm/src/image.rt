@@ -98,8 +98,8 @@ impl Image {
     }
 
     /// Adds to a text the line of the image: the node, its entry in three hex digits, how many of
-    /// its words are code and how many there are. (The line is this project's own: profile.) It fails
-    /// only where memory is refused, and then the text is as it was.
+    /// its words are code and how many there are. (The line is this project's own: profile.) It
+    /// fails only where memory is refused, and then the text is as it was.
     pub fn push_line(&self, text: &mut String, node: Node) -> Result<(), AllocError>
         ensures line { OnOk result (string_bytes text.new
             ≡ string_bytes text.old ++ image_line node self.now) }

@@ -1,5 +1,5 @@
 //! The first pass over the items of a node: where each one comes to stand, or the first fault.
-ghost use Rattle.std.specs.Prelude.{◌≡◌, ◌+◌, ◌<◌, ◌≤◌, ◌++◌, ◌∷◌, [], IfErr, IfOk, IfSome, None, OnOk, Some, false, length, map, true};
+ghost use Rattle.std.specs.Prelude.{◌≡◌, ◌≢◌, ◌+◌, ◌<◌, ◌≤◌, ◌++◌, ◌∷◌, [], IfErr, IfOk, IfSome, None, OnOk, Some, false, length, map, true};
 ghost use Rattle.std.proofs.Props.{props};
 ghost use Rattle.ga_pack.specs.Model.Layout as laid;
 ghost use Rattle.ga_pack.specs.Model.Layout.{names_in};
@@ -8,15 +8,14 @@ ghost use Rattle.ga_pack.specs.Model.Source.{Items, start};
 ghost use Rattle.ga_pack.specs.Model.Source as words;
 ghost use Rattle.std.specs.Option.{option_map};
 ghost use Rattle.ga_source.specs.Item.{item_of, value_of};
-ghost use Rattle.ga_asm.specs.Error.{kind_of};
 ghost use Rattle.ga_asm.specs.Image.{labels_of};
-ghost use Rattle.ga_asm.specs.inner.Layout.{AreAmong, AreSameNames, HasRoom, IsBlank, IsFirstPassFault, Refuses, counts_after, data_after, joins_word, Placing, labels_with, names_of, open_after, open_count, open_of, plain, plain_names};
-ghost use Rattle.ga_asm.specs.declared.error.AsmErrorKind.TheVariants.{Memory};
+ghost use Rattle.ga_asm.specs.inner.Layout.{AreAmong, AreSameNames, HasRoom, IsBlank, Refuses, counts_after, data_after, joins_word, Placing, labels_with, names_of, open_after, open_count, open_of, plain, plain_names};
+ghost use Rattle.ga_pack.specs.declared.error_kind.AsmErrorKind.TheVariants.{Memory};
 
-use crate::error::AsmErrorKind;
 use crate::items::{is_loose, is_unext, op_of, words_added};
 use crate::open_word::OpenWord;
 use crate::reach::{address_of, word_reaches};
+use ga_pack::AsmErrorKind;
 use ga_source::{Item, Name, Value};
 use ga_word::Op;
 use indexmap::{IndexMap, IndexSet};
@@ -290,8 +289,8 @@ pub(crate) fn first_pass(alloc: Global, labels: &[Name], items: &[Item]) -> Resu
     requires right { Items start (plain items.now) }
     requires names { plain_names labels.now ≡ names_in (plain items.now) }
     ensures ok { IfOk result (λ layout. Placing (plain items.now) layout) }
-    ensures err { IfErr result (λ refusal. IsFirstPassFault (plain items.now) refusal.at
-        (kind_of refusal.kind)) }
+    ensures err { IfErr result (λ refusal. refusal.kind ≢ Memory
+        → faults.FirstPassFault (plain items.now) refusal.at refusal.kind) }
     ensures at { IfErr result (λ refusal. refusal.at < length items.now) }
 {
     let mut layout = match Layout::new(alloc, labels.len(), items.len()) {

@@ -13,7 +13,8 @@ mod reach;
 mod text;
 
 pub use assembling::{Images, assemble};
-pub use error::{AsmError, AsmErrorKind};
+pub use error::AsmError;
+pub use ga_pack::AsmErrorKind;
 pub use image::{Image, label_at};
 pub use places::word_places;
 pub use reach::p_behind;

@@ -1,5 +1,5 @@
 //! The second pass: the words of the groups of a node, with the labels of the whole node.
-ghost use Rattle.std.specs.Prelude.{◌≡◌, ◌+◌, ◌<◌, ◌^◌, ◌≤◌, ◌++◌, ◌∷◌, [], IfErr, IfOk, List, None, OnOk, Some, false, length, map, true, ℕ};
+ghost use Rattle.std.specs.Prelude.{◌≡◌, ◌≢◌, ◌+◌, ◌<◌, ◌^◌, ◌≤◌, ◌++◌, ◌∷◌, [], IfErr, IfOk, List, None, OnOk, Some, false, length, map, true, ℕ};
 ghost use Rattle.std.specs.List.{list_all, slice_get};
 ghost use Rattle.ga_word.specs.declared.op.Op.TheVariants.{Nop};
 ghost use Rattle.std.specs.Option.{unwrap_or};
@@ -10,19 +10,18 @@ ghost use Rattle.ga_pack.specs.Model.Layout as laid;
 ghost use Rattle.ga_pack.specs.Model.Layout.{Alone, GroupWords, IsWord, Laid, last_dest, ops_of};
 ghost use Rattle.ga_pack.specs.Model.Source as source;
 ghost use Rattle.ga_source.specs.Item.{item_of, value_of, word_of};
-ghost use Rattle.ga_asm.specs.Error.{kind_of};
 ghost use Rattle.ga_asm.specs.Image.{labels_of};
 ghost use Rattle.ga_asm.specs.inner.Layout.{Placing, plain};
 ghost use Rattle.ga_asm.specs.inner.Making as made;
-ghost use Rattle.ga_asm.specs.inner.Making.{IsGroup, IsMade, IsPackable, IsSecondPassFault, MoreWords, follower_list};
-ghost use Rattle.ga_asm.specs.declared.error.AsmErrorKind.TheVariants.{Memory};
+ghost use Rattle.ga_asm.specs.inner.Making.{IsGroup, IsMade, IsPackable, MoreWords, follower_list};
+ghost use Rattle.ga_pack.specs.Model.LayoutFault.{SecondPassFault};
+ghost use Rattle.ga_pack.specs.declared.error_kind.AsmErrorKind.TheVariants.{Memory};
 
-use crate::error::AsmErrorKind;
 use crate::items::{is_loose, op_of};
 use crate::layout::{Layout, Refusal};
 use crate::reach::{is_in_reach, value_among};
 use arrayvec::ArrayVec;
-use ga_pack::{Packed, dest_bound, encode};
+use ga_pack::{AsmErrorKind, Packed, dest_bound, encode};
 use ga_source::{Item, TransferWord, Value};
 use ga_word::{Op, Word18};
 use indexmap::IndexMap;
@@ -218,8 +217,8 @@ pub(crate) fn second_pass(
     requires right { list_all source.is_item (plain items.now) ≡ true }
     requires some { 0 < length items.now }
     ensures ok { IfOk result (λ made. IsMade (plain items.now) layout.now made.items) }
-    ensures err { IfErr result (λ refusal. IsSecondPassFault (plain items.now) refusal.at
-        (kind_of refusal.kind)) }
+    ensures err { IfErr result (λ refusal. refusal.kind ≢ Memory
+        → SecondPassFault (plain items.now) refusal.at refusal.kind) }
     ensures at { IfErr result (λ refusal. refusal.at < length items.now) }
 {
     let Ok(mut words) = Vec::with_capacity(alloc, usize::from(layout.address)) else {

@@ -4,8 +4,9 @@ ghost use Rattle.ga_asm.specs.Text.{AtMostOne, HasImages, IsImagesOf, IsTextFaul
 ghost use Rattle.ga_asm.specs.declared.text.TextError.TheVariants.{Memory};
 
 use crate::assembling::{Images, assemble};
-use crate::error::{AsmError, AsmErrorKind};
-use ga_source::{SourceError, SourceErrorKind, parse};
+use crate::error::AsmError;
+use ga_pack::{AsmErrorKind, SourceErrorKind};
+use ga_source::{SourceError, parse};
 use std::alloc::Global;
 use thiserror::Error;
 
@@ -45,8 +46,8 @@ impl From<AsmError> for TextError {
     }
 }
 
-/// The images of a source text, or its first fault: that of the text, as `parse` tells it, or else
-/// that of its program, as `assemble` tells it. It fails as `Memory` only where memory is refused.
+/// The images of a source text, or its first fault: that of the text, as `parse` reports it, or
+/// else that of its program, as `assemble` does. It fails as `Memory` only where memory is refused.
 #[tactic(auto, using(crate::proofs::OneAnswer::one_answer))]
 pub fn assemble_text(alloc: Global, text: &str) -> Result<Images, TextError>
     ensures images { IfOk result (λ images. HasImages text.now images) }

@@ -5,15 +5,16 @@ use Rattle.clap.specs.declared.error.Error.{Error}
 use Rattle.clap.specs.declared.error.kind.ErrorKind.TheVariants.{DisplayHelp, DisplayVersion}
 use Rattle.ga_command_line.specs.declared.command_line.LineError.{LineError}
 use Rattle.ga_command_line.specs.declared.command_line.LineError.TheVariants.{Parse, Memory}
-use Rattle.ga_command_line.specs.declared.request.Job.{Job}
+use Rattle.ga_jobs.specs.declared.Job.{Job}
 use Rattle.ga_jobs.specs.declared.fault.ServeError.{ServeError}
-use Rattle.ga_serve.specs.Engine.{Serves, status_of}
+use Rattle.ga_jobs.specs.Engine.{Serves, status_of}
 
 -- a line that is wrong, and doesn't ask for help or the version
 abbrev pub IsWrong : Error → Type 0
 IsWrong error = (kind_of error ≢ DisplayHelp) × (kind_of error ≢ DisplayVersion)
 
--- The status of a wrong line is 2, and no other has it; it is 0 or 1 for help and the version, and 3 for want of memory.
+-- The status of a wrong line is 2, and no other has it; it is 0 or 1 for help and the version, and
+-- 3 when out of memory.
 abbrev pub IsStatusOf : LineError → ℕ → Type 0
 IsStatusOf (Parse error) status = ((status ≡ 2) ↔ IsWrong error) × (status ≤ 2)
 IsStatusOf Memory status = status ≡ 3
@@ -22,6 +23,9 @@ IsStatusOf Memory status = status ≡ 3
 abbrev pub HasStatus : ℕ → Type 0
 HasStatus status = (answer : Result (Unit {0}) ServeError) × (status ≡ status_of answer)
 
--- A job was served, for an input and the bytes that a writer holds, old and new, and the status is that of the answer.
+-- A job was served, for an input and the bytes that a writer holds, old and new, and the status is
+-- that of the answer.
 abbrev pub HasServed : Job → List ℕ → Option (List ℕ) → Option (List ℕ) → ℕ → Type 0
-HasServed job input old new status = (answer : Result (Unit {0}) ServeError) × Serves job input old new answer × (status ≡ status_of answer)
+HasServed job input old new status =
+    (answer : Result (Unit {0}) ServeError) × Serves job input old new answer
+    × (status ≡ status_of answer)

@@ -6,9 +6,8 @@ ghost use Rattle.ga_command_line.specs.CommandLine.{InRange, IsJobOf, IsRight};
 ghost use Rattle.ga_bench.specs.Status.{HasServed, HasStatus, IsStatusOf};
 
 use clap::error::ErrorKind::InvalidValue;
-use ga_command_line::{Job, LineError, job, refusal};
-use ga_jobs::{InputFault, ServeError};
-use ga_serve::{serve, status};
+use ga_command_line::{LineError, job, refusal};
+use ga_jobs::{InputFault, Job, ServeError, serve, status};
 use std::alloc::Global;
 use std::fs::OpenFile;
 use std::io::ErrorKind::{NotFound, OutOfMemory};
@@ -89,7 +88,8 @@ fn serve_job<Rt: AllocGlobal + Eprint + Threads + Sync, R: Read, W: Write>(
     status(&outcome)
 }
 
-/// Tells why a command line names no job, or what it asks for in place of one. Answers the exit status.
+/// Tells why a command line names no job, or what it asks for in place of one. Answers the exit
+/// status.
 fn refuse<R: Print + Eprint>(rt: &R, error: LineError) -> u8
     ensures { IsStatusOf error result }
 {
@@ -105,8 +105,8 @@ fn refuse<R: Print + Eprint>(rt: &R, error: LineError) -> u8
     status(&Err(fault))
 }
 
-/// The job that the arguments of the program name. The kit tells nothing of the arguments, so no more than this is stated.
-#[inline(never)]
+/// The job that the arguments of the program name. The kit tells nothing of the arguments, so no
+/// more than this is stated.
 fn job_of_arguments<R: Env + AllocGlobal>(rt: &R) -> Result<Job, LineError>
     ensures { IfOk result InRange }
 {
@@ -125,7 +125,7 @@ fn job_of_arguments<R: Env + AllocGlobal>(rt: &R) -> Result<Job, LineError>
 fn job_of_words(alloc: Global, words: &[String]) -> Result<Job, LineError>
     ensures in_range { IfOk result InRange }
     ensures named { IfOk result (IsJobOf (map string_bytes words.now)) }
-    // Right words are refused only for want of memory.
+    // Right words are refused only when out of memory.
     ensures right { IfErr result (λ error. (job : Job) → IsRight (map string_bytes words.now) job
         → error ≡ LineError.Memory) }
 {

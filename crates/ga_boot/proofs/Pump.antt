@@ -1,4 +1,5 @@
--- The pump: a node that executes from a port posts the words that follow, in order, and comes back to the port.
+-- The pump: a node that executes from a port posts the words that follow, in order, and comes back
+-- to the port.
 use Rattle.std.proofs.Common.{◌≡◌, ℕ, suc, ◌-◌, List, [], ◌∷◌, length, refl, sym, ◌∙◌, subst, arith}
 use Rattle.ga_word.specs.Op.{op_with}
 use Rattle.ga_pack.specs.Decoded.{reading_of}
@@ -13,16 +14,19 @@ use Rattle.ga_boot.proofs.Steps.{Way, done, both, at_port, in_slot, fetches, fet
 
 -- in slot 0 of the word that is run again and again, with A and R set
 abbrev pub in_loop : Side → ℕ → ℕ → ℕ → State → State
-in_loop side address count loop state = in_slot side loop Slot0 (with_a address (with_r count state))
+in_loop side address count loop state =
+    in_slot side loop Slot0 (with_a address (with_r count state))
 
 -- The node comes along the moves to a state of this form, whose other fields are those of `rest`.
-pub record Comes (P : Type 0) (form : State → State) (state : State) (moves : List Local) : Type 0 where
+pub record Comes (P : Type 0) (form : State → State) (state : State)
+    (moves : List Local) : Type 0 where
   pub rest : State
   pub way : Way P state moves (form rest)
   pub ram : rest.ram ≡ state.ram
 
 -- A is set, R is set, and the word is fetched
-pub head : {P : Type 0} (side : Side) (address count loop : ℕ) (state : State) → Comes P (in_loop side address count loop) (at_port side state) (head_moves side address count loop)
+pub head : {P : Type 0} (side : Side) (address count loop : ℕ) (state : State) → Comes P
+    (in_loop side address count loop) (at_port side state) (head_moves side address count loop)
 unfolding reading_of op_with
 head side address count loop state =
     let one = push_data address state in
@@ -47,7 +51,9 @@ head side address count loop state =
     }
 
 -- Each word is posted and seen to be read; R counts those that are left behind it.
-sends : {P : Type 0} (side out : Side) (word : ℕ) (words : List ℕ) (state : State) → Comes P (in_slot side SEND Fetch) (in_loop side (port_address_of out) (length words) SEND state) (send_moves side out (word ∷ words))
+sends : {P : Type 0} (side out : Side) (word : ℕ) (words : List ℕ) (state : State) → Comes P
+    (in_slot side SEND Fetch) (in_loop side (port_address_of out) (length words) SEND state)
+    (send_moves side out (word ∷ words))
 unfolding reading_of op_with
 sends side out word [] state =
     let one = pop_data (push_data word (with_r 0 state)) in
@@ -57,7 +63,8 @@ sends side out word [] state =
           literal side SEND word Slot0 (with_a (port_address_of out) (with_r 0 state)) _ _ tt refl (
           posts side out SEND Slot1 (push_data word (with_r 0 state)) _ _ tt refl (
           ends_loop side SEND Slot2 (with_a (port_address_of out) one) _ _ tt refl (
-          nop side SEND Slot3 (pop_return (with_a (port_address_of out) one)) _ _ tt refl (done _))));
+          nop side SEND Slot3 (pop_return (with_a (port_address_of out) one)) _ _ tt refl
+          (done _))));
       ram = refl;
     }
 sends side out word (next ∷ words) state =
@@ -66,9 +73,12 @@ sends side out word (next ∷ words) state =
     record {
       rest = more.rest;
       way =
-          literal side SEND word Slot0 (with_a (port_address_of out) (with_r (length (next ∷ words)) state)) _ _ tt refl (
-          posts side out SEND Slot1 (push_data word (with_r (length (next ∷ words)) state)) _ _ tt refl (
-          repeats side SEND (length words) Slot2 (with_a (port_address_of out) one) _ _ tt refl more.way));
+          literal side SEND word Slot0
+          (with_a (port_address_of out) (with_r (length (next ∷ words)) state)) _ _ tt refl (
+          posts side out SEND Slot1
+          (push_data word (with_r (length (next ∷ words)) state)) _ _ tt refl (
+          repeats side SEND (length words) Slot2
+          (with_a (port_address_of out) one) _ _ tt refl more.way));
       ram = more.ram;
     }
 
@@ -77,15 +87,30 @@ pub less : (n : ℕ) → suc n - 1 ≡ n
 less n = omega arith
 
 -- the pump of at least one word
-pub pumps_on : {P : Type 0} (side out : Side) (word : ℕ) (words : List ℕ) (state : State) → Comes P (at_port side) (at_port side state) (pump_moves side out (word ∷ words))
+pub pumps_on : {P : Type 0} (side out : Side) (word : ℕ) (words : List ℕ) (state : State)
+    → Comes P (at_port side) (at_port side state) (pump_moves side out (word ∷ words))
 pumps_on {P} side out word words state =
-    let one : Comes P (in_loop side (port_address_of out) (length words) SEND) (at_port side state) (head_moves side (port_address_of out) (length words) SEND) = head side (port_address_of out) (length words) SEND state in
-    let two : Comes P (in_slot side SEND Fetch) (in_loop side (port_address_of out) (length words) SEND one.rest) (send_moves side out (word ∷ words)) = sends side out word words one.rest in
-    let first : Way P (at_port side state) (head_moves side (port_address_of out) (length (word ∷ words) - 1) SEND) (in_loop side (port_address_of out) (length words) SEND one.rest) = subst (λ n. Way P (at_port side state) (head_moves side (port_address_of out) n SEND) (in_loop side (port_address_of out) (length words) SEND one.rest)) (sym (less (length words))) one.way in
-    record { rest = record two.rest { word = SEND }; way = both _ _ _ (head_moves side (port_address_of out) (length (word ∷ words) - 1) SEND) (send_moves side out (word ∷ words)) first two.way; ram = two.ram ∙ one.ram }
+    let one : Comes P (in_loop side (port_address_of out) (length words) SEND) (at_port side state)
+    (head_moves side (port_address_of out) (length words) SEND) =
+    head side (port_address_of out) (length words) SEND state in
+    let two : Comes P (in_slot side SEND Fetch) (in_loop side (port_address_of out) (length words)
+    SEND one.rest) (send_moves side out (word ∷ words)) = sends side out word words one.rest in
+    let first : Way P (at_port side state)
+    (head_moves side (port_address_of out) (length (word ∷ words) - 1) SEND)
+    (in_loop side (port_address_of out) (length words) SEND one.rest) =
+    subst (λ n. Way P (at_port side state) (head_moves side (port_address_of out) n SEND) (in_loop
+    side (port_address_of out) (length words) SEND one.rest)) (sym (less (length words))) one.way in
+    record {
+      rest = record two.rest { word = SEND };
+      way = both _ _ _ (head_moves side (port_address_of out) (length (word ∷ words) - 1) SEND)
+          (send_moves side out (word ∷ words)) first two.way;
+      ram = two.ram ∙ one.ram;
+    }
 
 -- `. . . .` is taken, and run
-pub closes : {P : Type 0} (side : Side) (state end : State) (moves : List Local) → Way P (at_port side (record state { word = NOPS })) moves end → Way P (in_slot side NOPS Slot0 state) (Own ∷ Own ∷ Own ∷ Own ∷ moves) end
+pub closes : {P : Type 0} (side : Side) (state end : State) (moves : List Local)
+    → Way P (at_port side (record state { word = NOPS })) moves end
+    → Way P (in_slot side NOPS Slot0 state) (Own ∷ Own ∷ Own ∷ Own ∷ moves) end
 unfolding reading_of op_with
 closes side state end moves way =
     nop side NOPS Slot0 state _ _ tt refl (

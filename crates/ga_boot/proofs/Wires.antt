@@ -53,8 +53,12 @@ some_cell None e = absurd (false≢true e)
 some_cell (Some cell) e = (cell, refl)
 
 -- a side with a neighbour has a cell
-pub wire : (name other : ℕ) (side : Side) → IsNodeName name → neighbour_of name side ≡ Some other → (cell : ℕ) × (cell_of name side ≡ Some cell)
-wire name other side named there = some_cell (cell_of name side) (subst (λ b. not b || is_some (cell_of name side) ≡ true) (ap is_some there) (subst (λ n. not (has_side n side) || is_some (cell_of n side) ≡ true) (name_back name low) (below_at 144 (index_of name) (wired side) (all_wired side) low)))
+pub wire : (name other : ℕ) (side : Side) → IsNodeName name → neighbour_of name side ≡ Some other
+    → (cell : ℕ) × (cell_of name side ≡ Some cell)
+wire name other side named there =
+    some_cell (cell_of name side) (subst (λ b. not b || is_some (cell_of name side) ≡ true)
+    (ap is_some there) (subst (λ n. not (has_side n side) || is_some (cell_of n side) ≡ true)
+    (name_back name low) (below_at 144 (index_of name) (wired side) (all_wired side) low)))
   where
     low : index_of name < 144
     low = grind (arith, common_steps)

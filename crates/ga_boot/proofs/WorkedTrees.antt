@@ -29,14 +29,15 @@ fork_places : places 708 fork ≡ right_place ∷ down_place ∷ []
 fork_places = refl
 
 -- all loads stand before all starts
-fork_stream : stream_words 708 None fork
-    ≡ 0x000AE ∷ 0x001D5 ∷ 0x00008 ∷ 0x101D5 ∷ 0x04A12 ∷ 0x00000 ∷ 0x00000 ∷ 0x2E9B2 ∷ 0x05872 ∷ 0x2C9B2 ∷ 0x2C9B2
-    ∷ 0x000AE ∷ 0x00115 ∷ 0x00008 ∷ 0x10115 ∷ 0x04A12 ∷ 0x00000 ∷ 0x00000 ∷ 0x2E9B2 ∷ 0x05872 ∷ 0x2C9B2 ∷ 0x2C9B2
-    ∷ 0x000AE ∷ 0x00000 ∷ 0x00000
-    ∷ 0x000AE ∷ 0x001D5 ∷ 0x00001 ∷ 0x10000 ∷ 0x000AE ∷ 0x00115 ∷ 0x00001 ∷ 0x10000 ∷ 0x001B5 ∷ 0x00000 ∷ 0x00000 ∷ []
+fork_stream : stream_words 708 None fork ≡ 0x000AE ∷ 0x001D5 ∷ 0x00008 ∷ 0x101D5 ∷ 0x04A12 ∷ 0x00000
+    ∷ 0x00000 ∷ 0x2E9B2 ∷ 0x05872 ∷ 0x2C9B2 ∷ 0x2C9B2 ∷ 0x000AE ∷ 0x00115 ∷ 0x00008 ∷ 0x10115
+    ∷ 0x04A12 ∷ 0x00000 ∷ 0x00000 ∷ 0x2E9B2 ∷ 0x05872 ∷ 0x2C9B2 ∷ 0x2C9B2 ∷ 0x000AE ∷ 0x00000
+    ∷ 0x00000 ∷ 0x000AE ∷ 0x001D5 ∷ 0x00001 ∷ 0x10000 ∷ 0x000AE ∷ 0x00115 ∷ 0x00001 ∷ 0x10000
+    ∷ 0x001B5 ∷ 0x00000 ∷ 0x00000 ∷ []
 fork_stream = refl
 
-right_words : node_words right_place ≡ 0x101D5 ∷ 0x04A12 ∷ 0x00000 ∷ 0x00000 ∷ 0x2E9B2 ∷ 0x05872 ∷ 0x2C9B2 ∷ 0x2C9B2 ∷ 0x10000 ∷ []
+right_words : node_words right_place ≡ 0x101D5 ∷ 0x04A12 ∷ 0x00000 ∷ 0x00000 ∷ 0x2E9B2 ∷ 0x05872
+    ∷ 0x2C9B2 ∷ 0x2C9B2 ∷ 0x10000 ∷ []
 right_words = refl
 
 -- the root's script is fed the stream, and another node's takes its words
@@ -58,8 +59,12 @@ fork_is_tree = record {
 }
   where
     images_of : (p : Place) → Elem p (places 708 fork) → HasRoom p.image
-    images_of p (inl e) = subst (λ q. HasRoom q.image) (sym e) (record { some = le_refl 1; most = le_by_compare 1 64 tt; entry_near = le_by_compare 0 64 tt })
-    images_of p (inr (inl e)) = subst (λ q. HasRoom q.image) (sym e) (record { some = le_refl 1; most = le_by_compare 1 64 tt; entry_near = le_by_compare 0 64 tt })
+    images_of p (inl e) =
+        subst (λ q. HasRoom q.image) (sym e) (record
+        { some = le_refl 1; most = le_by_compare 1 64 tt; entry_near = le_by_compare 0 64 tt })
+    images_of p (inr (inl e)) =
+        subst (λ q. HasRoom q.image) (sym e) (record
+        { some = le_refl 1; most = le_by_compare 1 64 tt; entry_near = le_by_compare 0 64 tt })
     images_of p (inr (inr e)) = absurd e
 
     there_of : (p : Place) → Elem p (places 708 fork) → neighbour_of p.parent p.side ≡ Some p.name
@@ -68,10 +73,13 @@ fork_is_tree = record {
     there_of p (inr (inr e)) = absurd e
 
     other : (q : Place) → Elem q (down_place ∷ []) → q.name ≡ 709 → ⊥
-    other q (inl e) same = let g : q.name ≡ 608 = ap (λ (z : Place). z.name) e in omega (arith, g, same)
+    other q (inl e) same =
+        let g : q.name ≡ 608 = ap (λ (z : Place). z.name) e in omega (arith, g, same)
     other q (inr e) same = absurd e
 
     away : (p : Place) → Elem p (places 708 fork) → p.name ≡ 708 → ⊥
-    away p (inl e) same = let g : p.name ≡ 709 = ap (λ (z : Place). z.name) e in omega (arith, g, same)
-    away p (inr (inl e)) same = let g : p.name ≡ 608 = ap (λ (z : Place). z.name) e in omega (arith, g, same)
+    away p (inl e) same =
+        let g : p.name ≡ 709 = ap (λ (z : Place). z.name) e in omega (arith, g, same)
+    away p (inr (inl e)) same =
+        let g : p.name ≡ 608 = ap (λ (z : Place). z.name) e in omega (arith, g, same)
     away p (inr (inr e)) same = absurd e

@@ -1,4 +1,5 @@
--- What is said of the boot of a tree, at a moment of a run: which words were taken, which nodes have begun, and what they hold.
+-- What is said of the boot of a tree, at a moment of a run: which words were taken, which nodes
+-- have begun, and what they hold.
 use Rattle.std.specs.Prelude.{◌≡◌, ℕ, ◌+◌, ◌-◌, ◌≤◌, List, [], ◌∷◌, ◌++◌, ◌⊎◌, length, replicate, Option, Some}
 use Rattle.std.specs.Option.{option_map_or}
 use Rattle.ga_asm.specs.Image.{ImageView}
@@ -14,33 +15,42 @@ use Rattle.ga_chip.specs.Part.{Part}
 use Rattle.ga_chip.specs.Run.{Event, input_words, ran, taken_words, words_fed}
 use Rattle.ga_boot.specs.Tree.{Place}
 
--- the stream that boots a tree, for its root: the words that load the nodes, and those that start them
+-- the stream that boots a tree, for its root: the words that load the nodes, and those that start
+-- them
 abbrev pub stream_words : ℕ → Option ImageView → Grove → List ℕ
-stream_words root image trees = part_words Load root image trees ++ part_words Start root image trees
+stream_words root image trees =
+    part_words Load root image trees ++ part_words Start root image trees
 
 -- all words that another node of the tree is sent
 abbrev pub node_words : Place → List ℕ
 node_words p =
-    sent Load p.name p.side p.image (pumps Load p.inner) ++ sent Start p.name p.side p.image (pumps Start p.inner)
+    sent Load p.name p.side p.image (pumps Load p.inner)
+    ++ sent Start p.name p.side p.image (pumps Start p.inner)
 
--- A chip after reset, but for breakpoints, whose root was given a prefix of the words as its stream, or all; or whose root's
--- stream was opened, and the pieces that it is fed in the run are together a prefix of the words.
+-- A chip after reset, but for breakpoints, whose root was given a prefix of the words as its
+-- stream, or all; or whose root's stream was opened, and the pieces that it is fed in the run are
+-- together a prefix of the words.
 abbrev pub IsSupplied : Chip → ℕ → List ℕ → List Event → Type 0
 IsSupplied chip root words events =
     ((given : List ℕ) × DifferInBreaks chip (streamed reset_chip root given) × IsPrefix given words)
-    ⊎ (DifferInBreaks chip (stream_opened reset_chip root) × IsPrefix (words_fed chip events root) words)
+    ⊎ (DifferInBreaks chip (stream_opened reset_chip root)
+    × IsPrefix (words_fed chip events root) words)
 
 -- the words that a node takes at a side in a run
 abbrev pub words_from : Chip → List Event → ℕ → Side → List ℕ
-words_from chip events name side = option_map_or (λ cell. taken_words chip events cell) (read_cell name side) []
+words_from chip events name side =
+    option_map_or (λ cell. taken_words chip events cell) (read_cell name side) []
 
--- the load part was taken: the root has taken as many words of its stream as the load part has, or more
+-- the load part was taken: the root has taken as many words of its stream as the load part has, or
+-- more
 abbrev pub LoadTaken : Chip → ℕ → Option ImageView → Grove → List Event → Type 0
-LoadTaken chip root image trees events = length (part_words Load root image trees) ≤ length (input_words chip events root)
+LoadTaken chip root image trees events =
+    length (part_words Load root image trees) ≤ length (input_words chip events root)
 
 -- the root has begun: it has taken the last word of the start part
 abbrev pub RootBegun : Chip → ℕ → Option ImageView → Grove → List Event → Type 0
-RootBegun chip root image trees events = length (stream_words root image trees) ≤ length (input_words chip events root)
+RootBegun chip root image trees events =
+    length (stream_words root image trees) ≤ length (input_words chip events root)
 
 -- another node has begun: it has taken its start word, the last that it is sent
 abbrev pub Begun : Chip → Place → List Event → Type 0
@@ -50,9 +60,10 @@ Begun chip p events = length (node_words p) ≤ length (words_from chip events p
 abbrev pub Holds : State → Option ImageView → Type 0
 Holds state image = state.ram ≡ image_words image ++ replicate (64 - length (image_words image)) 0
 
--- By one event of a run something came to be so; and of the node that is told by its part now, so many steps were made
--- since that event.
-pub record CameToBe (chip : Chip) (name : ℕ) (IsSo : List Event → Type 0) (events : List Event) (now : Part) (steps : ℕ)
+-- By one event of a run something came to be so; and of the node that is told by its part now, so
+-- many steps were made since that event.
+pub record CameToBe (chip : Chip) (name : ℕ) (IsSo : List Event → Type 0) (events : List Event)
+    (now : Part) (steps : ℕ)
     : Type 0 where
   pub before : List Event
   pub event : Event

@@ -15,62 +15,82 @@ use Rattle.ga_boot.specs.Boot.{Begun, CameToBe, Holds, IsSupplied, LoadTaken, Ro
 use Rattle.ga_asm.specs.Image.{IsLoadable}
 use Rattle.ga_boot.specs.Tree.{Elem, IsTree, Place, found, places}
 
--- What holds at the end of a run that boots a tree, whatever the nodes did in it, and so at each of its moments.
-pub record Boots (chip : Chip) (root : ℕ) (image : Option ImageView) (trees : Grove) (events : List Event) : Type 0 where
+-- What holds at the end of a run that boots a tree, whatever the nodes did in it, and so at each of
+-- its moments.
+pub record Boots (chip : Chip) (root : ℕ) (image : Option ImageView) (trees : Grove)
+    (events : List Event) : Type 0 where
   -- once the load part was taken, each node holds its image until it begins
-  pub root_holds : (now : Part) → part_of (ran chip events) root ≡ Some now → LoadTaken chip root image trees events
-      → (RootBegun chip root image trees events → ⊥) → Holds now.state image
-  pub holds : (p : Place) (now : Part) → Elem p (places root trees) → part_of (ran chip events) p.name ≡ Some now
-      → LoadTaken chip root image trees events → (Begun chip p events → ⊥) → Holds now.state p.image
+  pub root_holds : (now : Part) → part_of (ran chip events) root ≡ Some now
+      → LoadTaken chip root image trees events → (RootBegun chip root image trees events → ⊥)
+      → Holds now.state image
+  pub holds : (p : Place) (now : Part) → Elem p (places root trees)
+      → part_of (ran chip events) p.name ≡ Some now → LoadTaken chip root image trees events
+      → (Begun chip p events → ⊥) → Holds now.state p.image
   -- the root's P is where it starts as it begins, and another node's is so by the step behind it
   pub root_begins : (now : Part) → part_of (ran chip events) root ≡ Some now
-      → CameToBe chip root (RootBegun chip root image trees) events now 0 → now.state.p ≡ start_address root image
-  pub begins : (p : Place) (now : Part) → Elem p (places root trees) → part_of (ran chip events) p.name ≡ Some now
-      → CameToBe chip p.name (Begun chip p) events now 1 → now.state.p ≡ start_address p.name p.image
+      → CameToBe chip root (RootBegun chip root image trees) events now 0
+      → now.state.p ≡ start_address root image
+  pub begins : (p : Place) (now : Part) → Elem p (places root trees)
+      → part_of (ran chip events) p.name ≡ Some now
+      → CameToBe chip p.name (Begun chip p) events now 1
+      → now.state.p ≡ start_address p.name p.image
   -- the words that the root takes of its stream are a prefix of those that boot the tree
   pub root_takes : IsPrefix (input_words chip events root) (stream_words root image trees)
-  -- until another node begins, the words that it takes from its parent are a prefix of those that it is sent; from then on
-  -- these are a prefix of them; and the last one that it is sent is its start word, a jump to where it starts
+  -- until another node begins, the words that it takes from its parent are a prefix of those that
+  -- it is sent; from then on these are a prefix of them; and the last one that it is sent is its
+  -- start word, a jump to where it starts
   pub takes : (p : Place) → Elem p (places root trees) → (Begun chip p events → ⊥)
       → IsPrefix (words_from chip events p.name p.side) (node_words p)
   pub took : (p : Place) → Elem p (places root trees) → Begun chip p events
       → IsPrefix (node_words p) (words_from chip events p.name p.side)
-  pub last_word : (p : Place) → (front : List ℕ) × (node_words p ≡ front ++ jump_to (start_address p.name p.image) ∷ [])
-  -- until the root begins it takes no word from a port, and another node takes words from its parent alone
-  pub root_alone : (side : Side) → (RootBegun chip root image trees events → ⊥) → words_from chip events root side ≡ []
-  pub parent_alone : (p : Place) (side : Side) → Elem p (places root trees) → (Begun chip p events → ⊥)
-      → (side ≡ p.side → ⊥) → words_from chip events p.name side ≡ []
-  -- until it begins the root makes no take of several sides; the first one of another node names its parent's side, and
-  -- until the node begins there is no other
+  pub last_word : (p : Place)
+      → (front : List ℕ) × (node_words p ≡ front ++ jump_to (start_address p.name p.image) ∷ [])
+  -- until the root begins it takes no word from a port, and another node takes words from its
+  -- parent alone
+  pub root_alone : (side : Side) → (RootBegun chip root image trees events → ⊥)
+      → words_from chip events root side ≡ []
+  pub parent_alone : (p : Place) (side : Side) → Elem p (places root trees)
+      → (Begun chip p events → ⊥) → (side ≡ p.side → ⊥) → words_from chip events p.name side ≡ []
+  -- until it begins the root makes no take of several sides; the first one of another node names
+  -- its parent's side, and until the node begins there is no other
   pub root_sides : (RootBegun chip root image trees events → ⊥) → sides_of chip events root ≡ []
-  pub first_side : (p : Place) → Elem p (places root trees)
-      → (sides_of chip events p.name ≡ []) ⊎ ((rest : List Side) × (sides_of chip events p.name ≡ p.side ∷ rest))
+  pub first_side : (p : Place) → Elem p (places root trees) → (sides_of chip events p.name ≡ [])
+      ⊎ ((rest : List Side) × (sides_of chip events p.name ≡ p.side ∷ rest))
   pub only_side : (p : Place) → Elem p (places root trees) → (Begun chip p events → ⊥)
       → (sides_of chip events p.name ≡ []) ⊎ (sides_of chip events p.name ≡ p.side ∷ [])
 
 -- A boot of a tree, with whatever else happens on the chip.
 abbrev pub TreeBoots : Type 0
-TreeBoots = (chip : Chip) (root : ℕ) (image : Option ImageView) (trees : Grove) (events : List Event)
+TreeBoots =
+    (chip : Chip) (root : ℕ) (image : Option ImageView) (trees : Grove) (events : List Event)
     → IsTree root image trees → IsSupplied chip root (stream_words root image trees) events
     → Boots chip root image trees events
 
--- A tree of routes is a tree, where its images have room, and its boot stream is the stream that boots that tree.
+-- A tree of routes is a tree, where its images have room, and its boot stream is the stream that
+-- boots that tree.
 abbrev pub RoutesAreTree : Type 0
 RoutesAreTree = (images : Images) (tree : TreeView) → IsNodeName tree.root → IsSound tree
     → All (λ entry. IsLoadable entry.1) images
     → IsTree tree.root (image_of images tree.root) (grove images tree.root tree.subtrees)
-    × (stream_words tree.root (image_of images tree.root) (grove images tree.root tree.subtrees) ≡ tree_load images tree ++ tree_start images tree)
+    × (stream_words tree.root (image_of images tree.root) (grove images tree.root tree.subtrees)
+    ≡ tree_load images tree ++ tree_start images tree)
 
--- the sides of a node's takes of several sides in a run, without the one by which a node of a tree took its first word
+-- the sides of a node's takes of several sides in a run, without the one by which a node of a tree
+-- took its first word
 abbrev pub later_sides : Chip → ℕ → Grove → List Event → ℕ → List Side
 later_sides chip root trees events name =
-    if is_some (found name (places root trees)) then drop 1 (sides_of chip events name) else sides_of chip events name
+    if is_some (found name (places root trees)) then drop 1 (sides_of chip events name)
+    else sides_of chip events name
 
--- Two runs that boot a tree agree on their common steps if, besides what boots it, each node takes words by takes of several
--- sides at one side only, the same in both. The chips may differ in breakpoints.
+-- Two runs that boot a tree agree on their common steps if, besides what boots it, each node takes
+-- words by takes of several sides at one side only, the same in both. The chips may differ in
+-- breakpoints.
 abbrev pub TreeBootsAgree : Type 0
-TreeBootsAgree = (one two : Chip) (root : ℕ) (image : Option ImageView) (trees : Grove) (events others : List Event) (side_of : ℕ → Side)
-    → IsTree root image trees → DifferInBreaks one two → IsSupplied one root (stream_words root image trees) events
+TreeBootsAgree =
+    (one two : Chip) (root : ℕ) (image : Option ImageView) (trees : Grove)
+    (events others : List Event) (side_of : ℕ → Side)
+    → IsTree root image trees → DifferInBreaks one two
+    → IsSupplied one root (stream_words root image trees) events
     → IsSupplied two root (stream_words root image trees) others
     → ((name : ℕ) → All (λ side. side ≡ side_of name) (later_sides one root trees events name))
     → ((name : ℕ) → All (λ side. side ≡ side_of name) (later_sides two root trees others name))

@@ -6,7 +6,8 @@ use Rattle.ga_place.specs.declared.side.Side.{Side}
 use Rattle.ga_asm.specs.Image.{ImageView, IsLoadable}
 use Rattle.ga_path.specs.Sequences.{Grove, Bare, Tree}
 
--- a node of the tree but the root: its parent, the side that both share, its image, and its subtrees
+-- a node of the tree but the root: its parent, the side that both share, its image, and its
+-- subtrees
 pub record Place : Type 0 where
   pub name : ℕ
   pub parent : ℕ
@@ -39,8 +40,8 @@ found name (p ∷ ps) = if p.name == name then Some p else found name ps
 abbrev pub HasRoom : Option ImageView → Type 0
 HasRoom image = IfSome image IsLoadable
 
--- A tree: its root is a node, each other node is a neighbour of its parent, no node stands twice, and their images are
--- such that there is room for them.
+-- A tree: its root is a node, each other node is a neighbour of its parent, no node stands twice,
+-- and their images are such that there is room for them.
 pub record IsTree (root : ℕ) (image : Option ImageView) (trees : Grove) : Type 0 where
   pub named : IsNodeName root
   pub loads : HasRoom image

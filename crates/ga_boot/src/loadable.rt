@@ -3,8 +3,8 @@ ghost use Rattle.ga_asm.specs.Image.{IsLoadable};
 
 use ga_asm::Images;
 
-/// Each image has 1 to 64 words, and its entry is at most 64: what the laws of booting ask of images. It looks at each
-/// of them, takes no memory, and does nothing else when run.
+/// Each image has 1 to 64 words, and its entry is at most 64: what the laws of booting ask of
+/// images. It looks at each of them, takes no memory, and does nothing else when run.
 pub fn images_fit(images: &Images)
     ensures { All (λ entry. IsLoadable entry.1) images.now }
 {

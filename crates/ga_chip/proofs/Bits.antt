@@ -15,25 +15,45 @@ rem_below : (a : ℕ) → a % 64 < 64
 rem_below a = omega arith
 
 -- a bit after a word has one other bit
-pub bit_changed : (words : List ℕ) (place other word bit : ℕ) → place / 64 < length words → bit_at word (place % 64) ≡ bit → ((i : ℕ) → i < 64 → i ≢ place % 64 → bit_at word i ≡ bit_at (get_or words (place / 64) 0) i) → is_bit other (set words (place / 64) word) ≡ (if other == place then bit == 1 else is_bit other words)
-bit_changed words place other word bit within here others = by (cases_eq (other / 64) (place / 64)) (cases_eq (other % 64) (place % 64))
+pub bit_changed : (words : List ℕ) (place other word bit : ℕ) → place / 64 < length words
+    → bit_at word (place % 64) ≡ bit
+    → ((i : ℕ) → i < 64 → i ≢ place % 64 → bit_at word i ≡ bit_at (get_or words (place / 64) 0) i)
+    → is_bit other (set words (place / 64) word)
+    ≡ (if other == place then bit == 1 else is_bit other words)
+bit_changed words place other word bit within here others =
+    by (cases_eq (other / 64) (place / 64)) (cases_eq (other % 64) (place % 64))
   where
     same_word : other / 64 ≡ place / 64 → get_or (set words (place / 64) word) (other / 64) 0 ≡ word
-    same_word e = ap (λ i. get_or (set words (place / 64) word) i 0) e ∙ get_or-set_same words (place / 64) word 0 within
+    same_word e =
+        ap (λ i. get_or (set words (place / 64) word) i 0) e
+        ∙ get_or-set_same words (place / 64) word 0 within
 
-    rest : (other ≡ place → ⊥) → bit_at (get_or (set words (place / 64) word) (other / 64) 0) (other % 64) ≡ bit_at (get_or words (other / 64) 0) (other % 64) → (bit_at (get_or (set words (place / 64) word) (other / 64) 0) (other % 64) == 1) ≡ (if other == place then bit == 1 else bit_at (get_or words (other / 64) 0) (other % 64) == 1)
-    rest apart e = ap (λ n. n == 1) e ∙ sym (ap (λ b. if b then bit == 1 else bit_at (get_or words (other / 64) 0) (other % 64) == 1) (ne_eqb other place apart))
+    rest : (other ≡ place → ⊥) → bit_at (get_or (set words (place / 64) word) (other / 64) 0)
+        (other % 64) ≡ bit_at (get_or words (other / 64) 0) (other % 64)
+        → (bit_at (get_or (set words (place / 64) word) (other / 64) 0) (other % 64) == 1)
+        ≡ (if other == place then bit == 1
+        else bit_at (get_or words (other / 64) 0) (other % 64) == 1)
+    rest apart e =
+        ap (λ n. n == 1) e ∙ sym (ap (λ b. if b then bit == 1
+        else bit_at (get_or words (other / 64) 0) (other % 64) == 1) (ne_eqb other place apart))
 
-    by : (other / 64 ≡ place / 64) ⊎ (other / 64 ≡ place / 64 → ⊥) → (other % 64 ≡ place % 64) ⊎ (other % 64 ≡ place % 64 → ⊥) → (bit_at (get_or (set words (place / 64) word) (other / 64) 0) (other % 64) == 1) ≡ (if other == place then bit == 1 else bit_at (get_or words (other / 64) 0) (other % 64) == 1)
+    by : (other / 64 ≡ place / 64) ⊎ (other / 64 ≡ place / 64 → ⊥)
+        → (other % 64 ≡ place % 64) ⊎ (other % 64 ≡ place % 64 → ⊥)
+        → (bit_at (get_or (set words (place / 64) word) (other / 64) 0) (other % 64) == 1)
+        ≡ (if other == place then bit == 1
+        else bit_at (get_or words (other / 64) 0) (other % 64) == 1)
     by (inl e) (inl f) =
         ap (λ n. n == 1) (ap (λ x. bit_at x (other % 64)) (same_word e) ∙ ap (bit_at word) f ∙ here)
-        ∙ sym (ap (λ b. if b then bit == 1 else bit_at (get_or words (other / 64) 0) (other % 64) == 1) (eq-eqb other place (same_place other place e f)))
+        ∙ sym (ap (λ b. if b then bit == 1 else bit_at (get_or words (other / 64) 0) (other % 64)
+        == 1) (eq-eqb other place (same_place other place e f)))
     by (inl e) (inr f) =
         rest (λ same. f (ap (λ n. n % 64) same))
-        (ap (λ x. bit_at x (other % 64)) (same_word e) ∙ others (other % 64) (rem_below other) f ∙ ap (λ i. bit_at (get_or words i 0) (other % 64)) (sym e))
+        (ap (λ x. bit_at x (other % 64)) (same_word e) ∙ others (other % 64) (rem_below other) f
+        ∙ ap (λ i. bit_at (get_or words i 0) (other % 64)) (sym e))
     by (inr e) _ =
         rest (λ same. e (ap (λ n. n / 64) same))
-        (ap (λ x. bit_at x (other % 64)) (get_or-set_other words (place / 64) (other / 64) word 0 e))
+        (ap (λ x. bit_at x (other % 64))
+        (get_or-set_other words (place / 64) (other / 64) word 0 e))
 
 -- no bit is 1
 pub no_bits : bits_of 512 (replicate 8 0) ≡ replicate 512 false
@@ -41,14 +61,22 @@ unfolding bits_of
 no_bits = refl
 
 -- a bit of the row
-pub bit_of : (count place : ℕ) (words : List ℕ) → place < count → get_or (bits_of count words) place false ≡ is_bit place words
+pub bit_of : (count place : ℕ) (words : List ℕ) → place < count
+    → get_or (bits_of count words) place false ≡ is_bit place words
 unfolding bits_of
-bit_of count place words below = get_or-map-range_with_len (λ at. is_bit at words) 0 count place place false below (zero-add place)
+bit_of count place words below =
+    get_or-map-range_with_len (λ at. is_bit at words) 0 count place place false below
+    (zero-add place)
 
 -- the row where a word has one other bit
-pub bits_changed : (count : ℕ) (words : List ℕ) (place word bit : ℕ) → place < count → place / 64 < length words → bit_at word (place % 64) ≡ bit → ((i : ℕ) → i < 64 → i ≢ place % 64 → bit_at word i ≡ bit_at (get_or words (place / 64) 0) i) → bits_of count (set words (place / 64) word) ≡ set (bits_of count words) place (bit == 1)
+pub bits_changed : (count : ℕ) (words : List ℕ) (place word bit : ℕ) → place < count
+    → place / 64 < length words → bit_at word (place % 64) ≡ bit
+    → ((i : ℕ) → i < 64 → i ≢ place % 64 → bit_at word i ≡ bit_at (get_or words (place / 64) 0) i)
+    → bits_of count (set words (place / 64) word) ≡ set (bits_of count words) place (bit == 1)
 unfolding bits_of
-bits_changed count words place word bit below within here others = sym (fill_by_all (λ at. is_bit at (set words (place / 64) word)) (set before place (bit == 1)) count false (length-set before place (bit == 1) ∙ full) (λ at h. by at h (cases_eq at place)))
+bits_changed count words place word bit below within here others =
+    sym (fill_by_all (λ at. is_bit at (set words (place / 64) word)) (set before place (bit == 1))
+    count false (length-set before place (bit == 1) ∙ full) (λ at h. by at h (cases_eq at place)))
   where
     before : List Bool
     before = map (λ at. is_bit at words) (range_with_len 0 count)
@@ -56,13 +84,19 @@ bits_changed count words place word bit below within here others = sym (fill_by_
     full : length before ≡ count
     full = length-map-range_with_len (λ at. is_bit at words) 0 count
 
-    changed : (at : ℕ) (b : Bool) → (at == place) ≡ b → is_bit at (set words (place / 64) word) ≡ (if b then bit == 1 else is_bit at words)
-    changed at b e = bit_changed words place at word bit within here others ∙ ap (λ b. if b then bit == 1 else is_bit at words) e
+    changed : (at : ℕ) (b : Bool) → (at == place) ≡ b
+        → is_bit at (set words (place / 64) word) ≡ (if b then bit == 1 else is_bit at words)
+    changed at b e =
+        bit_changed words place at word bit within here others
+        ∙ ap (λ b. if b then bit == 1 else is_bit at words) e
 
-    by : (at : ℕ) → at < count → (at ≡ place) ⊎ (at ≡ place → ⊥) → get_or (set before place (bit == 1)) at false ≡ is_bit at (set words (place / 64) word)
+    by : (at : ℕ) → at < count → (at ≡ place) ⊎ (at ≡ place → ⊥)
+        → get_or (set before place (bit == 1)) at false ≡ is_bit at (set words (place / 64) word)
     by at h (inl same) =
-        ap (λ i. get_or (set before place (bit == 1)) i false) same ∙ get_or-set_same before place (bit == 1) false (subst (λ n. place < n) (sym full) below)
+        ap (λ i. get_or (set before place (bit == 1)) i false) same
+        ∙ get_or-set_same before place (bit == 1) false (subst (λ n. place < n) (sym full) below)
         ∙ sym (changed at true (eq-eqb at place same))
     by at h (inr apart) =
-        get_or-set_other before place at (bit == 1) false apart ∙ get_or-map-range_with_len (λ i. is_bit i words) 0 count at at false h (zero-add at)
+        get_or-set_other before place at (bit == 1) false apart
+        ∙ get_or-map-range_with_len (λ i. is_bit i words) 0 count at at false h (zero-add at)
         ∙ sym (changed at false (ne_eqb at place apart))

@@ -55,13 +55,26 @@ stands : (part : Part) (side : Side) → is_hold (asks part side) ≡ true → S
 unfolding asks
 stands part side e = by (is_held part) refl e
   where
-    by : (held : Bool) → is_held part ≡ held → is_hold (asks_if held part side) ≡ true → StandsAtBreak part
-    by true at h = let seen = tests part.state.place part.pass (get_or part.breaks (part.state.p % 2 ^ 9) false) at in record { runs = held_runs (need_of part.state) h; fetches = seen.0; breaks = seen.1; unpassed = seen.2 }
-    by false at h = absurd (false≢true (sym (need_free (need_of part.state) part.state.node part.stream side) ∙ h))
+    by : (held : Bool) → is_held part ≡ held → is_hold (asks_if held part side) ≡ true
+        → StandsAtBreak part
+    by true at h =
+        let seen =
+        tests part.state.place part.pass (get_or part.breaks (part.state.p % 2 ^ 9) false) at in
+        record {
+          runs = held_runs (need_of part.state) h;
+          fetches = seen.0;
+          breaks = seen.1;
+          unpassed = seen.2;
+        }
+    by false at h =
+        absurd
+        (false≢true (sym (need_free (need_of part.state) part.state.node part.stream side) ∙ h))
 
 holds : (part : Part) (side : Side) → StandsAtBreak part → is_hold (asks part side) ≡ true
 holds part side at =
-    ap is_hold (held_asks part side (need_of part.state) (tested part.state.place part.pass (get_or part.breaks (part.state.p % 2 ^ 9) false) (at.fetches, at.breaks, at.unpassed)) refl (λ stop e. none-some stop (sym at.runs ∙ ap stop_of e)))
+    ap is_hold (held_asks part side (need_of part.state) (tested part.state.place part.pass
+    (get_or part.breaks (part.state.p % 2 ^ 9) false) (at.fetches, at.breaks, at.unpassed)) refl
+    (λ stop e. none-some stop (sym at.runs ∙ ap stop_of e)))
 
 -- what the answer of a pass tells of an outcome
 outcome_held : (outcome : Outcome) → unless_held outcome ≡ None → outcome ≡ Held
@@ -74,16 +87,19 @@ unless_true : (b : Bool) → unless b ≡ None → b ≡ true
 unless_true true e = refl
 unless_true false e = absurd (none-some NotHeld (sym e))
 
-there_held : (part : Part) (side : Side) (found : Option ℕ) → ((after part side found).0 ≡ Held) ↔ StandsAtBreak part
+there_held : (part : Part) (side : Side) (found : Option ℕ)
+    → ((after part side found).0 ≡ Held) ↔ StandsAtBreak part
 there_held part side found = (
   λ e. stands part side (unless_true _ (sym (held_after part side found) ∙ ap unless_held e)),
   λ at. outcome_held _ (held_after part side found ∙ ap unless (holds part side at)),
 )
 
-pub exactly : (chip : Chip) (name : ℕ) (side : Side) → ((tried chip name side).0 ≡ Held) ↔ IsHeld chip name
+pub exactly : (chip : Chip) (name : ℕ) (side : Side)
+    → ((tried chip name side).0 ≡ Held) ↔ IsHeld chip name
 exactly chip name side = by (part_of chip name) refl
   where
-    by : (o : Option Part) → part_of chip name ≡ o → ((tried chip name side).0 ≡ Held) ↔ IsHeld chip name
+    by : (o : Option Part) → part_of chip name ≡ o
+        → ((tried chip name side).0 ≡ Held) ↔ IsHeld chip name
     by None e = (
       λ h. let waits : Waits ≡ Held = sym (ap (λ r. r.0) (tried_none chip name side e)) ∙ h in cc,
       λ (part, there, at). absurd (none-some part (sym e ∙ there)),
@@ -92,30 +108,39 @@ exactly chip name side = by (part_of chip name) refl
         let is = ap (λ r. r.0) (tried_there chip name side part e) in
         let here = there_held part side (found_by (asks part side) chip.cells) in (
           λ h. (part, e, here.0 (sym is ∙ h)),
-          λ (other, there, at). is ∙ here.1 (subst StandsAtBreak (same_Some other part (sym there ∙ e)) at),
+          λ (other, there, at). is
+              ∙ here.1 (subst StandsAtBreak (same_Some other part (sym there ∙ e)) at),
         )
 
 -- what a try of some node leaves of a node that is held
-held_after_try : (chip : Chip) (other name : ℕ) (side : Side) → IsHeld chip name → part_of (tried chip other side).1 name ≡ part_of chip name
+held_after_try : (chip : Chip) (other name : ℕ) (side : Side) → IsHeld chip name
+    → part_of (tried chip other side).1 name ≡ part_of chip name
 held_after_try chip other name side held = by (index_of other == index_of name) refl
   where
-    by : (b : Bool) → (index_of other == index_of name) ≡ b → part_of (tried chip other side).1 name ≡ part_of chip name
+    by : (b : Bool) → (index_of other == index_of name) ≡ b
+        → part_of (tried chip other side).1 name ≡ part_of chip name
     by true same =
         let at : index_of other ≡ index_of name = eqb-true (index_of other) (index_of name) same in
-        let stays : (tried chip other side).0 ≡ Held = (exactly chip other side).1 (held.0, ap (slice_get chip.parts) at ∙ held.1, held.2) in
-        ap (λ c. part_of c name) (tried_still chip other side (λ moves. let is : Held ≡ Moved = sym stays ∙ moves in cc))
+        let stays : (tried chip other side).0 ≡ Held =
+        (exactly chip other side).1 (held.0, ap (slice_get chip.parts) at ∙ held.1, held.2) in
+        ap (λ c. part_of c name)
+        (tried_still chip other side (λ moves. let is : Held ≡ Moved = sym stays ∙ moves in cc))
     by false apart = elsewhere (part_of chip other) refl
       where
-        elsewhere : (o : Option Part) → part_of chip other ≡ o → part_of (tried chip other side).1 name ≡ part_of chip name
+        elsewhere : (o : Option Part) → part_of chip other ≡ o
+            → part_of (tried chip other side).1 name ≡ part_of chip name
         elsewhere None e = ap (λ r. part_of r.1 name) (tried_none chip other side e)
         elsewhere (Some part) e =
             ap (λ r. part_of r.1 name) (tried_there chip other side part e)
-            ∙ get-set_else chip.parts (index_of other) (index_of name) _ (eqb-false (index_of other) (index_of name) apart)
+            ∙ get-set_else chip.parts (index_of other) (index_of name) _
+            (eqb-false (index_of other) (index_of name) apart)
 
 -- a node that is held stays as it is while any nodes are tried
-pub held_stays : (chip : Chip) (tries : List asked.Try) (name : ℕ) → IsHeld chip name → part_of (ran chip (tries_of tries)) name ≡ part_of chip name
+pub held_stays : (chip : Chip) (tries : List asked.Try) (name : ℕ) → IsHeld chip name
+    → part_of (ran chip (tries_of tries)) name ≡ part_of chip name
 held_stays chip [] name held = refl
 held_stays chip (one ∷ tries) name held =
     let next : Chip = happened chip (Try one.node one.side) in
-    let first : part_of next name ≡ part_of chip name = ap (λ c. part_of c name) (happened_try chip one.node one.side) ∙ held_after_try chip one.node name one.side held in
+    let first : part_of next name ≡ part_of chip name = ap (λ c. part_of c name)
+    (happened_try chip one.node one.side) ∙ held_after_try chip one.node name one.side held in
     held_stays next tries name (held.0, first ∙ held.1, held.2) ∙ first

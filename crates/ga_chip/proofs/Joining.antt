@@ -32,33 +32,44 @@ pub runs_are_legal : RunsAreLegal
 runs_are_legal chip events legal = legal_ran chip events legal
 
 -- no run opens a stream
-opened_ran : (chip : Chip) (events : List Event) (name : ℕ) (part now : Part) → IsLegal chip → part_of chip name ≡ Some part
-    → part_of (ran chip events) name ≡ Some now → now.opened ≡ part.opened
-opened_ran chip [] name part now legal there later = ap (λ o. option_map_or (λ (p : Part). p.opened) o false) (sym later ∙ there)
+opened_ran : (chip : Chip) (events : List Event) (name : ℕ) (part now : Part) → IsLegal chip
+    → part_of chip name ≡ Some part → part_of (ran chip events) name ≡ Some now
+    → now.opened ≡ part.opened
+opened_ran chip [] name part now legal there later =
+    ap (λ o. option_map_or (λ (p : Part). p.opened) o false) (sym later ∙ there)
 opened_ran chip (event ∷ events) name part now legal there later =
-    let next = part_first (happened chip event) events name now (legal_kept chip event legal) later in
-    opened_ran (happened chip event) events name next.0 now (legal_kept chip event legal) next.1 later
+    let next =
+    part_first (happened chip event) events name now (legal_kept chip event legal) later in
+    opened_ran (happened chip event) events name next.0 now
+    (legal_kept chip event legal) next.1 later
     ∙ opened_event chip event name part next.0 legal there next.1
 
-open_kept : (chip : Chip) (events : List Event) (name : ℕ) → IsLegal chip → is_open (ran chip events) name ≡ is_open chip name
+open_kept : (chip : Chip) (events : List Event) (name : ℕ) → IsLegal chip
+    → is_open (ran chip events) name ≡ is_open chip name
 open_kept chip events name legal = by (part_of chip name) refl (part_of (ran chip events) name) refl
   where
-    by : (old : Option Part) → part_of chip name ≡ old → (new : Option Part) → part_of (ran chip events) name ≡ new
-        → is_open (ran chip events) name ≡ is_open chip name
+    by : (old : Option Part) → part_of chip name ≡ old → (new : Option Part)
+        → part_of (ran chip events) name ≡ new → is_open (ran chip events) name ≡ is_open chip name
     by (Some part) there (Some now) later =
-        open_there (ran chip events) name now later ∙ opened_ran chip events name part now legal there later ∙ sym (open_there chip name part there)
+        open_there (ran chip events) name now later
+        ∙ opened_ran chip events name part now legal there later
+        ∙ sym (open_there chip name part there)
     by (Some part) there None later =
-        let stands = stand_ran chip events name part legal there in absurd (none-some stands.now (sym later ∙ stands.there))
+        let stands = stand_ran chip events name part legal there in
+        absurd (none-some stands.now (sym later ∙ stands.there))
     by None there (Some now) later =
-        let first = part_first chip events name now legal later in absurd (none-some first.0 (sym there ∙ first.1))
-    by None there None later = ap (λ o. option_map_or (λ (p : Part). p.opened) o false) (later ∙ sym there)
+        let first = part_first chip events name now legal later in
+        absurd (none-some first.0 (sym there ∙ first.1))
+    by None there None later =
+        ap (λ o. option_map_or (λ (p : Part). p.opened) o false) (later ∙ sym there)
 
 pub runs_join : RunsJoin
 runs_join chip events more legal = record {
   leads = ran-append chip events more;
   moves = moves-append chip events more;
   fed = λ name. flat_map-append (piece_of (is_open chip name) name) events more
-      ∙ ap (λ opened. words_fed chip events name ++ pieces opened name more) (sym (open_kept chip events name legal));
+      ∙ ap (λ opened. words_fed chip events name ++ pieces opened name more)
+      (sym (open_kept chip events name legal));
 }
 
 pub tries_join : TriesJoin
@@ -70,9 +81,11 @@ tries_feed_nothing chip tries name = no_piece (is_open chip name) name tries
 pub opened_is_open : OpenedIsOpen
 opened_is_open chip name legal named =
     let old = part_there chip name legal named in
-    let leads : stream_opened chip name ≡ with_part chip name (opening old.0) = opened_is chip name ∙ changed_there opening chip name old.0 old.1 in
+    let leads : stream_opened chip name ≡ with_part chip name (opening old.0) =
+    opened_is chip name ∙ changed_there opening chip name old.0 old.1 in
     ap (λ c. is_open c name) leads
-    ∙ open_there (with_part chip name (opening old.0)) name (opening old.0) (get-set_here chip.parts (index_of name) (opening old.0) old.0 old.1)
+    ∙ open_there (with_part chip name (opening old.0)) name (opening old.0)
+    (get-set_here chip.parts (index_of name) (opening old.0) old.0 old.1)
 
 -- ---- nodes that read one port at a time
 
@@ -91,20 +104,25 @@ none_picked (need.Check to) side is = refl
 none_picked need.Input side is = refl
 none_picked (need.Stopped stop) side is = refl
 
-one_move : (name : ℕ) (move : Move) → ((move.node == name) ≡ true → move.picked ≡ []) → picked name (move ∷ []) ≡ []
+one_move : (name : ℕ) (move : Move) → ((move.node == name) ≡ true → move.picked ≡ [])
+    → picked name (move ∷ []) ≡ []
 one_move name move is = by (move.node == name) refl
   where
-    by : (same : Bool) → (move.node == name) ≡ same → flat_map (λ m. m.picked) (if same then move ∷ [] else []) ≡ []
+    by : (same : Bool) → (move.node == name) ≡ same
+        → flat_map (λ m. m.picked) (if same then move ∷ [] else []) ≡ []
     by true e = ap (λ l. l ++ []) (is e)
     by false e = refl
 
-if_move : (name : ℕ) (outcome : Outcome) (move : Move) → ((move.node == name) ≡ true → move.picked ≡ []) → picked name (if_moved outcome move) ≡ []
+if_move : (name : ℕ) (outcome : Outcome) (move : Move)
+    → ((move.node == name) ≡ true → move.picked ≡ []) → picked name (if_moved outcome move) ≡ []
 if_move name Moved move is = one_move name move is
 if_move name Waits move is = refl
 if_move name Held move is = refl
 if_move name Stopped move is = refl
 
-one_event : (chip : Chip) (event : Event) (name : ℕ) → ((part : Part) → part_of chip name ≡ Some part → IsOneSided (need_of part.state)) → picked name (move_in chip event) ≡ []
+one_event : (chip : Chip) (event : Event) (name : ℕ)
+    → ((part : Part) → part_of chip name ≡ Some part → IsOneSided (need_of part.state))
+    → picked name (move_in chip event) ≡ []
 unfolding move_in
 one_event chip (Try node side) name is = by (part_of chip node) refl
   where
@@ -112,7 +130,8 @@ one_event chip (Try node side) name is = by (part_of chip node) refl
     by None there = refl
     by (Some part) there =
         if_move name (after part side (found_by (asks part side) chip.cells)).0 _
-        (λ same. none_picked (need_of part.state) side (is part (ap (part_of chip) (sym (eqb-true node name same)) ∙ there)))
+        (λ same. none_picked (need_of part.state) side
+        (is part (ap (part_of chip) (sym (eqb-true node name same)) ∙ there)))
 one_event chip (SetBreak node at) name is = refl
 one_event chip (ClearBreak node at) name is = refl
 one_event chip (PassBreak node) name is = refl
@@ -121,9 +140,14 @@ one_event chip (Piece node words) name is = refl
 pub one_port_names_no_side : OnePortNamesNoSide
 one_port_names_no_side chip [] name reads = refl
 one_port_names_no_side chip (event ∷ events) name reads =
-    let first = one_event chip event name (λ part there. reads [] part (event ∷ events, refl) there) in
-    let rest : sides_of (happened chip event) events name ≡ [] = one_port_names_no_side (happened chip event) events name
-    (λ before part front there. reads (event ∷ before) part (front.0, ap (λ l. event ∷ l) front.1) there) in
-    ap (flat_map (λ move. move.picked)) (moves_of-append name (move_in chip event) (moves (happened chip event) events))
-    ∙ flat_map-append (λ move. move.picked) (moves_of name (move_in chip event)) (moves_of name (moves (happened chip event) events))
+    let first =
+    one_event chip event name (λ part there. reads [] part (event ∷ events, refl) there) in
+    let rest : sides_of (happened chip event) events name ≡ [] =
+    one_port_names_no_side (happened chip event) events name
+    (λ before part front there. reads (event ∷ before) part
+    (front.0, ap (λ l. event ∷ l) front.1) there) in
+    ap (flat_map (λ move. move.picked))
+    (moves_of-append name (move_in chip event) (moves (happened chip event) events))
+    ∙ flat_map-append (λ move. move.picked) (moves_of name (move_in chip event))
+    (moves_of name (moves (happened chip event) events))
     ∙ ap (λ l. l ++ sides_of (happened chip event) events name) first ∙ rest

@@ -40,7 +40,8 @@ word_709 : (after (reset_part 709) Right (Some 0x12)).1.state.word ≡ 0x12
 unfolding after asks need_of step cell_of all_cells
 word_709 = refl
 
-read_709 : (after (reset_part 709) Right (Some 0x12)).1.read ≡ record { right = 1; down = 0; left = 0; up = 0 }
+read_709 : (after (reset_part 709) Right (Some 0x12)).1.read
+    ≡ record { right = 1; down = 0; left = 0; up = 0 }
 unfolding after asks need_of step cell_of all_cells
 read_709 = refl
 
@@ -78,7 +79,8 @@ unfolding asks need_of
 held_at_203 = refl
 
 -- a stop comes first
-stopped_at_3 : asks (record at_3 { state = record at_3.state { steps = 2 ^ 64 - 1 } }) Right ≡ Nothing Stopped
+stopped_at_3 : asks (record at_3 { state = record at_3.state { steps = 2 ^ 64 - 1 } }) Right
+    ≡ Nothing Stopped
 unfolding asks need_of
 stopped_at_3 = refl
 
@@ -95,13 +97,16 @@ ends : (after (break_passed at_3) Right None).1.pass ≡ false
 unfolding after asks need_of
 ends = refl
 
-stays : (stepped None (record at_3 { pass = true; state = record at_3.state { place = Slot0 } })).pass ≡ true
+stays : (stepped None
+    (record at_3 { pass = true; state = record at_3.state { place = Slot0 } })).pass ≡ true
 stays = refl
 
--- A node that stands before `!b` with B at its right port posts T there, waits while the word is pending,
--- and goes on where it was read.
+-- A node that stands before `!b` with B at its right port posts T there, waits while the word is
+-- pending, and goes on where it was read.
 abbrev pub writer : Part
-writer = record (reset_part 708) { state = record (reset_state 708) { word = 0x089B2; place = Slot0; b = 0x1D5; t = 0x12 } }
+writer =
+    record (reset_part 708)
+    { state = record (reset_state 708) { word = 0x089B2; place = Slot0; b = 0x1D5; t = 0x12 } }
 
 abbrev pub posted : Part
 posted = (after writer Down None).1
@@ -160,16 +165,19 @@ given_000 : refusal (streamed reset_chip 0 (0x000AE ∷ [])) 0 ≡ Some AlreadyG
 unfolding streamed reset_chip
 given_000 = refl
 
--- a stream that was opened takes a piece as long as no word is left, and one that was given takes none
+-- a stream that was opened takes a piece as long as no word is left, and one that was given takes
+-- none
 opened_708 : feed_refusal (stream_opened reset_chip 708) 708 ≡ None
 unfolding stream_opened reset_chip
 opened_708 = refl
 
-fed_708 : left_of (happened (stream_opened reset_chip 708) (Piece 708 (0x000AE ∷ 0x001D5 ∷ []))) 708 ≡ 2
+fed_708 : left_of (happened (stream_opened reset_chip 708) (Piece 708 (0x000AE ∷ 0x001D5 ∷ []))) 708
+    ≡ 2
 unfolding happened stream_opened reset_chip
 fed_708 = refl
 
-fed_twice : feed_refusal (happened (stream_opened reset_chip 708) (Piece 708 (0x000AE ∷ []))) 708 ≡ Some NotTaken
+fed_twice : feed_refusal (happened (stream_opened reset_chip 708) (Piece 708 (0x000AE ∷ []))) 708
+    ≡ Some NotTaken
 unfolding happened stream_opened reset_chip
 fed_twice = refl
 
@@ -178,7 +186,8 @@ unfolding streamed reset_chip
 given_708 = refl
 
 -- and only the words that an opened stream takes count as fed
-words_708 : words_fed (stream_opened reset_chip 708) (Piece 708 (0x000AE ∷ []) ∷ Piece 709 (0x001D5 ∷ []) ∷ []) 708 ≡ 0x000AE ∷ []
+words_708 : words_fed (stream_opened reset_chip 708)
+    (Piece 708 (0x000AE ∷ []) ∷ Piece 709 (0x001D5 ∷ []) ∷ []) 708 ≡ 0x000AE ∷ []
 unfolding stream_opened reset_chip
 words_708 = refl
 

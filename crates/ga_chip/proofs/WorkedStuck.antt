@@ -25,13 +25,15 @@ alone node name = name == node
 abbrev nobody : ℕ → Bool
 nobody name = false
 
--- After reset each node takes a word, and none is pending: 709 has neighbours on its right, down and left.
+-- After reset each node takes a word, and none is pending: 709 has neighbours on its right, down
+-- and left.
 waits_709 : is_stuck all_nodes reset_chip.cells (reset_part 709) ≡ true
 unfolding is_stuck need_of reset_chip cell_of all_cells
 waits_709 = refl
 
 -- and so do all: the set of all nodes is closed
-all_wait : list_all (λ index. is_stuck all_nodes reset_chip.cells (reset_part (name_at index))) (range_with_len 0 144) ≡ true
+all_wait : list_all (λ index. is_stuck all_nodes reset_chip.cells (reset_part (name_at index)))
+    (range_with_len 0 144) ≡ true
 unfolding is_stuck need_of reset_chip cell_of all_cells
 all_wait = refl
 
@@ -44,7 +46,8 @@ word_709 : is_stuck all_nodes (set reset_chip.cells 495 (Some 0x12)) (reset_part
 unfolding is_stuck need_of reset_chip cell_of all_cells
 word_709 = refl
 
--- 708 has posted the word: it is stuck as long as the word is pending, and only where its reader is in the set
+-- 708 has posted the word: it is stuck as long as the word is pending, and only where its reader is
+-- in the set
 unread_708 : is_stuck (alone 709) (set reset_chip.cells 495 (Some 0x12)) posted ≡ true
 unfolding is_stuck need_of after asks step row reading_of op_with reset_chip cell_of all_cells
 unread_708 = refl
@@ -85,6 +88,7 @@ held_goes_on : is_stuck all_nodes reset_chip.cells at_3 ≡ false
 unfolding is_stuck need_of
 held_goes_on = refl
 
-stopped : is_stuck nobody [] (record at_3 { state = record at_3.state { steps = 2 ^ 64 - 1 } }) ≡ true
+stopped : is_stuck nobody [] (record at_3 { state = record at_3.state { steps = 2 ^ 64 - 1 } })
+    ≡ true
 unfolding is_stuck need_of
 stopped = refl

@@ -19,7 +19,8 @@ told_as (Take side cell) = call.Take side cell
 abbrev pub asked_of : Part → Side → told.Asks
 asked_of part side = told_as (asks part side)
 
--- where a try looks that asks for this: at the cell of which it takes the word, or at none, since nothing comes of it
+-- where a try looks that asks for this: at the cell of which it takes the word, or at none, since
+-- nothing comes of it
 abbrev pub look_of : told.Asks → Option (Option ℕ)
 look_of (call.Take side cell) = Some (Some cell)
 look_of (call.Nothing outcome) = Some None
@@ -27,16 +28,20 @@ look_of call.Own = None
 look_of (call.Post side cell word) = None
 look_of (call.Check side cell) = None
 
-abbrev pub looks_by : Option (Option ℕ) → Option (Option ℕ) → Option (Option ℕ) → Option (Option ℕ) → Option (List (Option ℕ))
+abbrev pub looks_by : Option (Option ℕ) → Option (Option ℕ) → Option (Option ℕ) → Option (Option ℕ)
+    → Option (List (Option ℕ))
 looks_by (Some right) (Some down) (Some left) (Some up) = Some (right ∷ down ∷ left ∷ up ∷ [])
 looks_by (Some right) (Some down) (Some left) None = None
 looks_by (Some right) (Some down) None up = None
 looks_by (Some right) None left up = None
 looks_by None down left up = None
 
--- where the tries of a node look, in the order right, down, left, up, if each of them looks at a cell or at none
+-- where the tries of a node look, in the order right, down, left, up, if each of them looks at a
+-- cell or at none
 unfoldable pub looks_of : Part → Option (List (Option ℕ))
-looks_of part = looks_by (look_of (asked_of part Right)) (look_of (asked_of part Down)) (look_of (asked_of part Left)) (look_of (asked_of part Up))
+looks_of part =
+    looks_by (look_of (asked_of part Right)) (look_of (asked_of part Down))
+    (look_of (asked_of part Left)) (look_of (asked_of part Up))
 
 -- where a try looks that names a side
 abbrev pub look_at : List (Option ℕ) → Side → Option ℕ

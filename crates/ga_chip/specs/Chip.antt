@@ -1,4 +1,5 @@
--- The chip: the nodes' parts in order of name, and the word pending in each cell. A try of one node.
+-- The chip: the nodes' parts in order of name, and the word pending in each cell. A try of one
+-- node.
 use Rattle.std.specs.Prelude.{◌≡◌, ℕ, ◌==◌, true, false, List, [], map, replicate, Option, Some, None, Result, Ok, Err, is_some, option_map, set, slice_get, slice_index_or, if◌then◌else◌}
 use Rattle.std.specs.Option.{option_and_then}
 use Rattle.std.specs.List.{range_with_len}
@@ -60,13 +61,19 @@ abbrev pub with_changed : (Part → Part) → Option Part → Chip → ℕ → C
 with_changed change None chip name = chip
 with_changed change (Some part) chip name = with_part chip name (change part)
 
--- what came of a try of a node, and the chip, by what the try asked for and what the node's part is afterwards
+-- what came of a try of a node, and the chip, by what the try asked for and what the node's part is
+-- afterwards
 abbrev pub tried_by : Chip → ℕ → Asks → Outcome × Part → Outcome × Chip
-tried_by chip name asked result = (result.0, record { parts = set chip.parts (index_of name) result.1; cells = cells_after asked chip.cells })
+tried_by chip name asked result = (
+  result.0,
+  record
+      { parts = set chip.parts (index_of name) result.1; cells = cells_after asked chip.cells },
+)
 
 abbrev pub tried_at : Option Part → Chip → ℕ → Side → Outcome × Chip
 tried_at None chip name side = (Waits, chip)
-tried_at (Some part) chip name side = tried_by chip name (asks part side) (after part side (found_by (asks part side) chip.cells))
+tried_at (Some part) chip name side =
+    tried_by chip name (asks part side) (after part side (found_by (asks part side) chip.cells))
 
 -- A try of a node that names a side: what comes of it, and the chip afterwards.
 unfoldable pub tried : Chip → ℕ → Side → Outcome × Chip
@@ -82,15 +89,28 @@ no_counts = record { right = 0; down = 0; left = 0; up = 0 }
 
 -- a node's part after reset: no breakpoint, no pass, no stream, and nothing written or read
 abbrev pub reset_part : ℕ → Part
-reset_part name = record { state = reset_state name; breaks = replicate 512 false; pass = false; stream = None; opened = false; written = no_counts; read = no_counts }
+reset_part name = record {
+  state = reset_state name;
+  breaks = replicate 512 false;
+  pass = false;
+  stream = None;
+  opened = false;
+  written = no_counts;
+  read = no_counts;
+}
 
 -- The chip after reset: each node's part, and nothing pending.
 unfoldable pub reset_chip : Chip
-reset_chip = record { parts = map (λ index. reset_part (name_at index)) (range_with_len 0 144); cells = replicate 524 None }
+reset_chip = record {
+  parts = map (λ index. reset_part (name_at index)) (range_with_len 0 144);
+  cells = replicate 524 None;
+}
 
 -- Why a node can't be given words or a stream: it has a stream, or it has made a step.
 abbrev pub part_refusal : Part → Option ChipError
-part_refusal part = if is_some part.stream then Some AlreadyGiven else if part.state.steps == 0 then None else Some Begun
+part_refusal part =
+    if is_some part.stream then Some AlreadyGiven else if part.state.steps == 0 then None
+    else Some Begun
 
 abbrev pub refusal : Chip → ℕ → Option ChipError
 refusal chip name = option_and_then part_refusal (part_of chip name)
@@ -118,7 +138,8 @@ abbrev pub unless_refused : Option ChipError → Chip → Chip → Chip
 unless_refused None changed chip = changed
 unless_refused (Some fault) changed chip = chip
 
--- a part whose node is as after reset, with these words at the front of its memory and P at the entry
+-- a part whose node is as after reset, with these words at the front of its memory and P at the
+-- entry
 abbrev pub given : List ℕ → ℕ → Part → Part
 given words entry part = record part { state = loaded_state part.state.node words entry }
 
@@ -128,7 +149,8 @@ placed chip name words entry = with_changed (given words entry) (part_of chip na
 
 -- a part whose node is as after reset, and loads itself from these words
 abbrev pub streaming : List ℕ → Part → Part
-streaming words part = record part { state = booting_state part.state.node; stream = Some words; opened = false }
+streaming words part =
+    record part { state = booting_state part.state.node; stream = Some words; opened = false }
 
 -- The chip where a node was given a stream.
 unfoldable pub streamed : Chip → ℕ → List ℕ → Chip
@@ -136,7 +158,8 @@ streamed chip name words = with_changed (streaming words) (part_of chip name) ch
 
 -- a part whose node is as after reset, and loads itself from words that are still to come
 abbrev pub opening : Part → Part
-opening part = record part { state = booting_state part.state.node; stream = Some []; opened = true }
+opening part =
+    record part { state = booting_state part.state.node; stream = Some []; opened = true }
 
 -- The chip where a node's stream was opened.
 unfoldable pub stream_opened : Chip → ℕ → Chip

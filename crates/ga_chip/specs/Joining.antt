@@ -16,12 +16,13 @@ use Rattle.ga_chip.specs.Run.{Event, is_open, moves, ran, sides_of, tries_of, wo
 abbrev pub RunsAreLegal : Type 0
 RunsAreLegal = (chip : Chip) (events : List Event) → IsLegal chip → IsLegal (ran chip events)
 
--- A run and one behind it are one run: it leads to the same chip, has the moves of both, and feeds each stream what both
--- feed it.
+-- A run and one behind it are one run: it leads to the same chip, has the moves of both, and feeds
+-- each stream what both feed it.
 pub record Joins (chip : Chip) (events more : List Event) : Type 0 where
   pub leads : ran chip (events ++ more) ≡ ran (ran chip events) more
   pub moves : moves chip (events ++ more) ≡ moves chip events ++ moves (ran chip events) more
-  pub fed : (name : ℕ) → words_fed chip (events ++ more) name ≡ words_fed chip events name ++ words_fed (ran chip events) more name
+  pub fed : (name : ℕ) → words_fed chip (events ++ more) name ≡ words_fed chip events name
+      ++ words_fed (ran chip events) more name
 
 abbrev pub RunsJoin : Type 0
 RunsJoin = (chip : Chip) (events more : List Event) → IsLegal chip → Joins chip events more
@@ -32,11 +33,14 @@ TriesJoin = (tries more : List Try) → tries_of (tries ++ more) ≡ tries_of tr
 
 -- Tries feed nothing to any stream.
 abbrev pub TriesFeedNothing : Type 0
-TriesFeedNothing = (chip : Chip) (tries : List Try) (name : ℕ) → words_fed chip (tries_of tries) name ≡ []
+TriesFeedNothing =
+    (chip : Chip) (tries : List Try) (name : ℕ) → words_fed chip (tries_of tries) name ≡ []
 
 -- A stream that was opened for a node is open.
 abbrev pub OpenedIsOpen : Type 0
-OpenedIsOpen = (chip : Chip) (name : ℕ) → IsLegal chip → IsNodeName name → is_open (stream_opened chip name) name ≡ true
+OpenedIsOpen =
+    (chip : Chip) (name : ℕ) → IsLegal chip → IsNodeName name
+    → is_open (stream_opened chip name) name ≡ true
 
 -- a need to take at no more than one side
 abbrev pub IsOneSided : Need → Type 0
@@ -45,8 +49,12 @@ IsOneSided need = Unit {0}
 
 -- At each moment of a run the node's need is no take of several sides.
 abbrev pub ReadsOnePort : Chip → List Event → ℕ → Type 0
-ReadsOnePort chip events name = (before : List Event) (part : Part) → IsPrefix before events → part_of (ran chip before) name ≡ Some part → IsOneSided (need_of part.state)
+ReadsOnePort chip events name =
+    (before : List Event) (part : Part) → IsPrefix before events
+    → part_of (ran chip before) name ≡ Some part → IsOneSided (need_of part.state)
 
 -- So the node makes no take of several sides, of which a side could be named.
 abbrev pub OnePortNamesNoSide : Type 0
-OnePortNamesNoSide = (chip : Chip) (events : List Event) (name : ℕ) → ReadsOnePort chip events name → sides_of chip events name ≡ []
+OnePortNamesNoSide =
+    (chip : Chip) (events : List Event) (name : ℕ) → ReadsOnePort chip events name
+    → sides_of chip events name ≡ []

@@ -19,29 +19,45 @@ AgreesWith xs ys = IsPrefix xs ys ⊎ IsPrefix ys xs
 -- Two runs go alike as far as both go.
 pub record Agree (one two : Chip) (events others : List Event) : Type 0 where
   -- a node has the same state after equally many moves
-  pub nodes : (name k : ℕ) (here there : State) → node_after one events name k ≡ Some here → node_after two others name k ≡ Some there → here ≡ there
+  pub nodes : (name k : ℕ) (here there : State) → node_after one events name k ≡ Some here
+      → node_after two others name k ≡ Some there → here ≡ there
   -- and has taken the same words of its stream
-  pub inputs : (name k : ℕ) (here there : State) → node_after one events name k ≡ Some here → node_after two others name k ≡ Some there → input_after one events name k ≡ input_after two others name k
+  pub inputs : (name k : ℕ) (here there : State) → node_after one events name k ≡ Some here
+      → node_after two others name k ≡ Some there
+      → input_after one events name k ≡ input_after two others name k
   -- so also at the ends, where its steps are equal
-  pub ends : (name : ℕ) (here there : Part) → part_of (ran one events) name ≡ Some here → part_of (ran two others) name ≡ Some there → here.state.steps ≡ there.state.steps → here.state ≡ there.state
-  pub ends_inputs : (name : ℕ) (here there : Part) → part_of (ran one events) name ≡ Some here → part_of (ran two others) name ≡ Some there → here.state.steps ≡ there.state.steps → input_words one events name ≡ input_words two others name
+  pub ends : (name : ℕ) (here there : Part) → part_of (ran one events) name ≡ Some here
+      → part_of (ran two others) name ≡ Some there → here.state.steps ≡ there.state.steps
+      → here.state ≡ there.state
+  pub ends_inputs : (name : ℕ) (here there : Part) → part_of (ran one events) name ≡ Some here
+      → part_of (ran two others) name ≡ Some there → here.state.steps ≡ there.state.steps
+      → input_words one events name ≡ input_words two others name
   -- and then the same words are left of its stream, where it was fed equal words
-  pub left : (name : ℕ) (here there : Part) → part_of (ran one events) name ≡ Some here → part_of (ran two others) name ≡ Some there → here.state.steps ≡ there.state.steps → words_fed one events name ≡ words_fed two others name → words_left here.stream ≡ words_left there.stream
+  pub left : (name : ℕ) (here there : Part) → part_of (ran one events) name ≡ Some here
+      → part_of (ran two others) name ≡ Some there → here.state.steps ≡ there.state.steps
+      → words_fed one events name ≡ words_fed two others name
+      → words_left here.stream ≡ words_left there.stream
   -- each cell has the same words written and taken
-  pub written : (cell : ℕ) → AgreesWith (written_words one events cell) (written_words two others cell)
+  pub written : (cell : ℕ)
+      → AgreesWith (written_words one events cell) (written_words two others cell)
   pub taken : (cell : ℕ) → AgreesWith (taken_words one events cell) (taken_words two others cell)
 
--- Two runs go alike, from legal chips that differ in breakpoints and passes at most, where the takes of
--- several sides name the same sides and the streams are fed the same words, as far as both runs go. Breakpoints may
--- be used between the tries.
+-- Two runs go alike, from legal chips that differ in breakpoints and passes at most, where the
+-- takes of several sides name the same sides and the streams are fed the same words, as far as both
+-- runs go. Breakpoints may be used between the tries.
 abbrev pub Confluence : Type 0
-Confluence = (one two : Chip) (events others : List Event) → IsLegal one → IsLegal two → DifferInBreaks one two → ((name : ℕ) → AgreesWith (sides_of one events name) (sides_of two others name)) → ((name : ℕ) → AgreesWith (words_fed one events name) (words_fed two others name)) → Agree one two events others
+Confluence =
+    (one two : Chip) (events others : List Event) → IsLegal one → IsLegal two
+    → DifferInBreaks one two
+    → ((name : ℕ) → AgreesWith (sides_of one events name) (sides_of two others name))
+    → ((name : ℕ) → AgreesWith (words_fed one events name) (words_fed two others name))
+    → Agree one two events others
 
--- Two nodes' tries that would each be Moved are both Moved in either order, which leads to the same chip.
-pub record Commute (chip : Chip) (a b : ℕ) (s t : Side) : Type 0 where
-  pub second : (tried (tried chip a s).1 b t).0 ≡ Moved
-  pub first : (tried (tried chip b t).1 a s).0 ≡ Moved
-  pub same : (tried (tried chip a s).1 b t).1 ≡ (tried (tried chip b t).1 a s).1
-
+-- Two nodes' tries that would each be Moved are both Moved in either order, which leads to the same
+-- chip.
 abbrev pub Commuting : Type 0
-Commuting = (chip : Chip) (a b : ℕ) (s t : Side) → IsLegal chip → a ≢ b → (tried chip a s).0 ≡ Moved → (tried chip b t).0 ≡ Moved → Commute chip a b s t
+Commuting =
+    (chip : Chip) (a b : ℕ) (s t : Side) → IsLegal chip → a ≢ b → (tried chip a s).0 ≡ Moved
+    → (tried chip b t).0 ≡ Moved
+    → ((tried (tried chip a s).1 b t).0 ≡ Moved) × ((tried (tried chip b t).1 a s).0 ≡ Moved)
+    × ((tried (tried chip a s).1 b t).1 ≡ (tried (tried chip b t).1 a s).1)

@@ -20,11 +20,17 @@ pub record IsLegal (chip : Chip) : Type 0 where
   -- the nodes stand in order of name
   pub named : (name : ℕ) (part : Part) → part_of chip name ≡ Some part → part.state.node ≡ name
   -- what was written into a cell is what was read from it and what is pending
-  pub balanced : (name other cell : ℕ) (side : Side) (writer reader : Part) → cell_of name side ≡ Some cell → neighbour_of name side ≡ Some other → part_of chip name ≡ Some writer → part_of chip other ≡ Some reader → count_at side writer.written ≡ count_at side reader.read + length (option_to_list (pending chip cell))
+  pub balanced : (name other cell : ℕ) (side : Side) (writer reader : Part)
+      → cell_of name side ≡ Some cell → neighbour_of name side ≡ Some other
+      → part_of chip name ≡ Some writer → part_of chip other ≡ Some reader → count_at side
+      writer.written ≡ count_at side reader.read + length (option_to_list (pending chip cell))
   -- where a word is pending, the cell's writer stands at the check of that cell
-  pub checked : (name cell word : ℕ) (side : Side) (writer : Part) → cell_of name side ≡ Some cell → part_of chip name ≡ Some writer → pending chip cell ≡ Some word → StandsAtCheck writer.state side
+  pub checked : (name cell word : ℕ) (side : Side) (writer : Part) → cell_of name side ≡ Some cell
+      → part_of chip name ≡ Some writer → pending chip cell ≡ Some word
+      → StandsAtCheck writer.state side
   -- no cell was written more often than its writer stepped
-  pub within_steps : (name : ℕ) (side : Side) (writer : Part) → part_of chip name ≡ Some writer → count_at side writer.written ≤ writer.state.steps
+  pub within_steps : (name : ℕ) (side : Side) (writer : Part) → part_of chip name ≡ Some writer
+      → count_at side writer.written ≤ writer.state.steps
 
 -- a part without breakpoints and pass
 abbrev pub unbroken : Part → Part

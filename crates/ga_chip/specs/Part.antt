@@ -59,28 +59,20 @@ pub data Asks : Type 0 where
   -- to see that the word posted at a side, in a cell, was read
   Check : Side → ℕ → Asks
 
--- The side at which a take looks: its one side, or of several the one that the try names. At a side that
--- isn't one of several it doesn't look.
+-- The side at which a take looks: its one side, or of several the one that the try names. At a side
+-- that isn't one of several it doesn't look.
 abbrev pub looked_at : Option Side → Sides → Side → Option Side
 looked_at (Some only) sides side = Some only
 looked_at None sides side = if is_among side sides then Some side else None
 
--- at a side without a neighbour there is no cell, and the node waits
-abbrev pub take_of : Side → Option ℕ → Asks
-take_of side (Some cell) = Take side cell
-take_of side None = Nothing Waits
+-- what a try asks for at a cell; at a side without a neighbour there is none, and the node waits
+abbrev pub at_cell : (ℕ → Asks) → Option ℕ → Asks
+at_cell ask (Some cell) = ask cell
+at_cell ask None = Nothing Waits
 
 abbrev pub take_from : ℕ → Option Side → Asks
-take_from name (Some side) = take_of side (read_cell name side)
+take_from name (Some side) = at_cell (Take side) (read_cell name side)
 take_from name None = Nothing Waits
-
-abbrev pub post_to : Side → ℕ → Option ℕ → Asks
-post_to side word (Some cell) = Post side cell word
-post_to side word None = Nothing Waits
-
-abbrev pub check_of : Side → Option ℕ → Asks
-check_of side (Some cell) = Check side cell
-check_of side None = Nothing Waits
 
 -- the next word of the stream; without one the node waits
 abbrev pub input_of : Option (List ℕ) → Asks
@@ -92,8 +84,8 @@ input_of None = Nothing Waits
 abbrev pub asks_by : Need → ℕ → Option (List ℕ) → Side → Asks
 asks_by need.Own name stream side = Own
 asks_by (need.Take sides) name stream side = take_from name (looked_at (one_side sides) sides side)
-asks_by (need.Post to word) name stream side = post_to to word (cell_of name to)
-asks_by (need.Check to) name stream side = check_of to (cell_of name to)
+asks_by (need.Post to word) name stream side = at_cell (λ cell. Post to cell word) (cell_of name to)
+asks_by (need.Check to) name stream side = at_cell (Check to) (cell_of name to)
 asks_by need.Input name stream side = input_of stream
 asks_by (need.Stopped stop) name stream side = Nothing Stopped
 
@@ -102,13 +94,15 @@ abbrev pub held_by : Need → Asks
 held_by (need.Stopped stop) = Nothing Stopped
 held_by _ = Nothing Held
 
--- A breakpoint holds the node: it is about to fetch, where the low nine bits of P are a breakpoint, and has no pass.
--- It may be stopped all the same.
+-- A breakpoint holds the node: it is about to fetch, where the low nine bits of P are a breakpoint,
+-- and has no pass. It may be stopped all the same.
 abbrev pub is_held : Part → Bool
-is_held part = (is_fetch part.state.place) && ((not part.pass) && (get_or part.breaks (part.state.p % 2 ^ 9) false))
+is_held part =
+    (is_fetch part.state.place)
+    && ((not part.pass) && (get_or part.breaks (part.state.p % 2 ^ 9) false))
 
--- So a try is held just where its node isn't stopped, is about to fetch, the low nine bits of P are a breakpoint,
--- and it has no pass.
+-- So a try is held just where its node isn't stopped, is about to fetch, the low nine bits of P are
+-- a breakpoint, and it has no pass.
 pub record StandsAtBreak (part : Part) : Type 0 where
   pub runs : stop_of (need_of part.state) ≡ None
   pub fetches : part.state.place ≡ Fetch
@@ -134,7 +128,8 @@ picked_by _ side = []
 
 -- the node makes a step with the word that it got, if it got one; a fetch ends a pass
 abbrev pub stepped : Option ℕ → Part → Part
-stepped word part = record part { state = step part.state word; pass = part.pass && not (is_fetch part.state.place) }
+stepped word part = record part
+    { state = step part.state word; pass = part.pass && not (is_fetch part.state.place) }
 
 -- the stream without its next word
 abbrev pub rest_of : Option (List ℕ) → Option (List ℕ)
@@ -142,19 +137,23 @@ rest_of (Some (word ∷ rest)) = Some rest
 rest_of (Some []) = Some []
 rest_of None = None
 
--- What comes of a try and the node's part afterwards, by what the try asks for and the word that it found
--- pending in that cell. A check goes on where it finds nothing, and a take where it finds a word.
+-- What comes of a try and the node's part afterwards, by what the try asks for and the word that it
+-- found pending in that cell. A check goes on where it finds nothing, and a take where it finds a
+-- word.
 abbrev pub after_asked : Asks → Option ℕ → Part → Outcome × Part
 after_asked (Nothing outcome) found part = (outcome, part)
 after_asked Own found part = (Moved, stepped None part)
-after_asked (Feed fed) found part = (Moved, stepped (Some fed) (record part { stream = rest_of part.stream }))
-after_asked (Post side cell word) found part = (Moved, stepped None (record part { written = counted side part.written }))
+after_asked (Feed fed) found part =
+    (Moved, stepped (Some fed) (record part { stream = rest_of part.stream }))
+after_asked (Post side cell word) found part =
+    (Moved, stepped None (record part { written = counted side part.written }))
 after_asked (Check side cell) None part = (Moved, stepped None part)
 after_asked (Check side cell) (Some word) part = (Waits, part)
-after_asked (Take side cell) (Some word) part = (Moved, stepped (Some word) (record part { read = counted side part.read }))
+after_asked (Take side cell) (Some word) part =
+    (Moved, stepped (Some word) (record part { read = counted side part.read }))
 after_asked (Take side cell) None part = (Waits, part)
 
--- What comes of a try that names a side, and the node's part afterwards, where the try found this word
--- pending in the cell that it asks for.
+-- What comes of a try that names a side, and the node's part afterwards, where the try found this
+-- word pending in the cell that it asks for.
 unfoldable pub after : Part → Side → Option ℕ → Outcome × Part
 after part side found = after_asked (asks part side) found part

@@ -56,7 +56,8 @@ stands_held chip name = option_map_or (λ part. is_hold (asks part Right)) (part
 
 -- whether an address is a breakpoint of a node
 abbrev pub has_break : Chip → ℕ → ℕ → Bool
-has_break chip name at = option_map_or (λ part. get_or part.breaks at false) (part_of chip name) false
+has_break chip name at =
+    option_map_or (λ part. get_or part.breaks at false) (part_of chip name) false
 
 -- a part with a breakpoint more or less, or with a pass where the node is held
 abbrev pub break_set : ℕ → Part → Part
@@ -73,14 +74,12 @@ abbrev pub words_left : Option (List ℕ) → List ℕ
 words_left (Some words) = words
 words_left None = []
 
--- a stream that was opened goes on with more words, and no other does
-abbrev pub stream_with : Bool → List ℕ → Option (List ℕ) → Option (List ℕ)
-stream_with true words stream = Some (words_left stream ++ words)
-stream_with false words stream = stream
-
--- a part to whose stream a piece has come
+-- a part to whose stream a piece has come: one that was opened goes on with more words, and no
+-- other
 abbrev pub piece_come : List ℕ → Part → Part
-piece_come words part = record part { stream = stream_with part.opened words part.stream }
+piece_come words part = record part {
+  stream = if part.opened then Some (words_left part.stream ++ words) else part.stream;
+}
 
 -- the words that an event feeds to a node's stream, by whether that was opened
 abbrev pub piece_of : Bool → ℕ → Event → List ℕ
@@ -130,7 +129,12 @@ if_moved Stopped move = []
 abbrev pub move_at : Option Part → Chip → ℕ → Side → List Move
 move_at None chip name side = []
 move_at (Some part) chip name side =
-    if_moved (after part side (found_by (asks part side) chip.cells)).0 (record { node = name; asked = asks part side; found = found_by (asks part side) chip.cells; picked = picked_by (need_of part.state) side })
+    if_moved (after part side (found_by (asks part side) chip.cells)).0 (record {
+      node = name;
+      asked = asks part side;
+      found = found_by (asks part side) chip.cells;
+      picked = picked_by (need_of part.state) side;
+    })
 
 -- the move that an event is, where it is one
 unfoldable pub move_in : Chip → Event → List Move
@@ -168,14 +172,17 @@ abbrev pub written_words : Chip → List Event → ℕ → List ℕ
 written_words chip events cell = flat_map (λ move. posted_by cell move.asked) (moves chip events)
 
 abbrev pub taken_words : Chip → List Event → ℕ → List ℕ
-taken_words chip events cell = flat_map (λ move. taken_by cell move.asked move.found) (moves chip events)
+taken_words chip events cell =
+    flat_map (λ move. taken_by cell move.asked move.found) (moves chip events)
 
 -- the words that a node takes of its stream in a run, in order, and those of its first k moves
 abbrev pub input_words : Chip → List Event → ℕ → List ℕ
-input_words chip events name = flat_map (λ move. input_by move.asked) (moves_of name (moves chip events))
+input_words chip events name =
+    flat_map (λ move. input_by move.asked) (moves_of name (moves chip events))
 
 abbrev pub input_after : Chip → List Event → ℕ → ℕ → List ℕ
-input_after chip events name k = flat_map (λ move. input_by move.asked) (take k (moves_of name (moves chip events)))
+input_after chip events name k =
+    flat_map (λ move. input_by move.asked) (take k (moves_of name (moves chip events)))
 
 -- the sides of a node's takes of several sides in a run
 abbrev pub sides_of : Chip → List Event → ℕ → List Side
@@ -190,4 +197,5 @@ abbrev pub node_after : Chip → List Event → ℕ → ℕ → Option State
 node_after chip events name zero = state_of chip name
 node_after chip [] name (suc k) = None
 node_after chip (event ∷ events) name (suc k) =
-    if is_some_move (moves_of name (move_in chip event)) then node_after (happened chip event) events name k else node_after (happened chip event) events name (suc k)
+    if is_some_move (moves_of name (move_in chip event)) then node_after (happened chip event)
+    events name k else node_after (happened chip event) events name (suc k)

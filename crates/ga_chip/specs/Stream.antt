@@ -13,7 +13,9 @@ left_of chip name = option_map_or (λ part. length (words_left part.stream)) (pa
 
 -- Why a node's stream can't be fed: it wasn't opened, or words of the last piece are left.
 abbrev pub part_feed_refusal : Part → Option ChipError
-part_feed_refusal part = if part.opened then (if length (words_left part.stream) == 0 then None else Some NotTaken) else Some NotOpen
+part_feed_refusal part =
+    if part.opened then (if length (words_left part.stream) == 0 then None else Some NotTaken)
+    else Some NotOpen
 
 abbrev pub feed_refusal : Chip → ℕ → Option ChipError
 feed_refusal chip name = option_and_then part_feed_refusal (part_of chip name)

@@ -48,8 +48,8 @@ impl Model for Chip {
 }
 
 impl Chip {
-    /// The chip after reset: each node as `NodeState::reset` says, and nothing pending. An error where memory
-    /// runs out. No other call takes memory.
+    /// The chip after reset: each node as `NodeState::reset` says, and nothing pending. An error
+    /// where memory runs out. No other call takes memory.
     pub fn reset(alloc: Global) -> Result<Self, AllocError>
         ensures { IfOk result (λ chip. chip ≡ reset_chip) }
     {
@@ -65,8 +65,9 @@ impl Chip {
         })
     }
 
-    /// The chip of these parts, which stand in order of name, and these cells: a chip that was taken apart, or one
-    /// that its parts and cells have come to by tries. It keeps both lists, and takes no memory.
+    /// The chip of these parts, which stand in order of name, and these cells: a chip that was
+    /// taken apart, or one that its parts and cells have come to by tries. It keeps both lists, and
+    /// takes no memory.
     pub fn from_parts(parts: Vec<NodePart>, cells: CellRow) -> Self
         requires { IsLegal (record { parts = parts.items; cells = cells }) }
         ensures { result ≡ record { parts = parts.items; cells = cells } }
@@ -78,8 +79,8 @@ impl Chip {
         }
     }
 
-    /// Takes the chip apart: the parts of its nodes in order of name, and its cells. Both lists are the chip's own, and
-    /// no memory is taken.
+    /// Takes the chip apart: the parts of its nodes in order of name, and its cells. Both lists are
+    /// the chip's own, and no memory is taken.
     pub fn into_parts(self) -> (Vec<NodePart>, CellRow)
         ensures parts { result.0.items ≡ self.parts }
         ensures cells { result.1 ≡ self.cells }
@@ -96,10 +97,10 @@ impl Chip {
         &self.cells
     }
 
-    /// Gives a node a stream: it is then as `NodeState::booting` says, and loads itself from these words. Refused
-    /// are a node that stands at no edge, `NotEdge`; one that has a stream, `AlreadyGiven`; and one that has
-    /// made a step, `Begun`. The chip is left as it was then, and the words come back. (Streams are this
-    /// project's own: profile.)
+    /// Gives a node a stream: it is then as `NodeState::booting` says, and loads itself from these
+    /// words. Refused are a node that stands at no edge, `NotEdge`; one that has a stream,
+    /// `AlreadyGiven`; and one that has made a step, `Begun`. The chip is left as it was then, and
+    /// the words come back. (Streams are this project's own: profile.)
     pub fn give_stream(
         &mut self,
         node: Node,
@@ -122,9 +123,10 @@ impl Chip {
         Ok(())
     }
 
-    /// Opens a node's stream: the node is then as `NodeState::booting` says, and loads itself from words that `feed`
-    /// brings. Refused are the nodes that `give_stream` refuses, and the chip is left as it was then. It takes no
-    /// memory. (Streams in pieces are this project's own: profile.)
+    /// Opens a node's stream: the node is then as `NodeState::booting` says, and loads itself from
+    /// words that `feed` brings. Refused are the nodes that `give_stream` refuses, and the chip is
+    /// left as it was then. It takes no memory. (Streams in pieces are this project's own:
+    /// profile.)
     pub fn open_stream(&mut self, node: Node) -> Result<(), ChipError>
         ensures refused { result ≡ answer_of (stream_refusal self.old node) }
         ensures chip { self.new ≡ unless_refused (stream_refusal self.old node)
@@ -143,10 +145,11 @@ impl Chip {
         Ok(())
     }
 
-    /// Feeds a piece to a node's stream: the node takes its words when it comes to them. Refused are a node whose
-    /// stream wasn't opened by `open_stream`, `NotOpen`, and one that has not taken all words of the last piece,
-    /// `NotTaken`, whatever the new one holds; the chip is left as it was then, and the words come back. An empty
-    /// piece changes nothing. It takes no memory. (Profile.)
+    /// Feeds a piece to a node's stream: the node takes its words when it comes to them. Refused
+    /// are a node whose stream wasn't opened by `open_stream`, `NotOpen`, and one that has not
+    /// taken all words of the last piece, `NotTaken`, whatever the new one holds; the chip is left
+    /// as it was then, and the words come back. An empty piece changes nothing. It takes no memory.
+    /// (Profile.)
     pub fn feed(&mut self, node: Node, words: Vec<Word18>) -> Result<(), (ChipError, Vec<Word18>)>
         ensures refused { result ≡ with_words words (feed_refusal self.old node) }
         ensures chip { self.new ≡ unless_refused (feed_refusal self.old node)
@@ -171,8 +174,9 @@ impl Chip {
     }
 
     /// Gives a node words, at most 64, and an entry, an address of ten bits: it is then as
-    /// `NodeState::loaded` says, so that a second call starts it anew. A node that has a stream is refused,
-    /// `AlreadyGiven`, and one that has made a step, `Begun`; the chip is left as it was then.
+    /// `NodeState::loaded` says, so that a second call starts it anew. A node that has a stream is
+    /// refused, `AlreadyGiven`, and one that has made a step, `Begun`; the chip is left as it was
+    /// then.
     pub fn place(&mut self, node: Node, words: &[Word18], entry: u16) -> Result<(), ChipError>
         requires words { length words.now ≤ 64 }
         requires entry { entry < 2 ^ 10 }
@@ -190,8 +194,9 @@ impl Chip {
         Ok(())
     }
 
-    /// Makes an address of nine bits a breakpoint of a node: a fetch is held there, where the low nine bits of P are
-    /// this address and the node has no pass. A pass that it has stays. (Breakpoints are this project's own: profile.)
+    /// Makes an address of nine bits a breakpoint of a node: a fetch is held there, where the low
+    /// nine bits of P are this address and the node has no pass. A pass that it has stays.
+    /// (Breakpoints are this project's own: profile.)
     pub fn set_break(&mut self, node: Node, address: u16)
         requires { address < 2 ^ 9 }
         ensures { self.new ≡ happened self.old (SetBreak node address) }
@@ -199,7 +204,8 @@ impl Chip {
         self.parts[node.index()].set_break(address);
     }
 
-    /// Makes an address of nine bits no breakpoint of a node any more. A pass that the node has stays.
+    /// Makes an address of nine bits no breakpoint of a node any more. A pass that the node has
+    /// stays.
     pub fn clear_break(&mut self, node: Node, address: u16)
         requires { address < 2 ^ 9 }
         ensures { self.new ≡ happened self.old (ClearBreak node address) }
@@ -209,8 +215,9 @@ impl Chip {
         self.awake.insert(index);
     }
 
-    /// Gives a node that is held at a breakpoint a pass: its next fetch goes on, and ends the pass. A node of which
-    /// a try wouldn't be `Held` is refused, `NotHeld`, so also one that has a pass; the chip is left as it was then.
+    /// Gives a node that is held at a breakpoint a pass: its next fetch goes on, and ends the pass.
+    /// A node of which a try wouldn't be `Held` is refused, `NotHeld`, so also one that has a pass;
+    /// the chip is left as it was then.
     pub fn pass_break(&mut self, node: Node) -> Result<(), ChipError>
         ensures refused { (side : Side)
             → result ≡ answer_of (unless_held (tried self.old node side).0) }
@@ -233,16 +240,17 @@ impl Chip {
         self.parts[node.index()].has_break(address)
     }
 
-    /// Whether a node is held at a breakpoint: a try of it would be `Held`, whatever side it names. (Profile.)
+    /// Whether a node is held at a breakpoint: a try of it would be `Held`, whatever side it names.
+    /// (Profile.)
     pub fn is_held(&self, node: Node) -> bool
         ensures { result ≡ stands_held self.now node }
     {
         self.parts[node.index()].stands_at_break()
     }
 
-    /// One try of one node. A node that has stopped is `Stopped`; else one that is about to fetch at a breakpoint,
-    /// without a pass, is `Held`; else it goes by the node's need. Only `Moved` changes anything, and it adds one
-    /// to the node's steps.
+    /// One try of one node. A node that has stopped is `Stopped`; else one that is about to fetch
+    /// at a breakpoint, without a pass, is `Held`; else it goes by the node's need. Only `Moved`
+    /// changes anything, and it adds one to the node's steps.
     #[inline(always)]
     pub fn attempt(&mut self, what: Try) -> Outcome
         ensures chip { (result, self.new) ≡ tried self.old what.node what.side }
@@ -278,8 +286,8 @@ impl Chip {
         }
     }
 
-    /// So many turns, with the sides right, down, left, up, and again. Answers how many tries were `Moved` in all.
-    /// Turns that would change nothing, since the chip stands still, are left out.
+    /// So many turns, with the sides right, down, left, up, and again. Answers how many tries were
+    /// `Moved` in all. Turns that would change nothing, since the chip stands still, are left out.
     pub fn turns(&mut self, count: u32) -> u64
         ensures chip { self.new ≡ ran self.old (turns_of count) }
         ensures moved { result ≡ length (moves self.old (turns_of count)) }
@@ -297,8 +305,8 @@ impl Chip {
         moved
     }
 
-    /// Each chip is legal: the numbers of its cells agree with what is pending in them. This call does nothing; a proof
-    /// has the fact from it, as a premise of the laws.
+    /// Each chip is legal: the numbers of its cells agree with what is pending in them. This call
+    /// does nothing; a proof has the fact from it, as a premise of the laws.
     pub fn legal(&self)
         ensures { IsLegal self.now }
     {
@@ -306,10 +314,10 @@ impl Chip {
         let _ = &self.parts;
     }
 
-    /// The nodes that are stuck: the largest closed set of nodes, as `laws::stuck` says what that is. No tries in any
-    /// order move one of them, wherever breakpoints are used and whatever the streams of other nodes are fed. A node that
-    /// is held at a breakpoint is one of them only if it would be so without it. The call takes no memory. (It is this
-    /// project's own: profile.)
+    /// The nodes that are stuck: the largest closed set of nodes, as `laws::stuck` says what that
+    /// is. No tries in any order move one of them, wherever breakpoints are used and whatever the
+    /// streams of other nodes are fed. A node that is held at a breakpoint is one of them only if
+    /// it would be so without it. The call takes no memory. (It is this project's own: profile.)
     pub fn stuck(&self) -> StuckNodes
         ensures closed { IsClosed self.now (has_node result) }
         ensures largest { HoldsEachClosed self.now (has_node result) }
@@ -324,8 +332,8 @@ impl Chip {
         self.parts[node.index()].state()
     }
 
-    /// The numbers of the cell that a node writes at a side: how many words were written and read, and how
-    /// many are pending. All are 0 where the node has no neighbour there.
+    /// The numbers of the cell that a node writes at a side: how many words were written and read,
+    /// and how many are pending. All are 0 where the node has no neighbour there.
     pub fn ledger(&self, node: Node, side: Side) -> Ledger
         ensures numbers { result ≡ ledger_of self.now node side }
         ensures balanced { result.written ≡ result.read + result.pending }
@@ -344,8 +352,8 @@ impl Chip {
         }
     }
 
-    /// Whether all nodes are known to stand still: a turn then changes nothing, whatever its side. Where a node was
-    /// not tried since it could move, the answer is `false`.
+    /// Whether all nodes are known to stand still: a turn then changes nothing, whatever its side.
+    /// Where a node was not tried since it could move, the answer is `false`.
     #[inline]
     fn is_still(&self) -> bool
         ensures chip { (side : Side) → result ≡ true → ran self.now (turn_of side) ≡ self.now }
@@ -354,8 +362,8 @@ impl Chip {
         self.next_awake(0) >= 144
     }
 
-    /// A turn that tries each node. As long as few of them sleep, that is faster than to go from one awake node to
-    /// the next.
+    /// A turn that tries each node. As long as few of them sleep, that is faster than to go from
+    /// one awake node to the next.
     #[inline(never)]
     fn turn_of_all(&mut self, side: Side) -> u8
         ensures chip { self.new ≡ ran self.old (turn_of side) }
@@ -397,8 +405,8 @@ impl Chip {
         self.attempt_far(index, side)
     }
 
-    /// A quick step of the node at an index in order of name, where it is the node's own work, and else nothing. Answers
-    /// whether the node made it.
+    /// A quick step of the node at an index in order of name, where it is the node's own work, and
+    /// else nothing. Answers whether the node made it.
     #[inline(always)]
     fn try_own_at(&mut self, index: usize) -> bool
         requires { index < 144 }
@@ -413,8 +421,8 @@ impl Chip {
         false
     }
 
-    /// One try of the node at an index in order of name, by all that it may need. (Cold, so that in a turn one node's own
-    /// work comes behind another's without a jump.)
+    /// One try of the node at an index in order of name, by all that it may need. (Cold, so that in
+    /// a turn one node's own work comes behind another's without a jump.)
     #[cold]
     #[inline(never)]
     fn attempt_far(&mut self, index: usize, side: Side) -> Outcome

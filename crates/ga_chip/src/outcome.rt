@@ -4,8 +4,8 @@ ghost use Rattle.ga_chip.specs.Outcome.{moved_by};
 
 use ga_place::{Node, SIDES, Side};
 
-/// One try of one node. The side counts where the node takes a word from one of several sides: it looks at
-/// this side alone.
+/// One try of one node. The side counts where the node takes a word from one of several sides: it
+/// looks at this side alone.
 #[derive(Clone, Copy, Debug, PartialEq, Eq)]
 pub struct Try {
     pub node: Node,
@@ -37,8 +37,8 @@ impl Outcome {
     }
 }
 
-/// The side that the tries of a turn name, by the turn's number, counted from 0: right, down, left, up, and again.
-/// (The order is this project's own: profile.)
+/// The side that the tries of a turn name, by the turn's number, counted from 0: right, down, left,
+/// up, and again. (The order is this project's own: profile.)
 pub fn side_of_turn(turn: u64) -> Side
     ensures { result ≡ side_of_turn turn }
 {

@@ -5,7 +5,7 @@ ghost use Rattle.ga_place.specs.declared.side.Side.{Side};
 ghost use Rattle.ga_node.specs.Need.{is_check, need_of, takes_at};
 ghost use Rattle.ga_node.specs.State.{is_fetch};
 ghost use Rattle.ga_node.specs.declared.need.Need.TheVariants as need;
-ghost use Rattle.ga_chip.specs.Part.{Check, Nothing, Own, Post, Take, after, after_asked, asks, asks_by, count_at, input_of, looked_at, stepped, take_from, take_of};
+ghost use Rattle.ga_chip.specs.Part.{Check, Nothing, Own, Post, Take, after, after_asked, asks, asks_by, at_cell, count_at, input_of, looked_at, stepped, take_from};
 ghost use Rattle.ga_chip.specs.Asks.{told_as};
 ghost use Rattle.ga_chip.specs.Chip.{cells_after, found_by, reset_part};
 ghost use Rattle.ga_chip.specs.inner.Awake.{partner_of};
@@ -28,12 +28,13 @@ use ga_place::{CellId, Node, Side, Sides};
 use ga_word::Word18;
 use std::marker::Model;
 
-/// What the chip has of one node: its breakpoints and a pass, its state, how many words it has written and read
-/// at each side, and its stream, if it was given one.
+/// What the chip has of one node: its breakpoints and a pass, its state, how many words it has
+/// written and read at each side, and its stream, if it was given one.
 ///
-/// A try of the node can be made by hand, over cells that stand elsewhere: `asks` says what the try asks for, and
-/// when that was done, one of the calls `done_own`, `done_post`, `done_take` and `done_check` makes the try's change
-/// to the node. A contract sees a node's part as the record `Part`.
+/// A try of the node can be made by hand, over cells that stand elsewhere: `asks` says what the try
+/// asks for, and when that was done, one of the calls `done_own`, `done_post`, `done_take` and
+/// `done_check` makes the try's change to the node. A contract sees a node's part as the record
+/// `Part`.
 #[derive(Drop)]
 pub struct NodePart {
     watch: Watch,
@@ -50,8 +51,8 @@ pub struct NodePart {
 #[derive(Clone, Copy)]
 pub(crate) struct Far {
     pub outcome: Outcome,
-    /// The place in order of name of the neighbour that may move now, since the node took its word or posted
-    /// one to it.
+    /// The place in order of name of the neighbour that may move now, since the node took its word
+    /// or posted one to it.
     pub wakes: Option<usize>,
     /// Whether a try would move at no side.
     pub sleeps: bool,
@@ -126,8 +127,8 @@ impl NodePart {
         self.read.at(side)
     }
 
-    /// A step where it is the node's own work, but for a fetch of a node that has a breakpoint or a pass; else
-    /// nothing. Answers whether the node made it.
+    /// A step where it is the node's own work, but for a fetch of a node that has a breakpoint or a
+    /// pass; else nothing. Answers whether the node made it.
     #[inline(always)]
     pub(crate) fn try_own(&mut self) -> bool
         ensures asks { result ≡ true → (side : Side) → asks self.old side ≡ Own }
@@ -175,8 +176,8 @@ impl NodePart {
         }
     }
 
-    /// Whether a try of the node would be held: it isn't stopped, and is about to fetch at a breakpoint without
-    /// a pass.
+    /// Whether a try of the node would be held: it isn't stopped, and is about to fetch at a
+    /// breakpoint without a pass.
     fn is_held(&self, need: &Need) -> bool
         requires { need.now ≡ need_of self.now.state }
         ensures held { result ≡ true → (side : Side) → asks self.now side ≡ Nothing Held }
@@ -264,8 +265,8 @@ impl NodePart {
         }
     }
 
-    /// The place in order of name of the neighbour to which a step that meets the need posts a word, or from
-    /// which it takes one.
+    /// The place in order of name of the neighbour to which a step that meets the need posts a
+    /// word, or from which it takes one.
     fn partner(&self, need: &Need, side: Side) -> Option<usize>
         ensures value { result
             ≡ option_map index_of (partner_of self.now.state.node need.now side) }
@@ -279,7 +280,8 @@ impl NodePart {
         Some(usize::from(self.ports.at(at)?.neighbour))
     }
 
-    /// Whether a try would move at no side, where a try at one side didn't. It may say no all the same.
+    /// Whether a try would move at no side, where a try at one side didn't. It may say no all the
+    /// same.
     fn is_still(&self, need: &Need, cells: &CellRow) -> bool
         requires need { need.now ≡ need_of self.now.state }
         requires still { (side : Side)
@@ -303,7 +305,7 @@ impl NodePart {
     /// Whether a side is one of several and a word is pending there.
     fn finds(&self, cells: &CellRow, sides: Sides, side: Side) -> bool
         ensures { result ≡ false → is_among side sides ≡ true
-            → found_by (take_of side (read_cell self.now.state.node side)) cells.now ≡ None }
+            → found_by (at_cell (Take side) (read_cell self.now.state.node side)) cells.now ≡ None }
     {
         if !sides.has(side) {
             return false;
@@ -341,7 +343,8 @@ impl NodePart {
         Some(self.ports.at(side)?.writes)
     }
 
-    /// Makes a try that touches no cell: the node does its own work, or takes the next word of its stream.
+    /// Makes a try that touches no cell: the node does its own work, or takes the next word of its
+    /// stream.
     fn work(&mut self, need: &Need) -> Outcome
         requires need { need.now ≡ need_of self.old.state }
         requires own { (side : Side)

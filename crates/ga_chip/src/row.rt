@@ -5,7 +5,8 @@ use ga_place::CellId;
 use ga_word::Word18;
 use std::marker::Model;
 
-/// The word pending in each of the 524 cells. A contract sees their list, in the order of the cells' numbers.
+/// The word pending in each of the 524 cells. A contract sees their list, in the order of the
+/// cells' numbers.
 #[derive(Drop)]
 pub struct CellRow {
     words: Vec<Option<Word18>>,
@@ -22,7 +23,8 @@ impl Model for CellRow {
 }
 
 impl CellRow {
-    /// The row of these words, one or none for each cell. It keeps the list that it is given, and takes no memory.
+    /// The row of these words, one or none for each cell. It keeps the list that it is given, and
+    /// takes no memory.
     pub fn new(words: Vec<Option<Word18>>) -> Self
         requires { length words.items ≡ 524 }
         ensures { result ≡ words.items }

@@ -10,8 +10,8 @@ use ga_node::Need;
 use ga_place::{Node, SIDES, Side, Sides};
 use std::marker::Model;
 
-/// Nodes of a chip that nothing can move any more. A contract sees them as a list: for each node, in order of name,
-/// whether it is one of them.
+/// Nodes of a chip that nothing can move any more. A contract sees them as a list: for each node,
+/// in order of name, whether it is one of them.
 #[derive(Clone, Copy)]
 pub struct StuckNodes {
     by_index: [bool; 144],
@@ -57,7 +57,8 @@ pub(crate) fn stuck_nodes(parts: &[NodePart], cells: &CellRow) -> StuckNodes
     StuckNodes { by_index }
 }
 
-/// Leaves out of a set the nodes that could go on while those that are left in it don't. Answers whether there was one.
+/// Leaves out of a set the nodes that could go on while those that are left in it don't. Answers
+/// whether there was one.
 fn leave_out(inside: &mut [bool], parts: &[NodePart], cells: &CellRow) -> bool
     requires set { length inside.old ≡ 144 }
     requires legal { IsLegal (record { parts = parts.now; cells = cells.now }) }

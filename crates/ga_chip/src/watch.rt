@@ -47,8 +47,8 @@ impl Watch {
         self.on
     }
 
-    /// Whether a step from this place is held: it is a fetch, the low nine bits of P are a breakpoint, and there is
-    /// no pass.
+    /// Whether a step from this place is held: it is a fetch, the low nine bits of P are a
+    /// breakpoint, and there is no pass.
     pub(crate) fn holds(&self, place: Place, p: u16) -> bool
         ensures { result
             ≡ (is_fetch place && (not self.now.pass && get_or self.now.breaks (p % 2 ^ 9) false)) }

@@ -1,2 +1,1 @@
-pub mod NoTurn
 pub mod Hands

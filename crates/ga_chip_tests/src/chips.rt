@@ -6,9 +6,6 @@ use ga_test_values::{array, words};
 use std::alloc::Global;
 use std::test::Fail;
 
-/// Writes 12 to the port on the right.
-pub const WRITE_12_RIGHT: [u32; 4] = [0x05DA2, 0x00012, 0x001D5, 0x089B2];
-
 /// Places words in a node, with entry 0.
 pub fn place(chip: &mut Chip, node: Node, numbers: &[u32]) -> Result<(), Fail> {
     Ok(chip.place(node, &array::<64>(numbers)?, 0)?)
@@ -21,7 +18,8 @@ pub fn chip_with(alloc: Global, node: Node, numbers: &[u32]) -> Result<Chip, Fai
     Ok(chip)
 }
 
-/// Gives a node a stream. Answers the fault where it is refused, and then as many words have come back.
+/// Gives a node a stream. Answers the fault where it is refused, and then as many words have come
+/// back.
 pub fn refusal(
     alloc: Global,
     chip: &mut Chip,
@@ -42,15 +40,6 @@ pub fn give(alloc: Global, chip: &mut Chip, node: Node, numbers: &[u32]) -> Resu
         None => Ok(()),
         Some(fault) => Err(fault.into()),
     }
-}
-
-/// A chip after reset with the same words in each of these nodes, whose entry is 0.
-pub fn chip_with_each(alloc: Global, nodes: &[Node], numbers: &[u32]) -> Result<Chip, Fail> {
-    let mut chip = Chip::reset(alloc)?;
-    for node in nodes {
-        place(&mut chip, *node, numbers)?;
-    }
-    Ok(chip)
 }
 
 /// A chip after reset with a stream at a node.

@@ -1,19 +1,15 @@
-//! The tests of the chip, in one file for each subject.
+//! The tests of nodes, of the chip and of workers, in one file for each subject.
 //!
-//! A crate that has no test of its own is proved once by the gate, and one with tests twice. So the tests stand here,
-//! and this crate has nothing else.
+//! A crate that has no test of its own is proved once by the gate, and one with tests twice. So the
+//! tests stand here, and this crate has nothing else.
 #![tactic(auto)]
 
 #[cfg(test)]
-mod breakpoints;
-#[cfg(test)]
-mod chip;
-#[cfg(test)]
 mod chips;
 #[cfg(test)]
-mod dumps;
+mod loader;
 #[cfg(test)]
-mod laws;
+mod nodes;
 #[cfg(test)]
 mod parts;
 #[cfg(test)]

@@ -1,11 +1,11 @@
 ghost use Rattle.std.specs.Prelude.{◌≡◌, IfOk};
 ghost use Rattle.ga_chip_tests.specs.inner.Hands.{AreInHand};
 
-use crate::chips::{WRITE_12_RIGHT, moves, place};
+use crate::chips::{moves, place};
 use ga_chip::{Asks, CellRow, Chip, NodePart, Outcome, Try};
-use ga_place::{Node, Side, cell};
+use ga_place::{Node, Side};
 use ga_port::{Cells, PortSeat};
-use ga_test_values::{nodes, word};
+use ga_test_values::{WRITE_12_RIGHT, nodes, word};
 use ga_word::Word18;
 use std::alloc::Global;
 use std::test::Fail;
@@ -15,22 +15,6 @@ struct Hand {
     cells: Cells,
     seat: PortSeat,
     parts: Vec<NodePart>,
-}
-
-/// A look at the cell of a node that asks to take a word: whether one is pending. Where none is, this was a try.
-fn poll(hand: &mut Hand, node: Node, side: Side) -> bool
-    requires { AreInHand hand.old.cells hand.old.seat hand.old.parts.items }
-    ensures { AreInHand hand.new.cells hand.new.seat hand.new.parts.items }
-{
-    let part = &mut hand.parts[node.index()];
-    let Asks::Take(from, cell) = part.asks(side) else {
-        return false;
-    };
-    if hand.cells.poll(&mut hand.seat, Try { node, side }, cell) {
-        return true;
-    }
-    let _outcome = part.done_take(from, None);
-    false
 }
 
 /// A try of a node that asks to take a word: the word, if one is pending.
@@ -77,21 +61,6 @@ fn own(hand: &mut Hand, node: Node, side: Side) -> Option<Outcome>
     Some(outcome)
 }
 
-/// A try of a node that asks to post its word.
-fn post(hand: &mut Hand, node: Node, side: Side) -> Option<Word18>
-    requires { AreInHand hand.old.cells hand.old.seat hand.old.parts.items }
-    ensures { AreInHand hand.new.cells hand.new.seat hand.new.parts.items }
-{
-    let part = &mut hand.parts[node.index()];
-    let Asks::Post(to, cell, word) = part.asks(side) else {
-        return None;
-    };
-    hand.cells
-        .post(&mut hand.seat, Try { node, side }, cell, word);
-    let _outcome = part.done_post(to);
-    Some(word)
-}
-
 /// The cells of a chip on which 708 has made so many tries of those that write 12 to its right.
 fn opened(alloc: Global, node: Node, tries: u32) -> Result<Hand, Fail>
     ensures { IfOk result (λ hand. AreInHand hand.cells hand.seat hand.parts.items) }
@@ -122,42 +91,16 @@ fn closed(hand: Hand) -> CellRow
 #[test]
 fn cells_by_hand(rt: HostRuntime) -> Result<(), Fail> {
     let [node_708, node_709] = nodes(&[708, 709])?;
-    let wanted = word(0x00012)?;
+    let expected = word(0x00012)?;
     let mut hand = opened(rt.alloc(), node_708, 7)?;
-    let pending = poll(&mut hand, node_709, Side::Right);
     let found = take(&mut hand, node_709, Side::Right);
     let read = check(&mut hand, node_708, Side::Right);
     let outcome = own(&mut hand, node_709, Side::Right);
     let row = closed(hand);
-    assert!(rt; pending && found == Some(wanted));
+    assert!(rt; found == Some(expected));
     assert!(rt; read == Some(true));
     // The word is run: `@b` reads io.
     assert!(rt; outcome == Some(Outcome::Stopped));
     assert!(rt; row.words().iter().all(|pending| pending.is_none()));
-    Ok(())
-}
-
-#[test]
-fn a_word_is_posted_by_hand(rt: HostRuntime) -> Result<(), Fail> {
-    let [node_708, node_709] = nodes(&[708, 709])?;
-    let wanted = word(0x00012)?;
-    let at = cell(node_708, Side::Right).ok_or("no such cell")?;
-    let mut hand = opened(rt.alloc(), node_708, 6)?;
-    let pending = poll(&mut hand, node_709, Side::Right);
-    let found = take(&mut hand, node_709, Side::Right);
-    let posted = post(&mut hand, node_708, Side::Right);
-    let read = check(&mut hand, node_708, Side::Right);
-    let other = hand.cells.share(&mut hand.seat, &[node_709]);
-    hand.cells.gather(&mut hand.seat, other);
-    let row = closed(hand);
-    assert!(rt; !pending && found == None && posted == Some(wanted) && read == Some(false));
-    assert!(rt; row.pending(at) == posted);
-    assert!(rt;
-        row.words()
-            .iter()
-            .filter(|pending| pending.is_some())
-            .count()
-            == 1
-    );
     Ok(())
 }

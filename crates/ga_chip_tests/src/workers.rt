@@ -1,10 +1,9 @@
-use crate::chips::{WRITE_12_RIGHT, chip_with, moves, outcome, place};
+use crate::chips::{chip_with, moves, outcome, place};
 use ga_chip::{Chip, Ledger, Outcome};
 use ga_group::{Gate, Open, Plan, PlanError, RunError, run_workers};
-use ga_law_examples::after_run;
 use ga_node::Stop;
 use ga_place::{Node, Side};
-use ga_test_values::{node, nodes};
+use ga_test_values::{WRITE_12_RIGHT, node, nodes};
 use std::alloc::Global;
 use std::sync::atomic::{AtomicU64, Ordering};
 use std::test::Fail;
@@ -25,8 +24,20 @@ fn groups(alloc: Global, names: &[&[u16]]) -> Result<Vec<Vec<Node>>, Fail> {
 }
 
 /// A plan of groups of nodes, by their names.
-pub fn plan(alloc: Global, names: &[&[u16]]) -> Result<Plan, Fail> {
+fn plan(alloc: Global, names: &[&[u16]]) -> Result<Plan, Fail> {
     Ok(Plan::new(groups(alloc, names)?).map_err(|_| "no plan")?)
+}
+
+/// The chip after a run of workers.
+fn after_run<R: Threads + Sync, G: Gate>(
+    rt: &R,
+    alloc: Global,
+    chip: Chip,
+    plan: &Plan,
+    turns: u64,
+    gate: &G,
+) -> Result<Chip, RunError> {
+    run_workers(rt, alloc, chip, plan, turns, gate).map_err(|(fault, _chip)| fault)
 }
 
 /// Whether one word has crossed from a node to its neighbour on the right.
@@ -57,7 +68,8 @@ fn refusals_by_name(rt: HostRuntime) -> Result<(), Fail> {
             PlanError::Repeated(node(708)?)
         )?
     );
-    assert!(rt; are_no_plan(alloc, &[&[1, 1], &[708]], PlanError::Repeated(node(1)?))?);
+    let names: [&[u16]; 2] = [&[708, 609], &[709]];
+    assert!(rt; plan(alloc, &names)?.into_groups() == groups(alloc, &names)?);
     Ok(())
 }
 
@@ -70,14 +82,6 @@ fn a_run_of_too_many_turns(rt: HostRuntime) -> Result<(), Fail> {
         .err()
         .ok_or("a run")?;
     assert!(rt; fault == RunError::TooManyTurns && back.state(node_708).steps() == 0);
-    Ok(())
-}
-
-#[test]
-fn a_plan_gives_its_groups_back(rt: HostRuntime) -> Result<(), Fail> {
-    let names: [&[u16]; 2] = [&[708, 609], &[709]];
-    let plan = plan(rt.alloc(), &names)?;
-    assert!(rt; plan.into_groups() == groups(rt.alloc(), &names)?);
     Ok(())
 }
 
@@ -181,8 +185,8 @@ impl Gate for LastMoved {
     }
 }
 
-/// The moves that a gate is told of two workers in the last of 101 turns, by a plan in which node 000
-/// makes 16 steps and is held from then on.
+/// The moves that a gate is told of two workers in the last of 101 turns, by a plan in which node
+/// 000 makes 16 steps and is held from then on.
 fn last_moved<R: Threads + Sync>(
     rt: &R,
     alloc: Global,

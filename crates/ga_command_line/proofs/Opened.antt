@@ -1,15 +1,16 @@
 -- The commands, opened in one place: what says `unfolding whole_command` computes with all of them.
 use Rattle.clap.specs.Words.{App}
 use Rattle.ga_command_line.specs.Boot.{boot_command}
-use Rattle.ga_command_line.specs.Command.{linked, plain_command}
+use Rattle.ga_command_line.specs.Command.{linked}
 use Rattle.ga_command_line.specs.CommandLine.{bare_command, bench_command}
 use Rattle.ga_command_line.specs.Dis.{dis_command}
 use Rattle.ga_command_line.specs.Explain.{explain_command}
 use Rattle.ga_command_line.specs.File.{file_command}
-use Rattle.ga_command_line.specs.List.{flagged_command, list_command}
+use Rattle.ga_command_line.specs.List.{list_command}
 use Rattle.ga_command_line.specs.One.{one_command}
 use Rattle.ga_command_line.specs.Run.{routed_command, run_command, shared_command}
 
 unfoldable pub whole_command : App
-unfolding bench_command linked bare_command plain_command one_command dis_command boot_command routed_command shared_command run_command flagged_command list_command file_command explain_command
+unfolding bench_command linked bare_command one_command dis_command boot_command routed_command
+    shared_command run_command list_command file_command explain_command
 whole_command = bench_command

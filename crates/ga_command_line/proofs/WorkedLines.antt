@@ -3,7 +3,7 @@ use Rattle.std.proofs.Common.{◌≡◌, Global, String, string_bytes, ap, sym, 
 use Rattle.std.specs.Prelude.{codes}
 use Rattle.clap.proofs.OnLiterals.{clap_on_literals}
 use Rattle.clap.specs.Words.{takes}
-use Rattle.ga_command_line.specs.declared.request.Job.TheVariants.{One, Dis, Boot, Check, Record, Explain}
+use Rattle.ga_jobs.specs.declared.Job.TheVariants.{One, Dis, Boot, Check, Record, Explain}
 use Rattle.ga_explain.specs.declared.topic.Topic.{Topic}
 use Rattle.ga_command_line.specs.Explain.{IsOfTable}
 use Rattle.ga_command_line.specs.CommandLine.{IsRight, bench_command}
@@ -13,7 +13,8 @@ right_line : IsRight (codes "ga-bench" ∷ codes "one" ∷ codes "5" ∷ []) (On
 unfolding whole_command clap_on_literals
 right_line = (refl, (refl, ((lit< tt, (lit< tt, tt)), refl)), lit≤ tt)
 
-code_line : IsRight (codes "ga-bench" ∷ codes "dis" ∷ codes "--code" ∷ codes "2" ∷ []) (Dis (Some 2))
+code_line : IsRight
+    (codes "ga-bench" ∷ codes "dis" ∷ codes "--code" ∷ codes "2" ∷ []) (Dis (Some 2))
 unfolding whole_command clap_on_literals
 code_line = (refl, (refl, ((lit< tt, (lit< tt, tt)), refl)), lit≤ tt)
 
@@ -21,11 +22,13 @@ all_code_line : IsRight (codes "ga-bench" ∷ codes "dis" ∷ []) (Dis None)
 unfolding whole_command clap_on_literals
 all_code_line = (refl, (refl, refl), tt)
 
-boot_line : (route : String Global) → string_bytes route ≡ codes "708,709" → IsRight (codes "ga-bench" ∷ codes "boot" ∷ codes "708,709" ∷ []) (Boot route)
+boot_line : (route : String Global) → string_bytes route ≡ codes "708,709"
+    → IsRight (codes "ga-bench" ∷ codes "boot" ∷ codes "708,709" ∷ []) (Boot route)
 unfolding whole_command clap_on_literals
 boot_line route is = (refl, (refl, ap Some (sym is)), tt)
 
-check_line : (file : String Global) → string_bytes file ≡ codes "ring" → IsRight (codes "ga-bench" ∷ codes "check" ∷ codes "ring" ∷ []) (Check (Some file))
+check_line : (file : String Global) → string_bytes file ≡ codes "ring"
+    → IsRight (codes "ga-bench" ∷ codes "check" ∷ codes "ring" ∷ []) (Check (Some file))
 unfolding whole_command clap_on_literals
 check_line file is = (refl, (refl, ap Some is), tt)
 
@@ -37,11 +40,13 @@ names_line : IsRight (codes "ga-bench" ∷ codes "explain" ∷ []) (Explain None
 unfolding whole_command clap_on_literals
 names_line = (refl, (refl, refl), tt)
 
-topic_line : (topic : Topic) → topic.name.now ≡ codes "BadToken" → IsOfTable (Some topic) → IsRight (codes "ga-bench" ∷ codes "explain" ∷ codes "BadToken" ∷ []) (Explain (Some topic))
+topic_line : (topic : Topic) → topic.name.now ≡ codes "BadToken" → IsOfTable (Some topic)
+    → IsRight (codes "ga-bench" ∷ codes "explain" ∷ codes "BadToken" ∷ []) (Explain (Some topic))
 unfolding whole_command clap_on_literals
 topic_line topic is of_table = (refl, (refl, ap Some is), of_table)
 
-two_topics : takes bench_command (codes "ga-bench" ∷ codes "explain" ∷ codes "own" ∷ codes "take" ∷ []) ≡ false
+two_topics : takes bench_command
+    (codes "ga-bench" ∷ codes "explain" ∷ codes "own" ∷ codes "take" ∷ []) ≡ false
 unfolding whole_command clap_on_literals
 two_topics = refl
 
@@ -55,7 +60,8 @@ unfolding whole_command clap_on_literals
 without_tries = refl
 
 -- one more than the most words
-over_the_code : takes bench_command (codes "ga-bench" ∷ codes "dis" ∷ codes "--code" ∷ codes "65" ∷ []) ≡ false
+over_the_code : takes bench_command
+    (codes "ga-bench" ∷ codes "dis" ∷ codes "--code" ∷ codes "65" ∷ []) ≡ false
 unfolding whole_command clap_on_literals
 over_the_code = refl
 

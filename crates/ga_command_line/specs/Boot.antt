@@ -4,4 +4,5 @@ use Rattle.clap.specs.Words.{App, new_app, new_rule, with_rule}
 
 -- the subcommand as clap's definitions read it: one required text
 unfoldable pub boot_command : App
-boot_command = with_rule (new_app (codes "boot")) (record (new_rule (codes "ROUTE")) { required = true })
+boot_command =
+    with_rule (new_app (codes "boot")) (record (new_rule (codes "ROUTE")) { required = true })

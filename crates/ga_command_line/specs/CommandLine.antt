@@ -1,31 +1,31 @@
 -- The command line: the command as clap's definitions read it, and the job that its words name.
-use Rattle.std.specs.Prelude.{◌≡◌, ◌∷◌, [], List, true, codes, fold, IsSomeAnd, Option, option_map, string_bytes}
+use Rattle.std.specs.Prelude.{◌≡◌, ◌≤◌, ◌∷◌, [], List, true, codes, fold, IfSome, IsSomeAnd, Option, option_map, string_bytes}
 use Rattle.clap.specs.Words.{App, Row, Text, new_app, subcommand_of, takes}
-use Rattle.ga_command_line.specs.declared.request.Job.{Job}
-use Rattle.ga_command_line.specs.declared.request.Job.TheVariants.{One, Asm, Dis, Boot, Run, Debug, Replay, Explain}
-use Rattle.ga_command_line.specs.declared.request.Job.TheVariants as job
+use Rattle.ga_jobs.specs.declared.Job.{Job}
+use Rattle.ga_jobs.specs.declared.Job.TheVariants.{One, Asm, Dis, Boot, Run, Debug, Replay, Explain}
+use Rattle.ga_jobs.specs.declared.Job.TheVariants as job
 use Rattle.ga_command_line.specs.Boot.{boot_command}
-use Rattle.ga_command_line.specs.Command.{linked, plain_command}
-use Rattle.ga_command_line.specs.Dis.{IsDisInRange, dis_command}
+use Rattle.ga_command_line.specs.Command.{linked}
+use Rattle.ga_command_line.specs.Dis.{dis_command}
 use Rattle.ga_command_line.specs.Explain.{IsOfTable, IsTopicAt, explain_command}
 use Rattle.ga_command_line.specs.File.{IsFileAt, file_command}
-use Rattle.ga_command_line.specs.List.{IsListAt, list_command}
+use Rattle.ga_command_line.specs.List.{IsFlagAt, list_command}
 use Rattle.ga_command_line.specs.Number.{IsNumberAt, IsNumberIfAt}
-use Rattle.ga_command_line.specs.One.{IsOneInRange, one_command}
+use Rattle.ga_command_line.specs.One.{one_command}
 use Rattle.ga_command_line.specs.Route.{IsRouteAt}
 use Rattle.ga_command_line.specs.Run.{IsRunAt, IsRunInRange, run_command}
 
 -- the command without its subcommands, of which one is required
-abbrev pub named_command : App
-named_command = new_app (codes "ga-bench")
-
 unfoldable pub bare_command : App
-bare_command = record named_command { top = record named_command.top { has_version = true; subcommand_required = true } }
+bare_command =
+    let named = new_app (codes "ga-bench") in
+    record named { top = record named.top { has_version = true; subcommand_required = true } }
 
 -- the subcommands, in the order of help
 abbrev pub subcommands : List App
 subcommands =
-    one_command ∷ plain_command (codes "asm") ∷ dis_command ∷ boot_command ∷ run_command ∷ plain_command (codes "debug") ∷ plain_command (codes "replay") ∷ list_command
+    one_command ∷ new_app (codes "asm") ∷ dis_command ∷ boot_command ∷ run_command
+    ∷ new_app (codes "debug") ∷ new_app (codes "replay") ∷ list_command
     ∷ file_command (codes "check") ∷ file_command (codes "record") ∷ explain_command ∷ []
 
 -- the whole command
@@ -52,7 +52,8 @@ HasArguments rows (One tries) = IsNumberAt (codes "TRIES") rows tries
 HasArguments rows (Dis code) = IsNumberIfAt (codes "N") rows code
 HasArguments rows (Boot route) = IsRouteAt rows (string_bytes route)
 HasArguments rows (Run route workers turns) = IsRunAt rows (string_bytes route) workers turns
-HasArguments rows (job.List labels file) = IsListAt rows labels (option_map string_bytes file)
+HasArguments rows (job.List labels file) =
+    IsFlagAt (codes "LABELS") rows labels × IsFileAt rows (option_map string_bytes file)
 HasArguments rows (job.Check file) = IsFileAt rows (option_map string_bytes file)
 HasArguments rows (job.Record file) = IsFileAt rows (option_map string_bytes file)
 HasArguments rows (Explain topic) = IsTopicAt rows topic
@@ -60,8 +61,8 @@ HasArguments rows job = Unit {0}
 
 -- the numbers of a job lie in their ranges, and its topic is one of the table
 abbrev pub InRange : Job → Type 0
-InRange (One tries) = IsOneInRange tries
-InRange (Dis code) = IsDisInRange code
+InRange (One tries) = tries ≤ 1000000
+InRange (Dis code) = IfSome code (λ number. number ≤ 64)
 InRange (Run route workers turns) = IsRunInRange workers turns
 InRange (Explain topic) = IsOfTable topic
 InRange job = Unit {0}

@@ -1,11 +1,11 @@
 -- The command line of the subcommand `dis`.
-use Rattle.std.specs.Prelude.{ℕ, ◌≤◌, pos, codes, Option, Some, IfSome}
+use Rattle.std.specs.Prelude.{pos, codes, Some}
 use Rattle.clap.specs.Words.{App, new_app, new_rule, with_rule}
 use Rattle.clap.specs.declared.builder.value_parser.ValueParser.TheVariants as parser
 
--- the subcommand as clap's definitions read it: one number with a name, up to 64, that may be left out
+-- the subcommand as clap's definitions read it: one number with a name, up to 64, that may be left
+-- out
 unfoldable pub dis_command : App
-dis_command = with_rule (new_app (codes "dis")) (record (new_rule (codes "N")) { long = Some (codes "code"); parser = Some (parser.Signed (pos 0) (pos 64)) })
-
-abbrev pub IsDisInRange : Option ℕ → Type 0
-IsDisInRange code = IfSome code (λ number. number ≤ 64)
+dis_command =
+    with_rule (new_app (codes "dis")) (record (new_rule (codes "N"))
+    { long = Some (codes "code"); parser = Some (parser.Signed (pos 0) (pos 64)) })

@@ -8,6 +8,5 @@ pub mod Run
 pub mod Explain
 pub mod File
 pub mod List
-pub mod Request
 pub mod CommandLine
 pub mod inner

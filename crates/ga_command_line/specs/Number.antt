@@ -5,7 +5,9 @@ use Rattle.clap.specs.Words.{Row, Text, one_of}
 
 -- a text writes a number in decimal digits, behind a plus or none
 abbrev pub WritesNumber : Text → ℕ → Type 0
-WritesNumber text number = IsNumeral 10 (without_leading_plus text) × (number ≡ digits_value 10 (without_leading_plus text))
+WritesNumber text number =
+    IsNumeral 10 (without_leading_plus text)
+    × (number ≡ digits_value 10 (without_leading_plus text))
 
 -- the value of an argument is a number
 abbrev pub IsNumberAt : Text → List Row → ℕ → Type 0

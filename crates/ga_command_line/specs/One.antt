@@ -1,11 +1,10 @@
 -- The command line of the subcommand `one`.
-use Rattle.std.specs.Prelude.{ℕ, ◌≤◌, pos, true, codes, Some}
+use Rattle.std.specs.Prelude.{pos, true, codes, Some}
 use Rattle.clap.specs.Words.{App, new_app, new_rule, with_rule}
 use Rattle.clap.specs.declared.builder.value_parser.ValueParser.TheVariants as parser
 
 -- the subcommand as clap's definitions read it: one required number, up to 1,000,000
 unfoldable pub one_command : App
-one_command = with_rule (new_app (codes "one")) (record (new_rule (codes "TRIES")) { required = true; parser = Some (parser.Signed (pos 0) (pos 1000000)) })
-
-abbrev pub IsOneInRange : ℕ → Type 0
-IsOneInRange tries = tries ≤ 1000000
+one_command =
+    with_rule (new_app (codes "one")) (record (new_rule (codes "TRIES"))
+    { required = true; parser = Some (parser.Signed (pos 0) (pos 1000000)) })

@@ -5,20 +5,27 @@ use Rattle.clap.specs.declared.builder.value_parser.ValueParser.TheVariants as p
 use Rattle.ga_command_line.specs.Number.{IsNumberAt}
 use Rattle.ga_command_line.specs.Route.{IsRouteAt}
 
--- the subcommand as clap's definitions read it: a text and two numbers, the first from 1 to 144 and the second up to
--- 1,000,000, all required
+-- the subcommand as clap's definitions read it: a text and two numbers, the first from 1 to 144 and
+-- the second up to 1,000,000, all required
 unfoldable pub routed_command : App
-routed_command = with_rule (new_app (codes "run")) (record (new_rule (codes "ROUTE")) { required = true })
+routed_command =
+    with_rule (new_app (codes "run")) (record (new_rule (codes "ROUTE")) { required = true })
 
 unfoldable pub shared_command : App
-shared_command = with_rule routed_command (record (new_rule (codes "WORKERS")) { required = true; parser = Some (parser.Signed (pos 1) (pos 144)) })
+shared_command =
+    with_rule routed_command (record (new_rule (codes "WORKERS"))
+    { required = true; parser = Some (parser.Signed (pos 1) (pos 144)) })
 
 unfoldable pub run_command : App
-run_command = with_rule shared_command (record (new_rule (codes "TURNS")) { required = true; parser = Some (parser.Signed (pos 0) (pos 1000000)) })
+run_command =
+    with_rule shared_command (record (new_rule (codes "TURNS"))
+    { required = true; parser = Some (parser.Signed (pos 0) (pos 1000000)) })
 
 abbrev pub IsRunInRange : ℕ → ℕ → Type 0
 IsRunInRange workers turns = ((1 ≤ workers) × (workers ≤ 144)) × (turns ≤ 1000000)
 
 -- the arguments ask for this run
 abbrev pub IsRunAt : List Row → Text → ℕ → ℕ → Type 0
-IsRunAt rows route workers turns = IsRouteAt rows route × IsNumberAt (codes "WORKERS") rows workers × IsNumberAt (codes "TURNS") rows turns
+IsRunAt rows route workers turns =
+    IsRouteAt rows route × IsNumberAt (codes "WORKERS") rows workers
+    × IsNumberAt (codes "TURNS") rows turns

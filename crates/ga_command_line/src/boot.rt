@@ -6,9 +6,9 @@ ghost use Rattle.ga_command_line.specs.Route.{IsRouteAt};
 ghost use Rattle.ga_command_line.specs.inner.Command.{IsCommandOf};
 
 use crate::command_line::LineError;
-use crate::request::Job;
 use crate::route::route_at;
 use clap::{Arg, ArgMatches, Command};
+use ga_jobs::Job;
 use std::alloc::{AllocError, Global};
 
 const HELP: &str = "\

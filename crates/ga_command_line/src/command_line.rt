@@ -5,12 +5,11 @@ ghost use Rattle.ga_command_line.specs.declared.command_line.LineError.TheVarian
 ghost use Rattle.ga_command_line.specs.Command.{linked};
 ghost use Rattle.ga_command_line.specs.inner.Command.{IsCommandOf, has_globals};
 ghost use Rattle.ga_command_line.specs.CommandLine.{AsksFor, InRange, IsAskedFor, IsJobOf, IsRight, bare_command, bench_command};
-ghost use Rattle.ga_command_line.specs.inner.CommandLine.{first_commands};
 
-use crate::request::Job;
-use crate::{asm, boot, check, debug, dis, explain, list, one, record, replay, run};
+use crate::{job_named, subcommands};
 use clap::error::ErrorKind;
 use clap::{ArgMatches, Command};
+use ga_jobs::Job;
 use std::alloc::{AllocError, Global};
 use thiserror::Error;
 
@@ -44,12 +43,13 @@ impl From<AllocError> for LineError {
     }
 }
 
-/// Reads a command line, of which the first word is the program's name. It fails as `Parse` where the words are no
-/// command line, or ask for help or the version, and as `Memory` only where memory is refused.
+/// Reads a command line, of which the first word is the program's name. It fails as `Parse` where
+/// the words are no command line, or ask for help or the version, and as `Memory` only where memory
+/// is refused.
 pub fn job(alloc: Global, words: &[&str]) -> Result<Job, LineError>
     ensures in_range { IfOk result InRange }
     ensures named { IfOk result (IsJobOf (map (λ word. word.now) words.now)) }
-    // Right words are refused only for want of memory.
+    // Right words are refused only when out of memory.
     ensures right { IfErr result (λ error. (job : Job)
         → IsRight (map (λ word. word.now) words.now) job
         → error ≡ LineError.Memory) }
@@ -72,32 +72,8 @@ fn job_in(alloc: Global, matches: &ArgMatches<'_>) -> Result<Job, LineError>
     }
 }
 
-/// The job that a subcommand with these arguments names.
-fn job_named(alloc: Global, name: &str, found: &ArgMatches<'_>) -> Result<Job, LineError>
-    ensures in_range { IfOk result InRange }
-    ensures named { IfOk result (AsksFor (name.now, rows_of (found_of found.now))) }
-    ensures right { IfErr result (λ error. (job : Job)
-        → AsksFor (name.now, rows_of (found_of found.now)) job
-        → InRange job → error ≡ LineError.Memory) }
-{
-    match name {
-        "one" => one::job_of(alloc, found),
-        "asm" => Ok(Job::Asm),
-        "dis" => dis::job_of(alloc, found),
-        "boot" => boot::job_of(alloc, found),
-        "run" => run::job_of(alloc, found),
-        "debug" => Ok(Job::Debug),
-        "replay" => Ok(Job::Replay),
-        "list" => Ok(list::job_of(alloc, found)?),
-        "check" => Ok(check::job_of(alloc, found)?),
-        "record" => Ok(record::job_of(alloc, found)?),
-        "explain" => explain::job_of(alloc, found),
-        _ => Err(missing(alloc)),
-    }
-}
-
 /// The error of a command line that names no subcommand.
-fn missing(alloc: Global) -> LineError {
+pub(crate) fn missing(alloc: Global) -> LineError {
     refusal(
         alloc,
         ErrorKind::MissingSubcommand,
@@ -121,25 +97,11 @@ fn refused(alloc: Global, kind: ErrorKind, message: &str) -> Result<clap::Error,
 fn command<'a>(alloc: Global) -> Result<Command<'a>, AllocError>
     ensures { IfOk result (IsCommandOf bench_command) }
 {
-    let command = first_commands(alloc);
-    let command = link(command, debug::command(alloc));
-    let command = link(command, replay::command(alloc));
-    let command = link(command, list::command(alloc));
-    let command = link(command, check::command(alloc));
-    let command = link(command, record::command(alloc));
-    link(command, explain::command(alloc))
-}
-
-/// The command with the subcommands up to `run`.
-fn first_commands<'a>(alloc: Global) -> Result<Command<'a>, AllocError>
-    ensures { IfOk result (IsCommandOf first_commands) }
-{
-    let command = bare_command(alloc);
-    let command = link(command, one::command(alloc));
-    let command = link(command, asm::command(alloc));
-    let command = link(command, dis::command(alloc));
-    let command = link(command, boot::command(alloc));
-    link(command, run::command(alloc))
+    let mut command = bare_command(alloc)?;
+    for subcommand in subcommands(alloc) {
+        command = linked(command, subcommand?)?;
+    }
+    Ok(command)
 }
 
 /// The command without its subcommands.
@@ -156,21 +118,16 @@ fn bare_command<'a>(alloc: Global) -> Result<Command<'a>, AllocError>
     Ok(command)
 }
 
-/// The command with one more subcommand, where both were made: what made neither answers its refusal.
+/// The command with one more subcommand.
 #[tactic(auto, unfolding(crate::specs::Command::linked))]
-fn link<'a>(
-    command: Result<Command<'a>, AllocError>,
-    subcommand: Result<Command<'a>, AllocError>,
-) -> Result<Command<'a>, AllocError>
-    requires command { IfOk command (λ made. has_globals made ≡ false) }
-    requires subcommand { IfOk subcommand (λ made. has_globals made ≡ false) }
+fn linked<'a>(command: Command<'a>, subcommand: Command<'a>) -> Result<Command<'a>, AllocError>
+    requires command { has_globals command ≡ false }
+    requires subcommand { has_globals subcommand ≡ false }
     ensures plain { IfOk result (λ made. has_globals made ≡ false) }
-    ensures linked { (app linked_to : App) → IfOk command.entry (IsCommandOf app)
-        → IfOk subcommand.entry (IsCommandOf linked_to)
-        → IfOk result (IsCommandOf (linked app linked_to)) }
+    ensures linked { IfOk result (λ made.
+        app_of made ≡ linked (app_of command.entry) (app_of subcommand.entry)) }
 {
-    let command = command?;
-    command.subcommand(subcommand?)
+    command.subcommand(subcommand)
 }
 
 const STATUS_HELP: &str = "\

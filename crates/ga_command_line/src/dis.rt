@@ -1,14 +1,14 @@
-ghost use Rattle.std.specs.Prelude.{◌≡◌, ℕ, IfErr, IfOk, Option, codes};
+ghost use Rattle.std.specs.Prelude.{◌≡◌, ◌≤◌, ℕ, IfErr, IfOk, IfSome, Option, codes};
 ghost use Rattle.clap.specs.Words.{found_of, rows_of};
 ghost use Rattle.ga_command_line.specs.inner.Command.{IsCommandOf};
 ghost use Rattle.ga_command_line.specs.CommandLine.{AsksFor, InRange};
-ghost use Rattle.ga_command_line.specs.Dis.{IsDisInRange, dis_command};
+ghost use Rattle.ga_command_line.specs.Dis.{dis_command};
 ghost use Rattle.ga_command_line.specs.Number.{IsNumberIfAt};
 
 use crate::command_line::LineError;
 use crate::number::number_if;
-use crate::request::Job;
 use clap::{Arg, ArgMatches, Command, value_parser};
+use ga_jobs::Job;
 use std::alloc::{AllocError, Global};
 
 /// The most words that a node's memory holds.
@@ -44,7 +44,8 @@ pub fn command<'a>(alloc: Global) -> Result<Command<'a>, AllocError>
 pub fn job_of(alloc: Global, found: &ArgMatches<'_>) -> Result<Job, LineError>
     ensures in_range { IfOk result InRange }
     ensures asked { IfOk result (AsksFor (codes "dis", rows_of (found_of found.now))) }
-    ensures right { IfErr result (λ error. (code : Option ℕ) → IsDisInRange code
+    ensures right { IfErr result (λ error. (code : Option ℕ)
+        → IfSome code (λ number. number ≤ 64)
         → IsNumberIfAt (codes "N") (rows_of (found_of found.now)) code → error ≡ LineError.Memory) }
 {
     let code = number_if(alloc, found, "N", 0, CODE_LIMIT)?;

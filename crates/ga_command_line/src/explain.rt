@@ -5,10 +5,10 @@ ghost use Rattle.ga_command_line.specs.CommandLine.{AsksFor, InRange};
 ghost use Rattle.ga_command_line.specs.Explain.{IsOfTable, IsTopicAt, explain_command};
 
 use crate::command_line::{LineError, refusal};
-use crate::request::Job;
 use clap::error::ErrorKind;
 use clap::{Arg, ArgMatches, Command};
 use ga_explain::Topic;
+use ga_jobs::Job;
 use std::alloc::{AllocError, Global};
 
 const HELP: &str = "\

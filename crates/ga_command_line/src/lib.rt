@@ -1,11 +1,15 @@
-//! The command line of the bench: the job that its words name.
+//! The command line of the bench: the job that its words name. A subcommand with arguments reads
+//! them in a module of its name; this file lists all subcommands, and has those without.
 #![tactic(auto)]
 
-mod asm;
+ghost use Rattle.std.specs.Prelude.{◌≡◌, IfErr, IfOk};
+ghost use Rattle.clap.specs.Words.{found_of, new_app, rows_of};
+ghost use Rattle.ga_command_line.specs.CommandLine.{AsksFor, InRange, subcommands};
+ghost use Rattle.ga_command_line.specs.inner.Command.{AreCommandsOf, IsCommandOf};
+
 mod boot;
 mod check;
 mod command_line;
-mod debug;
 mod dis;
 mod explain;
 mod file;
@@ -13,10 +17,123 @@ mod list;
 mod number;
 mod one;
 mod record;
-mod replay;
-mod request;
 mod route;
 mod run;
 
+use crate::command_line::missing;
 pub use crate::command_line::{LineError, job, refusal};
-pub use crate::request::Job;
+use clap::{ArgMatches, Command};
+use ga_jobs::Job;
+use std::alloc::{AllocError, Global};
+
+/// The subcommands, in the order of help.
+fn subcommands<'a>(alloc: Global) -> [Result<Command<'a>, AllocError>; 11]
+    ensures { AreCommandsOf subcommands result }
+{
+    [
+        one::command(alloc),
+        plain(
+            alloc,
+            "asm",
+            "Assembles source text, and prints the words of each node",
+            ASM_HELP,
+        ),
+        dis::command(alloc),
+        boot::command(alloc),
+        run::command(alloc),
+        plain(
+            alloc,
+            "debug",
+            "Does commands on a chip that source text is loaded into, and prints the replies",
+            DEBUG_HELP,
+        ),
+        plain(
+            alloc,
+            "replay",
+            "Does the commands of a replay text, and compares what comes of them",
+            REPLAY_HELP,
+        ),
+        list::command(alloc),
+        check::command(alloc),
+        record::command(alloc),
+        explain::command(alloc),
+    ]
+}
+
+/// A subcommand without arguments.
+fn plain<'a>(
+    alloc: Global,
+    name: &'a str,
+    about: &'a str,
+    help: &'a str,
+) -> Result<Command<'a>, AllocError>
+    ensures { IfOk result (IsCommandOf (new_app name.now)) }
+{
+    let command = Command::new(alloc, name).about(about).after_help(help);
+    Ok(command)
+}
+
+/// The job that a subcommand with these arguments names.
+fn job_named(alloc: Global, name: &str, found: &ArgMatches<'_>) -> Result<Job, LineError>
+    ensures in_range { IfOk result InRange }
+    ensures named { IfOk result (AsksFor (name.now, rows_of (found_of found.now))) }
+    ensures right { IfErr result (λ error. (job : Job)
+        → AsksFor (name.now, rows_of (found_of found.now)) job
+        → InRange job → error ≡ LineError.Memory) }
+{
+    match name {
+        "one" => one::job_of(alloc, found),
+        "asm" => Ok(Job::Asm),
+        "dis" => dis::job_of(alloc, found),
+        "boot" => boot::job_of(alloc, found),
+        "run" => run::job_of(alloc, found),
+        "debug" => Ok(Job::Debug),
+        "replay" => Ok(Job::Replay),
+        "list" => Ok(list::job_of(alloc, found)?),
+        "check" => Ok(check::job_of(alloc, found)?),
+        "record" => Ok(record::job_of(alloc, found)?),
+        "explain" => explain::job_of(alloc, found),
+        _ => Err(missing(alloc)),
+    }
+}
+
+const ASM_HELP: &str = "\
+Reads source text from standard input: for each node `node`, its name in three digits, and its items.
+Writes for each node a line with its entry, how many of its words are code and how many there are, and
+its words, eight on a line.
+
+Example: echo 'node 709 main: $5 $7 + @b' | ga-bench asm
+More: Source text in docs/FORMATS.md";
+
+const DEBUG_HELP: &str = "\
+Reads from standard input a replay text whose commands state nothing: the line 'profile 2', the line
+'place' or 'route' and a ROUTE as of boot, source text, the line 'go', and commands.
+Writes the reply to each command, or 'refused' and why, and goes on.
+
+  break NNN HHH   node NNN, three digits, is held before it fetches at address HHH, three hex digits
+  clear NNN HHH   it is held there no more
+  pass NNN        a node that is held isn't held at its next fetch
+  try NNN SIDE    one try of the node, for the side r, d, l or u where it reads at several ports
+  turn K          K turns, to 1000000: each tries all 144 nodes once, with the side right, down, left,
+                  up, and again, beginning with right. 'moved 0' of fewer than four turns doesn't show
+                  that all nodes stand still
+  regs NNN        the node's registers; mem NNN its memory, ports NNN how many words went through
+                  each of its ports
+
+Example: printf 'profile 2\\nplace\\nnode 000 .\\ngo\\nturn 4\\nregs 000\\n' | ga-bench debug
+More: docs/GUIDE.md, and Sessions in docs/FORMATS.md";
+
+const REPLAY_HELP: &str = "\
+Reads from standard input a replay text: the line 'profile 2' or 'profile 1', the line 'place' or
+'route' and a ROUTE as of boot, source text, the line 'go', and commands with what comes of them. Does
+the commands, and writes 'same' and how many stated outcomes were compared, where all of them hold. With
+'profile 1' a node that is about to fetch with bit 9 of P set counts as stopped.
+
+  break NNN HHH, clear NNN HHH, pass NNN   as debug has them
+  try NNN SIDE = OUTCOME                   OUTCOME is moved, waits, held or stopped
+  turn K = STEPS                           STEPS is how many steps the turns make
+
+Steps, outcomes and breakpoints are compared, and no data: a session of debug shows data.
+
+Example: printf 'profile 2\\nplace\\nnode 000 .\\ngo\\nturn 4 = 4\\n' | ga-bench replay
+More: docs/GUIDE.md, and Replay texts in docs/FORMATS.md";

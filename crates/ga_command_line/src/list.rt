@@ -2,11 +2,11 @@ ghost use Rattle.std.specs.Prelude.{IfOk, codes};
 ghost use Rattle.clap.specs.Words.{found_of, rows_of};
 ghost use Rattle.ga_command_line.specs.CommandLine.{AsksFor, InRange};
 ghost use Rattle.ga_command_line.specs.inner.Command.{IsCommandOf};
-ghost use Rattle.ga_command_line.specs.List.{IsFlagAt, flagged_command, list_command};
+ghost use Rattle.ga_command_line.specs.List.{IsFlagAt, list_command};
 
 use crate::file::file_in;
-use crate::request::Job;
 use clap::{Arg, ArgAction, ArgMatches, Command};
+use ga_jobs::Job;
 use std::alloc::{AllocError, Global};
 
 const HELP: &str = "\
@@ -23,24 +23,18 @@ More: Listings in docs/FORMATS.md";
 pub fn command<'a>(alloc: Global) -> Result<Command<'a>, AllocError>
     ensures { IfOk result (IsCommandOf list_command) }
 {
-    let file = Arg::new(alloc, "FILE").help(
-        "The source text; by default, or where it is -, standard input",
-    );
-    flagged_command(alloc)?.after_help(HELP).arg(file)
-}
-
-/// The subcommand without FILE.
-#[tactic(auto, unfolding(crate::specs::List::flagged_command))]
-fn flagged_command<'a>(alloc: Global) -> Result<Command<'a>, AllocError>
-    ensures { IfOk result (IsCommandOf flagged_command) }
-{
     let labels = Arg::new(alloc, "LABELS")
         .long("labels")
         .action(ArgAction::SetTrue)
         .help("Writes the labels alone: the node, the label and its address, a line each");
-    Command::new(alloc, "list")
+    let file = Arg::new(alloc, "FILE").help(
+        "The source text; by default, or where it is -, standard input",
+    );
+    let command = Command::new(alloc, "list")
         .about("Lists the words of a source text, with what they read as and where they come from")
-        .arg(labels)
+        .after_help(HELP)
+        .arg(labels)?;
+    command.arg(file)
 }
 
 /// The job that the arguments of `list` ask for.

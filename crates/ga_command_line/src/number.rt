@@ -28,8 +28,8 @@ pub fn number_of(
 
 /// The number of an argument that may be left out, from a least to a most one.
 ///
-/// Its range is looked at once more, since what clap promises of a value is about the words before a
-/// subcommand.
+/// Its range is looked at once more, since what clap promises of a value is about the words before
+/// a subcommand.
 pub fn number_if(
     alloc: Global,
     found: &ArgMatches<'_>,

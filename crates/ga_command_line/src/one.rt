@@ -1,14 +1,14 @@
-ghost use Rattle.std.specs.Prelude.{◌≡◌, ℕ, IfErr, IfOk, codes};
+ghost use Rattle.std.specs.Prelude.{◌≡◌, ◌≤◌, ℕ, IfErr, IfOk, codes};
 ghost use Rattle.clap.specs.Words.{found_of, rows_of};
 ghost use Rattle.ga_command_line.specs.inner.Command.{IsCommandOf};
 ghost use Rattle.ga_command_line.specs.CommandLine.{AsksFor, InRange};
 ghost use Rattle.ga_command_line.specs.Number.{IsNumberAt};
-ghost use Rattle.ga_command_line.specs.One.{IsOneInRange, one_command};
+ghost use Rattle.ga_command_line.specs.One.{one_command};
 
 use crate::command_line::LineError;
 use crate::number::number_of;
-use crate::request::Job;
 use clap::{Arg, ArgMatches, Command, value_parser};
+use ga_jobs::Job;
 use std::alloc::{AllocError, Global};
 
 /// The most tries that a job may ask for.
@@ -43,7 +43,7 @@ pub fn command<'a>(alloc: Global) -> Result<Command<'a>, AllocError>
 pub fn job_of(alloc: Global, found: &ArgMatches<'_>) -> Result<Job, LineError>
     ensures in_range { IfOk result InRange }
     ensures asked { IfOk result (AsksFor (codes "one", rows_of (found_of found.now))) }
-    ensures right { IfErr result (λ error. (tries : ℕ) → IsOneInRange tries
+    ensures right { IfErr result (λ error. (tries : ℕ) → tries ≤ 1000000
         → IsNumberAt (codes "TRIES") (rows_of (found_of found.now)) tries
         → error ≡ LineError.Memory) }
 {

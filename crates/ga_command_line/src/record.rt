@@ -5,8 +5,8 @@ ghost use Rattle.ga_command_line.specs.File.{file_command};
 ghost use Rattle.ga_command_line.specs.inner.Command.{IsCommandOf};
 
 use crate::file::file_in;
-use crate::request::Job;
 use clap::{Arg, ArgMatches, Command};
+use ga_jobs::Job;
 use std::alloc::{AllocError, Global};
 
 const HELP: &str = "\

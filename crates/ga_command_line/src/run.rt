@@ -6,9 +6,9 @@ ghost use Rattle.ga_command_line.specs.Run.{IsRunAt, IsRunInRange, routed_comman
 
 use crate::command_line::LineError;
 use crate::number::number_of;
-use crate::request::Job;
 use crate::route::route_at;
 use clap::{Arg, ArgMatches, Command, value_parser};
+use ga_jobs::Job;
 use std::alloc::{AllocError, Global};
 
 /// The most workers that a job may ask for, one for each node of the chip.

@@ -1,9 +1,10 @@
-//! Cuts a boot stream into pieces, so that a test sees that nothing comes of the cuts: neither to its frames nor to a
-//! chip.
+//! Cuts a boot stream into pieces, so that a test sees that nothing comes of the cuts: neither to
+//! its frames nor to a chip.
 //!
-//! The arguments are the name of the first node, which is given the stream, and the words of the stream, of five digits
-//! each. It writes one line: in how many ways the stream was cut and left its frames and the chip alike, or what differs first. Where the
-//! stream could not be cut the line tells why, and the status is 1.
+//! The arguments are the name of the first node, which is given the stream, and the words of the
+//! stream, of five digits each. It writes one line: in how many ways the stream was cut and left
+//! its frames and the chip alike, or what differs first. Where the stream could not be cut the line
+//! tells why, and the status is 1.
 #![tactic(auto)]
 
 mod cut;

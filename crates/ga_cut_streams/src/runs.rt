@@ -27,7 +27,8 @@ pub struct WholeRun {
 }
 
 impl WholeRun {
-    /// The run from a reset chip until the stream is taken, some turns more, and as many as bring it to rest.
+    /// The run from a reset chip until the stream is taken, some turns more, and as many as bring
+    /// it to rest.
     pub fn new(alloc: Global, node: Node, words: &[Word18]) -> Result<Self, Fault> {
         let mut chip = Chip::reset(alloc)?;
         let stream = Vec::from_slice(alloc, words)?;
@@ -46,8 +47,8 @@ impl WholeRun {
         })
     }
 
-    /// Whether a run ends otherwise in which the stream is cut so, and each piece is fed as soon as the one before it
-    /// is taken.
+    /// Whether a run ends otherwise in which the stream is cut so, and each piece is fed as soon as
+    /// the one before it is taken.
     pub fn differs(
         &self,
         alloc: Global,
@@ -69,8 +70,8 @@ impl WholeRun {
         Ok(chip_text(alloc, &chip)? != self.dump)
     }
 
-    /// Whether the chip comes to rest otherwise where the stream is cut so, and each piece comes late, so that the node
-    /// waits for it. `None` where it comes to no rest.
+    /// Whether the chip comes to rest otherwise where the stream is cut so, and each piece comes
+    /// late, so that the node waits for it. `None` where it comes to no rest.
     pub fn differs_late(
         &self,
         alloc: Global,

@@ -14,4 +14,5 @@ pub record NumberSoFar (word : List ℕ) (place number : ℕ) : Type 0 where
 -- eight digits leave room for a ninth
 pub room_for_ninth : (number place : ℕ) → place < 9 → number < 10 ^ place → number < 10 ^ 8
 room_for_ninth number place within small =
-    let most : 10 ^ place ≤ 10 ^ 8 = pow-le-pow_right {n = 10} (lit< tt) {i = place} {j = 8} (omega arith) in omega (arith, most)
+    let most : 10 ^ place ≤ 10 ^ 8 =
+    pow-le-pow_right {n = 10} (lit< tt) {i = place} {j = 8} (omega arith) in omega (arith, most)

@@ -8,7 +8,9 @@ room_least [] = omega arith
 room_least (piece ∷ all) = omega (arith, room_least all)
 
 -- behind a first line of so many characters
-pub lines_left : (separator : ℕ) (text first : List ℕ) (rest : List (List ℕ)) → pieces separator text ≡ first ∷ rest → length first + length rest ≤ length text
+pub lines_left : (separator : ℕ) (text first : List ℕ) (rest : List (List ℕ))
+    → pieces separator text ≡ first ∷ rest → length first + length rest ≤ length text
 lines_left separator text first rest e =
-    let whole : span (first ∷ rest) ≡ length text + 1 = ap span (sym e) ∙ span_split (λ c. c == separator) text in
+    let whole : span (first ∷ rest) ≡ length text + 1 =
+    ap span (sym e) ∙ span_split (λ c. c == separator) text in
     omega (arith, whole, room_least rest)

@@ -13,12 +13,20 @@ use Rattle.ga_debug.specs.Beginning.{booted_tree}
 use Rattle.ga_debug.specs.Laws.{BootedIsSupplied}
 
 -- a node of a chip after reset is given a stream where it stands at an edge
-unrefused : (root : ℕ) → IsNodeName root → is_edge root ≡ true → stream_refusal reset_chip root ≡ None
-unrefused root named edge = ap (λ b. if b then refusal reset_chip root else Some chip_error.NotEdge) edge ∙ ap (option_and_then part_refusal) (was root None false named)
+unrefused : (root : ℕ) → IsNodeName root → is_edge root ≡ true
+    → stream_refusal reset_chip root ≡ None
+unrefused root named edge =
+    ap (λ b. if b then refusal reset_chip root else Some chip_error.NotEdge) edge
+    ∙ ap (option_and_then part_refusal) (was root None false named)
 
 pub booted_is_supplied : BootedIsSupplied
 booted_is_supplied images tree events named sound =
     let words = tree_load images tree ++ tree_start images tree in
     let given = streamed reset_chip tree.root words in
-    let is : booted_tree images tree ≡ given = ap (λ r. unless_refused r given reset_chip) (unrefused tree.root named sound.edge) in
-    inl (words, subst (λ chip. DifferInBreaks chip given) (sym is) (differ_not given), ([], sym (append-nil words)))
+    let is : booted_tree images tree ≡ given =
+    ap (λ r. unless_refused r given reset_chip) (unrefused tree.root named sound.edge) in
+    inl (
+      words,
+      subst (λ chip. DifferInBreaks chip given) (sym is) (differ_not given),
+      ([], sym (append-nil words)),
+    )

@@ -1,16 +1,23 @@
 -- Which words are which command, or else which word is the first bad one.
-use Rattle.std.specs.Prelude.{ℕ, List, [], ◌∷◌, Option, Some, None, Result, Ok, Err}
+use Rattle.std.specs.Prelude.{ℕ, List, [], ◌∷◌, Option, Some, None, ok_or, option_map, Result, Ok, Err, if◌then◌else◌}
+use Rattle.std.specs.Option.{option_and_then, option_or}
+use Rattle.ga_asm.specs.Image.{image_of}
+use Rattle.ga_pack.specs.Model.Layout as laid
+use Rattle.ga_path.specs.Stream.{Images}
+use Rattle.ga_place.specs.Node.{node_named}
+use Rattle.ga_place.specs.declared.side.Side.TheVariants.{Right}
+use Rattle.ga_debug.specs.declared.command.Arguments.{Arguments}
+use Rattle.ga_debug.specs.declared.command.Command.{Command}
 use Rattle.ga_debug.specs.declared.error.DebugError.{DebugError}
 use Rattle.ga_debug.specs.declared.error.DebugError.TheVariants.{BadAddress, BadCommand, BadCount, BadNode, BadSide}
-use Rattle.ga_debug.specs.declared.action.Action.{Action}
-use Rattle.ga_debug.specs.declared.action.Action.TheVariants as action
-use Rattle.ga_debug.specs.declared.command.Command.{Command}
-use Rattle.ga_debug.specs.declared.command.Command.TheVariants.{Act, Show}
-use Rattle.ga_debug.specs.declared.word.Verb.{Verb}
-use Rattle.ga_debug.specs.declared.word.Verb.TheVariants.{Break, Clear, Pass, Try, Turn}
+use Rattle.ga_debug.specs.declared.row.Scope.{Scope}
+use Rattle.ga_debug.specs.declared.row.Scope.TheVariants.{Sessions, Transcripts}
+use Rattle.ga_debug.specs.declared.row.Shape.{Shape}
+use Rattle.ga_debug.specs.declared.row.Shape.TheVariants.{Node, Address, Side, Count, CountIf}
+use Rattle.ga_debug.specs.declared.commands.Verb.{Verb}
 use Rattle.ga_debug.specs.Pieces.{pieces}
-use Rattle.ga_place.specs.Node.{node_named}
-use Rattle.ga_debug.specs.Word.{address_of, count_of, side_of, verb_of, view_of}
+use Rattle.ga_debug.specs.Commands.{verb_named, verb_row}
+use Rattle.ga_debug.specs.Word.{address_of, count_of, side_of}
 
 abbrev pub Words : Type 0
 Words = List (List ℕ)
@@ -23,59 +30,75 @@ words_of line = pieces 32 line
 abbrev pub First : Type 0 → Type 0
 First A = Result (A × Words) DebugError
 
-abbrev pub first_by : {A : Type 0} → Option A → DebugError → Words → First A
-first_by None fault rest = Err fault
-first_by (Some value) fault rest = Ok (value, rest)
+-- what comes behind it
+abbrev pub then_with : {A B : Type 0} → First A → (A → Words → Result B DebugError)
+    → Result B DebugError
+then_with (Ok (value, rest)) next = next value rest
+then_with (Err fault) next = Err fault
 
 -- the first word, as it is read; a word that is missing is a bad one
 abbrev pub first_word : {A : Type 0} → (List ℕ → Option A) → DebugError → Words → First A
 first_word read fault [] = Err fault
-first_word read fault (word ∷ rest) = first_by (read word) fault rest
+first_word read fault (word ∷ rest) = ok_or (option_map (λ value. (value, rest)) (read word)) fault
 
--- what comes behind it
-abbrev pub then_with : {A B : Type 0} → First A → (A → Words → Result B DebugError) → Result B DebugError
-then_with (Ok (value, rest)) next = next value rest
-then_with (Err fault) next = Err fault
+-- an address: three hex digits, or else a label of its node
+abbrev pub address_in : Images → ℕ → List ℕ → Option ℕ
+address_in images node word =
+    option_or (address_of word)
+    (option_and_then (λ image. laid.address_of image.labels word) (image_of images node))
 
-abbrev pub node_first : Words → First ℕ
-node_first words = first_word node_named BadNode words
+-- the arguments of a command that has none
+abbrev pub NOTHING : Arguments
+NOTHING = record { node = 0; address = 0; side = Right; count = 0 }
 
-abbrev pub address_first : Words → First ℕ
-address_first words = first_word address_of BadAddress words
+-- one more argument by a word, which may speak of those in front of it
+abbrev pub word_read : Images → Shape → Arguments → List ℕ → Option Arguments
+word_read images Node given word =
+    option_map (λ node. record given { node = node }) (node_named word)
+word_read images Address given word =
+    option_map (λ address. record given { address = address }) (address_in images given.node word)
+word_read images Side given word = option_map (λ side. record given { side = side }) (side_of word)
+word_read images Count given word =
+    option_map (λ count. record given { count = count }) (count_of word)
+word_read images CountIf given word =
+    option_map (λ count. record given { count = count }) (count_of word)
 
--- an action behind its name
-unfoldable pub arguments : Verb → Words → First Action
-arguments Break words = then_with (node_first words) (λ node rest. then_with (address_first rest) (λ at end. Ok (action.Break node at, end)))
-arguments Clear words = then_with (node_first words) (λ node rest. then_with (address_first rest) (λ at end. Ok (action.Clear node at, end)))
-arguments Pass words = then_with (node_first words) (λ node end. Ok (action.Pass node, end))
-arguments Try words = then_with (node_first words) (λ node rest. then_with (first_word side_of BadSide rest) (λ side end. Ok (action.Try node side, end)))
-arguments Turn words = then_with (first_word count_of BadCount words) (λ count end. Ok (action.Turn count, end))
+-- what a word is that isn't so
+abbrev pub fault_of : Shape → DebugError
+fault_of Node = BadNode
+fault_of Address = BadAddress
+fault_of Side = BadSide
+fault_of Count = BadCount
+fault_of CountIf = BadCount
 
--- an action
-unfoldable pub action_first : Words → First Action
-action_first words = then_with (first_word verb_of BadCommand words) arguments
+-- a count that may be left out is 1000000 then
+abbrev pub shape_read : Images → Shape → Arguments → Words → First Arguments
+shape_read images CountIf given [] = Ok (record given { count = 1000000 }, [])
+shape_read images shape given words =
+    first_word (word_read images shape given) (fault_of shape) words
 
--- a view of a node
-abbrev pub view_first : Words → First Command
-view_first words = then_with (first_word view_of BadCommand words) (λ view rest. then_with (node_first rest) (λ node end. Ok (Show view node, end)))
+abbrev pub all_read : Images → List Shape → Arguments → Words → First Arguments
+all_read images [] given words = Ok (given, words)
+all_read images (shape ∷ shapes) given words =
+    then_with (shape_read images shape given words) (all_read images shapes)
 
-abbrev pub as_command : Action → Words → First Command
-as_command action rest = Ok (Act action, rest)
-
-abbrev pub command_by : Option Verb → Words → Words → First Command
-command_by (Some verb) words rest = then_with (arguments verb rest) as_command
-command_by None words rest = view_first words
-
--- a command: an action or a view
-unfoldable pub command_first : Words → First Command
-command_first [] = Err BadCommand
-command_first (word ∷ rest) = command_by (verb_of word) (word ∷ rest) rest
+-- a command of texts of a scope: its name, and its arguments
+unfoldable pub command_first : Scope → Images → Words → First Command
+command_first scope images words =
+    then_with (first_word (verb_named scope) BadCommand words)
+    (λ verb rest. then_with (all_read images (verb_row verb).shapes NOTHING rest)
+    (λ given end. Ok (record { verb = verb; given = given }, end)))
 
 -- and no word behind it
 abbrev pub whole : {A : Type 0} → A → Words → Result A DebugError
 whole value [] = Ok value
 whole value (word ∷ rest) = Err BadCommand
 
+-- A line is one of a transcript, whose head has these images, or else of a session.
+abbrev pub Line : Type 0
+Line = Option Images
+
 -- the command that a line is, or its first fault
-unfoldable pub command_in : List ℕ → Result Command DebugError
-command_in line = then_with (command_first (words_of line)) whole
+unfoldable pub command_in : Line → List ℕ → Result Command DebugError
+command_in None line = then_with (command_first Sessions [] (words_of line)) whole
+command_in (Some images) line = then_with (command_first Transcripts images (words_of line)) whole

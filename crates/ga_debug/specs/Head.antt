@@ -9,14 +9,17 @@ use Rattle.ga_debug.specs.declared.profile.Profile.{Profile}
 use Rattle.ga_debug.specs.Command.{words_of}
 use Rattle.ga_debug.specs.Profile.{profile_line}
 
--- how the chip is loaded: None where each image is placed, or the nodes of each route along which a stream goes
+-- how the chip is loaded: None where each image is placed, or the nodes of each route along which a
+-- stream goes
 abbrev pub Loading : Type 0
 Loading = Option (List (List ℕ))
 
--- `place` alone, or `route` and routes with `/` between them, of each the names of its nodes with commas between them
+-- `place` alone, or `route` and routes with `/` between them, of each the names of its nodes with
+-- commas between them
 abbrev pub loading_by : List (List ℕ) → Option Loading
 loading_by (word ∷ []) = if bytes_eq word (codes "place") then Some None else None
-loading_by (word ∷ names ∷ []) = if bytes_eq word (codes "route") then option_map Some (routes_in names) else None
+loading_by (word ∷ names ∷ []) =
+    if bytes_eq word (codes "route") then option_map Some (routes_in names) else None
 loading_by words = None
 
 abbrev pub loading_in : List ℕ → Option Loading
@@ -39,7 +42,8 @@ with_line line (Err fault) = Err fault
 abbrev pub up_to_go : Loading → ℕ → List (List ℕ) → Result Head ReplayError
 up_to_go loading number [] = Err NoGo
 up_to_go loading number (line ∷ lines) =
-    if bytes_eq line (codes "go") then Ok (record { loading = loading; source = []; line = number; commands = lines })
+    if bytes_eq line (codes "go")
+    then Ok (record { loading = loading; source = []; line = number; commands = lines })
     else with_line line (up_to_go loading (number + 1) lines)
 
 abbrev pub loaded_by : Option Loading → List (List ℕ) → Result Head ReplayError
@@ -52,9 +56,10 @@ behind_profile (line ∷ lines) = loaded_by (loading_in line) lines
 
 abbrev pub head_by : Profile → List (List ℕ) → Result Head ReplayError
 head_by profile [] = Err BadProfile
-head_by profile (line ∷ lines) = if bytes_eq line (profile_line profile) then behind_profile lines else Err BadProfile
+head_by profile (line ∷ lines) =
+    if bytes_eq line (profile_line profile) then behind_profile lines else Err BadProfile
 
--- The head of a text of a profile, or its first fault: the line of the profile, how the chip is loaded, source lines,
--- and `go`.
+-- The head of a text of a profile, or its first fault: the line of the profile, how the chip is
+-- loaded, source lines, and `go`.
 unfoldable pub head_in : Profile → List ℕ → Result Head ReplayError
 head_in profile text = head_by profile (lines_of text)

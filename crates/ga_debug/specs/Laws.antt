@@ -9,5 +9,7 @@ use Rattle.ga_debug.specs.Beginning.{booted_tree}
 
 -- A chip that boots a tree is one after reset whose root was given both parts of the tree's stream.
 abbrev pub BootedIsSupplied : Type 0
-BootedIsSupplied = (images : Images) (tree : TreeView) (events : List Event) → IsNodeName tree.root → IsSound tree
-    → IsSupplied (booted_tree images tree) tree.root (tree_load images tree ++ tree_start images tree) events
+BootedIsSupplied =
+    (images : Images) (tree : TreeView) (events : List Event) → IsNodeName tree.root → IsSound tree
+    → IsSupplied (booted_tree images tree) tree.root
+    (tree_load images tree ++ tree_start images tree) events

@@ -1,9 +1,12 @@
 pub mod Pieces
 pub mod Word
+pub mod Row
 pub mod Command
-pub mod Action
-pub mod Profile
+pub mod Until
+pub mod Breaks
+pub mod Commands
 pub mod Session
+pub mod Profile
 pub mod Error
 pub mod ReplayError
 pub mod Head

@@ -39,6 +39,7 @@ abbrev pub FailsRightly : {B : Type 0} → (Result B ReplayError → Type 0) →
 FailsRightly IsRight Memory = Unit {0}
 FailsRightly IsRight fault = IsRight (Err fault)
 
-abbrev pub Answers : {A B : Type 0} → (A → B) → (Result B ReplayError → Type 0) → Result A ReplayError → Type 0
+abbrev pub Answers : {A B : Type 0} → (A → B) → (Result B ReplayError → Type 0)
+    → Result A ReplayError → Type 0
 Answers view IsRight (Ok value) = IsRight (Ok (view value))
 Answers view IsRight (Err fault) = FailsRightly IsRight fault

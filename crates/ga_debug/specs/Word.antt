@@ -2,42 +2,13 @@
 use Rattle.std.specs.Prelude.{ℕ, ◌+◌, ◌-◌, ◌*◌, nat_lt, nat_le, Bool, ◌&&◌, List, [], ◌∷◌, codes, length, find, Option, Some, None, if◌then◌else◌}
 use Rattle.std.specs.Char.{digit_value, is_digit}
 use Rattle.std.specs.List.{list_all}
+use Rattle.std.specs.Option.{option_and_then}
 use Rattle.std.specs.Str.{bytes_eq}
 use Rattle.ga_place.specs.Side.{SIDES}
 use Rattle.ga_place.specs.declared.side.Side.{Side}
 use Rattle.ga_place.specs.declared.side.Side.TheVariants.{Right, Down, Left, Up}
 use Rattle.ga_chip.specs.declared.outcome.Outcome.{Outcome}
 use Rattle.ga_chip.specs.declared.outcome.Outcome.TheVariants.{Moved, Waits, Held, Stopped}
-use Rattle.ga_debug.specs.declared.word.Verb.{Verb}
-use Rattle.ga_debug.specs.declared.word.Verb.TheVariants.{Break, Clear, Pass, Try, Turn}
-use Rattle.ga_debug.specs.declared.word.View.{View}
-use Rattle.ga_debug.specs.declared.word.View.TheVariants.{Regs, Mem, Ports}
-
--- the commands that do something
-abbrev pub verb_name : Verb → List ℕ
-verb_name Break = codes "break"
-verb_name Clear = codes "clear"
-verb_name Pass = codes "pass"
-verb_name Try = codes "try"
-verb_name Turn = codes "turn"
-
-abbrev pub VERBS : List Verb
-VERBS = Break ∷ Clear ∷ Pass ∷ Try ∷ Turn ∷ []
-
-abbrev pub verb_of : List ℕ → Option Verb
-verb_of word = find (λ verb. bytes_eq (verb_name verb) word) VERBS
-
--- the commands that show something
-abbrev pub view_name : View → List ℕ
-view_name Regs = codes "regs"
-view_name Mem = codes "mem"
-view_name Ports = codes "ports"
-
-abbrev pub VIEWS : List View
-VIEWS = Regs ∷ Mem ∷ Ports ∷ []
-
-abbrev pub view_of : List ℕ → Option View
-view_of word = find (λ view. bytes_eq (view_name view) word) VIEWS
 
 -- the number that three hex digits write
 abbrev pub hex_of : ℕ → ℕ → ℕ → ℕ
@@ -46,7 +17,8 @@ hex_of a b c = (digit_value a * 16 + digit_value b) * 16 + digit_value c
 -- an address of nine bits: three hex digits of either case
 abbrev pub address_of : List ℕ → Option ℕ
 address_of (a ∷ b ∷ c ∷ []) =
-    if (is_digit a 16 && (is_digit b 16 && is_digit c 16)) && nat_lt (hex_of a b c) 512 then Some (hex_of a b c) else None
+    if (is_digit a 16 && (is_digit b 16 && is_digit c 16)) && nat_lt (hex_of a b c) 512
+    then Some (hex_of a b c) else None
 address_of word = None
 
 -- a side: the first letter of its name
@@ -71,15 +43,14 @@ decimal_from number (c ∷ digits) = decimal_from (number * 10 + (c - 48)) digit
 -- a number of one to so many decimal digits
 unfoldable pub decimal_of : ℕ → List ℕ → Option ℕ
 decimal_of most word =
-    if (nat_lt 0 (length word) && nat_le (length word) most) && list_all is_decimal word then Some (decimal_from 0 word) else None
-
-abbrev pub at_most : ℕ → Option ℕ → Option ℕ
-at_most most None = None
-at_most most (Some number) = if nat_le number most then Some number else None
+    if (nat_lt 0 (length word) && nat_le (length word) most) && list_all is_decimal word
+    then Some (decimal_from 0 word) else None
 
 -- a count of turns: one to seven digits, up to 1000000
 abbrev pub count_of : List ℕ → Option ℕ
-count_of word = at_most 1000000 (decimal_of 7 word)
+count_of word =
+    option_and_then (λ number. if nat_le number 1000000 then Some number
+    else None) (decimal_of 7 word)
 
 -- what came of a try
 abbrev pub outcome_text : Outcome → List ℕ
@@ -88,8 +59,6 @@ outcome_text Waits = codes "waits"
 outcome_text Held = codes "held"
 outcome_text Stopped = codes "stopped"
 
-abbrev pub OUTCOMES : List Outcome
-OUTCOMES = Moved ∷ Waits ∷ Held ∷ Stopped ∷ []
-
 abbrev pub outcome_of : List ℕ → Option Outcome
-outcome_of word = find (λ outcome. bytes_eq (outcome_text outcome) word) OUTCOMES
+outcome_of word =
+    find (λ outcome. bytes_eq (outcome_text outcome) word) (Moved ∷ Waits ∷ Held ∷ Stopped ∷ [])

@@ -22,6 +22,13 @@ impl Address {
     ghost use Rattle.std.specs.Prelude.{◌≡◌, ◌^◌, ◌<◌};
     ghost use Rattle.std.specs.Option.{SomeIff};
 
+    /// The address 000.
+    pub(crate) fn zero() -> Self
+        ensures { result ≡ 0 }
+    {
+        Address { number: 0 }
+    }
+
     /// The address with this number, or `None` from 200 (hexadecimal) up.
     pub fn new(number: u16) -> Option<Self>
         ensures { SomeIff result (number < 2 ^ 9) number }

@@ -32,9 +32,9 @@ pub struct Loaded<'a> {
     pub lines: Pieces<'a>,
 }
 
-/// What the head of a replay text of profile 2 leads to, or the first fault. What stands behind the line `go` isn't
-/// looked at. It fails as [`ReplayError::Memory`] only where memory is refused. (The texts are this project's own:
-/// profile.)
+/// What the head of a replay text of profile 2 leads to, or the first fault. What stands behind the
+/// line `go` isn't looked at. It fails as [`ReplayError::Memory`] only where memory is refused.
+/// (The texts are this project's own: profile.)
 #[tactic(auto, using(crate::proofs::OneReplay::one_loaded))]
 pub fn load<'a>(alloc: Global, text: &'a str) -> Result<Loaded<'a>, ReplayError>
     ensures loaded { Answers start_view (IsLoaded text.now) result }
@@ -54,9 +54,11 @@ pub fn load<'a>(alloc: Global, text: &'a str) -> Result<Loaded<'a>, ReplayError>
     })
 }
 
-/// A session over the chip that the head of a replay text of profile 2 leads to, and the number of its line `go`,
-/// counted from 1; or the first fault. What stands behind the line `go` isn't looked at. It fails as
-/// [`ReplayError::Memory`] only where memory is refused. (The texts are this project's own: profile.)
+/// A session over the chip that the head of a replay text of profile 2 leads to, and the number of
+/// its line `go`, counted from 1; or the first fault. What stands behind the line `go` isn't looked
+/// at. It fails as
+/// [`ReplayError::Memory`] only where memory is refused. (The texts are this project's own:
+/// profile.)
 #[tactic(auto, using(crate::proofs::OneReplay::one_beginning))]
 pub fn begin(alloc: Global, text: &str) -> Result<(Session, u64), ReplayError>
     ensures begun { Answers (λ begun. begun) (IsBeginning text.now) result }
@@ -112,9 +114,10 @@ fn routed_chip(alloc: Global, lists: &[Vec<Node>], images: &Images) -> Result<Ch
     Ok(chip)
 }
 
-/// A chip after reset that boots a tree: its root was given both parts of the boot stream, load and start, as one
-/// stream. A node that has an image and isn't in the tree is refused as [`BootError::Unreached`], the first in the
-/// images' order. It fails as [`BootError::Memory`] only where memory is refused.
+/// A chip after reset that boots a tree: its root was given both parts of the boot stream, load and
+/// start, as one stream. A node that has an image and isn't in the tree is refused as
+/// [`BootError::Unreached`], the first in the images' order. It fails as [`BootError::Memory`] only
+/// where memory is refused.
 pub fn booted_tree(alloc: Global, tree: &Tree, images: &Images) -> Result<Chip, BootError>
     ensures chip { IfOk result (λ chip. chip ≡ booted_tree images.now tree.now) }
     ensures reached { IfOk result (λ _. unreached images.now tree.now.nodes ≡ None) }
@@ -124,7 +127,8 @@ pub fn booted_tree(alloc: Global, tree: &Tree, images: &Images) -> Result<Chip, 
     streamed_chip(alloc, tree.root(), parts)
 }
 
-/// A chip after reset where a node was given both parts of a boot stream, load and start, as one stream.
+/// A chip after reset where a node was given both parts of a boot stream, load and start, as one
+/// stream.
 fn streamed_chip(alloc: Global, root: Node, parts: Boot) -> Result<Chip, BootError>
     ensures chip { IfOk result (λ chip. chip
         ≡ stream_chip root (parts.load.items ++ parts.start.items)) }

@@ -1,32 +1,47 @@
-ghost use Rattle.std.specs.Prelude.{◌≡◌};
-ghost use Rattle.ga_debug.specs.Command.{action_first, address_first, arguments, command_first, command_in, first_word, node_first, view_first};
+//! The command that a line is.
+ghost use Rattle.std.specs.Prelude.{◌≡◌, option_map};
+ghost use Rattle.ga_debug.specs.Command.{NOTHING, address_in, all_read, command_first, command_in, fault_of, shape_read, word_read};
 ghost use Rattle.ga_debug.specs.inner.Command.{Reads};
-ghost use Rattle.ga_debug.specs.Word.{count_of, side_of};
-ghost use Rattle.ga_debug.specs.declared.error.DebugError.TheVariants.{BadCount, BadSide};
+ghost use Rattle.ga_waits.specs.Label.{images_in};
 
-use crate::action::Action;
 use crate::address::Address;
+use crate::commands::{Verb, verb_named};
 use crate::error::DebugError;
 use crate::pieces::Pieces;
-use crate::word::{Verb, View, address_of, count_of, side_of, verb_of, view_of};
+use crate::row::{Scope, Shape};
+use crate::word::{address_of, count_of, side_of};
+use ga_asm::Images;
 use ga_place::{Node, Side};
 
-/// A command of a session.
+/// What stands behind the name of a command. What no word gives is as in [`nothing`].
 #[derive(Clone, Copy)]
-pub(crate) enum Command {
-    /// Something is done to the chip.
-    Act(Action),
-    /// Something of a node is shown.
-    Show(View, Node),
+pub(crate) struct Arguments {
+    pub(crate) node: Node,
+    pub(crate) address: Address,
+    pub(crate) side: Side,
+    pub(crate) count: u32,
 }
 
-/// The command that a line is, or its first fault: a bad word, by words from the left, or words left over.
+/// A command with its arguments.
+#[derive(Clone, Copy)]
+pub(crate) struct Command {
+    pub(crate) verb: Verb,
+    pub(crate) given: Arguments,
+}
+
+/// The command that a line is, or its first fault: a bad word, by words from the left, or words
+/// left over. With images the line is one of a transcript, and an address may be a label of its
+/// node.
 #[tactic(auto, unfolding(crate::specs::Command::command_in))]
-pub(crate) fn command_in(line: &str) -> Result<Command, DebugError>
-    ensures { result ≡ command_in line.now }
+pub(crate) fn command_in(images: Option<&Images>, line: &str) -> Result<Command, DebugError>
+    ensures { result ≡ command_in (option_map (λ images. images.now) images.entry) line.now }
 {
     let mut words = Pieces::new(line, ' ');
-    let command = command_first(&mut words)?;
+    let scope = match images {
+        Some(_) => Scope::Transcripts,
+        None => Scope::Sessions,
+    };
+    let command = command_first(scope, images, &mut words)?;
     match words.next() {
         None => Ok(command),
         Some(_) => Err(DebugError::BadCommand),
@@ -35,101 +50,109 @@ pub(crate) fn command_in(line: &str) -> Result<Command, DebugError>
 
 /// The command that words begin with.
 #[tactic(auto, unfolding(crate::specs::Command::command_first))]
-fn command_first(words: &mut Pieces<'_>) -> Result<Command, DebugError>
-    ensures { Reads (command_first words.old) result words.new }
+pub(crate) fn command_first(
+    scope: Scope,
+    images: Option<&Images>,
+    words: &mut Pieces<'_>,
+) -> Result<Command, DebugError>
+    ensures { Reads (command_first scope (images_in images.entry) words.old) result words.new }
 {
     let Some(word) = words.next() else {
         return Err(DebugError::BadCommand);
     };
-    if let Some(verb) = verb_of(word.as_bytes()) {
-        let action = arguments(verb, words)?;
-        return Ok(Command::Act(action));
-    }
-    let Some(view) = view_of(word.as_bytes()) else {
+    let Some(verb) = verb_named(scope, word.as_bytes()) else {
         return Err(DebugError::BadCommand);
     };
-    let node = node_first(words)?;
-    Ok(Command::Show(view, node))
+    let given = read_all(images, verb.row().shapes, words)?;
+    Ok(Command { verb, given })
 }
 
-/// The action that words begin with.
-#[tactic(auto, unfolding(crate::specs::Command::action_first))]
-pub(crate) fn action_first(words: &mut Pieces<'_>) -> Result<Action, DebugError>
-    ensures { Reads (action_first words.old) result words.new }
+/// No arguments: node 000, address 000, the side right, no turn.
+fn nothing() -> Arguments
+    ensures { result ≡ NOTHING }
 {
-    let Some(word) = words.next() else {
-        return Err(DebugError::BadCommand);
-    };
-    let Some(verb) = verb_of(word.as_bytes()) else {
-        return Err(DebugError::BadCommand);
-    };
-    arguments(verb, words)
-}
-
-/// An action behind its name.
-#[tactic(auto, unfolding(crate::specs::Command::arguments))]
-fn arguments(verb: Verb, words: &mut Pieces<'_>) -> Result<Action, DebugError>
-    ensures { Reads (arguments verb words.old) result words.new }
-{
-    match verb {
-        Verb::Break => {
-            let node = node_first(words)?;
-            let address = address_first(words)?;
-            Ok(Action::Break { node, address })
-        }
-        Verb::Clear => {
-            let node = node_first(words)?;
-            let address = address_first(words)?;
-            Ok(Action::Clear { node, address })
-        }
-        Verb::Pass => {
-            let node = node_first(words)?;
-            Ok(Action::Pass { node })
-        }
-        Verb::Try => {
-            let node = node_first(words)?;
-            let side = side_first(words)?;
-            Ok(Action::Try { node, side })
-        }
-        Verb::Turn => {
-            let count = count_first(words)?;
-            Ok(Action::Turn { count })
-        }
+    Arguments {
+        node: Node::at(0),
+        address: Address::zero(),
+        side: Side::Right,
+        count: 0,
     }
 }
 
-fn node_first(words: &mut Pieces<'_>) -> Result<Node, DebugError>
-    ensures { Reads (node_first words.old) result words.new }
+/// The arguments of these shapes that words begin with.
+fn read_all(
+    images: Option<&Images>,
+    shapes: &[Shape],
+    words: &mut Pieces<'_>,
+) -> Result<Arguments, DebugError>
+    ensures { Reads (all_read (images_in images.entry) shapes.now NOTHING words.old)
+        result words.new }
 {
-    let Some(word) = words.next() else {
-        return Err(DebugError::BadNode);
-    };
-    Node::from_digits(word.as_bytes()).ok_or(DebugError::BadNode)
+    let mut given = nothing();
+    for shape in shapes {
+        given = read_shape(images, *shape, given, words)?;
+    }
+    Ok(given)
 }
 
-fn address_first(words: &mut Pieces<'_>) -> Result<Address, DebugError>
-    ensures { Reads (address_first words.old) result words.new }
+/// One more argument, behind those that are given.
+fn read_shape(
+    images: Option<&Images>,
+    shape: Shape,
+    given: Arguments,
+    words: &mut Pieces<'_>,
+) -> Result<Arguments, DebugError>
+    ensures { Reads (shape_read (images_in images.entry) shape given words.old)
+        result words.new }
 {
-    let Some(word) = words.next() else {
-        return Err(DebugError::BadAddress);
-    };
-    address_of(word.as_bytes()).ok_or(DebugError::BadAddress)
+    match (words.next(), shape) {
+        (Some(word), _) => read_word(images, shape, given, word).ok_or(fault_of(shape)),
+        (None, Shape::CountIf) => Ok(Arguments {
+            count: 1_000_000,
+            ..given
+        }),
+        (None, _) => Err(fault_of(shape)),
+    }
 }
 
-fn side_first(words: &mut Pieces<'_>) -> Result<Side, DebugError>
-    ensures { Reads (first_word side_of BadSide words.old) result words.new }
+/// One more argument, which is this word.
+fn read_word(
+    images: Option<&Images>,
+    shape: Shape,
+    given: Arguments,
+    word: &str,
+) -> Option<Arguments>
+    ensures { result ≡ word_read (images_in images.entry) shape given word.now }
 {
-    let Some(word) = words.next() else {
-        return Err(DebugError::BadSide);
-    };
-    side_of(word.as_bytes()).ok_or(DebugError::BadSide)
+    let mut given = given;
+    match shape {
+        Shape::Node => given.node = Node::from_digits(word.as_bytes())?,
+        Shape::Address => given.address = address_in(images, given.node, word)?,
+        Shape::Side => given.side = side_of(word.as_bytes())?,
+        Shape::Count | Shape::CountIf => given.count = count_of(word.as_bytes())?,
+    }
+    Some(given)
 }
 
-fn count_first(words: &mut Pieces<'_>) -> Result<u32, DebugError>
-    ensures { Reads (first_word count_of BadCount words.old) result words.new }
+/// What a word is that hasn't its shape.
+fn fault_of(shape: Shape) -> DebugError
+    ensures { result ≡ fault_of shape }
 {
-    let Some(word) = words.next() else {
-        return Err(DebugError::BadCount);
-    };
-    count_of(word.as_bytes()).ok_or(DebugError::BadCount)
+    match shape {
+        Shape::Node => DebugError::BadNode,
+        Shape::Address => DebugError::BadAddress,
+        Shape::Side => DebugError::BadSide,
+        Shape::Count | Shape::CountIf => DebugError::BadCount,
+    }
+}
+
+/// The address that a word is: three hex digits, or else a label of the node.
+fn address_in(images: Option<&Images>, node: Node, word: &str) -> Option<Address>
+    ensures { result ≡ address_in (images_in images.entry) node word.now }
+{
+    if let Some(address) = address_of(word.as_bytes()) {
+        return Some(address);
+    }
+    let address = images?.image_of(node)?.address_of(word)?;
+    Address::new(u16::from(address))
 }

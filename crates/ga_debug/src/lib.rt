@@ -1,10 +1,11 @@
 //! Sessions with a chip: commands by lines of text, and their replies.
 #![tactic(auto)]
 
-mod action;
 mod address;
 mod beginning;
+mod breaks;
 mod command;
+mod commands;
 mod error;
 mod head;
 pub mod laws;
@@ -12,7 +13,9 @@ mod pieces;
 mod profile;
 mod replay_error;
 mod replaying;
+mod row;
 mod session;
+mod until;
 mod word;
 
 pub use address::Address;
@@ -21,5 +24,4 @@ pub use error::DebugError;
 pub use pieces::Pieces;
 pub use replay_error::ReplayError;
 pub use replaying::replay;
-pub use session::{Session, reply_into};
-pub use word::{address_of, count_of};
+pub use session::{Session, reply_into, reply_or_refusal};

@@ -1,10 +1,11 @@
-#![tactic(auto, unfolding(crate::specs::Profile::answer_as, crate::specs::Profile::after_as))]
+#![tactic(auto, unfolding(crate::specs::Profile::did_as))]
 
 ghost use Rattle.std.specs.Prelude.{◌≡◌, ◌<◌, ℕ, false, true};
 ghost use Rattle.ga_place.specs.Cell.{name_at};
-ghost use Rattle.ga_debug.specs.Profile.{after_as, answer_as, tried_in_profile_1, turn_in_profile_1, turns_in_profile_1, is_left_out, profile_in, profile_line};
+ghost use Rattle.ga_debug.specs.Profile.{did_as, tried_in_profile_1, turn_in_profile_1, turns_in_profile_1, is_left_out, profile_in, profile_line};
 
-use crate::action::{Action, Answer, perform};
+use crate::command::Arguments;
+use crate::commands::{Action, Answer, perform};
 use crate::error::DebugError;
 use crate::pieces::Pieces;
 use ga_chip::{Chip, Outcome, Try, side_of_turn};
@@ -14,7 +15,8 @@ use ga_place::{Node, Side};
 /// The profile of a replay text.
 #[derive(Clone, Copy)]
 pub(crate) enum Profile {
-    /// The chip without extended mode: a node that is about to fetch with bit 9 of P set counts as stopped.
+    /// The chip without extended mode: a node that is about to fetch with bit 9 of P set counts as
+    /// stopped.
     One,
     /// The chip as it is.
     Two,
@@ -49,21 +51,21 @@ pub(crate) fn perform_as(
     chip: &mut Chip,
     profile: Profile,
     action: Action,
+    given: Arguments,
 ) -> Result<Answer, DebugError>
-    ensures answer { result ≡ answer_as profile action chip.old }
-    ensures chip { chip.new ≡ after_as profile action chip.old }
+    ensures { (result, chip.new) ≡ did_as profile action given chip.old }
 {
+    let Arguments {
+        node,
+        side,
+        count,
+        ..
+    } = given;
     match (profile, action) {
-        (Profile::One, Action::Pass { node }) if is_left_out(chip, node) => Err(
-            DebugError::NotHeld,
-        ),
-        (Profile::One, Action::Try { node, side }) => Ok(Answer::Tried(try_in_profile_1(
-            chip, node, side,
-        ))),
-        (Profile::One, Action::Turn { count }) => Ok(Answer::Moved(turns_in_profile_1(
-            chip, count,
-        ))),
-        _ => perform(chip, action),
+        (Profile::One, Action::Pass) if is_left_out(chip, node) => Err(DebugError::NotHeld),
+        (Profile::One, Action::Try) => Ok(Answer::Tried(try_in_profile_1(chip, node, side))),
+        (Profile::One, Action::Turn) => Ok(Answer::Moved(turns_in_profile_1(chip, count))),
+        _ => perform(chip, action, given),
     }
 }
 
@@ -86,8 +88,8 @@ fn try_in_profile_1(chip: &mut Chip, node: Node, side: Side) -> Outcome
     chip.attempt(Try { node, side })
 }
 
-/// Turns in the first profile, so many. Answers how many steps they made. Turns that would change nothing, since
-/// the last ones with each side have not, are left out.
+/// Turns in the first profile, so many. Answers how many steps they made. Turns that would change
+/// nothing, since the last ones with each side have not, are left out.
 fn turns_in_profile_1(chip: &mut Chip, count: u32) -> u64
     ensures { (result, chip.new) ≡ turns_in_profile_1 count 0 0 chip.old }
 {

@@ -9,8 +9,8 @@ use ga_source::SourceError;
 use std::alloc::{AllocError, AllocFailed};
 use thiserror::Error;
 
-/// Why a replay text is refused. Lines are counted from 1, from the text's first line; inside `Source` and `Asm`
-/// from the first source line. (The texts are this project's own: profile.)
+/// Why a replay text is refused. Lines are counted from 1, from the text's first line; inside
+/// `Source` and `Asm` from the first source line. (The texts are this project's own: profile.)
 #[derive(Clone, Copy, Debug, PartialEq, Eq, Error)]
 pub enum ReplayError {
     /// The first line isn't `profile 2`; of `replay`, it is neither that nor `profile 1`.

@@ -1,16 +1,17 @@
 ghost use Rattle.std.specs.Prelude.{◌≡◌, ◌+◌, ◌<◌, ◌≤◌, ◌^◌, IfErr, IfOk, Err, Ok, length};
 ghost use Rattle.ga_asm.specs.Text.{AtMostOne};
 ghost use Rattle.ga_debug.specs.ReplayError.{Answers};
-ghost use Rattle.ga_debug.specs.Replaying.{IsReplayed, comparisons, fault_of_line, is_same, line_on, lines_on, same_outcome, stated_answer, word_behind_sign};
+ghost use Rattle.ga_debug.specs.Replaying.{IsReplayed, comparisons, fault_of_line, is_same, line_on, lines_on, same_outcome, stated_answer, statement_in, word_behind_sign};
 
-use crate::action::{Action, Answer};
 use crate::beginning::chip_after;
-use crate::command::action_first;
+use crate::command::{Arguments, command_first};
+use crate::commands::{Action, Answer, Verb};
 use crate::error::DebugError;
 use crate::head::head_of;
 use crate::pieces::Pieces;
 use crate::profile::{Profile, perform_as, profile_of};
 use crate::replay_error::ReplayError;
+use crate::row::{Scope, States};
 use crate::word::{decimal_of, outcome_of};
 use ga_chip::{Chip, Outcome};
 use std::alloc::Global;
@@ -35,14 +36,23 @@ impl From<LineError> for ReplayError {
     }
 }
 
-/// Does the commands of a replay text on the chip that its head leads to, and compares what comes of each with
-/// what its line states. Answers how many stated outcomes were compared, or the first fault: of the head, or
-/// line by line [`ReplayError::Bad`] where the command is refused and [`ReplayError::Differs`] where something
-/// else came of it. It fails as [`ReplayError::Memory`] only where memory is refused, and takes time in
-/// proportion to the text, the tries and the turns.
+/// An action of a line, and what is stated of it.
+#[derive(Clone, Copy)]
+pub(crate) struct Statement {
+    action: Action,
+    given: Arguments,
+    stated: Answer,
+}
+
+/// Does the commands of a replay text on the chip that its head leads to, and compares what comes
+/// of each with what its line states. Answers how many stated outcomes were compared, or the first
+/// fault: of the head, or line by line [`ReplayError::Bad`] where the command is refused and
+/// [`ReplayError::Differs`] where something else came of it. It fails as [`ReplayError::Memory`]
+/// only where memory is refused, and takes time in proportion to the text, the tries and the turns.
 ///
-/// A text whose first line is `profile 1` speaks of the chip without extended mode: a node that is about to fetch with
-/// bit 9 of P set counts as stopped. Each other text is one of profile 2. (The texts are this project's own: profile.)
+/// A text whose first line is `profile 1` speaks of the chip without extended mode: a node that is
+/// about to fetch with bit 9 of P set counts as stopped. Each other text is one of profile 2. (The
+/// texts are this project's own: profile.)
 #[tactic(auto, using(crate::proofs::OneReplay::one_replayed))]
 pub fn replay(alloc: Global, text: &str) -> Result<u64, ReplayError>
     ensures replayed { Answers (λ count. count) (IsReplayed text.now) result }
@@ -71,7 +81,7 @@ fn follow(mut chip: Chip, profile: Profile, first: u64, lines: Pieces<'_>) -> Re
 }
 
 /// One line, with its number. Answers how many outcomes were compared, one at most.
-#[tactic(auto, unfolding(crate::specs::Replaying::line_on, crate::specs::Replaying::statement_in))]
+#[tactic(auto, unfolding(crate::specs::Replaying::line_on))]
 fn line_on(chip: &mut Chip, profile: Profile, line: u64, text: &str) -> Result<u64, LineError>
     ensures holds { IfOk result (λ more.
         line_on profile line chip.old text.now ≡ Ok (more, chip.new)) }
@@ -81,18 +91,13 @@ fn line_on(chip: &mut Chip, profile: Profile, line: u64, text: &str) -> Result<u
     if text.is_empty() {
         return Ok(0);
     }
-    let mut words = Pieces::new(text, ' ');
-    let action = match action_first(&mut words) {
-        Ok(action) => action,
+    let statement = match statement_in(text) {
+        Ok(statement) => statement,
         Err(fault) => return Err(LineError::Bad(line, fault)),
     };
-    let stated = match stated_answer(&action, &mut words) {
-        Ok(stated) => stated,
-        Err(fault) => return Err(LineError::Bad(line, fault)),
-    };
-    match perform_as(chip, profile, action) {
+    match perform_as(chip, profile, statement.action, statement.given) {
         Ok(answer) => {
-            if !is_same(answer, stated) {
+            if !is_same(answer, statement.stated) {
                 return Err(LineError::Differs(line));
             }
             Ok(comparisons(answer))
@@ -101,27 +106,46 @@ fn line_on(chip: &mut Chip, profile: Profile, line: u64, text: &str) -> Result<u
     }
 }
 
-/// What is stated behind an action.
-#[tactic(auto, unfolding(crate::specs::Replaying::stated_answer))]
-fn stated_answer(action: &Action, words: &mut Pieces<'_>) -> Result<Answer, DebugError>
-    ensures { result ≡ stated_answer action.now words.old }
+/// The action of a line, and what is stated of it.
+#[tactic(auto, unfolding(crate::specs::Replaying::statement_in))]
+fn statement_in(line: &str) -> Result<Statement, DebugError>
+    ensures { result ≡ statement_in line.now }
 {
-    match action {
-        Action::Try { .. } => {
+    let mut words = Pieces::new(line, ' ');
+    let command = command_first(Scope::Replays, None, &mut words)?;
+    // no command of replays shows anything
+    let Verb::Act(action) = command.verb else {
+        return Err(DebugError::BadCommand);
+    };
+    let stated = stated_answer(command.verb.row().states, &mut words)?;
+    Ok(Statement {
+        action,
+        given: command.given,
+        stated,
+    })
+}
+
+/// What is stated of an action.
+#[tactic(auto, unfolding(crate::specs::Replaying::stated_answer))]
+fn stated_answer(states: States, words: &mut Pieces<'_>) -> Result<Answer, DebugError>
+    ensures { result ≡ stated_answer states words.old }
+{
+    match states {
+        States::Outcome => {
             let word = word_behind_sign(words)?;
             match outcome_of(word.as_bytes()) {
                 Some(outcome) => Ok(Answer::Tried(outcome)),
                 None => Err(DebugError::BadCommand),
             }
         }
-        Action::Turn { .. } => {
+        States::Steps => {
             let word = word_behind_sign(words)?;
             match decimal_of(word.as_bytes(), 9) {
                 Some(steps) => Ok(Answer::Moved(u64::from(steps))),
                 None => Err(DebugError::BadCommand),
             }
         }
-        Action::Break { .. } | Action::Clear { .. } | Action::Pass { .. } => match words.next() {
+        States::Nothing => match words.next() {
             None => Ok(Answer::Done),
             Some(_) => Err(DebugError::BadCommand),
         },
@@ -169,7 +193,7 @@ fn comparisons(answer: Answer) -> u64
     ensures one { result ≤ 1 }
 {
     match answer {
-        Answer::Done => 0,
         Answer::Tried(_) | Answer::Moved(_) => 1,
+        Answer::Done | Answer::Reached(_) => 0,
     }
 }

@@ -1,15 +1,14 @@
-ghost use Rattle.std.specs.Prelude.{◌≡◌, ◌⊎◌, IfErr, IfOk, OnErr, OnOk, Err, Ok, string_bytes};
-ghost use Rattle.ga_debug.specs.Session.{after_line, reply_to, view_text, without_line_end};
+ghost use Rattle.std.specs.Prelude.{◌≡◌, ◌⊎◌, IfErr, IfOk, None, OnErr, OnOk, Err, Ok, option_map, string_bytes};
+ghost use Rattle.ga_debug.specs.Session.{replied, text_or_refusal};
 ghost use Rattle.ga_debug.specs.declared.error.DebugError.TheVariants.{Memory};
 
-use crate::action::{ANSWER_LENGTH, perform, push_answer};
-use crate::command::{Command, command_in};
+use crate::command::command_in;
+use crate::commands::{ANSWER_LENGTH, Verb, note_of, perform, push_answer, show};
 use crate::error::DebugError;
-use crate::word::View;
+use ga_asm::Images;
 use ga_chip::Chip;
-use ga_dump::{ledger_text, memory_text};
-use ga_place::Node;
 use std::alloc::{AllocError, Global};
+use std::fmt::Write;
 use std::marker::Model;
 
 /// A chip that is looked into, stopped and gone on with by commands. A contract sees the chip.
@@ -39,59 +38,81 @@ impl Session {
 
     /// The reply to a command, without an LF at its end.
     pub fn command(&mut self, alloc: Global, line: &str) -> Result<String, DebugError>
-        ensures reply { IfOk result (λ text. reply_to line.now self.old ≡ Ok (string_bytes text)) }
+        ensures replied { IfOk result (λ text.
+            replied None line.now self.old ≡ (Ok (string_bytes text), self.new)) }
         ensures refused { IfErr result (λ error. (error ≡ Memory)
-            ⊎ (reply_to line.now self.old ≡ Err error)) }
-        ensures chip { OnOk result (self.new ≡ after_line line.now self.old) }
+            ⊎ (replied None line.now self.old ≡ (Err error, self.old))) }
         ensures same { OnErr result (self.new ≡ self.old) }
     {
         let mut text = String::new(alloc);
-        reply_into(alloc, &mut text, &mut self.chip, line)?;
+        reply_into(alloc, &mut text, &mut self.chip, None, line)?;
         Ok(text)
     }
 }
 
-/// Puts the reply of a chip to a command, without an LF at its end, in the place of a text: what a session over the chip
-/// replies, and does to it. It is refused as a command of a session is, and as [`DebugError::Memory`] only where memory
-/// is refused; chip and text are then as they were.
+/// Puts the reply of a chip to a command, without an LF at its end, in the place of a text. With
+/// images the command is one of a transcript, whose head they are of; without, one of a session. It
+/// fails as [`DebugError::Memory`] only where memory is refused; where it fails, chip and text are
+/// as they were.
 pub fn reply_into(
     alloc: Global,
     text: &mut String,
     chip: &mut Chip,
+    images: Option<&Images>,
     line: &str,
 ) -> Result<(), DebugError>
-    ensures reply { OnOk result (reply_to line.now chip.old ≡ Ok (string_bytes text.new)) }
+    ensures replied { OnOk result (
+        replied (option_map (λ images. images.now) images.entry) line.now chip.old
+        ≡ (Ok (string_bytes text.new), chip.new)) }
     ensures refused { IfErr result (λ error. (error ≡ Memory)
-        ⊎ (reply_to line.now chip.old ≡ Err error)) }
-    ensures chip { OnOk result (chip.new ≡ after_line line.now chip.old) }
+        ⊎ (replied (option_map (λ images. images.now) images.entry) line.now chip.old
+        ≡ (Err error, chip.old))) }
     ensures same { OnErr result (chip.new ≡ chip.old) }
     ensures same_text { OnErr result (string_bytes text.new ≡ string_bytes text.old) }
 {
-    match command_in(line)? {
-        Command::Act(action) => {
+    let command = command_in(images, line)?;
+    match command.verb {
+        Verb::Act(action) => {
             // Before the action, so that it is refused as a whole.
+            let note = note_of(alloc, images, action, command.given)?;
             text.reserve(ANSWER_LENGTH)?;
-            let answer = perform(chip, action)?;
+            let answer = perform(chip, action, command.given)?;
             text.clear();
             push_answer(text, answer);
+            text.push_str(note).unwrap();
         }
-        Command::Show(view, node) => *text = view_text(alloc, chip, view, node)?,
+        Verb::Show(view) => *text = show(alloc, chip, images, view, command.given)?,
     }
     Ok(())
 }
 
-/// What a view shows of a node, without the last LF.
-fn view_text(alloc: Global, chip: &Chip, view: View, node: Node) -> Result<String, AllocError>
-    ensures { IfOk result (λ text. string_bytes text
-        ≡ without_line_end (view_text view node chip.now)) }
+/// Puts the reply to a command in the place of a text, as [`reply_into`], and a refusal as
+/// `refused` and its name. It fails only where memory is refused, and the chip is then as it was.
+pub fn reply_or_refusal(
+    alloc: Global,
+    text: &mut String,
+    chip: &mut Chip,
+    images: Option<&Images>,
+    line: &str,
+) -> Result<(), AllocError>
+    ensures text { OnOk result (string_bytes text.new ≡ text_or_refusal
+        (replied (option_map (λ images. images.now) images.entry) line.now chip.old).0) }
+    ensures chip { OnOk result (chip.new
+        ≡ (replied (option_map (λ images. images.now) images.entry) line.now chip.old).1) }
+    ensures same { OnErr result (chip.new ≡ chip.old) }
 {
-    let mut text = match view {
-        View::Regs => chip.state(node).line(alloc)?,
-        View::Mem => memory_text(alloc, chip.state(node))?,
-        View::Ports => ledger_text(alloc, chip, node)?,
-    };
-    if text.as_bytes().last() == Some(&b'\n') {
-        text.truncate(text.len() - 1);
+    match reply_into(alloc, text, chip, images, line) {
+        Ok(()) => Ok(()),
+        Err(DebugError::Memory) => Err(AllocError),
+        Err(fault) => refusal(text, fault),
     }
-    Ok(text)
+}
+
+/// Puts a refusal in the place of a text.
+fn refusal(text: &mut String, fault: DebugError) -> Result<(), AllocError>
+    ensures { OnOk result (string_bytes text.new ≡ text_or_refusal (Err fault)) }
+{
+    text.clear();
+    write!(text, "refused {}", fault.name())?;
+    Ok(())
 }

@@ -1,59 +1,13 @@
 ghost use Rattle.std.specs.Prelude.{◌≡◌, ◌<◌, ℕ, IfSome, None, Some, if◌then◌else◌};
 ghost use Rattle.std.specs.Char.{digit_value, is_digit};
-ghost use Rattle.ga_debug.specs.Word.{address_of, count_of, decimal_of, outcome_of, side_of, verb_of, view_of};
+ghost use Rattle.ga_debug.specs.Word.{address_of, count_of, decimal_of, outcome_of, side_of};
 
 use crate::address::Address;
 use ga_chip::Outcome;
 use ga_place::Side;
 
-/// A command that does something to the chip.
-#[derive(Clone, Copy)]
-pub(crate) enum Verb {
-    Break,
-    Clear,
-    Pass,
-    Try,
-    Turn,
-}
-
-/// A command that shows something of a node.
-#[derive(Clone, Copy)]
-pub(crate) enum View {
-    Regs,
-    Mem,
-    Ports,
-}
-
-/// The action that a word names.
-pub(crate) fn verb_of(word: &[u8]) -> Option<Verb>
-    ensures { result ≡ verb_of word.now }
-{
-    let verb = match word {
-        b"break" => Verb::Break,
-        b"clear" => Verb::Clear,
-        b"pass" => Verb::Pass,
-        b"try" => Verb::Try,
-        b"turn" => Verb::Turn,
-        _ => return None,
-    };
-    Some(verb)
-}
-
-/// The view that a word names.
-pub(crate) fn view_of(word: &[u8]) -> Option<View>
-    ensures { result ≡ view_of word.now }
-{
-    let view = match word {
-        b"regs" => View::Regs,
-        b"mem" => View::Mem,
-        b"ports" => View::Ports,
-        _ => return None,
-    };
-    Some(view)
-}
-
 /// The address that a word is, in three hex digits of either case, up to 1FF.
-pub fn address_of(word: &[u8]) -> Option<Address>
+pub(crate) fn address_of(word: &[u8]) -> Option<Address>
     ensures { result ≡ address_of word.now }
 {
     let [a, b, c] = word else {
@@ -108,7 +62,7 @@ pub(crate) fn decimal_of(word: &[u8], most: usize) -> Option<u32>
 }
 
 /// The count of turns that a word is, in one to seven decimal digits, up to 1000000.
-pub fn count_of(word: &[u8]) -> Option<u32>
+pub(crate) fn count_of(word: &[u8]) -> Option<u32>
     ensures { result ≡ count_of word.now }
 {
     let number = decimal_of(word, 7)?;

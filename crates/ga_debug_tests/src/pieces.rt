@@ -1,8 +1,8 @@
 //! A tree that is booted in pieces: its leaf is loaded before it starts.
 use crate::rings::plan_of;
-use ga_boot_example::{PlannedRun, leaf_is_loaded};
 use ga_chip::Chip;
 use ga_group::Open;
+use ga_law_examples::{PlannedRun, leaf_is_loaded};
 use ga_place::{Node, Side};
 use ga_test_values::{array, nodes};
 use std::alloc::Global;
@@ -42,17 +42,12 @@ fn is_held(chip: &Chip) -> Result<bool, Fail> {
 // then, and the next boot may do better.
 #[test]
 fn a_leaf_is_loaded_in_pieces(rt: HostRuntime) -> Result<(), Fail> {
-    for _ in 0..20 {
+    assert!(rt; loaded(&rt, rt.alloc(), 0)?.is_none());
+    for _ in 0..500 {
         if let Some(chip) = loaded(&rt, rt.alloc(), 200_000)? {
             assert!(rt; is_held(&chip)?);
             return Ok(());
         }
     }
     Err("710 isn't loaded")?
-}
-
-#[test]
-fn a_leaf_needs_turns(rt: HostRuntime) -> Result<(), Fail> {
-    assert!(rt; loaded(&rt, rt.alloc(), 0)?.is_none());
-    Ok(())
 }

@@ -1,5 +1,5 @@
 //! Workers in threads: a ring of four nodes ends alike with one worker, with two and with four.
-use ga_asm::{Images, assemble};
+use ga_asm::assemble_text;
 use ga_chip::Chip;
 use ga_debug::booted_tree;
 use ga_dump::node_text;
@@ -8,7 +8,6 @@ use ga_law_examples::after_run;
 use ga_node::NodeState;
 use ga_path::{Route, Tree};
 use ga_place::Node;
-use ga_source::parse;
 use ga_test_values::nodes;
 use std::alloc::Global;
 use std::sync::atomic::{AtomicBool, AtomicU32, Ordering};
@@ -24,15 +23,10 @@ node 609 down a! right b! @ $1 + !b jump warm
 node 608 right a! down b! @ $1 + !b jump warm
 ";
 
-/// The images of the four nodes.
-fn images(alloc: Global) -> Result<Images, Fail> {
-    Ok(assemble(alloc, &parse(alloc, RING)?)?)
-}
-
 /// The ring on a chip that is about to boot.
 fn ring(alloc: Global, nodes: &[Node; 4]) -> Result<Chip, Fail> {
     let tree = Tree::new(alloc, &[Route::new(alloc, nodes)?])?;
-    let images = images(alloc)?;
+    let images = assemble_text(alloc, RING)?;
     Ok(booted_tree(alloc, &tree, &images)?)
 }
 
@@ -166,8 +160,8 @@ impl Gate for Meeting {
     }
 }
 
-/// Whether so many workers, who have a node each, run at once: each comes to its first turn while the
-/// others wait in theirs.
+/// Whether so many workers, who have a node each, run at once: each comes to its first turn while
+/// the others wait in theirs.
 fn overlap<R: Threads + Sync>(
     rt: &R,
     alloc: Global,

@@ -1,4 +1,5 @@
--- The items that are printed stand alone, so they are laid as the words that were printed, without a fault.
+-- The items that are printed stand alone, so they are laid as the words that were printed, without
+-- a fault.
 use Rattle.std.proofs.Common.{◌≡◌, ◌∙◌, ◌<◌, ◌≤◌, ◌+◌, ℕ, zero, suc, Bool, true, false, List, [], ◌∷◌, ◌++◌, length, Option, Some, None, refl, sym, ap, subst, arith}
 use Rattle.std.proofs.lemmas.Bool.{and_from, le-ltb}
 use Rattle.std.proofs.lemmas.List.Elements.{All-head, All-tail}
@@ -51,88 +52,152 @@ abbrev count : List Item → ℕ
 count [] = 0
 count (i ∷ is) = size (Alone i) + count is
 
-arranged : (labels : Labels) (address : ℕ) (is : List Item) → AreTame is → Arrangement labels address (alone is)
+arranged : (labels : Labels) (address : ℕ) (is : List Item) → AreTame is
+    → Arrangement labels address (alone is)
 unfolding Arrangement
 arranged labels address [] tame = tt
-arranged labels address (i ∷ is) tame =
-    (tame.0.alone, subst (λ (l : Labels). Arrangement l (address + size (Alone i)) (alone is)) (sym (tame.0.keeps labels address)) (arranged labels (address + size (Alone i)) is tame.1))
+arranged labels address (i ∷ is) tame = (
+  tame.0.alone,
+  subst (λ (l : Labels). Arrangement l (address + size (Alone i)) (alone is))
+      (sym (tame.0.keeps labels address)) (arranged labels (address + size (Alone i)) is tame.1),
+)
 
 stands : (is : List Item) → AreTame is → StandIn is (alone is)
 stands is tame = record { in_order = alone_items is; arranged = arranged [] 0 is tame }
 
-labels_kept : (labels : Labels) (address : ℕ) (is : List Item) → AreTame is → labels_after labels address (alone is) ≡ labels
+labels_kept : (labels : Labels) (address : ℕ) (is : List Item) → AreTame is
+    → labels_after labels address (alone is) ≡ labels
 labels_kept labels address [] tame = refl
-labels_kept labels address (i ∷ is) tame = ap (λ (l : Labels). labels_after l (address + size (Alone i)) (alone is)) (tame.0.keeps labels address) ∙ labels_kept labels (address + size (Alone i)) is tame.1
+labels_kept labels address (i ∷ is) tame =
+    ap (λ (l : Labels). labels_after l (address + size (Alone i)) (alone is))
+    (tame.0.keeps labels address) ∙ labels_kept labels (address + size (Alone i)) is tame.1
 
-address_counts : (address : ℕ) (is : List Item) → address_after address (alone is) ≡ address + count is
+address_counts : (address : ℕ) (is : List Item)
+    → address_after address (alone is) ≡ address + count is
 address_counts address [] = omega arith
 address_counts address (i ∷ is) = address_counts (address + size (Alone i)) is ∙ omega arith
 
-none_joins : (labels : Labels) (address : ℕ) (is : List Item) (x : Item) → joins_last labels address (alone is) x ≡ false
+none_joins : (labels : Labels) (address : ℕ) (is : List Item) (x : Item)
+    → joins_last labels address (alone is) x ≡ false
 none_joins labels address [] x = refl
 none_joins labels address (i ∷ []) x = refl
-none_joins labels address (i ∷ j ∷ is) x = none_joins (labels_behind labels address (Alone i)) (address + size (Alone i)) (j ∷ is) x
+none_joins labels address (i ∷ j ∷ is) x =
+    none_joins (labels_behind labels address (Alone i)) (address + size (Alone i)) (j ∷ is) x
 
-all_near : (labels : Labels) (address : ℕ) (is : List Item) → AreTame is → all_in_reach labels address (alone is) ≡ true
+all_near : (labels : Labels) (address : ℕ) (is : List Item) → AreTame is
+    → all_in_reach labels address (alone is) ≡ true
 all_near labels address [] tame = refl
-all_near labels address (i ∷ is) tame = and_from (is_in_reach labels address i) (all_in_reach labels (address + size (Alone i)) (alone is)) (tame.0.near labels address) (all_near labels (address + size (Alone i)) is tame.1)
+all_near labels address (i ∷ is) tame =
+    and_from (is_in_reach labels address i) (all_in_reach labels (address + size (Alone i))
+    (alone is)) (tame.0.near labels address) (all_near labels (address + size (Alone i)) is tame.1)
 
-all_defined : (names : List (List ℕ)) (is : List Item) → AreTame is → list_all (is_defined names) is ≡ true
+all_defined : (names : List (List ℕ)) (is : List Item) → AreTame is
+    → list_all (is_defined names) is ≡ true
 all_defined names [] tame = refl
-all_defined names (i ∷ is) tame = and_from (is_defined names i) (list_all (is_defined names) is) (tame.0.defined names) (all_defined names is tame.1)
+all_defined names (i ∷ is) tame =
+    and_from (is_defined names i) (list_all (is_defined names) is) (tame.0.defined names)
+    (all_defined names is tame.1)
 
 -- ---- they have no fault up to 64 words
 
-no_fault : (names : List (List ℕ)) (before : List Item) (i : Item) → AreTame before → IsTame i → count before + size (Alone i) ≤ 64 → fault_behind names (alone before) i ≡ None
+no_fault : (names : List (List ℕ)) (before : List Item) (i : Item) → AreTame before → IsTame i
+    → count before + size (Alone i) ≤ 64 → fault_behind names (alone before) i ≡ None
 unfolding fault_behind
 no_fault names before i tame it room =
     let address = address_counts 0 before in
-    let few : nat_lt 64 (address_after 0 (alone before) + size (Alone i)) ≡ false = le-ltb 64 (address_after 0 (alone before) + size (Alone i)) (omega arith) in
-    rw (none_joins [] 0 before i, it.defined names, it.near (labels_after [] 0 (alone before)) (address_after 0 (alone before)), it.no_unext, it.adds, few) refl
+    let few : nat_lt 64 (address_after 0 (alone before) + size (Alone i)) ≡ false =
+    le-ltb 64 (address_after 0 (alone before) + size (Alone i)) (omega arith) in
+    rw (
+      none_joins [] 0 before i,
+      it.defined names,
+      it.near (labels_after [] 0 (alone before)) (address_after 0 (alone before)),
+      it.no_unext,
+      it.adds,
+      few,
+    ) refl
 
 tame_snoc : (before : List Item) (i : Item) → AreTame before → IsTame i → AreTame (before ++ i ∷ [])
 tame_snoc [] i tame it = (it, tt)
 tame_snoc (j ∷ before) i tame it = (tame.0, tame_snoc before i tame.1 it)
 
-count_snoc : (before : List Item) (i : Item) → count (before ++ i ∷ []) ≡ count before + size (Alone i)
+count_snoc : (before : List Item) (i : Item)
+    → count (before ++ i ∷ []) ≡ count before + size (Alone i)
 count_snoc [] i = omega arith
 count_snoc (j ∷ before) i = let e = count_snoc before i in omega arith
 
-passed : (names : List (List ℕ)) (before is : List Item) → AreTame before → AreTame is → count before + count is ≤ 64 → AllPass names before is
+passed : (names : List (List ℕ)) (before is : List Item) → AreTame before → AreTame is
+    → count before + count is ≤ 64 → AllPass names before is
 unfolding AllPass
 passed names before [] tame more room = tt
 passed names before (i ∷ is) tame more room =
     let e = count_snoc before i in (
-      record { groups = alone before; stand_in = stands before tame; fault_is = no_fault names before i tame more.0 (omega arith) },
+      record {
+        groups = alone before;
+        stand_in = stands before tame;
+        fault_is = no_fault names before i tame more.0 (omega arith);
+      },
       passed names (before ++ i ∷ []) is (tame_snoc before i tame more.0) more.1 (omega arith),
     )
 
 -- ---- the items that are printed
 
 bracketed_tame : (ops : List Op) (dest : Option ℕ) (spare : ℕ) → IsTame (bracketed ops dest spare)
-bracketed_tame ops None spare = record { alone = refl; keeps = λ labels address. refl; near = λ labels address. refl; defined = λ names. refl; no_unext = refl; adds = refl }
-bracketed_tame ops (Some d) spare = record { alone = refl; keeps = λ labels address. refl; near = λ labels address. refl; defined = λ names. refl; no_unext = refl; adds = refl }
+bracketed_tame ops None spare = record {
+  alone = refl;
+  keeps = λ labels address. refl;
+  near = λ labels address. refl;
+  defined = λ names. refl;
+  no_unext = refl;
+  adds = refl;
+}
+bracketed_tame ops (Some d) spare = record {
+  alone = refl;
+  keeps = λ labels address. refl;
+  near = λ labels address. refl;
+  defined = λ names. refl;
+  no_unext = refl;
+  adds = refl;
+}
 
 plain_tame : (n : ℕ) → IsTame (Plain (Number n))
-plain_tame n = record { alone = refl; keeps = λ labels address. refl; near = λ labels address. refl; defined = λ names. refl; no_unext = refl; adds = refl }
+plain_tame n = record {
+  alone = refl;
+  keeps = λ labels address. refl;
+  near = λ labels address. refl;
+  defined = λ names. refl;
+  no_unext = refl;
+  adds = refl;
+}
 
 data_tame : IsTame grammar.Data
-data_tame = record { alone = refl; keeps = λ labels address. refl; near = λ labels address. refl; defined = λ names. refl; no_unext = refl; adds = refl }
+data_tame = record {
+  alone = refl;
+  keeps = λ labels address. refl;
+  near = λ labels address. refl;
+  defined = λ names. refl;
+  no_unext = refl;
+  adds = refl;
+}
 
 source_tame : (in_data : Bool) (items : List ItemView) → AreTame (source_items in_data items)
 source_tame in_data [] = tt
-source_tame in_data (Code reading ∷ items) = (bracketed_tame reading.ops reading.dest reading.spare, source_tame in_data items)
+source_tame in_data (Code reading ∷ items) =
+    (bracketed_tame reading.ops reading.dest reading.spare, source_tame in_data items)
 source_tame in_data (Follower word ∷ items) = (plain_tame word, source_tame in_data items)
 source_tame true (Data word ∷ items) = (plain_tame word, source_tame true items)
 source_tame false (Data word ∷ items) = (data_tame, (plain_tame word, source_tame true items))
 
-bracketed_size : (ops : List Op) (dest : Option ℕ) (spare : ℕ) → size (Alone (bracketed ops dest spare)) ≡ 1
+bracketed_size : (ops : List Op) (dest : Option ℕ) (spare : ℕ)
+    → size (Alone (bracketed ops dest spare)) ≡ 1
 bracketed_size ops None spare = refl
 bracketed_size ops (Some d) spare = refl
 
-source_count : (in_data : Bool) (items : List ItemView) → count (source_items in_data items) ≡ length items
+source_count : (in_data : Bool) (items : List ItemView)
+    → count (source_items in_data items) ≡ length items
 source_count in_data [] = refl
-source_count in_data (Code reading ∷ items) = let e = source_count in_data items in let one = bracketed_size reading.ops reading.dest reading.spare in omega arith
+source_count in_data (Code reading ∷ items) =
+    let e = source_count in_data items in
+    let one = bracketed_size reading.ops reading.dest reading.spare in omega arith
 source_count in_data (Follower word ∷ items) = let e = source_count in_data items in omega arith
 source_count true (Data word ∷ items) = let e = source_count true items in omega arith
 source_count false (Data word ∷ items) = let e = source_count true items in omega arith
@@ -141,54 +206,67 @@ items_count : (owed left : ℕ) (words : List ℕ) → length (items_from owed l
 unfolding items_from
 items_count owed left [] = refl
 items_count owed zero (word ∷ words) = ap suc (items_count owed zero words)
-items_count zero (suc left) (word ∷ words) = ap suc (items_count (followers (reading_of word).ops) left words)
+items_count zero (suc left) (word ∷ words) =
+    ap suc (items_count (followers (reading_of word).ops) left words)
 items_count (suc owed) (suc left) (word ∷ words) = ap suc (items_count owed left words)
 
 -- ---- their words
 
-data_words : (owed : ℕ) (words : List ℕ) → Words [] (alone (source_items true (items_from owed zero words))) words
+data_words : (owed : ℕ) (words : List ℕ)
+    → Words [] (alone (source_items true (items_from owed zero words))) words
 unfolding Words GroupWords items_from
 data_words owed [] = refl
 data_words owed (word ∷ words) = (word ∷ [], words, refl, data_words owed words, refl)
 
-source_words : (owed left : ℕ) (words : List ℕ) → All IsBelow words → Words [] (alone (source_items false (items_from owed left words))) words
+source_words : (owed left : ℕ) (words : List ℕ) → All IsBelow words
+    → Words [] (alone (source_items false (items_from owed left words))) words
 unfolding Words GroupWords items_from
 source_words owed left [] below = refl
-source_words owed zero (word ∷ words) below = ([], word ∷ words, refl, (word ∷ [], words, refl, data_words owed words, refl), refl)
+source_words owed zero (word ∷ words) below =
+    ([], word ∷ words, refl, (word ∷ [], words, refl, data_words owed words, refl), refl)
 source_words zero (suc left) (word ∷ words) below =
     let reading = reading_of word in
     let small = All-head IsBelow word words below in (
       word ∷ [],
       words,
-      bracket_word [] word reading.ops reading.dest reading.spare small (is_for [] (reading_of-reads word small)),
+      bracket_word [] word reading.ops reading.dest reading.spare small
+          (is_for [] (reading_of-reads word small)),
       source_words (followers reading.ops) left words (All-tail IsBelow word words below),
       refl,
     )
-source_words (suc owed) (suc left) (word ∷ words) below = (word ∷ [], words, refl, source_words owed left words (All-tail IsBelow word words below), refl)
+source_words (suc owed) (suc left) (word ∷ words) below =
+    (word ∷ [], words, refl, source_words owed left words (All-tail IsBelow word words below), refl)
 
-bracketed_end : (address : ℕ) (ops : List Op) (dest : Option ℕ) (spare : ℕ) (groups : List Group) → code_end address (Alone (bracketed ops dest spare) ∷ groups) ≡ code_end (address + 1) groups
+bracketed_end : (address : ℕ) (ops : List Op) (dest : Option ℕ) (spare : ℕ) (groups : List Group)
+    → code_end address (Alone (bracketed ops dest spare) ∷ groups) ≡ code_end (address + 1) groups
 bracketed_end address ops None spare groups = refl
 bracketed_end address ops (Some d) spare groups = refl
 
-source_end : (address owed left : ℕ) (words : List ℕ) → left ≤ length words → code_end address (alone (source_items false (items_from owed left words))) ≡ address + left
+source_end : (address owed left : ℕ) (words : List ℕ) → left ≤ length words
+    → code_end address (alone (source_items false (items_from owed left words))) ≡ address + left
 unfolding items_from
 source_end address owed zero [] within = omega arith
 source_end address owed (suc left) [] within = absurd (omega arith)
 source_end address owed zero (word ∷ words) within = omega arith
 source_end address zero (suc left) (word ∷ words) within =
     let reading = reading_of word in
-    bracketed_end address reading.ops reading.dest reading.spare (alone (source_items false (items_from (followers reading.ops) left words)))
+    bracketed_end address reading.ops reading.dest reading.spare
+    (alone (source_items false (items_from (followers reading.ops) left words)))
     ∙ source_end (address + 1) (followers reading.ops) left words (omega arith) ∙ omega arith
-source_end address (suc owed) (suc left) (word ∷ words) within = source_end (address + 1) owed left words (omega arith) ∙ omega arith
+source_end address (suc owed) (suc left) (word ∷ words) within =
+    source_end (address + 1) owed left words (omega arith) ∙ omega arith
 
 -- ---- the source text
 
-plain_placed : (places : List Place) (is : List Item) → map (λ (placed : PlacedItem). placed.item) (placed_items places is) ≡ is
+plain_placed : (places : List Place) (is : List Item)
+    → map (λ (placed : PlacedItem). placed.item) (placed_items places is) ≡ is
 unfolding placed_items
 plain_placed places [] = refl
-plain_placed places (i ∷ is) = ap (λ (t : List Item). i ∷ t) (plain_placed (drop (length (item_tokens i [])) places) is)
+plain_placed places (i ∷ is) =
+    ap (λ (t : List Item). i ∷ t) (plain_placed (drop (length (item_tokens i [])) places) is)
 
-module _ (code_len : ℕ) (words : List ℕ) (some : 0 < length words) (most : length words ≤ 64) (within : code_len ≤ length words) (below : All IsBelow words) where
+module _ (code_len : ℕ) (words : List ℕ) (some : 0 < length words)
+    (most : length words ≤ 64) (within : code_len ≤ length words) (below : All IsBelow words) where
   abbrev source : List Item
   source = source_items false (items_from 0 code_len words)
 
@@ -212,7 +290,9 @@ module _ (code_len : ℕ) (words : List ℕ) (some : 0 < length words) (most : l
     labels = [];
     code_len = code_len;
     laid = laid;
-    passed = (let e = source_count false (items_from 0 code_len words) in let n = items_count 0 code_len words in passed (names_in source) [] source tt tame (omega arith));
+    passed = (let e = source_count false (items_from 0 code_len words) in
+        let n = items_count 0 code_len words in
+        passed (names_in source) [] source tt tame (omega arith));
   }
 
   abbrev text : List ℕ
@@ -223,7 +303,10 @@ module _ (code_len : ℕ) (words : List ℕ) (some : 0 < length words) (most : l
 
   is_source_by : Source (tokens_of text) sections
   unfolding Source Sections text_of
-  is_source_by = (text_means (items_from 0 code_len words) (items_of_words 0 code_len words below), (refl, items_right code_len words some below, tt))
+  is_source_by = (
+    text_means (items_from 0 code_len words) (items_of_words 0 code_len words below),
+    (refl, items_right code_len words some below, tt),
+  )
 
   section : PlacedSection
   section = record { name = 0; items = placed_items (drop 2 (places_of text)) source }
@@ -261,7 +344,9 @@ module _ (code_len : ℕ) (words : List ℕ) (some : 0 < length words) (most : l
   }
 
 -- a text is that of items, which are those of words
-pub is_source_text : (printed : List ℕ) (items : List ItemView) → printed ≡ text_of items → (words : List ℕ) (code_len : ℕ) → FitNode words code_len → items ≡ items_from 0 code_len words
+pub is_source_text : (printed : List ℕ) (items : List ItemView) → printed ≡ text_of items
+    → (words : List ℕ) (code_len : ℕ) → FitNode words code_len → items ≡ items_from 0 code_len words
     → IsSourceOf (node_line ++ printed) words code_len
 is_source_text printed items e words code_len fit is =
-    subst (λ (t : List ℕ). IsSourceOf (node_line ++ t) words code_len) (sym (e ∙ ap text_of is)) (is_source code_len words fit.some fit.most fit.code_within fit.below)
+    subst (λ (t : List ℕ). IsSourceOf (node_line ++ t) words code_len) (sym (e ∙ ap text_of is))
+    (is_source code_len words fit.some fit.most fit.code_within fit.below)

@@ -16,7 +16,8 @@ use Rattle.ga_disasm.specs.Printing.{text_of}
 abbrev fill : ItemView
 fill = Code (record { ops = FetchP ∷ StorePlus ∷ Micronext ∷ Nop ∷ []; dest = None; spare = 0 })
 
-code_and_data : (items_of 2 (0x05872 ∷ 0x2C9B2 ∷ 0x00001 ∷ []) ≡ fill ∷ Follower 0x2C9B2 ∷ Data 1 ∷ [])
+code_and_data :
+    (items_of 2 (0x05872 ∷ 0x2C9B2 ∷ 0x00001 ∷ []) ≡ fill ∷ Follower 0x2C9B2 ∷ Data 1 ∷ [])
     -- the code part ends before the follower
     × (items_of 1 (0x05872 ∷ 0x2C9B2 ∷ 0x00001 ∷ []) ≡ fill ∷ Data 0x2C9B2 ∷ Data 1 ∷ [])
     -- no word is code
@@ -24,28 +25,34 @@ code_and_data : (items_of 2 (0x05872 ∷ 0x2C9B2 ∷ 0x00001 ∷ []) ≡ fill �
 unfolding items_from reading_of op_with
 code_and_data = (refl, refl, refl)
 
-code_and_data-text : (text_of (fill ∷ Follower 0x2C9B2 ∷ Data 1 ∷ []) ≡ codes "[ @p !+ unext . ]\n, $2C9B2\ndata\n, $00001\n")
-    × (text_of (fill ∷ Data 0x2C9B2 ∷ Data 1 ∷ []) ≡ codes "[ @p !+ unext . ]\ndata\n, $2C9B2\n, $00001\n")
+code_and_data-text : (text_of (fill ∷ Follower 0x2C9B2 ∷ Data 1 ∷ [])
+    ≡ codes "[ @p !+ unext . ]\n, $2C9B2\ndata\n, $00001\n") × (text_of
+    (fill ∷ Data 0x2C9B2 ∷ Data 1 ∷ []) ≡ codes "[ @p !+ unext . ]\ndata\n, $2C9B2\n, $00001\n")
 unfolding text_of hex_digits
 code_and_data-text = (refl, refl)
 
 -- the spare bits of a jump
-spare_bits : items_of 1 (0x10BD5 ∷ []) ≡ Code (record { ops = Jump ∷ []; dest = Some 0x3D5; spare = 2 }) ∷ []
+spare_bits : items_of 1 (0x10BD5 ∷ [])
+    ≡ Code (record { ops = Jump ∷ []; dest = Some 0x3D5; spare = 2 }) ∷ []
 unfolding items_from reading_of op_with
 spare_bits = refl
 
-spare_bits-text : text_of (Code (record { ops = Jump ∷ []; dest = Some 0x3D5; spare = 2 }) ∷ []) ≡ codes "[ jump $003D5 / 2 ]\n"
+spare_bits-text : text_of (Code (record { ops = Jump ∷ []; dest = Some 0x3D5; spare = 2 }) ∷ [])
+    ≡ codes "[ jump $003D5 / 2 ]\n"
 unfolding text_of hex_digits digits
 spare_bits-text = refl
 
 -- what stands behind `;` has no follower: `; @p . .`, and then another word of code
 behind_return : items_of 2 (0x15DB2 ∷ 0x2C9B2 ∷ [])
-    ≡ Code (record { ops = Return ∷ FetchP ∷ Nop ∷ Nop ∷ []; dest = None; spare = 0 }) ∷ Code (record { ops = Nop ∷ Nop ∷ Nop ∷ Nop ∷ []; dest = None; spare = 0 }) ∷ []
+    ≡ Code (record { ops = Return ∷ FetchP ∷ Nop ∷ Nop ∷ []; dest = None; spare = 0 })
+    ∷ Code (record { ops = Nop ∷ Nop ∷ Nop ∷ Nop ∷ []; dest = None; spare = 0 }) ∷ []
 unfolding items_from reading_of op_with
 behind_return = refl
 
 -- `dup drop 5 data , 7` are `dup drop @p .` with its follower, and data
-named : named_items [] (Shared (source.Instruction Dup) (source.Instruction Drop ∷ source.Literal 5 ∷ []) ∷ Alone source.Data ∷ Alone (source.Plain (source.Number 7)) ∷ [])
-    ≡ Code (record { ops = Dup ∷ Drop ∷ FetchP ∷ Nop ∷ []; dest = None; spare = 0 }) ∷ Follower 5 ∷ Data 7 ∷ []
+named : named_items [] (Shared (source.Instruction Dup) (source.Instruction Drop ∷ source.Literal 5
+    ∷ []) ∷ Alone source.Data ∷ Alone (source.Plain (source.Number 7)) ∷ [])
+    ≡ Code (record { ops = Dup ∷ Drop ∷ FetchP ∷ Nop ∷ []; dest = None; spare = 0 }) ∷ Follower 5
+    ∷ Data 7 ∷ []
 unfolding named_items
 named = refl

@@ -15,17 +15,19 @@ pub data ItemView : Type 0 where
 
 -- an item as definitions have it
 abbrev pub item_view : Item → ItemView
-item_view (item.Code packed) = Code (record { ops = packed.ops.items; dest = packed.dest; spare = packed.spare })
+item_view (item.Code packed) =
+    Code (record { ops = packed.ops.items; dest = packed.dest; spare = packed.spare })
 item_view (item.Follower word) = Follower word
 item_view (item.Data word) = Data word
 
--- The items of words, behind a word that is owed so many followers, where so many of the words are code. Each is
--- code, and as many words as it has followers are its followers, as far as the code part reaches. What stands
--- behind the code part is data.
+-- The items of words, behind a word that is owed so many followers, where so many of the words are
+-- code. Each is code, and as many words as it has followers are its followers, as far as the code
+-- part reaches. What stands behind the code part is data.
 unfoldable pub items_from : ℕ → ℕ → List ℕ → List ItemView
 items_from owed left [] = []
 items_from owed zero (word ∷ words) = Data word ∷ items_from owed zero words
-items_from zero (suc left) (word ∷ words) = Code (reading_of word) ∷ items_from (followers (reading_of word).ops) left words
+items_from zero (suc left) (word ∷ words) =
+    Code (reading_of word) ∷ items_from (followers (reading_of word).ops) left words
 items_from (suc owed) (suc left) (word ∷ words) = Follower word ∷ items_from owed left words
 
 -- the items of the words of a node, the first of which, so many, are code

@@ -1,5 +1,5 @@
 -- The items that a layout names: what stands in each word that a node's source items are laid as.
-use Rattle.std.specs.Prelude.{ℕ, Bool, true, false, List, [], ◌∷◌, ◌++◌, length, map, Option, Some, None}
+use Rattle.std.specs.Prelude.{ℕ, Bool, true, false, List, [], ◌∷◌, ◌++◌, length, map, Option, Some, None, if◌then◌else◌}
 use Rattle.std.specs.Option.{unwrap_or}
 use Rattle.ga_word.specs.declared.op.Op.{Op}
 use Rattle.ga_pack.specs.Model.Layout.{Group, Labels, Alone, Shared, dest_in, last_dest, literals, value_number, ops_of, with_fillers}
@@ -10,18 +10,17 @@ use Rattle.ga_disasm.specs.Disassembling.{ItemView, Code, Follower, Data}
 abbrev pub code : List Op → Option ℕ → ℕ → ItemView
 code ops dest spare = Code (record { ops = with_fillers ops dest; dest = dest; spare = spare })
 
--- the number behind `,`: a follower in the code part, and data behind it
-abbrev pub plain : Bool → ℕ → ItemView
-plain false number = Follower number
-plain true number = Data number
-
--- The items of the words of a group, in the code part or behind `data`. A shared word has the opcodes of its source
--- items, and the numbers among them follow it.
+-- The items of the words of a group, in the code part or behind `data`. A shared word has the
+-- opcodes of its source items, and the numbers among them follow it. A number alone, behind `,`, is
+-- a follower in the code part, and data behind it.
 abbrev pub group_items : Labels → Bool → Group → List ItemView
-group_items labels in_data (Shared i is) = code (ops_of (i ∷ is)) (last_dest labels 0 (i ∷ is)) 0 ∷ map Follower (literals (i ∷ is))
+group_items labels in_data (Shared i is) =
+    code (ops_of (i ∷ is)) (last_dest labels 0 (i ∷ is)) 0 ∷ map Follower (literals (i ∷ is))
 group_items labels in_data (Alone (source.Word ops)) = code ops None 0 ∷ []
-group_items labels in_data (Alone (source.WordTo ops o v spare)) = code (ops ++ o ∷ []) (Some (dest_in labels (length ops) v)) (unwrap_or spare 0) ∷ []
-group_items labels in_data (Alone (source.Plain v)) = plain in_data (value_number labels v) ∷ []
+group_items labels in_data (Alone (source.WordTo ops o v spare)) =
+    code (ops ++ o ∷ []) (Some (dest_in labels (length ops) v)) (unwrap_or spare 0) ∷ []
+group_items labels in_data (Alone (source.Plain v)) =
+    (if in_data then Data (value_number labels v) else Follower (value_number labels v)) ∷ []
 group_items labels in_data (Alone i) = []
 
 -- behind a group, `data` stands before or not
@@ -32,7 +31,8 @@ is_behind_data in_data group = in_data
 -- the items of the words of groups, behind `data` or in front of it
 abbrev pub items_in : Labels → Bool → List Group → List ItemView
 items_in labels in_data [] = []
-items_in labels in_data (group ∷ groups) = group_items labels in_data group ++ items_in labels (is_behind_data in_data group) groups
+items_in labels in_data (group ∷ groups) =
+    group_items labels in_data group ++ items_in labels (is_behind_data in_data group) groups
 
 -- the items that the groups of a node name, with its labels
 unfoldable pub named_items : Labels → List Group → List ItemView

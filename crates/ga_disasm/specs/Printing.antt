@@ -1,5 +1,5 @@
 -- The source text of the items of a node: what stands behind the line of its name.
-use Rattle.std.specs.Prelude.{ℕ, zero, suc, Bool, true, false, List, [], ◌∷◌, ◌++◌, codes, map, Option, Some, None}
+use Rattle.std.specs.Prelude.{ℕ, zero, suc, Bool, true, false, List, [], ◌∷◌, ◌++◌, codes, map, Option, Some, None, not, ◌&&◌, ◌||◌, if◌then◌else◌}
 use Rattle.std.specs.Fmt.{decimal}
 use Rattle.ga_word.specs.Hex.{hex_digits}
 use Rattle.ga_word.specs.Op.{name_of}
@@ -28,26 +28,26 @@ abbrev pub field_texts : Option ℕ → ℕ → List (List ℕ)
 field_texts None spare = []
 field_texts (Some dest) spare = number_text dest ∷ spare_texts spare
 
--- the line of an item: in brackets the opcodes of a word with the field of the last one, or a comma and a number
+-- the line of an item: in brackets the opcodes of a word with the field of the last one, or a comma
+-- and a number
 abbrev pub item_line : ItemView → List ℕ
-item_line (Code reading) = line (codes "[") (map name_of reading.ops ++ field_texts reading.dest reading.spare ++ codes "]" ∷ [])
+item_line (Code reading) =
+    line (codes "[")
+    (map name_of reading.ops ++ field_texts reading.dest reading.spare ++ codes "]" ∷ [])
 item_line (Follower word) = line (codes ",") (number_text word ∷ [])
 item_line (Data word) = line (codes ",") (number_text word ∷ [])
 
--- the line `data`, before the first item that is data
-abbrev pub data_line : ItemView → Bool → List ℕ
-data_line (Data word) false = line (codes "data") []
-data_line item in_data = []
+abbrev pub is_data : ItemView → Bool
+is_data (Data word) = true
+is_data item = false
 
--- behind an item, the line `data` is written or not
-abbrev pub is_data_behind : Bool → ItemView → Bool
-is_data_behind in_data (Data word) = true
-is_data_behind in_data item = in_data
-
--- a line for each item, where the line `data` is written already or not
+-- A line for each item, and the line `data` before the first that is data, where it isn't written
+-- already.
 abbrev pub item_lines : Bool → List ItemView → List ℕ
 item_lines in_data [] = []
-item_lines in_data (item ∷ items) = data_line item in_data ++ item_line item ++ item_lines (is_data_behind in_data item) items
+item_lines in_data (item ∷ items) =
+    (if is_data item && not in_data then line (codes "data") [] else []) ++ item_line item
+    ++ item_lines (is_data item || in_data) items
 
 -- the text of items
 unfoldable pub text_of : List ItemView → List ℕ

@@ -20,7 +20,8 @@ ledger_line name side ledger =
 
 -- the line of a side, which only a side with a neighbour has
 unfoldable pub side_line : Chip → ℕ → Side → List ℕ
-side_line chip name side = if has_side name side then ledger_line name side (ledger_of chip name side) else []
+side_line chip name side =
+    if has_side name side then ledger_line name side (ledger_of chip name side) else []
 
 -- a line for each side at which the node has a neighbour, in the order right, down, left, up
 unfoldable pub ledger_dump : Chip → ℕ → List ℕ

@@ -9,8 +9,8 @@ use ga_chip::Chip;
 use ga_place::Node;
 use std::alloc::{AllocError, Global};
 
-/// All nodes as text, in order of name: each with its stacks, its memory and the numbers of the cells that it writes. It
-/// fails only where memory is refused.
+/// All nodes as text, in order of name: each with its stacks, its memory and the numbers of the
+/// cells that it writes. It fails only where memory is refused.
 pub fn chip_text(alloc: Global, chip: &Chip) -> Result<String, AllocError>
     ensures { IfOk result (λ text. string_bytes text ≡ chip_dump chip.now) }
 {

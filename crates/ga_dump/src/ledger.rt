@@ -7,9 +7,9 @@ use ga_place::{Node, SIDES, Side, neighbour};
 use std::alloc::{AllocError, Global};
 use std::fmt::Write;
 
-/// The numbers of the cells that a node writes as text: for each side at which it has a neighbour, in the
-/// order right, down, left, up, a line of its name, the side, and how many words were written, were read and are
-/// pending there. It fails only where memory is refused.
+/// The numbers of the cells that a node writes as text: for each side at which it has a neighbour,
+/// in the order right, down, left, up, a line of its name, the side, and how many words were
+/// written, were read and are pending there. It fails only where memory is refused.
 #[tactic(auto, unfolding(crate::specs::Ledger::ledger_dump))]
 pub fn ledger_text(alloc: Global, chip: &Chip, node: Node) -> Result<String, AllocError>
     ensures { IfOk result (λ text. string_bytes text ≡ ledger_dump chip.now node) }

@@ -5,9 +5,10 @@ use crate::row::{ROW_LENGTH, push_row, text_of};
 use ga_node::NodeState;
 use std::alloc::{AllocError, Global};
 
-/// A node with its stacks as text: its line, a line of `ds` and the eight words of the data stack below T and
-/// S, and one of `rs` and the eight words of the return stack below R. Of each stack the first item stands first,
-/// and words are five hex digits, with one space between. It fails only where memory is refused.
+/// A node with its stacks as text: its line, a line of `ds` and the eight words of the data stack
+/// below T and S, and one of `rs` and the eight words of the return stack below R. Of each stack
+/// the first item stands first, and words are five hex digits, with one space between. It fails
+/// only where memory is refused.
 #[tactic(auto, unfolding(crate::specs::Node::node_dump))]
 pub fn node_text(alloc: Global, state: &NodeState) -> Result<String, AllocError>
     ensures { IfOk result (λ text. string_bytes text ≡ node_dump state.now) }

@@ -1,5 +1,6 @@
 -- What is looked up, and what is written.
 use Rattle.std.specs.Prelude.{◌∷◌, ◌++◌, [], ℕ, List, Option, Some, None, bytes_eq, find, flat_map}
+use Rattle.std.specs.Option.{option_map_or}
 use Rattle.ga_explain.specs.declared.topic.Topic.{Topic}
 use Rattle.ga_explain.specs.Table.{entries}
 use Rattle.ga_explain.specs.Topic.{Entry}
@@ -7,6 +8,10 @@ use Rattle.ga_explain.specs.Topic.{Entry}
 -- the first entry of a list with this name
 abbrev pub entry_in : List Entry → List ℕ → Option Entry
 entry_in list name = find (λ entry. bytes_eq entry.0 name) list
+
+-- the meaning of a name in one line, which is empty if the name isn't known
+unfoldable pub meaning_of : List ℕ → List ℕ
+meaning_of name = option_map_or (λ entry. entry.1) (entry_in entries name) []
 
 -- a line of the name of an entry
 abbrev pub name_line : Entry → List ℕ

@@ -1,4 +1,5 @@
--- The table: each name with its text, which stands in the program alone.
+-- The table: each name with the line that is shown behind a fault of this name, which is empty if
+-- nothing is shown, and with its text, which stands in the program alone.
 use Rattle.std.specs.Prelude.{◌∷◌, ◌++◌, [], List, codes, fold}
 use Rattle.ga_explain.specs.Topic.{Entry}
 use Rattle.ga_explain.specs.declared.source.TheConstants.{BAD_TOKEN, NUMBER_RANGE, BAD_NODE, DUPLICATE_NODE, DUPLICATE_LABEL, RESERVED_LABEL, OPEN_BRACKET, BAD_WORD, NO_NODE, EMPTY}
@@ -13,105 +14,147 @@ use Rattle.ga_explain.specs.declared.outcomes.TheConstants.{MOVED, WAITS, HELD}
 
 -- the faults of source text
 unfoldable pub source_entries : List Entry
-source_entries =
-    (codes "BadToken", BAD_TOKEN.now) ∷
-    (codes "NumberRange", NUMBER_RANGE.now) ∷
-    (codes "BadNode", BAD_NODE.now) ∷
-    (codes "DuplicateNode", DUPLICATE_NODE.now) ∷
-    (codes "DuplicateLabel", DUPLICATE_LABEL.now) ∷
-    (codes "ReservedLabel", RESERVED_LABEL.now) ∷
-    (codes "OpenBracket", OPEN_BRACKET.now) ∷
-    (codes "BadWord", BAD_WORD.now) ∷
-    (codes "NoNode", NO_NODE.now) ∷
-    (codes "Empty", EMPTY.now) ∷
+source_entries = (
+  codes "BadToken",
+  codes "a token that the language doesn't have, or one that may not stand there",
+  BAD_TOKEN.now,
+) ∷ (
+  codes "NumberRange",
+  codes "a number over $3FFFF, or a destination over $3FF outside brackets",
+  NUMBER_RANGE.now,
+) ∷ (
+  codes "BadNode",
+  codes "no name of a node: three digits, the row 0 to 7 and the column 00 to 17",
+  BAD_NODE.now,
+) ∷
+    (codes "DuplicateNode", codes "a node that has a section already", DUPLICATE_NODE.now) ∷
+    (codes "DuplicateLabel", codes "a label that its node has already", DUPLICATE_LABEL.now) ∷ (
+      codes "ReservedLabel",
+      codes "a label with a name that the language has for something else",
+      RESERVED_LABEL.now,
+    ) ∷ (
+      codes "OpenBracket",
+      codes "a [ that has no ] before the next [ or the text's end",
+      OPEN_BRACKET.now,
+    ) ∷ (
+      codes "BadWord",
+      codes "what can't stand in this word, or a follower that the word before lacks",
+      BAD_WORD.now,
+    ) ∷ (
+      codes "NoNode",
+      codes "something before the first 'node', or a text without one",
+      NO_NODE.now,
+    ) ∷
+    (codes "Empty", codes "a section that makes no word", EMPTY.now) ∷
     []
 
 -- the faults of layout
 unfoldable pub layout_entries : List Entry
 layout_entries =
-    (codes "UndefinedLabel", UNDEFINED_LABEL.now) ∷
-    (codes "OutOfReach", OUT_OF_REACH.now) ∷
-    (codes "UnextAlone", UNEXT_ALONE.now) ∷
-    (codes "TooLong", TOO_LONG.now) ∷
+    (codes "UndefinedLabel", codes "a name that is no label of its node", UNDEFINED_LABEL.now) ∷ (
+      codes "OutOfReach",
+      codes "a label that the destination of its slot doesn't reach",
+      OUT_OF_REACH.now,
+    ) ∷ (
+      codes "UnextAlone",
+      codes "an unext that would begin a word, where it repeats itself alone",
+      UNEXT_ALONE.now,
+    ) ∷
+    (codes "TooLong", codes "an item that would need the 65th word of its node", TOO_LONG.now) ∷
     []
 
 -- the faults of routes, of trees and of boots
 unfoldable pub routes_entries : List Entry
-routes_entries =
-    (codes "BadRoute", BAD_ROUTE.now) ∷
-    (codes "NotEdge", NOT_EDGE.now) ∷
-    (codes "NotNeighbour", NOT_NEIGHBOUR.now) ∷
-    (codes "Repeated", REPEATED.now) ∷
-    (codes "OtherRoot", OTHER_ROOT.now) ∷
-    (codes "Unreached", UNREACHED.now) ∷
+routes_entries = (
+  codes "BadRoute",
+  codes "the second line is neither 'place' nor 'route' and names of nodes",
+  BAD_ROUTE.now,
+) ∷
+    (codes "NotEdge", [], NOT_EDGE.now) ∷
+    (codes "NotNeighbour", [], NOT_NEIGHBOUR.now) ∷
+    (codes "Repeated", [], REPEATED.now) ∷
+    (codes "OtherRoot", [], OTHER_ROOT.now) ∷
+    (codes "Unreached", [], UNREACHED.now) ∷
     []
 
 -- the refusals of commands, and faults of replay texts
 unfoldable pub sessions_entries : List Entry
 sessions_entries =
-    (codes "BadCommand", BAD_COMMAND.now) ∷
-    (codes "BadAddress", BAD_ADDRESS.now) ∷
-    (codes "BadSide", BAD_SIDE.now) ∷
-    (codes "BadCount", BAD_COUNT.now) ∷
-    (codes "NotHeld", NOT_HELD.now) ∷
-    (codes "BadProfile", BAD_PROFILE.now) ∷
-    (codes "NoGo", NO_GO.now) ∷
-    (codes "Source", SOURCE.now) ∷
-    (codes "Asm", ASM.now) ∷
-    (codes "Route", ROUTE.now) ∷
-    (codes "Tree", TREE.now) ∷
-    (codes "Boot", BOOT.now) ∷
-    (codes "EarlyReply", EARLY_REPLY.now) ∷
-    (codes "differs", DIFFERS.now) ∷
+    (codes "BadCommand", [], BAD_COMMAND.now) ∷
+    (codes "BadAddress", [], BAD_ADDRESS.now) ∷
+    (codes "BadSide", [], BAD_SIDE.now) ∷
+    (codes "BadCount", [], BAD_COUNT.now) ∷
+    (codes "NotHeld", [], NOT_HELD.now) ∷
+    (codes "BadProfile", [], BAD_PROFILE.now) ∷
+    (codes "NoGo", codes "no line is 'go'", NO_GO.now) ∷
+    (codes "Source", [], SOURCE.now) ∷
+    (codes "Asm", [], ASM.now) ∷ (
+      codes "Route",
+      codes "nodes that are no route: from an edge on, from neighbour to new neighbour",
+      ROUTE.now,
+    ) ∷ (
+      codes "Tree",
+      codes "routes that are no tree: from one first node, and no node by two ways",
+      TREE.now,
+    ) ∷
+    (codes "Boot", codes "a route without a node that the source text has", BOOT.now) ∷ (
+      codes "EarlyReply",
+      codes "a line that is no command or comment, with no command before it",
+      EARLY_REPLY.now,
+    ) ∷
+    (codes "differs", [], DIFFERS.now) ∷
     []
 
 -- the faults of the input and of the output
 unfoldable pub input_entries : List Entry
 input_entries =
-    (codes "read", READ.now) ∷
-    (codes "NoFile", NO_FILE.now) ∷
-    (codes "Folder", FOLDER.now) ∷
-    (codes "BadText", BAD_TEXT.now) ∷
-    (codes "BadCode", BAD_CODE.now) ∷
-    (codes "write", WRITE.now) ∷
-    (codes "memory", MEMORY.now) ∷
+    (codes "read", [], READ.now) ∷
+    (codes "NoFile", [], NO_FILE.now) ∷
+    (codes "Folder", [], FOLDER.now) ∷
+    (codes "BadText", [], BAD_TEXT.now) ∷
+    (codes "BadCode", [], BAD_CODE.now) ∷
+    (codes "write", [], WRITE.now) ∷
+    (codes "memory", [], MEMORY.now) ∷
     []
 
 -- the needs of a node
 unfoldable pub needs_entries : List Entry
 needs_entries =
-    (codes "own", OWN.now) ∷
-    (codes "take", TAKE.now) ∷
-    (codes "post", POST.now) ∷
-    (codes "check", CHECK.now) ∷
-    (codes "input", INPUT.now) ∷
-    (codes "stopped", STOPPED.now) ∷
+    (codes "own", [], OWN.now) ∷
+    (codes "take", [], TAKE.now) ∷
+    (codes "post", [], POST.now) ∷
+    (codes "check", [], CHECK.now) ∷
+    (codes "input", [], INPUT.now) ∷
+    (codes "stopped", [], STOPPED.now) ∷
     []
 
 -- the stops of a node
 unfoldable pub stops_entries : List Entry
 stops_entries =
-    (codes "Counted", COUNTED.now) ∷
-    (codes "IoRead", IO_READ.now) ∷
-    (codes "Rom", ROM.now) ∷
-    (codes "Unmapped", UNMAPPED.now) ∷
-    (codes "MultiWrite", MULTI_WRITE.now) ∷
+    (codes "Counted", [], COUNTED.now) ∷
+    (codes "IoRead", [], IO_READ.now) ∷
+    (codes "Rom", [], ROM.now) ∷
+    (codes "Unmapped", [], UNMAPPED.now) ∷
+    (codes "MultiWrite", [], MULTI_WRITE.now) ∷
     []
 
 -- the carry of a node
 unfoldable pub carry_entries : List Entry
 carry_entries =
-    (codes "carry", CARRY.now) ∷
+    (codes "carry", [], CARRY.now) ∷
     []
 
 -- the outcomes of a try
 unfoldable pub outcomes_entries : List Entry
 outcomes_entries =
-    (codes "moved", MOVED.now) ∷
-    (codes "waits", WAITS.now) ∷
-    (codes "held", HELD.now) ∷
+    (codes "moved", [], MOVED.now) ∷
+    (codes "waits", [], WAITS.now) ∷
+    (codes "held", [], HELD.now) ∷
     []
 
 -- all of them, in this order
 abbrev pub entries : List Entry
-entries = fold (λ all group. all ++ group) [] (source_entries ∷ layout_entries ∷ routes_entries ∷ sessions_entries ∷ input_entries ∷ needs_entries ∷ stops_entries ∷ carry_entries ∷ outcomes_entries ∷ [])
+entries =
+    fold (λ all group. all ++ group) []
+    (source_entries ∷ layout_entries ∷ routes_entries ∷ sessions_entries ∷ input_entries
+    ∷ needs_entries ∷ stops_entries ∷ carry_entries ∷ outcomes_entries ∷ [])

@@ -1,11 +1,11 @@
--- A name, and what is told of it.
+-- A name, and what is said of it.
 use Rattle.std.specs.Prelude.{ℕ, List}
 use Rattle.ga_explain.specs.declared.topic.Topic.{Topic}
 
--- a name and its text
+-- a name, its meaning in one line, and its text
 abbrev pub Entry : Type 0
-Entry = List ℕ × List ℕ
+Entry = List ℕ × List ℕ × List ℕ
 
--- a topic as its name and its text
+-- a topic as its name, its meaning and its text
 abbrev pub entry_of : Topic → Entry
-entry_of topic = (topic.name.now, topic.text.now)
+entry_of topic = (topic.name.now, topic.meaning.now, topic.text.now)

@@ -2,14 +2,14 @@ ghost use Rattle.std.specs.Prelude.{◌≡◌, map};
 ghost use Rattle.ga_explain.specs.Table.{carry_entries};
 ghost use Rattle.ga_explain.specs.Topic.{entry_of};
 
-use crate::topic::Topic;
+use crate::topic::{Topic, topic};
 
 /// The carry of a node.
 #[tactic(auto, unfolding(crate::specs::Table::carry_entries))]
 pub fn topics() -> [Topic; 1]
     ensures { map entry_of result ≡ carry_entries }
 {
-    [Topic::new("carry", CARRY)]
+    [topic!("carry", "", CARRY)]
 }
 
 const CARRY: &str = "\

@@ -2,7 +2,7 @@ ghost use Rattle.std.specs.Prelude.{◌≡◌, map};
 ghost use Rattle.ga_explain.specs.Table.{input_entries};
 ghost use Rattle.ga_explain.specs.Topic.{entry_of};
 
-use crate::topic::Topic;
+use crate::topic::{Topic, topic};
 
 /// The faults of the input and of the output, in the order of the pages.
 #[tactic(auto, unfolding(crate::specs::Table::input_entries))]
@@ -10,13 +10,13 @@ pub fn topics() -> [Topic; 7]
     ensures { map entry_of result ≡ input_entries }
 {
     [
-        Topic::new("read", READ),
-        Topic::new("NoFile", NO_FILE),
-        Topic::new("Folder", FOLDER),
-        Topic::new("BadText", BAD_TEXT),
-        Topic::new("BadCode", BAD_CODE),
-        Topic::new("write", WRITE),
-        Topic::new("memory", MEMORY),
+        topic!("read", "", READ),
+        topic!("NoFile", "", NO_FILE),
+        topic!("Folder", "", FOLDER),
+        topic!("BadText", "", BAD_TEXT),
+        topic!("BadCode", "", BAD_CODE),
+        topic!("write", "", WRITE),
+        topic!("memory", "", MEMORY),
     ]
 }
 

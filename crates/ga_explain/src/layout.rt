@@ -2,7 +2,7 @@ ghost use Rattle.std.specs.Prelude.{◌≡◌, map};
 ghost use Rattle.ga_explain.specs.Table.{layout_entries};
 ghost use Rattle.ga_explain.specs.Topic.{entry_of};
 
-use crate::topic::Topic;
+use crate::topic::{Topic, topic};
 
 /// The faults of layout, in the order of the pages.
 #[tactic(auto, unfolding(crate::specs::Table::layout_entries))]
@@ -10,10 +10,26 @@ pub fn topics() -> [Topic; 4]
     ensures { map entry_of result ≡ layout_entries }
 {
     [
-        Topic::new("UndefinedLabel", UNDEFINED_LABEL),
-        Topic::new("OutOfReach", OUT_OF_REACH),
-        Topic::new("UnextAlone", UNEXT_ALONE),
-        Topic::new("TooLong", TOO_LONG),
+        topic!(
+            "UndefinedLabel",
+            "a name that is no label of its node",
+            UNDEFINED_LABEL
+        ),
+        topic!(
+            "OutOfReach",
+            "a label that the destination of its slot doesn't reach",
+            OUT_OF_REACH,
+        ),
+        topic!(
+            "UnextAlone",
+            "an unext that would begin a word, where it repeats itself alone",
+            UNEXT_ALONE,
+        ),
+        topic!(
+            "TooLong",
+            "an item that would need the 65th word of its node",
+            TOO_LONG
+        ),
     ]
 }
 

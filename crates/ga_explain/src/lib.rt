@@ -14,4 +14,4 @@ mod stops;
 mod topic;
 
 pub use crate::output::output as explain;
-pub use crate::topic::Topic;
+pub use crate::topic::{Topic, meaning};

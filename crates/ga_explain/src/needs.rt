@@ -2,7 +2,7 @@ ghost use Rattle.std.specs.Prelude.{◌≡◌, map};
 ghost use Rattle.ga_explain.specs.Table.{needs_entries};
 ghost use Rattle.ga_explain.specs.Topic.{entry_of};
 
-use crate::topic::Topic;
+use crate::topic::{Topic, topic};
 
 /// The needs of a node, in the order of the pages.
 #[tactic(auto, unfolding(crate::specs::Table::needs_entries))]
@@ -10,12 +10,12 @@ pub fn topics() -> [Topic; 6]
     ensures { map entry_of result ≡ needs_entries }
 {
     [
-        Topic::new("own", OWN),
-        Topic::new("take", TAKE),
-        Topic::new("post", POST),
-        Topic::new("check", CHECK),
-        Topic::new("input", INPUT),
-        Topic::new("stopped", STOPPED),
+        topic!("own", "", OWN),
+        topic!("take", "", TAKE),
+        topic!("post", "", POST),
+        topic!("check", "", CHECK),
+        topic!("input", "", INPUT),
+        topic!("stopped", "", STOPPED),
     ]
 }
 

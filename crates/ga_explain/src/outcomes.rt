@@ -2,7 +2,7 @@ ghost use Rattle.std.specs.Prelude.{◌≡◌, map};
 ghost use Rattle.ga_explain.specs.Table.{outcomes_entries};
 ghost use Rattle.ga_explain.specs.Topic.{entry_of};
 
-use crate::topic::Topic;
+use crate::topic::{Topic, topic};
 
 /// The outcomes of a try, in the order of the pages.
 #[tactic(auto, unfolding(crate::specs::Table::outcomes_entries))]
@@ -10,9 +10,9 @@ pub fn topics() -> [Topic; 3]
     ensures { map entry_of result ≡ outcomes_entries }
 {
     [
-        Topic::new("moved", MOVED),
-        Topic::new("waits", WAITS),
-        Topic::new("held", HELD),
+        topic!("moved", "", MOVED),
+        topic!("waits", "", WAITS),
+        topic!("held", "", HELD),
     ]
 }
 

@@ -6,7 +6,8 @@ ghost use Rattle.ga_explain.specs.Topic.{entry_of};
 use crate::topic::{Topic, topics};
 use std::alloc::{AllocError, Global};
 
-/// The text of a topic; without one a line for the name of each. It fails only where memory is refused.
+/// The text of a topic; without one a line for the name of each. It fails only where memory is
+/// refused.
 pub fn output(alloc: Global, topic: Option<Topic>) -> Result<String, AllocError>
     ensures { IfOk result (λ text. string_bytes text ≡ explain_output topic) }
 {

@@ -2,7 +2,7 @@ ghost use Rattle.std.specs.Prelude.{◌≡◌, map};
 ghost use Rattle.ga_explain.specs.Table.{routes_entries};
 ghost use Rattle.ga_explain.specs.Topic.{entry_of};
 
-use crate::topic::Topic;
+use crate::topic::{Topic, topic};
 
 /// The faults of routes, of trees and of boots, in the order of the pages.
 #[tactic(auto, unfolding(crate::specs::Table::routes_entries))]
@@ -10,12 +10,16 @@ pub fn topics() -> [Topic; 6]
     ensures { map entry_of result ≡ routes_entries }
 {
     [
-        Topic::new("BadRoute", BAD_ROUTE),
-        Topic::new("NotEdge", NOT_EDGE),
-        Topic::new("NotNeighbour", NOT_NEIGHBOUR),
-        Topic::new("Repeated", REPEATED),
-        Topic::new("OtherRoot", OTHER_ROOT),
-        Topic::new("Unreached", UNREACHED),
+        topic!(
+            "BadRoute",
+            "the second line is neither 'place' nor 'route' and names of nodes",
+            BAD_ROUTE,
+        ),
+        topic!("NotEdge", "", NOT_EDGE),
+        topic!("NotNeighbour", "", NOT_NEIGHBOUR),
+        topic!("Repeated", "", REPEATED),
+        topic!("OtherRoot", "", OTHER_ROOT),
+        topic!("Unreached", "", UNREACHED),
     ]
 }
 

@@ -2,7 +2,7 @@ ghost use Rattle.std.specs.Prelude.{◌≡◌, map};
 ghost use Rattle.ga_explain.specs.Table.{sessions_entries};
 ghost use Rattle.ga_explain.specs.Topic.{entry_of};
 
-use crate::topic::Topic;
+use crate::topic::{Topic, topic};
 
 /// The refusals of commands, and faults of replay texts, in the order of the pages.
 #[tactic(auto, unfolding(crate::specs::Table::sessions_entries))]
@@ -10,20 +10,36 @@ pub fn topics() -> [Topic; 14]
     ensures { map entry_of result ≡ sessions_entries }
 {
     [
-        Topic::new("BadCommand", BAD_COMMAND),
-        Topic::new("BadAddress", BAD_ADDRESS),
-        Topic::new("BadSide", BAD_SIDE),
-        Topic::new("BadCount", BAD_COUNT),
-        Topic::new("NotHeld", NOT_HELD),
-        Topic::new("BadProfile", BAD_PROFILE),
-        Topic::new("NoGo", NO_GO),
-        Topic::new("Source", SOURCE),
-        Topic::new("Asm", ASM),
-        Topic::new("Route", ROUTE),
-        Topic::new("Tree", TREE),
-        Topic::new("Boot", BOOT),
-        Topic::new("EarlyReply", EARLY_REPLY),
-        Topic::new("differs", DIFFERS),
+        topic!("BadCommand", "", BAD_COMMAND),
+        topic!("BadAddress", "", BAD_ADDRESS),
+        topic!("BadSide", "", BAD_SIDE),
+        topic!("BadCount", "", BAD_COUNT),
+        topic!("NotHeld", "", NOT_HELD),
+        topic!("BadProfile", "", BAD_PROFILE),
+        topic!("NoGo", "no line is 'go'", NO_GO),
+        topic!("Source", "", SOURCE),
+        topic!("Asm", "", ASM),
+        topic!(
+            "Route",
+            "nodes that are no route: from an edge on, from neighbour to new neighbour",
+            ROUTE,
+        ),
+        topic!(
+            "Tree",
+            "routes that are no tree: from one first node, and no node by two ways",
+            TREE,
+        ),
+        topic!(
+            "Boot",
+            "a route without a node that the source text has",
+            BOOT
+        ),
+        topic!(
+            "EarlyReply",
+            "a line that is no command or comment, with no command before it",
+            EARLY_REPLY,
+        ),
+        topic!("differs", "", DIFFERS),
     ]
 }
 

@@ -2,7 +2,7 @@ ghost use Rattle.std.specs.Prelude.{◌≡◌, map};
 ghost use Rattle.ga_explain.specs.Table.{source_entries};
 ghost use Rattle.ga_explain.specs.Topic.{entry_of};
 
-use crate::topic::Topic;
+use crate::topic::{Topic, topic};
 
 /// The faults of source text, in the order of the pages.
 #[tactic(auto, unfolding(crate::specs::Table::source_entries))]
@@ -10,16 +10,52 @@ pub fn topics() -> [Topic; 10]
     ensures { map entry_of result ≡ source_entries }
 {
     [
-        Topic::new("BadToken", BAD_TOKEN),
-        Topic::new("NumberRange", NUMBER_RANGE),
-        Topic::new("BadNode", BAD_NODE),
-        Topic::new("DuplicateNode", DUPLICATE_NODE),
-        Topic::new("DuplicateLabel", DUPLICATE_LABEL),
-        Topic::new("ReservedLabel", RESERVED_LABEL),
-        Topic::new("OpenBracket", OPEN_BRACKET),
-        Topic::new("BadWord", BAD_WORD),
-        Topic::new("NoNode", NO_NODE),
-        Topic::new("Empty", EMPTY),
+        topic!(
+            "BadToken",
+            "a token that the language doesn't have, or one that may not stand there",
+            BAD_TOKEN,
+        ),
+        topic!(
+            "NumberRange",
+            "a number over $3FFFF, or a destination over $3FF outside brackets",
+            NUMBER_RANGE,
+        ),
+        topic!(
+            "BadNode",
+            "no name of a node: three digits, the row 0 to 7 and the column 00 to 17",
+            BAD_NODE,
+        ),
+        topic!(
+            "DuplicateNode",
+            "a node that has a section already",
+            DUPLICATE_NODE
+        ),
+        topic!(
+            "DuplicateLabel",
+            "a label that its node has already",
+            DUPLICATE_LABEL
+        ),
+        topic!(
+            "ReservedLabel",
+            "a label with a name that the language has for something else",
+            RESERVED_LABEL,
+        ),
+        topic!(
+            "OpenBracket",
+            "a [ that has no ] before the next [ or the text's end",
+            OPEN_BRACKET,
+        ),
+        topic!(
+            "BadWord",
+            "what can't stand in this word, or a follower that the word before lacks",
+            BAD_WORD,
+        ),
+        topic!(
+            "NoNode",
+            "something before the first 'node', or a text without one",
+            NO_NODE
+        ),
+        topic!("Empty", "a section that makes no word", EMPTY),
     ]
 }
 

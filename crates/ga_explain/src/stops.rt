@@ -2,7 +2,7 @@ ghost use Rattle.std.specs.Prelude.{◌≡◌, map};
 ghost use Rattle.ga_explain.specs.Table.{stops_entries};
 ghost use Rattle.ga_explain.specs.Topic.{entry_of};
 
-use crate::topic::Topic;
+use crate::topic::{Topic, topic};
 
 /// The stops of a node, in the order of the pages.
 #[tactic(auto, unfolding(crate::specs::Table::stops_entries))]
@@ -10,11 +10,11 @@ pub fn topics() -> [Topic; 5]
     ensures { map entry_of result ≡ stops_entries }
 {
     [
-        Topic::new("Counted", COUNTED),
-        Topic::new("IoRead", IO_READ),
-        Topic::new("Rom", ROM),
-        Topic::new("Unmapped", UNMAPPED),
-        Topic::new("MultiWrite", MULTI_WRITE),
+        topic!("Counted", "", COUNTED),
+        topic!("IoRead", "", IO_READ),
+        topic!("Rom", "", ROM),
+        topic!("Unmapped", "", UNMAPPED),
+        topic!("MultiWrite", "", MULTI_WRITE),
     ]
 }
 

@@ -1,27 +1,37 @@
 ghost use Rattle.std.specs.Prelude.{◌≡◌, ◌++◌, IfOk, IfSome, OnOk, map, option_map};
-ghost use Rattle.ga_explain.specs.Output.{entry_in};
+ghost use Rattle.ga_explain.specs.Output.{entry_in, meaning_of};
 ghost use Rattle.ga_explain.specs.Table.{entries};
 ghost use Rattle.ga_explain.specs.Topic.{entry_of};
 
 use crate::{carry, input, layout, needs, outcomes, routes, sessions, source, stops};
 use std::alloc::{AllocError, Global};
 
-/// A name that the program writes, and what is told of it, lines of at most 80 characters.
+/// A row of the table: a name, its meaning in one line, and its text.
+macro_rules! topic {
+    ($name:literal, $meaning:literal, $text:expr $(,)?) => {
+        Topic {
+            name: $name,
+            meaning: $meaning,
+            text: $text,
+        }
+    };
+}
+
+pub(crate) use topic;
+
+/// A name that the program writes, and what it means.
 #[derive(Clone, Copy, Debug, PartialEq, Eq)]
 pub struct Topic {
     pub name: &'static str,
+    /// The line that is shown behind a fault of this name, or nothing.
+    pub meaning: &'static str,
+    /// Lines of at most 80 characters.
     pub text: &'static str,
 }
 
 impl Topic {
-    /// The topic of this name with this text.
-    pub(crate) fn new(name: &'static str, text: &'static str) -> Topic
-        ensures { entry_of result ≡ (name.now, text.now) }
-    {
-        Topic { name, text }
-    }
-
-    /// The topic of the table with this name, or `None` where none has it. It fails only where memory is refused.
+    /// The topic of the table with this name, or `None` where none has it. It fails only where
+    /// memory is refused.
     pub fn named(alloc: Global, name: &str) -> Result<Option<Topic>, AllocError>
         ensures entry { IfOk result (λ topic. option_map entry_of topic
             ≡ entry_in entries name.now) }
@@ -29,6 +39,18 @@ impl Topic {
     {
         let topics = topics(alloc)?;
         Ok(found(&topics, name))
+    }
+}
+
+/// What a name means, in one line. A name that isn't known has an empty line. It fails only where
+/// memory is refused.
+#[tactic(auto, unfolding(crate::specs::Output::meaning_of))]
+pub fn meaning(alloc: Global, name: &str) -> Result<&'static str, AllocError>
+    ensures { IfOk result (λ line. line.now ≡ meaning_of name.now) }
+{
+    match Topic::named(alloc, name)? {
+        Some(topic) => Ok(topic.meaning),
+        None => Ok(""),
     }
 }
 

@@ -16,7 +16,8 @@ pub record FeedView : Type 0 where
 
 -- words of a frame that isn't whole yet, and has no fault so far
 abbrev pub is_cut : List ℕ → Bool
-is_cut (completion ∷ transfer ∷ count ∷ body) = has_addresses completion transfer && nat_lt (length body) count
+is_cut (completion ∷ transfer ∷ count ∷ body) =
+    has_addresses completion transfer && nat_lt (length body) count
 is_cut words = true
 
 -- Of these words a reader has handed out these frames, and stands so.
@@ -28,7 +29,8 @@ pub record HasRead (words : List ℕ) (frames : List FrameView) (feed : FeedView
   -- and then the words are these frames and no more
   pub ends : feed.ended ≡ true → AreFrames words frames × (feed.begun ≡ [])
 
--- what is wrong with a frame that begins at the word with this number, where the stream ends after so many of its words
+-- what is wrong with a frame that begins at the word with this number, where the stream ends after
+-- so many of its words
 abbrev pub cut_at : ℕ → ℕ → FrameError
 cut_at at count = if nat_lt count 3 then CutHeader at else CutBody at
 

@@ -16,7 +16,8 @@ pub record FrameView : Type 0 where
   pub words : List ℕ
 
 abbrev pub frame_view : Frame → FrameView
-frame_view frame = record { completion = frame.completion; transfer = frame.transfer; words = frame.words.items }
+frame_view frame =
+    record { completion = frame.completion; transfer = frame.transfer; words = frame.words.items }
 
 -- the completion behind which another frame follows
 abbrev pub MORE : ℕ
@@ -36,26 +37,32 @@ takes_words at.Unmapped = false
 
 -- a completion has ten bits, and a transfer address nine, at which words may go
 abbrev pub has_addresses : ℕ → ℕ → Bool
-has_addresses completion transfer = nat_lt completion 0x400 && (nat_lt transfer 0x200 && takes_words (where_is transfer))
+has_addresses completion transfer =
+    nat_lt completion 0x400 && (nat_lt transfer 0x200 && takes_words (where_is transfer))
 
 abbrev pub WellFormed : FrameView → Type 0
 WellFormed frame = has_addresses frame.completion frame.transfer ≡ true
 
--- Words are these frames: one or more, one behind the other and nothing else. Each is well formed, and another frame
--- follows behind each but the last one.
+-- Words are these frames: one or more, one behind the other and nothing else. Each is well formed,
+-- and another frame follows behind each but the last one.
 unfoldable pub AreFrames : List ℕ → List FrameView → Type 0
 AreFrames words [] = ⊥
-AreFrames words (frame ∷ []) = (words ≡ words_of frame) × WellFormed frame × ((frame.completion == MORE) ≡ false)
-AreFrames words (frame ∷ next ∷ frames) = (rest : List ℕ) × (words ≡ words_of frame ++ rest) × WellFormed frame × ((frame.completion == MORE) ≡ true) × AreFrames rest (next ∷ frames)
+AreFrames words (frame ∷ []) =
+    (words ≡ words_of frame) × WellFormed frame × ((frame.completion == MORE) ≡ false)
+AreFrames words (frame ∷ next ∷ frames) =
+    (rest : List ℕ) × (words ≡ words_of frame ++ rest) × WellFormed frame
+    × ((frame.completion == MORE) ≡ true) × AreFrames rest (next ∷ frames)
 
 -- a frame that is well formed, behind which another follows
 abbrev pub GoesOn : FrameView → Type 0
 GoesOn frame = WellFormed frame × ((frame.completion == MORE) ≡ true)
 
--- what is wrong with the frame that some words begin with, the first of them being the word of a stream with this
--- number: fewer than three words, a bad address, or fewer words than it counts
+-- what is wrong with the frame that some words begin with, the first of them being the word of a
+-- stream with this number: fewer than three words, a bad address, or fewer words than it counts
 abbrev pub fault_at : ℕ → List ℕ → Option FrameError
-fault_at at (completion ∷ transfer ∷ count ∷ body) = if not (has_addresses completion transfer) then Some (BadAddress at) else if nat_lt (length body) count then Some (CutBody at) else None
+fault_at at (completion ∷ transfer ∷ count ∷ body) =
+    if not (has_addresses completion transfer) then Some (BadAddress at)
+    else if nat_lt (length body) count then Some (CutBody at) else None
 fault_at at words = Some (CutHeader at)
 
 -- Behind some frames that go on stands a frame with that fault.

@@ -6,11 +6,15 @@ use Rattle.ga_frame.specs.declared.error.FrameError.TheVariants.{Memory}
 
 -- words are no two lists of frames
 abbrev pub OneList : Type 0
-OneList = (words : List ℕ) (frames other : List FrameView) → AreFrames words frames → AreFrames words other → other ≡ frames
+OneList =
+    (words : List ℕ) (frames other : List FrameView) → AreFrames words frames
+    → AreFrames words other → other ≡ frames
 
 -- nor have they two first faults
 abbrev pub OneFault : Type 0
-OneFault = (words : List ℕ) (fault other : FrameError) → fault ≢ Memory → other ≢ Memory → IsFirstFault words fault → IsFirstFault words other → other ≡ fault
+OneFault =
+    (words : List ℕ) (fault other : FrameError) → fault ≢ Memory → other ≢ Memory
+    → IsFirstFault words fault → IsFirstFault words other → other ≡ fault
 
 -- nor are they frames where they have one
 abbrev pub NotBoth : Type 0

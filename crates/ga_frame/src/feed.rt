@@ -11,8 +11,8 @@ use ga_word::Word18;
 use std::alloc::Global;
 use std::marker::Model;
 
-/// Reads the frames of a stream that comes in pieces. It keeps the words of the frame that isn't whole yet, and counts
-/// the words of the stream from 0.
+/// Reads the frames of a stream that comes in pieces. It keeps the words of the frame that isn't
+/// whole yet, and counts the words of the stream from 0.
 #[derive(Drop)]
 pub struct FrameFeed {
     alloc: Global,
@@ -55,11 +55,13 @@ impl FrameFeed {
     }
 
     /// The frames that are whole with this piece and weren't before. A frame is refused as
-    /// [`FrameError::BadAddress`] as soon as its three first words are there, with the number of the first of them,
-    /// and a word behind the last frame at once as [`FrameError::AfterEnd`], with its own number; words count from 0
-    /// over all pieces. A piece that would bring the number of words over 2^64 - 1 is refused as
-    /// [`FrameError::Counted`] before all else, and one for which memory is refused as [`FrameError::Memory`]. After
-    /// a refusal the reader is as before the call. (Frames are this project's own: profile.)
+    /// [`FrameError::BadAddress`] as soon as its three first words are there, with the number of
+    /// the first of them, and a word behind the last frame at once as [`FrameError::AfterEnd`],
+    /// with its own number; words count from 0 over all pieces. A piece that would bring the number
+    /// of words over 2^64 - 1 is refused as
+    /// [`FrameError::Counted`] before all else, and one for which memory is refused as
+    /// [`FrameError::Memory`]. After a refusal the reader is as before the call. (Frames are this
+    /// project's own: profile.)
     pub fn feed(&mut self, piece: &[Word18]) -> Result<Vec<Frame>, FrameError>
         // with the frames handed out before they are the frames of all words up to here
         ensures frames { IfOk result (λ more. (words : List ℕ) (frames : List FrameView)
@@ -101,9 +103,11 @@ impl FrameFeed {
         }
     }
 
-    /// Ends the stream. Where its last frame wasn't handed out, a frame is cut that begins behind those that were:
-    /// [`FrameError::CutHeader`] where fewer than three words of it came, else [`FrameError::CutBody`], with the
-    /// number of the word at which it begins. It takes no memory. (Frames are this project's own: profile.)
+    /// Ends the stream. Where its last frame wasn't handed out, a frame is cut that begins behind
+    /// those that were:
+    /// [`FrameError::CutHeader`] where fewer than three words of it came, else
+    /// [`FrameError::CutBody`], with the number of the word at which it begins. It takes no memory.
+    /// (Frames are this project's own: profile.)
     pub fn finish(self) -> Result<(), FrameError>
         ensures exact { result ≡ option_map_or Err (cut_of self) (Ok tt) }
         // the frames that were handed out are those of the words

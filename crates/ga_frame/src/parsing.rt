@@ -21,7 +21,8 @@ pub(crate) struct Taken {
     pub(crate) ended: bool,
 }
 
-/// The frames that are whole off the front of these words, the first of which is the word of a stream with this number.
+/// The frames that are whole off the front of these words, the first of which is the word of a
+/// stream with this number.
 pub(crate) fn take_frames(alloc: Global, at: u64, words: &[Word18]) -> Result<Taken, FrameError>
     requires { at + length words.now < 2 ^ 64 }
     ensures within { IfOk result (λ taken. taken.count ≤ length words.now) }
@@ -59,8 +60,8 @@ pub(crate) fn take_frames(alloc: Global, at: u64, words: &[Word18]) -> Result<Ta
     }
 }
 
-/// The frame that some words begin with, and the words behind it; or none, where it isn't whole yet. The first of the
-/// words is the word of a stream with this number.
+/// The frame that some words begin with, and the words behind it; or none, where it isn't whole
+/// yet. The first of the words is the word of a stream with this number.
 fn first_frame(
     alloc: Global,
     at: u64,

@@ -20,18 +20,23 @@ waits_still Held still = refl
 waits_still Stopped still = refl
 
 -- a look that finds nothing is no move
-pub looked_waits : (part : Part) (side : Side) (look : Option ℕ) → look_of (asked_of part side) ≡ Some look → false ≡ is_move (after part side None).0
-looked_waits part side look e = waits_still (after part side None).0 (found.looked_waits part side look e)
+pub looked_waits : (part : Part) (side : Side) (look : Option ℕ)
+    → look_of (asked_of part side) ≡ Some look → false ≡ is_move (after part side None).0
+looked_waits part side look e =
+    waits_still (after part side None).0 (found.looked_waits part side look e)
 
 -- a move is one step more of its node, and any other try none
-pub steps_made : (part : Part) (side : Side) (found : Option ℕ) (moved : Bool) → moved ≡ is_move (after part side found).0
+pub steps_made : (part : Part) (side : Side) (found : Option ℕ) (moved : Bool)
+    → moved ≡ is_move (after part side found).0
     → (after part side found).1.state.steps ≡ part.state.steps + (if moved then 1 else 0)
 steps_made part side found moved is = by (after part side found).0 refl moved is
   where
-    still : ((after part side found).0 ≡ Moved → ⊥) → (after part side found).1.state.steps ≡ part.state.steps + 0
+    still : ((after part side found).0 ≡ Moved → ⊥)
+        → (after part side found).1.state.steps ≡ part.state.steps + 0
     still stays = ap (λ (p : Part). p.state.steps) (still_after part side found stays) ∙ omega arith
 
-    by : (outcome : Outcome) → (after part side found).0 ≡ outcome → (b : Bool) → b ≡ is_move (after part side found).0
+    by : (outcome : Outcome) → (after part side found).0 ≡ outcome → (b : Bool)
+        → b ≡ is_move (after part side found).0
         → (after part side found).1.state.steps ≡ part.state.steps + (if b then 1 else 0)
     by Moved e true is = counts_after part side found e
     by Moved e false is = let wrong : false ≡ true = is ∙ ap is_move e in absurd cc
@@ -43,16 +48,22 @@ steps_made part side found moved is = by (after part side found).0 refl moved is
     by Stopped e false is = still (λ f. cc)
 
 -- one node of some was tried
-pub steps_set : (parts : List Part) (index : ℕ) (part new : Part) (more : ℕ) → slice_get parts index ≡ Some part
-    → new.state.steps ≡ part.state.steps + more → steps_in (set parts index new) ≡ steps_in parts + more
+pub steps_set : (parts : List Part) (index : ℕ) (part new : Part) (more : ℕ)
+    → slice_get parts index ≡ Some part → new.state.steps ≡ part.state.steps + more
+    → steps_in (set parts index new) ≡ steps_in parts + more
 steps_set [] index part new more there made = absurd (none-some part there)
 steps_set (one ∷ parts) zero part new more there made =
-    let same : one.state.steps ≡ part.state.steps = ap (λ (p : Part). p.state.steps) (same_Some one part there) in
-    let here : steps_in (set (one ∷ parts) zero new) ≡ new.state.steps + steps_in parts = sum_by-cons (λ (p : Part). p.state.steps) new parts in
-    let was : steps_in (one ∷ parts) ≡ one.state.steps + steps_in parts = sum_by-cons (λ (p : Part). p.state.steps) one parts in
+    let same : one.state.steps ≡ part.state.steps =
+    ap (λ (p : Part). p.state.steps) (same_Some one part there) in
+    let here : steps_in (set (one ∷ parts) zero new) ≡ new.state.steps + steps_in parts =
+    sum_by-cons (λ (p : Part). p.state.steps) new parts in
+    let was : steps_in (one ∷ parts) ≡ one.state.steps + steps_in parts =
+    sum_by-cons (λ (p : Part). p.state.steps) one parts in
     omega (arith, same, made, here, was)
 steps_set (one ∷ parts) (suc index) part new more there made =
     let rest = steps_set parts index part new more there made in
-    let here : steps_in (set (one ∷ parts) (suc index) new) ≡ one.state.steps + steps_in (set parts index new) = sum_by-cons (λ (p : Part). p.state.steps) one (set parts index new) in
-    let was : steps_in (one ∷ parts) ≡ one.state.steps + steps_in parts = sum_by-cons (λ (p : Part). p.state.steps) one parts in
+    let here : steps_in (set (one ∷ parts) (suc index) new) ≡ one.state.steps + steps_in
+    (set parts index new) = sum_by-cons (λ (p : Part). p.state.steps) one (set parts index new) in
+    let was : steps_in (one ∷ parts) ≡ one.state.steps + steps_in parts =
+    sum_by-cons (λ (p : Part). p.state.steps) one parts in
     omega (arith, rest, here, was)

@@ -1,4 +1,5 @@
--- What the tries of nodes leave in a seat, one after another, and what stays of the parts that are lent with it.
+-- What the tries of nodes leave in a seat, one after another, and what stays of the parts that are
+-- lent with it.
 use Rattle.std.proofs.Common.{◌≡◌, ◌≢◌, ◌∙◌, ℕ, ◌==◌, ◌+◌, ◌<◌, zero, suc, Bool, true, false, ◌||◌, ◌⊎◌, inl, inr, List, [], ◌∷◌, ◌++◌, set, take, slice_get, Option, Some, None, option_map, refl, sym, ap, subst, arith, append-nil, append_assoc}
 use Rattle.std.proofs.lemmas.Bool.{cases_eq, eqb-true, true≢false}
 use Rattle.std.proofs.lemmas.Cmp.{nat_eq_equiv}
@@ -28,7 +29,8 @@ same_or_not a b = by (a == b) refl
     by false e = inr e
 
 -- a name among names and others is among the first or among the others
-pub among_either : (name : ℕ) (names more : List ℕ) → is_among name (names ++ more) ≡ (is_among name names || is_among name more)
+pub among_either : (name : ℕ) (names more : List ℕ)
+    → is_among name (names ++ more) ≡ (is_among name names || is_among name more)
 among_either name names more = list_any-append (λ other. other == name) names more
 
 pub among_here : (name : ℕ) (names : List ℕ) → is_among name (name ∷ names) ≡ true
@@ -42,9 +44,11 @@ among_one name other e = by (same_or_not other name)
     by (inl same) = same
     by (inr apart) = absurd (true≢false (sym e ∙ ap (λ b. b || false) apart))
 
-pub among_at : (names : List ℕ) (index name : ℕ) → slice_get names index ≡ Some name → is_among name names ≡ true
+pub among_at : (names : List ℕ) (index name : ℕ) → slice_get names index ≡ Some name
+    → is_among name names ≡ true
 among_at [] index name e = absurd (none-some name e)
-among_at (other ∷ names) zero name e = subst (λ n. is_among n (other ∷ names) ≡ true) (same_Some other name e) (among_here other names)
+among_at (other ∷ names) zero name e =
+    subst (λ n. is_among n (other ∷ names) ≡ true) (same_Some other name e) (among_here other names)
 among_at (other ∷ names) (suc index) name e = by (other == name) (among_at names index name e)
   where
     by : (b : Bool) → is_among name names ≡ true → (b || is_among name names) ≡ true
@@ -52,27 +56,38 @@ among_at (other ∷ names) (suc index) name e = by (other == name) (among_at nam
     by false rest = rest
 
 -- a name that stands at a place stands nowhere before it
-pub not_before : (before names : List ℕ) (index name : ℕ) → first_repeated before names ≡ None → slice_get names index ≡ Some name → is_among name (before ++ take index names) ≡ false
+pub not_before : (before names : List ℕ) (index name : ℕ) → first_repeated before names ≡ None
+    → slice_get names index ≡ Some name → is_among name (before ++ take index names) ≡ false
 not_before before [] index name once e = absurd (none-some name e)
 not_before before (other ∷ names) zero name once e =
-    ap (is_among name) (append-nil before) ∙ ap (λ n. is_among n before) (sym (same_Some other name e)) ∙ (is_new before other names once).here
+    ap (is_among name) (append-nil before)
+    ∙ ap (λ n. is_among n before) (sym (same_Some other name e))
+    ∙ (is_new before other names once).here
 not_before before (other ∷ names) (suc index) name once e =
     ap (is_among name) (sym (append_assoc before (other ∷ []) (take index names)))
     ∙ not_before (before ++ other ∷ []) names index name (is_new before other names once).behind e
 
 -- and at no other place
-pub one_index : (before names : List ℕ) (index at name : ℕ) → first_repeated before names ≡ None → slice_get names index ≡ Some name → slice_get names at ≡ Some name → index ≡ at
+pub one_index : (before names : List ℕ) (index at name : ℕ) → first_repeated before names ≡ None
+    → slice_get names index ≡ Some name → slice_get names at ≡ Some name → index ≡ at
 one_index before [] index at name once e f = absurd (none-some name e)
 one_index before (other ∷ names) zero zero name once e f = refl
 one_index before (other ∷ names) zero (suc at) name once e f =
-    absurd (true≢false (sym (among_at names at other (f ∙ ap Some (sym (same_Some other name e)))) ∙ not_behind before other names once))
+    absurd (true≢false (sym (among_at names at other (f ∙ ap Some (sym (same_Some other name e))))
+    ∙ not_behind before other names once))
 one_index before (other ∷ names) (suc index) zero name once e f =
-    absurd (true≢false (sym (among_at names index other (e ∙ ap Some (sym (same_Some other name f)))) ∙ not_behind before other names once))
-one_index before (other ∷ names) (suc index) (suc at) name once e f = ap suc (one_index (before ++ other ∷ []) names index at name (is_new before other names once).behind e f)
+    absurd (true≢false (sym (among_at names index other
+    (e ∙ ap Some (sym (same_Some other name f)))) ∙ not_behind before other names once))
+one_index before (other ∷ names) (suc index) (suc at) name once e f =
+    ap suc (one_index (before ++ other ∷ []) names index at name
+    (is_new before other names once).behind e f)
 
 -- the name of the part at a place
-pub name_there : (parts : List Part) (index : ℕ) (part : Part) → slice_get parts index ≡ Some part → slice_get (names_of parts) index ≡ Some part.state.node
-name_there parts index part e = slice_get-map (λ (p : Part). p.state.node) parts index ∙ ap (option_map (λ (p : Part). p.state.node)) e
+pub name_there : (parts : List Part) (index : ℕ) (part : Part) → slice_get parts index ≡ Some part
+    → slice_get (names_of parts) index ≡ Some part.state.node
+name_there parts index part e =
+    slice_get-map (λ (p : Part). p.state.node) parts index
+    ∙ ap (option_map (λ (p : Part). p.state.node)) e
 
 -- ---- tests
 
@@ -88,66 +103,113 @@ or_first false b none e = sym none ∙ e
 
 pub gained_none : (nodes : List (Option Holding)) (names : List ℕ) → HaveGained nodes nodes names []
 gained_none nodes names = record {
-  tried = λ name one among has. (one.part, has ∙ ap (λ sides. Some (record { part = one.part; sides = sides })) (sym (append-nil one.sides)));
+  tried = λ name one among has. (
+    one.part,
+    has ∙ ap (λ sides. Some (record { part = one.part; sides = sides }))
+        (sym (append-nil one.sides)),
+  );
   others = λ name apart. refl;
 }
 
 -- one behind another
-pub gained_more : (first second third : List (Option Holding)) (names : List ℕ) (sides more : List Side) → HaveGained first second names sides → HaveGained second third names more → HaveGained first third names (sides ++ more)
+pub gained_more : (first second third : List (Option Holding)) (names : List ℕ)
+    (sides more : List Side) → HaveGained first second names sides
+    → HaveGained second third names more → HaveGained first third names (sides ++ more)
 gained_more first second third names sides more gained again = record {
   tried = λ name one among has. by name one among (gained.tried name one among has);
   others = λ name apart. again.others name apart ∙ gained.others name apart;
 }
   where
-    by : (name : ℕ) (one : Holding) → is_among name names ≡ true → (part : Part) × (kept second name ≡ Some (record { part = part; sides = one.sides ++ sides })) → (part : Part) × (kept third name ≡ Some (record { part = part; sides = one.sides ++ (sides ++ more) }))
+    by : (name : ℕ) (one : Holding) → is_among name names ≡ true → (part : Part)
+        × (kept second name ≡ Some (record { part = part; sides = one.sides ++ sides }))
+        → (part : Part)
+        × (kept third name ≡ Some (record { part = part; sides = one.sides ++ (sides ++ more) }))
     by name one among (part, has) =
-        let next = again.tried name (record { part = part; sides = one.sides ++ sides }) among has in
-        (next.0, next.1 ∙ ap (λ l. Some (record { part = next.0; sides = l })) (append_assoc one.sides sides more))
+        let next =
+        again.tried name (record { part = part; sides = one.sides ++ sides }) among has in (
+          next.0,
+          next.1 ∙ ap (λ l. Some (record { part = next.0; sides = l }))
+              (append_assoc one.sides sides more),
+        )
 
 -- other nodes behind some
-pub gained_join : (first second third : List (Option Holding)) (names others : List ℕ) (sides : List Side) → HaveGained first second names sides → HaveGained second third others sides → ((name : ℕ) → is_among name others ≡ true → is_among name names ≡ false) → HaveGained first third (names ++ others) sides
+pub gained_join : (first second third : List (Option Holding)) (names others : List ℕ)
+    (sides : List Side) → HaveGained first second names sides → HaveGained second third others sides
+    → ((name : ℕ) → is_among name others ≡ true → is_among name names ≡ false)
+    → HaveGained first third (names ++ others) sides
 gained_join first second third names others sides gained again apart = record {
-  tried = λ name one among has. by name one (is_among name others) refl (sym (among_either name names others) ∙ among) has;
+  tried = λ name one among has. by name one (is_among name others) refl
+      (sym (among_either name names others) ∙ among) has;
   others = λ name none.
-      let both = neither (is_among name names) (is_among name others) (sym (among_either name names others) ∙ none) in
+      let both = neither (is_among name names) (is_among name others)
+      (sym (among_either name names others) ∙ none) in
       again.others name both.1 ∙ gained.others name both.0;
 }
   where
-    stays : (name : ℕ) (one : Holding) → is_among name others ≡ false → (part : Part) × (kept second name ≡ Some (record { part = part; sides = one.sides ++ sides })) → (part : Part) × (kept third name ≡ Some (record { part = part; sides = one.sides ++ sides }))
+    stays : (name : ℕ) (one : Holding) → is_among name others ≡ false → (part : Part)
+        × (kept second name ≡ Some (record { part = part; sides = one.sides ++ sides }))
+        → (part : Part)
+        × (kept third name ≡ Some (record { part = part; sides = one.sides ++ sides }))
     stays name one none (part, there) = (part, again.others name none ∙ there)
 
-    by : (name : ℕ) (one : Holding) (b : Bool) → is_among name others ≡ b → (is_among name names || is_among name others) ≡ true → kept first name ≡ Some one → (part : Part) × (kept third name ≡ Some (record { part = part; sides = one.sides ++ sides }))
-    by name one true among some has = again.tried name one among (gained.others name (apart name among) ∙ has)
-    by name one false none some has = stays name one none (gained.tried name one (or_first (is_among name names) (is_among name others) none some) has)
+    by : (name : ℕ) (one : Holding) (b : Bool) → is_among name others ≡ b
+        → (is_among name names || is_among name others) ≡ true → kept first name ≡ Some one
+        → (part : Part)
+        × (kept third name ≡ Some (record { part = part; sides = one.sides ++ sides }))
+    by name one true among some has =
+        again.tried name one among (gained.others name (apart name among) ∙ has)
+    by name one false none some has =
+        stays name one none (gained.tried name one
+        (or_first (is_among name names) (is_among name others) none some) has)
 
 -- a try of a node
-pub gained_one : (nodes : List (Option Holding)) (name : ℕ) (side : Side) (found : Option ℕ) (one : Holding) → kept nodes name ≡ Some one → index_of name < 144 → HaveGained nodes (tried_in nodes (record { node = name; side = side }) found) (name ∷ []) (side ∷ [])
+pub gained_one : (nodes : List (Option Holding)) (name : ℕ) (side : Side) (found : Option ℕ)
+    (one : Holding) → kept nodes name ≡ Some one → index_of name < 144 → HaveGained nodes
+    (tried_in nodes (record { node = name; side = side }) found) (name ∷ []) (side ∷ [])
 gained_one nodes name side found one has below = record {
   tried = λ other kept_one among there. by other kept_one (among_one other name among) there;
-  others = λ other none. tried_else nodes (record { node = name; side = side }) found other (λ same. apart_from other none (one_place name other below (sym same)));
+  others = λ other none. tried_else nodes (record { node = name; side = side }) found other
+      (λ same. apart_from other none (one_place name other below (sym same)));
 }
   where
-    by : (other : ℕ) (old : Holding) → name ≡ other → kept nodes other ≡ Some old → (part : Part) × (kept (tried_in nodes (record { node = name; side = side }) found) other ≡ Some (record { part = part; sides = old.sides ++ side ∷ [] }))
+    by : (other : ℕ) (old : Holding) → name ≡ other → kept nodes other ≡ Some old
+        → (part : Part) × (kept (tried_in nodes (record { node = name; side = side }) found) other
+        ≡ Some (record { part = part; sides = old.sides ++ side ∷ [] }))
     by other old same there =
-        let is : one ≡ old = same_Some one old (sym has ∙ ap (kept nodes) same ∙ there) in
-        ((after one.part side found).1, ap (kept (tried_in nodes (record { node = name; side = side }) found)) (sym same) ∙ tried_here nodes (record { node = name; side = side }) found one has ∙ ap (λ (k : Holding). Some (record { part = (after one.part side found).1; sides = k.sides ++ side ∷ [] })) is)
+        let is : one ≡ old = same_Some one old (sym has ∙ ap (kept nodes) same ∙ there) in (
+          (after one.part side found).1,
+          ap (kept (tried_in nodes (record { node = name; side = side }) found)) (sym same)
+              ∙ tried_here nodes (record { node = name; side = side }) found one has
+              ∙ ap (λ (k : Holding). Some
+              (record { part = (after one.part side found).1; sides = k.sides ++ side ∷ [] })) is,
+        )
 
     apart_from : (other : ℕ) → is_among other (name ∷ []) ≡ false → name ≡ other → ⊥
-    apart_from other none same = true≢false (sym (among_here name []) ∙ ap (λ n. is_among n (name ∷ [])) same ∙ none)
+    apart_from other none same =
+        true≢false (sym (among_here name []) ∙ ap (λ n. is_among n (name ∷ [])) same ∙ none)
 
 -- ---- a part that is tried at its place
 
 -- the names are as they were
-pub names_set : (parts : List Part) (index : ℕ) (part new : Part) → slice_get parts index ≡ Some part → new.state.node ≡ part.state.node → names_of (set parts index new) ≡ names_of parts
+pub names_set : (parts : List Part) (index : ℕ) (part new : Part)
+    → slice_get parts index ≡ Some part → new.state.node ≡ part.state.node
+    → names_of (set parts index new) ≡ names_of parts
 names_set [] index part new there same = refl
-names_set (one ∷ parts) zero part new there same = ap (λ n. n ∷ names_of parts) (same ∙ ap (λ (p : Part). p.state.node) (sym (same_Some one part there)))
-names_set (one ∷ parts) (suc index) part new there same = ap (λ l. one.state.node ∷ l) (names_set parts index part new there same)
+names_set (one ∷ parts) zero part new there same =
+    ap (λ n. n ∷ names_of parts)
+    (same ∙ ap (λ (p : Part). p.state.node) (sym (same_Some one part there)))
+names_set (one ∷ parts) (suc index) part new there same =
+    ap (λ l. one.state.node ∷ l) (names_set parts index part new there same)
 
-module _ (parts : List Part) (nodes : List (Option Holding)) (index : ℕ) (part : Part) (side : Side) (found : Option ℕ) where
+module _ (parts : List Part) (nodes : List (Option Holding)) (index : ℕ) (part : Part) (side : Side)
+    (found : Option ℕ) where
   -- all parts are lent again
-  pub lent_set : (new : Part) → AreLent parts nodes → first_repeated [] (names_of parts) ≡ None → slice_get parts index ≡ Some part → new.state.node ≡ part.state.node → new ≡ (after part side found).1
-      → AreLent (set parts index new) (tried_in nodes (record { node = part.state.node; side = side }) found)
-  lent_set new lent once there same is = record { at = λ at other e. by at other (cases_eq index at) e }
+  pub lent_set : (new : Part) → AreLent parts nodes → first_repeated [] (names_of parts) ≡ None
+      → slice_get parts index ≡ Some part → new.state.node ≡ part.state.node
+      → new ≡ (after part side found).1 → AreLent (set parts index new)
+      (tried_in nodes (record { node = part.state.node; side = side }) found)
+  lent_set new lent once there same is =
+      record { at = λ at other e. by at other (cases_eq index at) e }
     where
       mine : IsLent part nodes
       mine = lent.at index part there
@@ -155,58 +217,92 @@ module _ (parts : List Part) (nodes : List (Option Holding)) (index : ℕ) (part
       here : IsLent new (tried_in nodes (record { node = part.state.node; side = side }) found)
       here = record {
         one = kept_after mine.one side found;
-        has = ap (kept (tried_in nodes (record { node = part.state.node; side = side }) found)) same ∙ tried_here nodes (record { node = part.state.node; side = side }) found mine.one mine.has;
+        has = ap (kept (tried_in nodes (record { node = part.state.node; side = side }) found)) same
+            ∙ tried_here nodes
+            (record { node = part.state.node; side = side }) found mine.one mine.has;
         same = ap (λ (p : Part). (after p side found).1) mine.same ∙ sym is;
         below = subst (λ n. index_of n < 144) (sym same) mine.below;
       }
 
-      elsewhere : (at : ℕ) (other : Part) → (index ≡ at → ⊥) → slice_get parts at ≡ Some other → IsLent other (tried_in nodes (record { node = part.state.node; side = side }) found)
+      elsewhere : (at : ℕ) (other : Part) → (index ≡ at → ⊥) → slice_get parts at ≡ Some other
+          → IsLent other (tried_in nodes (record { node = part.state.node; side = side }) found)
       elsewhere at other apart e =
           let its : IsLent other nodes = lent.at at other e in
-          let away : index_of other.state.node ≢ index_of part.state.node = λ f. apart (one_index [] (names_of parts) index at part.state.node once (name_there parts index part there) (name_there parts at other e ∙ ap Some (one_place other.state.node part.state.node its.below f))) in
-          record { one = its.one; has = tried_else nodes (record { node = part.state.node; side = side }) found other.state.node away ∙ its.has; same = its.same; below = its.below }
+          let away : index_of other.state.node ≢ index_of part.state.node =
+          λ f. apart (one_index [] (names_of parts) index at part.state.node once
+          (name_there parts index part there) (name_there parts at other e
+          ∙ ap Some (one_place other.state.node part.state.node its.below f))) in
+          record {
+            one = its.one;
+            has = tried_else nodes (record { node = part.state.node; side = side }) found
+                other.state.node away ∙ its.has;
+            same = its.same;
+            below = its.below;
+          }
 
-      by : (at : ℕ) (other : Part) → (index ≡ at) ⊎ (index ≡ at → ⊥) → slice_get (set parts index new) at ≡ Some other → IsLent other (tried_in nodes (record { node = part.state.node; side = side }) found)
-      by at other (inl i) e = subst (λ p. IsLent p (tried_in nodes (record { node = part.state.node; side = side }) found)) (same_Some new other (sym (get-set_here parts index new part there) ∙ ap (slice_get (set parts index new)) i ∙ e)) here
-      by at other (inr apart) e = elsewhere at other apart (sym (get-set_else parts index at new apart) ∙ e)
+      by : (at : ℕ) (other : Part) → (index ≡ at) ⊎ (index ≡ at → ⊥)
+          → slice_get (set parts index new) at ≡ Some other
+          → IsLent other (tried_in nodes (record { node = part.state.node; side = side }) found)
+      by at other (inl i) e =
+          subst
+          (λ p. IsLent p (tried_in nodes (record { node = part.state.node; side = side }) found))
+          (same_Some new other (sym (get-set_here parts index new part there)
+          ∙ ap (slice_get (set parts index new)) i ∙ e)) here
+      by at other (inr apart) e =
+          elsewhere at other apart (sym (get-set_else parts index at new apart) ∙ e)
 
 -- ---- one more node of a turn
 
-take_next : (names : List ℕ) (index name : ℕ) → slice_get names index ≡ Some name → take (suc index) names ≡ take index names ++ name ∷ []
+take_next : (names : List ℕ) (index name : ℕ) → slice_get names index ≡ Some name
+    → take (suc index) names ≡ take index names ++ name ∷ []
 take_next [] index name e = absurd (none-some name e)
 take_next (other ∷ names) zero name e = ap (λ n. n ∷ []) (same_Some other name e)
 take_next (other ∷ names) (suc index) name e = ap (λ l. other ∷ l) (take_next names index name e)
 
-pub gained_next : (first nodes : List (Option Holding)) (names : List ℕ) (parts : List Part) (index : ℕ) (part : Part) (side : Side) (found : Option ℕ)
-    → names_of parts ≡ names → first_repeated [] names ≡ None → AreLent parts nodes → slice_get parts index ≡ Some part → HaveGained first nodes (take index names) (side ∷ [])
-    → HaveGained first (tried_in nodes (record { node = part.state.node; side = side }) found) (take (index + 1) names) (side ∷ [])
+pub gained_next : (first nodes : List (Option Holding)) (names : List ℕ) (parts : List Part)
+    (index : ℕ) (part : Part) (side : Side) (found : Option ℕ) → names_of parts ≡ names
+    → first_repeated [] names ≡ None → AreLent parts nodes → slice_get parts index ≡ Some part
+    → HaveGained first nodes (take index names) (side ∷ [])
+    → HaveGained first (tried_in nodes (record { node = part.state.node; side = side }) found)
+    (take (index + 1) names) (side ∷ [])
 gained_next first nodes names parts index part side found same once lent there gained =
     let name = part.state.node in
     let after = tried_in nodes (record { node = name; side = side }) found in
     let mine = lent.at index part there in
-    let at : slice_get names index ≡ Some name = ap (λ l. slice_get l index) (sym same) ∙ name_there parts index part there in
+    let at : slice_get names index ≡ Some name =
+    ap (λ l. slice_get l index) (sym same) ∙ name_there parts index part there in
     let next : suc index ≡ index + 1 = omega arith in
-    subst (λ l. HaveGained first after l (side ∷ [])) (sym (take_next names index name at) ∙ ap (λ n. take n names) next)
-    (gained_join first nodes after (take index names) (name ∷ []) (side ∷ []) gained (gained_one nodes name side found mine.one mine.has mine.below)
-    (λ other among. subst (λ n. is_among n (take index names) ≡ false) (among_one other name among) (not_before [] names index name once at)))
+    subst (λ l. HaveGained first after l (side ∷ [])) (sym (take_next names index name at)
+    ∙ ap (λ n. take n names) next)
+    (gained_join first nodes after (take index names) (name ∷ []) (side ∷ []) gained
+    (gained_one nodes name side found mine.one mine.has mine.below)
+    (λ other among. subst (λ n. is_among n (take index names) ≡ false) (among_one other name among)
+    (not_before [] names index name once at)))
 
 -- ---- the work of a worker
 
 -- no turn
-pub worked_none : (seat : SeatView) (parts : List Part) → AreLent parts seat.nodes → HasWorked seat seat parts parts []
-worked_none seat parts lent = record { table = refl; names = refl; lent = lent; gained = gained_none seat.nodes (names_of parts) }
+pub worked_none : (seat : SeatView) (parts : List Part) → AreLent parts seat.nodes
+    → HasWorked seat seat parts parts []
+worked_none seat parts lent = record
+    { table = refl; names = refl; lent = lent; gained = gained_none seat.nodes (names_of parts) }
 
 -- some turns behind others
-pub worked_more : (first second third : SeatView) (old parts new : List Part) (sides more : List Side) → HasWorked first second old parts sides → HasWorked second third parts new more → HasWorked first third old new (sides ++ more)
+pub worked_more : (first second third : SeatView) (old parts new : List Part)
+    (sides more : List Side) → HasWorked first second old parts sides
+    → HasWorked second third parts new more → HasWorked first third old new (sides ++ more)
 worked_more first second third old parts new sides more worked again = record {
   table = again.table ∙ worked.table;
   names = again.names ∙ worked.names;
   lent = again.lent;
-  gained = gained_more first.nodes second.nodes third.nodes (names_of old) sides more worked.gained (subst (λ l. HaveGained second.nodes third.nodes l more) worked.names again.gained);
+  gained = gained_more first.nodes second.nodes third.nodes (names_of old) sides more worked.gained
+      (subst (λ l. HaveGained second.nodes third.nodes l more) worked.names again.gained);
 }
 
 -- a worker may go on
-pub ready_again : (table : CellsId) (first second : SeatView) (old parts : List Part) (sides : List Side) → IsReady table first old → HasWorked first second old parts sides → IsReady table second parts
+pub ready_again : (table : CellsId) (first second : SeatView) (old parts : List Part)
+    (sides : List Side) → IsReady table first old → HasWorked first second old parts sides
+    → IsReady table second parts
 ready_again table first second old parts sides ready worked = record {
   own = worked.table ∙ ready.own;
   lent = worked.lent;

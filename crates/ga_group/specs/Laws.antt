@@ -9,13 +9,14 @@ use Rattle.ga_chip.specs.Run.{ran, sides_of, tries_of, words_left}
 use Rattle.ga_group.specs.Plan.{Groups}
 use Rattle.ga_group.specs.Workers.{IsWorkersRun}
 
--- Two runs may be compared: they begin at legal chips that differ in breakpoints and passes at most, and the takes
--- of several sides name the same sides as far as both go.
+-- Two runs may be compared: they begin at legal chips that differ in breakpoints and passes at
+-- most, and the takes of several sides name the same sides as far as both go.
 pub record AreAlike (one two : Chip) (tries others : List Try) : Type 0 where
   pub first : IsLegal one
   pub second : IsLegal two
   pub chips : DifferInBreaks one two
-  pub sides : (name : ℕ) → AgreesWith (sides_of one (tries_of tries) name) (sides_of two (tries_of others) name)
+  pub sides : (name : ℕ)
+      → AgreesWith (sides_of one (tries_of tries) name) (sides_of two (tries_of others) name)
 
 -- a node has the same state at two chips, and the same words left of its stream
 pub record IsAlike (here there : Part) : Type 0 where
@@ -24,13 +25,23 @@ pub record IsAlike (here there : Part) : Type 0 where
 
 -- two chips have a node alike, where it has made equally many steps
 abbrev pub LeaveAlike : Chip → Chip → Type 0
-LeaveAlike one two = (name : ℕ) (here there : Part) → part_of one name ≡ Some here → part_of two name ≡ Some there → here.state.steps ≡ there.state.steps → IsAlike here there
+LeaveAlike one two =
+    (name : ℕ) (here there : Part) → part_of one name ≡ Some here → part_of two name ≡ Some there
+    → here.state.steps ≡ there.state.steps → IsAlike here there
 
--- Two runs of workers that may be compared, by whatever plans and over however many turns, go alike, and leave each
--- node alike where it has made equally many steps.
+-- Two runs of workers that may be compared, by whatever plans and over however many turns, go
+-- alike, and leave each node alike where it has made equally many steps.
 abbrev pub PlansAgree : Type 0
-PlansAgree = (one two next other : Chip) (plan another : Groups) (turns more : ℕ) (run : IsWorkersRun one plan turns next) (again : IsWorkersRun two another more other) → AreAlike one two run.tries again.tries → Agree one two (tries_of run.tries) (tries_of again.tries) × LeaveAlike next other
+PlansAgree =
+    (one two next other : Chip) (plan another : Groups) (turns more : ℕ)
+    (run : IsWorkersRun one plan turns next) (again : IsWorkersRun two another more other)
+    → AreAlike one two run.tries again.tries
+    → Agree one two (tries_of run.tries) (tries_of again.tries) × LeaveAlike next other
 
 -- So do a run of workers and a list of tries in one thread.
 abbrev pub RunAgrees : Type 0
-RunAgrees = (one two next : Chip) (plan : Groups) (turns : ℕ) (tries : List Try) (run : IsWorkersRun one plan turns next) → AreAlike one two run.tries tries → Agree one two (tries_of run.tries) (tries_of tries) × LeaveAlike next (ran two (tries_of tries))
+RunAgrees =
+    (one two next : Chip) (plan : Groups) (turns : ℕ) (tries : List Try)
+    (run : IsWorkersRun one plan turns next) → AreAlike one two run.tries tries
+    → Agree one two (tries_of run.tries) (tries_of tries)
+    × LeaveAlike next (ran two (tries_of tries))

@@ -18,7 +18,8 @@ groups_of groups = groups_in (vec_items groups)
 -- the first name that stands among others, or among the names in front of it
 abbrev pub first_repeated : List ℕ → List ℕ → Option ℕ
 first_repeated before [] = None
-first_repeated before (name ∷ names) = if is_among name before then Some name else first_repeated (before ++ name ∷ []) names
+first_repeated before (name ∷ names) =
+    if is_among name before then Some name else first_repeated (before ++ name ∷ []) names
 
 -- what is wrong with the group of a worker behind others
 abbrev pub group_fault : ℕ → List ℕ → List ℕ → Option PlanError
@@ -28,7 +29,8 @@ group_fault worker before names = option_map Repeated (first_repeated before nam
 -- what is wrong with the groups of the workers from one on, behind the groups of the others
 abbrev pub groups_fault : ℕ → List ℕ → Groups → Option PlanError
 groups_fault worker before [] = None
-groups_fault worker before (group ∷ groups) = option_or (group_fault worker before group) (groups_fault (worker + 1) (before ++ group) groups)
+groups_fault worker before (group ∷ groups) =
+    option_or (group_fault worker before group) (groups_fault (worker + 1) (before ++ group) groups)
 
 -- what is wrong with groups as a plan
 abbrev pub plan_fault : Groups → Option PlanError

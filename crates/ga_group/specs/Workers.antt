@@ -12,12 +12,13 @@ use Rattle.ga_group.specs.Plan.{Groups}
 abbrev pub sides_of_turns : ℕ → List Side
 sides_of_turns turns = map side_of_turn (range_with_len 0 turns)
 
--- A run of workers by a plan over so many turns leads from one chip to another: along tries in which each node of
--- the plan is tried once in each turn, with the side of that turn, and no other node is tried. The order between
--- nodes is free.
+-- A run of workers by a plan over so many turns leads from one chip to another: along tries in
+-- which each node of the plan is tried once in each turn, with the side of that turn, and no other
+-- node is tried. The order between nodes is free.
 pub record IsWorkersRun (chip : Chip) (plan : Groups) (turns : ℕ) (next : Chip) : Type 0 where
   pub tries : List Try
-  pub planned : (name : ℕ) → is_among name (concat plan) ≡ true → sides_tried name tries ≡ sides_of_turns turns
+  pub planned : (name : ℕ) → is_among name (concat plan) ≡ true
+      → sides_tried name tries ≡ sides_of_turns turns
   pub others : (name : ℕ) → is_among name (concat plan) ≡ false → sides_tried name tries ≡ []
   pub leads : next ≡ ran chip (tries_of tries)
 
@@ -27,4 +28,5 @@ round_of nodes side = map (λ name. record { node = name; side = side }) nodes
 
 -- so many rounds, one behind another, with the sides of the turns
 abbrev pub rounds_of : List ℕ → ℕ → List Try
-rounds_of nodes turns = flat_map (λ turn. round_of nodes (side_of_turn turn)) (range_with_len 0 turns)
+rounds_of nodes turns =
+    flat_map (λ turn. round_of nodes (side_of_turn turn)) (range_with_len 0 turns)

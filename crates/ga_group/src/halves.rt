@@ -1,4 +1,5 @@
-//! Groups of nodes at once, each worked by a thread of its own: one half of them beside the other, and so on.
+//! Groups of nodes at once, each worked by a thread of its own: one half of them beside the other,
+//! and so on.
 ghost use Rattle.std.specs.Prelude.{◌≡◌, ◌+◌, ◌<◌, ◌≤◌, ◌^◌, ℕ, length};
 ghost use Rattle.std.specs.List.{concat};
 ghost use Rattle.std.specs.Thread.{IsSync};
@@ -13,9 +14,11 @@ use ga_place::Node;
 use ga_port::{Cells, PortSeat};
 use std::thread::{Threads, join_mut};
 
-/// The turns of some workers, of which the first has this number. Each works its group in a thread of its own, but where
-/// no thread can be started: its group is then worked by the thread that wanted it. The nodes stand in the order of the
-/// groups, and so do the parts, which are lent with the seat.
+/// The turns of some workers, of which the first has this number. Each works its group in a thread
+/// of its own, but where no thread can be started: its group is then worked by the thread that
+/// wanted it. The nodes stand in the order of the groups, and so do the parts, which are lent with
+/// the seat.
+// long: what all workers share, and what these have of their own
 #[cycle(groups)]
 pub(crate) fn work_groups<R: Threads + Sync, G: Gate>(
     rt: &R,
@@ -61,8 +64,9 @@ pub(crate) fn work_groups<R: Threads + Sync, G: Gate>(
     cells.gather(seat, other);
 }
 
-/// Both halves of some workers at once. Those of the left half have the numbers from the first on, and those of the right
-/// half the numbers behind them.
+/// Both halves of some workers at once. Those of the left half have the numbers from the first on,
+/// and those of the right half the numbers behind them.
+// long: what all workers share, and what each half has of its own
 #[cycle(groups)]
 fn both_halves<R: Threads + Sync, G: Gate>(
     rt: &R,

@@ -7,8 +7,8 @@ use crate::error::PlanError;
 use ga_place::Node;
 use std::marker::Model;
 
-/// Which nodes each worker tries: at least one worker, at least one node for each, and no node twice. A contract
-/// sees the list of the workers' groups, each a list of names.
+/// Which nodes each worker tries: at least one worker, at least one node for each, and no node
+/// twice. A contract sees the list of the workers' groups, each a list of names.
 #[derive(Drop)]
 pub struct Plan {
     groups: Vec<Vec<Node>>,
@@ -28,9 +28,10 @@ impl Model for Plan {
 }
 
 impl Plan {
-    /// The plan by which worker i tries the nodes of group i, in their order. Refused is what is wrong first: there
-    /// is no group; then, group by group, it has no node, or a node of it stands in the plan before. The groups
-    /// come back then. It takes no memory. (Plans are this project's own: profile.)
+    /// The plan by which worker i tries the nodes of group i, in their order. Refused is what is
+    /// wrong first: there is no group; then, group by group, it has no node, or a node of it stands
+    /// in the plan before. The groups come back then. It takes no memory. (Plans are this project's
+    /// own: profile.)
     pub fn new(groups: Vec<Vec<Node>>) -> Result<Self, (PlanError, Vec<Vec<Node>>)>
         ensures { result ≡ planned (plan_fault (groups_of groups)) (groups_of groups) groups }
     {

@@ -95,6 +95,7 @@ fn nodes_of(alloc: Global, groups: &[Vec<Node>]) -> Result<Vec<Node>, AllocError
 }
 
 /// A run at the cells that a chip was opened by. It takes no memory.
+// long: what was opened of a chip, and what its run goes by
 fn run_at<R: Threads + Sync, G: Gate>(
     rt: &R,
     chip: Chip,
@@ -121,6 +122,7 @@ fn run_at<R: Threads + Sync, G: Gate>(
 
 /// The turns of all workers of a plan. The parts of all nodes are lent with the seat: they are
 /// brought into the order of the plan for it, and then back into their own.
+// long: what all workers share, and what they are lent
 fn work_plan<R: Threads + Sync, G: Gate>(
     rt: &R,
     cells: &Cells,

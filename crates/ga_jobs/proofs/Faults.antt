@@ -1,29 +1,31 @@
 -- What is right of an answer may be said in other words.
-use Rattle.std.proofs.Common.{◌≡◌, ℕ, List, Result, Ok, Err, inr}
+use Rattle.std.proofs.Common.{ℕ, List, Result, Ok, Err, inr}
 use Rattle.ga_jobs.specs.declared.fault.ServeError.{ServeError}
 use Rattle.ga_jobs.specs.declared.fault.ServeError.TheVariants.{Read, Write, Memory}
 use Rattle.ga_path.specs.Stream.{Images}
-use Rattle.ga_jobs.specs.Boot.{IsBootOutput, text_by}
 use Rattle.ga_jobs.specs.Fault.{Answers, FailsRightly}
-use Rattle.ga_jobs.specs.Tree.{tree_in}
-use Rattle.ga_jobs.specs.Run.{IsRunOf, IsRunOutput}
-use Rattle.ga_jobs.specs.Source.{IsImagesIn}
+use Rattle.ga_jobs.specs.Source.{IsImagesIn, IsOfImages}
 
-fails : {A B : Type 0} (IsRight : Result A ServeError → Type 0) (IsAlso : Result B ServeError → Type 0) (fault : ServeError) → ((error : ServeError) → IsRight (Err error) → IsAlso (Err error)) → FailsRightly IsRight fault → FailsRightly IsAlso fault
+fails : {A B : Type 0} (IsRight : Result A ServeError → Type 0)
+    (IsAlso : Result B ServeError → Type 0) (fault : ServeError)
+    → ((error : ServeError) → IsRight (Err error) → IsAlso (Err error)) → FailsRightly IsRight fault
+    → FailsRightly IsAlso fault
 fails IsRight IsAlso Read also is = absurd is
 fails IsRight IsAlso Write also is = absurd is
 fails IsRight IsAlso Memory also is = tt
 fails IsRight IsAlso fault also is = also fault is
 
-pub answers : {A B : Type 0} (view : A → B) (IsRight : Result B ServeError → Type 0) (IsAlso : Result B ServeError → Type 0) (result : Result A ServeError) → ((answer : Result B ServeError) → IsRight answer → IsAlso answer) → Answers view IsRight result → Answers view IsAlso result
+pub answers : {A B : Type 0} (view : A → B) (IsRight : Result B ServeError → Type 0)
+    (IsAlso : Result B ServeError → Type 0) (result : Result A ServeError)
+    → ((answer : Result B ServeError) → IsRight answer → IsAlso answer)
+    → Answers view IsRight result → Answers view IsAlso result
 answers view IsRight IsAlso (Ok value) also is = also (Ok (view value)) is
-answers view IsRight IsAlso (Err fault) also is = fails IsRight IsAlso fault (λ error. also (Err error)) is
+answers view IsRight IsAlso (Err fault) also is =
+    fails IsRight IsAlso fault (λ error. also (Err error)) is
 
 -- what comes of the images of an input comes of the input
-pub booted_from : (images : Images) (routes : List ℕ) (input : List ℕ) → IsImagesIn input (Ok images) → (answer : Result (List ℕ) ServeError) → text_by images (tree_in routes) ≡ answer → IsBootOutput routes input answer
-booted_from images routes input made (Ok text) is = (images, made, is)
-booted_from images routes input made (Err fault) is = inr (images, made, is)
-
-pub ran_from : (images : Images) (routes : List ℕ) (workers turns : ℕ) (input : List ℕ) → IsImagesIn input (Ok images) → (answer : Result (List ℕ) ServeError) → IsRunOf images workers turns (tree_in routes) answer → IsRunOutput routes workers turns input answer
-ran_from images routes workers turns input made (Ok text) is = (images, made, is)
-ran_from images routes workers turns input made (Err fault) is = inr (images, made, is)
+pub from_images : (Makes : Images → Result (List ℕ) ServeError → Type 0) (images : Images)
+    (input : List ℕ) → IsImagesIn input (Ok images) → (answer : Result (List ℕ) ServeError)
+    → Makes images answer → IsOfImages Makes input answer
+from_images Makes images input made (Ok text) is = (images, made, is)
+from_images Makes images input made (Err fault) is = inr (images, made, is)

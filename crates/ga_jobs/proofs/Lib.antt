@@ -1,9 +1,9 @@
 mod NthItem
 mod Listed
-mod Replies
 mod Dealing
 mod Faults
 pub mod OneOutput
 pub mod OneRun
+mod OneAnswer
 mod Again
 mod WorkedOutputs

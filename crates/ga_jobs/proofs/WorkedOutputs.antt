@@ -21,7 +21,7 @@ use Rattle.ga_chip.specs.Chip.{reset_chip, tried}
 use Rattle.ga_chip.specs.Part.{after, asks}
 use Rattle.ga_chip.specs.Run.{happened}
 use Rattle.ga_group.specs.declared.error.PlanError.TheVariants.{Empty}
-use Rattle.ga_debug.specs.Command.{arguments, command_first, command_in}
+use Rattle.ga_debug.specs.Command.{command_first, command_in}
 use Rattle.ga_jobs.specs.Asm.{images_text}
 use Rattle.ga_jobs.specs.Debug.{replies_to}
 use Rattle.ga_jobs.specs.Run.{dealt, plan_by}
@@ -38,8 +38,10 @@ use Rattle.ga_jobs.specs.One.{one_output, one_text}
 use Rattle.ga_jobs.specs.Tree.{tree_in}
 use Rattle.ga_jobs.specs.Text.{words_in}
 
-a_line : one_output 5 (codes "04A12 00005 00003 2C9B2\n") ≡ Ok (codes "node 000 P 003 A 00005 B 15D R 00000 S 00000 T 00003 C 0 io 00000 at fetch steps 5 need own\n")
-unfolding one_text words_in line_of need_of step row reading_of op_with hex_digits is_word_text digits tokens is_utf8 chars lib.Utf8.encode
+a_line : one_output 5 (codes "04A12 00005 00003 2C9B2\n") ≡ Ok (codes
+    "node 000 P 003 A 00005 B 15D R 00000 S 00000 T 00003 C 0 io 00000 at fetch steps 5 need own\n")
+unfolding one_text words_in line_of need_of step row reading_of op_with hex_digits is_word_text
+    digits tokens is_utf8 chars lib.Utf8.encode
 a_line = refl
 
 a_bad_word : one_output 5 (codes "04A12 5") ≡ Err (Words (words.BadWord 1))
@@ -54,12 +56,15 @@ no_text : one_output 0 (0xFF ∷ []) ≡ Err (Input BadText)
 unfolding words_in is_utf8 chars lib.Utf8.encode
 no_text = refl
 
-some_code : dis_output (Some 2) (codes "05872 2C9B2 00001") ≡ Ok (codes "node 000\n[ @p !+ unext . ]\n, $2C9B2\ndata\n, $00001\n")
-unfolding dis_text items_from text_of words_in reading_of op_with hex_digits is_word_text digits tokens is_utf8 chars lib.Utf8.encode
+some_code : dis_output (Some 2) (codes "05872 2C9B2 00001")
+    ≡ Ok (codes "node 000\n[ @p !+ unext . ]\n, $2C9B2\ndata\n, $00001\n")
+unfolding dis_text items_from text_of words_in reading_of op_with hex_digits is_word_text digits
+    tokens is_utf8 chars lib.Utf8.encode
 some_code = refl
 
 all_code : dis_output None (codes "10BD5") ≡ Ok (codes "node 000\n[ jump $003D5 / 2 ]\n")
-unfolding dis_text items_from text_of words_in reading_of op_with hex_digits is_word_text digits tokens is_utf8 chars lib.Utf8.encode
+unfolding dis_text items_from text_of words_in reading_of op_with hex_digits is_word_text digits
+    tokens is_utf8 chars lib.Utf8.encode
 all_code = refl
 
 bad_code : dis_output (Some 4) (codes "05872 2C9B2 00001") ≡ Err (Words words.BadCode)
@@ -73,20 +78,24 @@ bad_word_first = refl
 
 -- an image of one word
 one_word : ImageView
-one_word = record { words = 0x2C9B2 ∷ []; code_len = 1; entry = 0; labels = []; item_counts = 1 ∷ [] }
+one_word =
+    record { words = 0x2C9B2 ∷ []; code_len = 1; entry = 0; labels = []; item_counts = 1 ∷ [] }
 
-boot_of_a_neighbour : text_by ((709, one_word) ∷ []) (tree_in (codes "708,709")) ≡ Ok (codes "load 14\n000AE 001D5 00008 101D5 04A12 00000 00000 2E9B2\n05872 2C9B2 2C9B2 000AE 00000 00000\nstart 7\n000AE 001D5 00001 10000 001B5 00000 00000\n")
+boot_of_a_neighbour : text_by ((709, one_word) ∷ []) (tree_in (codes "708,709")) ≡ Ok (codes
+    "load 14\n000AE 001D5 00008 101D5 04A12 00000 00000 2E9B2\n05872 2C9B2 2C9B2 000AE 00000 00000\nstart 7\n000AE 001D5 00001 10000 001B5 00000 00000\n")
 unfolding part_text one_word hex_digits digits
 boot_of_a_neighbour = refl
 
-boot_of_a_fork : text_by ((709, one_word) ∷ (608, one_word) ∷ []) (tree_in (codes "708,709/708,608")) ≡ Ok (codes "load 25\n000AE 001D5 00008 101D5 04A12 00000 00000 2E9B2\n05872 2C9B2 2C9B2 000AE 00115 00008 10115 04A12\n00000 00000 2E9B2 05872 2C9B2 2C9B2 000AE 00000\n00000\nstart 11\n000AE 001D5 00001 10000 000AE 00115 00001 10000\n001B5 00000 00000\n")
+boot_of_a_fork : text_by
+    ((709, one_word) ∷ (608, one_word) ∷ []) (tree_in (codes "708,709/708,608")) ≡ Ok (codes
+    "load 25\n000AE 001D5 00008 101D5 04A12 00000 00000 2E9B2\n05872 2C9B2 2C9B2 000AE 00115 00008 10115 04A12\n00000 00000 2E9B2 05872 2C9B2 2C9B2 000AE 00000\n00000\nstart 11\n000AE 001D5 00001 10000 000AE 00115 00001 10000\n001B5 00000 00000\n")
 unfolding part_text one_word hex_digits digits
 boot_of_a_fork = refl
 
 -- the faults of routes come before that of the tree
 no_trees : (text_by [] (tree_in (codes "708,709,609/708,608,609")) ≡ Err (Tree (Repeated 1)))
-    × (text_by [] (tree_in (codes "708,709/000,001")) ≡ Err (Tree (OtherRoot 1)))
-    × (text_by [] (tree_in (codes "708,709/708,710/000,001")) ≡ Err (Route (Nodes (NotNeighbour 1))))
+    × (text_by [] (tree_in (codes "708,709/000,001")) ≡ Err (Tree (OtherRoot 1))) × (text_by []
+    (tree_in (codes "708,709/708,710/000,001")) ≡ Err (Route (Nodes (NotNeighbour 1))))
     × (text_by [] (tree_in (codes "708//709")) ≡ Err (Route BadRoute))
 no_trees = (refl, refl, refl, refl)
 
@@ -96,12 +105,22 @@ no_names = refl
 no_route : text_by [] (tree_in (codes "708,710")) ≡ Err (Route (Nodes (NotNeighbour 1)))
 no_route = refl
 
-not_reached : text_by ((710, one_word) ∷ []) (tree_in (codes "708,709")) ≡ Err (Boot (Unreached 710))
+not_reached : text_by ((710, one_word) ∷ []) (tree_in (codes "708,709"))
+    ≡ Err (Boot (Unreached 710))
 not_reached = refl
 
 -- two images, one with its entry and the code in front of its data
-images_of_two : images_text ((708, one_word) ∷ (709, record { words = 0x05872 ∷ 0x2C9B2 ∷ 0x00001 ∷ []; code_len = 2; entry = 1; labels = []; item_counts = 3 ∷ 1 ∷ 1 ∷ [] }) ∷ [])
-    ≡ codes "node 708 entry 000 code 1 words 1\n2C9B2\nnode 709 entry 001 code 2 words 3\n05872 2C9B2 00001\n"
+images_of_two : images_text ((708, one_word) ∷ (
+  709,
+  record {
+    words = 0x05872 ∷ 0x2C9B2 ∷ 0x00001 ∷ [];
+    code_len = 2;
+    entry = 1;
+    labels = [];
+    item_counts = 3 ∷ 1 ∷ 1 ∷ [];
+  },
+) ∷ []) ≡ codes
+    "node 708 entry 000 code 1 words 1\n2C9B2\nnode 709 entry 001 code 2 words 3\n05872 2C9B2 00001\n"
 unfolding image_line one_word hex_digits digits
 images_of_two = refl
 
@@ -113,14 +132,17 @@ too_many_workers : plan_by (dealt 3 (708 ∷ 709 ∷ [])) ≡ Err (Plan (Empty 2
 too_many_workers = refl
 
 -- an empty line is no command, and one that is refused changes nothing
-replies_to_three : replies_to reset_chip (codes "pass 709" ∷ [] ∷ codes "halt" ∷ codes "break 709 003" ∷ []) ≡ codes "refused NotHeld\nrefused BadCommand\nok\n"
-unfolding command_in command_first arguments happened tried after asks need_of reset_chip cell_of all_cells
+replies_to_three : replies_to reset_chip (codes "pass 709" ∷ [] ∷ codes "halt"
+    ∷ codes "break 709 003" ∷ []) ≡ codes "refused NotHeld\nrefused BadCommand\nok\n"
+unfolding command_in command_first happened tried after asks need_of reset_chip cell_of
+    all_cells
 replies_to_three = refl
 
 -- ---- what is shown of a text
 
 -- a control character is a blank, but for the tab, and so is one that isn't drawn
-shown_alike : map shown_char (27 ∷ 9 ∷ 0x7F ∷ 0x200A ∷ 0x200B ∷ 0x200F ∷ 0x2010 ∷ 0x202E ∷ 0x202F ∷ 0x2066 ∷ 0x206A ∷ [])
+shown_alike : map shown_char
+    (27 ∷ 9 ∷ 0x7F ∷ 0x200A ∷ 0x200B ∷ 0x200F ∷ 0x2010 ∷ 0x202E ∷ 0x202F ∷ 0x2066 ∷ 0x206A ∷ [])
     ≡ 32 ∷ 9 ∷ 32 ∷ 0x200A ∷ 32 ∷ 32 ∷ 0x2010 ∷ 32 ∷ 0x202F ∷ 32 ∷ 0x206A ∷ []
 shown_alike = refl
 
@@ -139,7 +161,8 @@ source_ends = (refl, refl, refl, refl, refl)
 
 -- the mark comes before the CR
 profiles : (profile_meaning (codes "profile 1\n") ≡ codes "the first line isn't 'profile 2'")
-    × (profile_meaning (codes "profile 2" ++ 13 ∷ 10 ∷ []) ≡ codes "the first line isn't 'profile 2': a CR stands at its end")
+    × (profile_meaning (codes "profile 2" ++ 13 ∷ 10 ∷ [])
+    ≡ codes "the first line isn't 'profile 2': a CR stands at its end")
     × (profile_meaning (0xEF ∷ 0xBB ∷ 0xBF ∷ codes "profile 2" ++ 13 ∷ 10 ∷ [])
     ≡ codes "the first line isn't 'profile 2': a byte order mark stands in front of it")
 unfolding profile_meaning

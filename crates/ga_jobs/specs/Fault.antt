@@ -30,8 +30,8 @@ fault_of_text (text.Source error) = Source error
 fault_of_text (text.Asm error) = Asm error
 fault_of_text text.Memory = Memory
 
--- the fault of a text that doesn't name nodes, of nodes that are no route, of routes that are no tree, and of a node that
--- isn't in the tree
+-- the fault of a text that doesn't name nodes, of nodes that are no route, of routes that are no
+-- tree, and of a node that isn't in the tree
 abbrev pub fault_of_names : NamesError → ServeError
 fault_of_names names.BadNames = Route BadRoute
 fault_of_names names.Memory = Memory
@@ -53,15 +53,16 @@ abbrev pub fault_of_replay : ReplayError → ServeError
 fault_of_replay replay.Memory = Memory
 fault_of_replay error = Replay error
 
--- What a function answers that reads nothing and writes nothing is right, a value seen through a view,
--- unless memory ran out.
+-- What a function answers that reads nothing and writes nothing is right, a value seen through a
+-- view, unless memory ran out.
 abbrev pub FailsRightly : {B : Type 0} → (Result B ServeError → Type 0) → ServeError → Type 0
 FailsRightly IsRight Memory = Unit {0}
 FailsRightly IsRight Read = ⊥
 FailsRightly IsRight Write = ⊥
 FailsRightly IsRight fault = IsRight (Err fault)
 
-abbrev pub Answers : {A B : Type 0} → (A → B) → (Result B ServeError → Type 0) → Result A ServeError → Type 0
+abbrev pub Answers : {A B : Type 0} → (A → B) → (Result B ServeError → Type 0) → Result A ServeError
+    → Type 0
 Answers view IsRight (Ok value) = IsRight (Ok (view value))
 Answers view IsRight (Err fault) = FailsRightly IsRight fault
 

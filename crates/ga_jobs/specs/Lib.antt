@@ -1,10 +1,26 @@
+-- The jobs: what each reads, and what it may answer to an input, by the page of its name.
+use Rattle.std.specs.Prelude.{◌≡◌, Bool, true, false, List, ℕ, String, codes, Option, Some, None, Result, Ok, string_bytes, if◌then◌else◌}
+use Rattle.std.specs.Str.{bytes_eq}
+use Rattle.ga_explain.specs.Output.{explain_output}
+use Rattle.ga_jobs.specs.declared.Job.{Job}
+use Rattle.ga_jobs.specs.declared.Job.TheVariants as job
+use Rattle.ga_jobs.specs.declared.fault.ServeError.{ServeError}
+use Rattle.ga_jobs.specs.Asm.{IsAsmOutput}
+use Rattle.ga_jobs.specs.Boot.{IsBootOutput}
+use Rattle.ga_jobs.specs.Debug.{IsDebugOutput}
+use Rattle.ga_jobs.specs.Dis.{dis_output}
+use Rattle.ga_jobs.specs.Listing.{IsListOutput}
+use Rattle.ga_jobs.specs.One.{one_output}
+use Rattle.ga_jobs.specs.Replay.{IsReplayOutput}
+use Rattle.ga_jobs.specs.Run.{IsRunOutput}
+use Rattle.ga_jobs.specs.Transcript.{IsCheckOutput, IsRecordOutput}
 pub mod Fault
 pub mod Shown
 pub mod Meaning
 pub mod TextFault
 pub mod TranscriptFault
 pub mod Transcript
-pub mod List
+pub mod Listing
 pub mod Text
 pub mod One
 pub mod Source
@@ -15,3 +31,44 @@ pub mod Boot
 pub mod Run
 pub mod Replay
 pub mod Debug
+pub mod Answering
+pub mod Reading
+pub mod Writing
+pub mod Engine
+
+-- what a job may answer to an input that is not too long
+unfoldable pub IsJobOutput : Job → List ℕ → Result (List ℕ) ServeError → Type 0
+IsJobOutput (job.One tries) input answer = answer ≡ one_output tries input
+IsJobOutput job.Asm input answer = IsAsmOutput input answer
+IsJobOutput (job.Dis code) input answer = answer ≡ dis_output code input
+IsJobOutput (job.Boot route) input answer = IsBootOutput (string_bytes route) input answer
+IsJobOutput (job.Run route workers turns) input answer =
+    IsRunOutput (string_bytes route) workers turns input answer
+IsJobOutput job.Debug input answer = IsDebugOutput input answer
+IsJobOutput job.Replay input answer = IsReplayOutput input answer
+IsJobOutput (job.List labels file) input answer = IsListOutput labels input answer
+IsJobOutput (job.Check file) input answer = IsCheckOutput input answer
+IsJobOutput (job.Record file) input answer = IsRecordOutput input answer
+IsJobOutput (job.Explain topic) input answer = answer ≡ Ok (explain_output topic)
+
+-- a job reads an input, but for `explain`
+abbrev pub reads_input : Job → Bool
+reads_input (job.Explain topic) = false
+reads_input job = true
+
+-- `-` stands for standard input
+abbrev pub named_file : {A : Type 0} → String A → Option (List ℕ)
+named_file file =
+    if bytes_eq (string_bytes file) (codes "-") then None else Some (string_bytes file)
+
+-- the file that a job reads in place of standard input
+abbrev pub file_of : Job → Option (List ℕ)
+file_of (job.List labels (Some file)) = named_file file
+file_of (job.Check (Some file)) = named_file file
+file_of (job.Record (Some file)) = named_file file
+file_of job = None
+
+-- the job that is handed the means to start threads
+abbrev pub needs_threads : Job → Bool
+needs_threads (job.Run route workers turns) = true
+needs_threads job = false

@@ -9,7 +9,8 @@ use Rattle.ga_jobs.specs.Text.{IsInText}
 
 -- how many stated outcomes of a text were compared, or its first fault
 abbrev pub IsSame : List ℕ → Result (List ℕ) ReplayError → Type 0
-IsSame text (Ok output) = (count : ℕ) × IsReplayed text (Ok count) × (output ≡ codes "same " ++ decimal count ++ 10 ∷ [])
+IsSame text (Ok output) =
+    (count : ℕ) × IsReplayed text (Ok count) × (output ≡ codes "same " ++ decimal count ++ 10 ∷ [])
 IsSame text (Err error) = IsReplayed text (Err error)
 
 -- what `replay` may write for an input, or its first fault

@@ -5,8 +5,8 @@ use Rattle.std.specs.Str.{chars, encode_utf8_all}
 use Rattle.std.specs.Str.Lines.{lines}
 use Rattle.ga_pack.specs.Model.Text.{lines_of}
 
--- The line of a text with a number from 1, without the LF or CR LF that ends it. A line that the text doesn't have is
--- empty, and so is the line 0.
+-- The line of a text with a number from 1, without the LF or CR LF that ends it. A line that the
+-- text doesn't have is empty, and so is the line 0.
 abbrev pub numbered_line : List ℕ → ℕ → List ℕ
 numbered_line text line = slice_index_or (lines text) (line - 1) []
 
@@ -39,11 +39,14 @@ shown_line line skipped = encode_utf8_all (map shown_char (take 100 (drop skippe
 
 -- what stands in front of a caret under a column, or behind the line where it has fewer characters
 abbrev pub line_under : List ℕ → ℕ → ℕ → List ℕ
-line_under line skipped column = encode_utf8_all (map char_under (take (column - 1 - skipped) (drop skipped (chars line))))
+line_under line skipped column =
+    encode_utf8_all (map char_under (take (column - 1 - skipped) (drop skipped (chars line))))
 
--- The line of a place in a text, a caret under its column, and what is meant. Without a column there is no caret.
+-- The line of a place in a text, a caret under its column, and what is meant. Without a column
+-- there is no caret.
 unfoldable pub shown_text : List ℕ → ℕ → Option ℕ → List ℕ → List ℕ
-shown_text text line None meaning = codes "  " ++ shown_line (numbered_line text line) 0 ++ codes "\n" ++ meaning
+shown_text text line None meaning =
+    codes "  " ++ shown_line (numbered_line text line) 0 ++ codes "\n" ++ meaning
 shown_text text line (Some column) meaning =
     codes "  " ++ shown_line (numbered_line text line) (left_out column) ++ codes "\n  "
     ++ line_under (numbered_line text line) (left_out column) column ++ codes "^\n" ++ meaning

@@ -11,31 +11,33 @@ use Rattle.ga_jobs.specs.declared.fault.WordsFault.TheVariants as words
 abbrev pub text_in : List ℕ → Result (List ℕ) ServeError
 text_in input = if is_utf8 input then Ok input else Err (Input BadText)
 
--- What comes of an input that is to be a text: what comes of the text, its faults as the program tells them of this text;
--- or the fault of an input that is no text.
-abbrev pub IsInText : {A E : Type 0} → (List ℕ → E → ServeError) → (List ℕ → Result A E → Type 0) → List ℕ → Result A ServeError → Type 0
+-- What comes of an input that is to be a text: what comes of the text, its faults as the program
+-- tells them of this text; or the fault of an input that is no text.
+abbrev pub IsInText : {A E : Type 0} → (List ℕ → E → ServeError) → (List ℕ → Result A E → Type 0)
+    → List ℕ → Result A ServeError → Type 0
 IsInText told Is input (Ok found) = (text : List ℕ) × (text_in input ≡ Ok text) × Is text (Ok found)
 IsInText {E = E} told Is input (Err fault) =
-    (text_in input ≡ Err fault) ⊎ ((text : List ℕ) × (error : E) × (text_in input ≡ Ok text) × Is text (Err error) × (told text error ≡ fault))
+    (text_in input ≡ Err fault) ⊎ ((text : List ℕ) × (error : E) × (text_in input ≡ Ok text)
+    × Is text (Err error) × (told text error ≡ fault))
 
--- one to 64 words
-abbrev pub words_in_node : List ℕ → Result (List ℕ) ServeError
-words_in_node found = if is_empty found then Err (Words words.Empty) else (if nat_lt 64 (length found) then Err (Words words.TooLong) else Ok found)
+-- what a step answers to what was found, or why nothing was
+abbrev pub and_then : {A B E : Type 0} → (A → Result B E) → Result A E → Result B E
+and_then next (Ok found) = next found
+and_then next (Err fault) = Err fault
 
+-- what a function makes of what was found, or why nothing was
+unfoldable pub IsMade : {A B E : Type 0} → (Result A E → Type 0) → (A → B) → Result B E → Type 0
+IsMade {A = A} Is make (Ok made) = (found : A) × Is (Ok found) × (made ≡ make found)
+IsMade Is make (Err fault) = Is (Err fault)
+
+-- one to 64 words, where all tokens are words
 abbrev pub words_found : Result (List ℕ) ℕ → Result (List ℕ) ServeError
-words_found (Ok found) = words_in_node found
+words_found (Ok found) =
+    if is_empty found then Err (Words words.Empty)
+    else (if nat_lt 64 (length found) then Err (Words words.TooLong) else Ok found)
 words_found (Err index) = Err (Words (words.BadWord index))
-
-abbrev pub words_after : Result (List ℕ) ServeError → Result (List ℕ) ServeError
-words_after (Ok text) = words_found (words_of_text text)
-words_after (Err fault) = Err fault
 
 -- The words of an input: one to 64, in its text. Else the first fault: no text, a token that is no
 -- word, no word, or too many.
 unfoldable pub words_in : List ℕ → Result (List ℕ) ServeError
-words_in input = words_after (text_in input)
-
--- the text that is made of what was found in an input, or the fault of the input
-abbrev pub text_from : {A : Type 0} → (A → List ℕ) → Result A ServeError → Result (List ℕ) ServeError
-text_from text (Ok found) = Ok (text found)
-text_from text (Err fault) = Err fault
+words_in input = and_then (λ text. words_found (words_of_text text)) (text_in input)

@@ -1,15 +1,22 @@
 -- The fault of a text with what is shown of the text.
 use Rattle.std.specs.Prelude.{ℕ, List, Some}
+use Rattle.ga_pack.specs.Model.LayoutFault.{asm_kind_name}
+use Rattle.ga_pack.specs.Model.Token.{source_kind_name}
 use Rattle.ga_asm.specs.declared.text.TextError.{TextError}
 use Rattle.ga_asm.specs.declared.text.TextError.TheVariants as text_error
+use Rattle.ga_explain.specs.Output.{meaning_of}
 use Rattle.ga_jobs.specs.declared.fault.ServeError.{ServeError}
 use Rattle.ga_jobs.specs.declared.fault.ServeError.TheVariants.{Shown, Memory}
 use Rattle.ga_jobs.specs.declared.fault.TextFault.TheVariants.{Source, Asm}
-use Rattle.ga_jobs.specs.Meaning.{asm_meaning, source_meaning}
 use Rattle.ga_jobs.specs.Shown.{shown_text}
 
--- the fault of a source text, or of its program, with the line of its place, a caret and what it means
+-- the fault of a source text, or of its program, with the line of its place, a caret and what it
+-- means
 abbrev pub shown_fault : List ℕ → TextError → ServeError
-shown_fault text (text_error.Source error) = Shown (Source error) (shown_text text error.line (Some error.column) (source_meaning error.kind))
-shown_fault text (text_error.Asm error) = Shown (Asm error) (shown_text text error.line (Some error.column) (asm_meaning error.kind))
+shown_fault text (text_error.Source error) =
+    let meaning = meaning_of (source_kind_name error.kind) in
+    Shown (Source error) (shown_text text error.line (Some error.column) meaning)
+shown_fault text (text_error.Asm error) =
+    let meaning = meaning_of (asm_kind_name error.kind) in
+    Shown (Asm error) (shown_text text error.line (Some error.column) meaning)
 shown_fault text text_error.Memory = Memory

@@ -7,9 +7,11 @@ use Rattle.ga_jobs.specs.declared.fault.ServeError.{ServeError}
 use Rattle.ga_jobs.specs.Text.{IsInText}
 use Rattle.ga_jobs.specs.TranscriptFault.{shown_transcript_fault}
 
--- how many commands of a transcript have the reply that stands behind them, where all have, or its first fault
+-- how many commands of a transcript have the reply that stands behind them, where all have, or its
+-- first fault
 abbrev pub IsAllSame : List ℕ → Result (List ℕ) Fault → Type 0
-IsAllSame text (Ok output) = (count : ℕ) × IsChecked text (Ok count) × (output ≡ codes "same " ++ decimal count ++ 10 ∷ [])
+IsAllSame text (Ok output) =
+    (count : ℕ) × IsChecked text (Ok count) × (output ≡ codes "same " ++ decimal count ++ 10 ∷ [])
 IsAllSame text (Err error) = IsChecked text (Err error)
 
 -- what `check` may write for an input, or the first fault of the input, with what is shown of it

@@ -1,6 +1,8 @@
 ghost use Rattle.std.specs.Prelude.{◌≡◌, ◌++◌, IfOk, string_bytes};
+ghost use Rattle.ga_word.specs.Text.{text_of_words};
+ghost use Rattle.ga_asm.specs.Image.{image_line};
 ghost use Rattle.ga_asm.specs.Text.{AtMostOne};
-ghost use Rattle.ga_jobs.specs.Asm.{IsAsmOutput, image_text, images_text};
+ghost use Rattle.ga_jobs.specs.Asm.{IsAsmOutput, images_text};
 ghost use Rattle.ga_jobs.specs.Fault.{Answers};
 
 use crate::fault::ServeError;
@@ -14,7 +16,7 @@ use std::alloc::{AllocError, Global};
 const IMAGE_LENGTH: usize = 36 + 64 * 6;
 
 /// The images of the nodes of the input, which is source text, as text.
-#[tactic(auto, using(crate::proofs::OneOutput::one_asm_output))]
+#[tactic(auto, using(crate::proofs::OneOutput::one_asm_output), unfolding(crate::specs::Text::IsMade))]
 pub fn output(alloc: Global, input: &[u8]) -> Result<String, ServeError>
     ensures output { Answers string_bytes (IsAsmOutput input.now) result }
     // an input has one output, or one first fault
@@ -40,7 +42,8 @@ fn text_of_images(alloc: Global, images: &Images) -> Result<String, AllocError>
 /// Adds a line, and the words, eight on a line.
 fn push_image(text: &mut String, node: Node, image: &Image) -> Result<(), AllocError>
     ensures { IfOk result (λ done. string_bytes text.new
-        ≡ string_bytes text.old ++ image_text node image.now) }
+        ≡ string_bytes text.old
+        ++ (image_line node image.now ++ text_of_words image.now.words)) }
 {
     image.push_line(text, node)?;
     push_words(text, image.words())?;

@@ -13,7 +13,8 @@ use ga_word::{Word18, push_words};
 use std::alloc::{AllocError, Global};
 use std::fmt::Write;
 
-/// Both parts of the boot stream of the tree of routes and of the input, which is source text, as text.
+/// Both parts of the boot stream of the tree of routes and of the input, which is source text, as
+/// text.
 #[tactic(auto, using(crate::proofs::OneOutput::one_boot_output))]
 pub fn output(alloc: Global, routes: &str, input: &[u8]) -> Result<String, ServeError>
     ensures output { Answers string_bytes (IsBootOutput routes.now input.now) result }

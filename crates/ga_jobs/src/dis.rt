@@ -11,7 +11,8 @@ use std::alloc::Global;
 /// The words of the input as source text of node 000. So many of them are code, or all.
 pub fn output(alloc: Global, code: Option<u32>, input: &[u8]) -> Result<String, ServeError>
     ensures output { Gives string_bytes result (dis_output code input.now) }
-    // of this text `asm` makes the words of the input again, with this length of code, and nothing else
+    // of this text `asm` makes the words of the input again, with this length of code, and nothing
+    // else
     ensures again { (words : List ℕ) → words_in input.now ≡ Ok words
         → IfOk result (λ text. AssemblesTo (string_bytes text) words
         (unwrap_or code (length words))) }

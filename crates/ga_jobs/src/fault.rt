@@ -58,7 +58,8 @@ pub enum WordsFault {
 /// Why a ROUTE was refused.
 #[derive(Debug, PartialEq, Eq, Drop, Error)]
 pub enum RouteFault {
-    /// It isn't routes with `/` between them, of each the names of its nodes with commas between them.
+    /// It isn't routes with `/` between them, of each the names of its nodes with commas between
+    /// them.
     #[error("BadRoute")]
     BadRoute,
     /// The nodes are no route.
@@ -66,7 +67,8 @@ pub enum RouteFault {
     Nodes(RouteError),
 }
 
-/// The first fault of a text of which something is shown. Lines of a transcript are counted from its first one.
+/// The first fault of a text of which something is shown. Lines of a transcript are counted from
+/// its first one.
 #[derive(Debug, PartialEq, Eq, Drop, Error)]
 pub enum TextFault {
     #[error("source {0}")]
@@ -167,7 +169,6 @@ impl From<RouteError> for ServeError {
 impl From<TreeError> for ServeError {
     ghost from_gives = { λ error fault. fault ≡ fault_of_tree error };
 
-    #[inline(never)]
     fn from(error: TreeError) -> ServeError {
         match error {
             TreeError::Memory => ServeError::Memory,

@@ -1,15 +1,26 @@
-//! The jobs of the bench, from the bytes of an input to the text that is written: a module for each subcommand.
+//! The jobs of the bench, and the engine that serves them: it reads an input, makes the text of a
+//! job, and writes it. What a job makes of the bytes of an input stands in a module of its name;
+//! this file lists the jobs.
 #![tactic(auto)]
 
+ghost use Rattle.std.specs.Prelude.{◌≡◌, IfSome, is_some, not, option_map, string_bytes};
+ghost use Rattle.ga_jobs.specs.{IsJobOutput, file_of, needs_threads, reads_input};
+ghost use Rattle.ga_jobs.specs.Fault.{Answers};
+
+mod answering;
 pub mod asm;
 pub mod boot;
 pub mod check;
 pub mod debug;
 pub mod dis;
+mod engine;
+mod explain;
 mod fault;
 pub mod list;
 mod meaning;
 pub mod one;
+mod reading;
+mod reads;
 pub mod record;
 pub mod replay;
 pub mod run;
@@ -19,6 +30,109 @@ mod text;
 mod text_fault;
 mod transcript_fault;
 mod tree;
+mod writing;
 
+pub use crate::answering::{answer, answer_alone};
+pub use crate::engine::{serve, status};
 pub use crate::fault::{InputFault, OutputFault, RouteFault, ServeError, TextFault, WordsFault};
+pub use crate::reading::read_input;
+pub use crate::reads::Reads;
 pub use crate::shown::ShownText;
+use ga_explain::Topic;
+use std::alloc::Global;
+
+/// What a command line asks for, one variant for each subcommand.
+#[derive(Debug, PartialEq, Eq, Drop)]
+pub enum Job {
+    /// One node runs the words of the input, for as many tries.
+    One {
+        tries: u32,
+    },
+    /// The words of the nodes of a source text.
+    Asm,
+    /// The source text of the words of the input, of which so many are code, or all.
+    Dis {
+        code: Option<u32>,
+    },
+    /// The boot stream of one route or more through the nodes of a source text.
+    Boot {
+        route: String,
+    },
+    /// The nodes of one route or more after so many turns of so many workers, booted from a source
+    /// text.
+    Run {
+        route: String,
+        workers: u32,
+        turns: u32,
+    },
+    /// The replies to the commands of a replay text.
+    Debug,
+    /// How many stated outcomes of a replay text hold.
+    Replay,
+    /// The words of a source text with what they read as, or its labels alone. The text stands in
+    /// the file, or comes from standard input where there is none.
+    List {
+        labels: bool,
+        file: Option<String>,
+    },
+    /// How many commands of a transcript have the replies that come, if all have. The transcript
+    /// stands in the file, or comes from standard input where there is none.
+    Check {
+        file: Option<String>,
+    },
+    /// A transcript with the replies that come, from there too.
+    Record {
+        file: Option<String>,
+    },
+    /// What a name means that the program writes, or all these names.
+    Explain {
+        topic: Option<Topic>,
+    },
+}
+
+impl Job {
+    /// Whether the job reads an input.
+    pub fn reads_input(&self) -> bool
+        ensures { result ≡ reads_input self.now }
+    {
+        !matches!(self, Job::Explain { .. })
+    }
+
+    /// The name of the file that the job reads in place of standard input, where it names one: `-`
+    /// stands for standard input too.
+    pub fn file(&self) -> Option<&str>
+        ensures { option_map (λ name. name.now) result ≡ file_of self.now }
+    {
+        match self {
+            Job::List {
+                file: Some(file),
+                ..
+            }
+            | Job::Check { file: Some(file) }
+            | Job::Record { file: Some(file) }
+                if file.as_str() != "-" => { Some(file.as_str()) }
+            _ => None,
+        }
+    }
+}
+
+/// What a job writes for an input that is not too long: `None` for the job `run` alone.
+#[tactic(auto, unfolding(crate::specs::IsJobOutput))]
+fn output(alloc: Global, job: &Job, input: &[u8]) -> Option<Result<String, ServeError>>
+    ensures answer { IfSome result (Answers string_bytes (IsJobOutput job.now input.now)) }
+    ensures none { is_some result ≡ not (needs_threads job.now) }
+{
+    match job {
+        Job::One { tries } => Some(one::output(alloc, *tries, input)),
+        Job::Asm => Some(asm::output(alloc, input)),
+        Job::Dis { code } => Some(dis::output(alloc, *code, input)),
+        Job::Boot { route } => Some(boot::output(alloc, route, input)),
+        Job::Run { .. } => None,
+        Job::Debug => Some(debug::output(alloc, input)),
+        Job::Replay => Some(replay::output(alloc, input)),
+        Job::List { labels, .. } => Some(list::output(alloc, *labels, input)),
+        Job::Check { .. } => Some(check::output(alloc, input)),
+        Job::Record { .. } => Some(record::output(alloc, input)),
+        Job::Explain { topic } => Some(explain::output(alloc, *topic)),
+    }
+}

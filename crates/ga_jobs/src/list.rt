@@ -2,7 +2,7 @@ ghost use Rattle.std.specs.Prelude.{◌≢◌, Err, IfErr, IfOk, Ok, string_byte
 ghost use Rattle.ga_asm.specs.Text.{AtMostOne};
 ghost use Rattle.ga_asm.specs.declared.text.TextError.TheVariants.{Memory};
 ghost use Rattle.ga_jobs.specs.Fault.{Answers};
-ghost use Rattle.ga_jobs.specs.List.{IsListOutput, IsListed};
+ghost use Rattle.ga_jobs.specs.Listing.{IsListOutput, IsListed};
 
 use crate::fault::ServeError;
 use crate::text::input_text;
@@ -11,7 +11,8 @@ use ga_asm::TextError;
 use ga_list::{list, list_labels};
 use std::alloc::Global;
 
-/// The listing of the input, which is source text, or its labels alone. A fault of the text comes with what is shown of it.
+/// The listing of the input, which is source text, or its labels alone. A fault of the text comes
+/// with what is shown of it.
 #[tactic(auto, using(crate::proofs::OneOutput::one_list_output))]
 pub fn output(alloc: Global, labels: bool, input: &[u8]) -> Result<String, ServeError>
     ensures output { Answers string_bytes (IsListOutput labels input.now) result }

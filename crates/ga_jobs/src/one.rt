@@ -23,8 +23,8 @@ pub fn output(alloc: Global, tries: u32, input: &[u8]) -> Result<String, ServeEr
 
 /// The node after so many tries. Each is a step where the node needs nothing from outside.
 ///
-/// It stays a function of its own in the built program, since its loop is faster with all registers to
-/// itself.
+/// It stays a function of its own in the built program, since its loop is faster with all registers
+/// to itself.
 #[inline(never)]
 fn after_tries(mut state: NodeState, tries: u32) -> NodeState
     ensures { result ≡ after_tries tries state }

@@ -19,8 +19,8 @@ use ga_place::Node;
 use std::alloc::{AllocError, Global};
 use std::thread::Threads;
 
-/// The nodes of a tree of routes after a run, as text: they boot from the input, which is source text, and so many workers
-/// make so many turns.
+/// The nodes of a tree of routes after a run, as text: they boot from the input, which is source
+/// text, and so many workers make so many turns.
 pub fn output<Rt: AllocGlobal + Threads + Sync>(
     rt: &Rt,
     routes: &str,
@@ -89,7 +89,6 @@ fn dealt(alloc: Global, nodes: &[Node], workers: usize) -> Result<Vec<Vec<Node>>
 }
 
 /// The nodes of one of so many workers: the i-th node goes to worker i modulo their number.
-#[inline(never)]
 fn nodes_for(
     alloc: Global,
     nodes: &[Node],

@@ -16,8 +16,9 @@ const LAST_COLUMN: usize = 80;
 /// How many characters are shown in front of a column behind that one.
 const IN_FRONT: usize = 40;
 
-/// What is shown of a text behind the line that names its fault: the line of the fault's place, a caret under its column,
-/// and what is meant, with LF between them and none at the end. A contract sees it as its bytes.
+/// What is shown of a text behind the line that names its fault: the line of the fault's place, a
+/// caret under its column, and what is meant, with LF between them and none at the end. A contract
+/// sees it as its bytes.
 #[derive(Debug, Drop)]
 pub struct ShownText {
     text: String,
@@ -40,8 +41,8 @@ impl ShownText {
         Ok(ShownText { text })
     }
 
-    /// What is shown at a line of a text, from 1, and at a column of it, from 1, which counts characters. Without a column
-    /// there is no caret. It fails only where memory is refused.
+    /// What is shown at a line of a text, from 1, and at a column of it, from 1, which counts
+    /// characters. Without a column there is no caret. It fails only where memory is refused.
     #[tactic(auto, unfolding(crate::specs::Shown::shown_text))]
     pub fn new(
         alloc: Global,

@@ -2,24 +2,25 @@ ghost use Rattle.std.specs.Prelude.{◌≡◌, IfOk};
 ghost use Rattle.ga_jobs.specs.TextFault.{shown_fault};
 
 use crate::fault::{ServeError, TextFault};
-use crate::meaning::{asm_meaning, source_meaning};
 use crate::shown::ShownText;
 use ga_asm::TextError;
+use ga_explain::meaning;
 use std::alloc::{AllocError, Global};
 
-/// The fault of a text, with what is shown of the text at its place. It fails only where memory is refused.
+/// The fault of a text, with what is shown of the text at its place. It fails only where memory is
+/// refused.
 pub fn shown_fault(alloc: Global, text: &str, error: TextError) -> Result<ServeError, AllocError>
     ensures { IfOk result (λ fault. fault ≡ shown_fault text.now error) }
 {
     match error {
         TextError::Source(error) => {
-            let meaning = source_meaning(error.kind);
+            let meaning = meaning(alloc, error.kind.name())?;
             let shown = ShownText::new(alloc, text, error.line, Some(error.column), meaning)?;
             let fault = TextFault::Source(error);
             Ok(ServeError::Shown { fault, shown })
         }
         TextError::Asm(error) => {
-            let meaning = asm_meaning(error.kind);
+            let meaning = meaning(alloc, error.kind.name())?;
             let shown = ShownText::new(alloc, text, error.line, Some(error.column), meaning)?;
             let fault = TextFault::Asm(error);
             Ok(ServeError::Shown { fault, shown })

@@ -4,11 +4,12 @@ ghost use Rattle.ga_jobs.specs.TranscriptFault as spec;
 ghost use Rattle.ga_jobs.specs.TranscriptFault.{shown_head_fault, shown_transcript_fault};
 
 use crate::fault::{OutputFault, ServeError, TextFault};
-use crate::meaning::{EARLY_REPLY, head_meaning};
+use crate::meaning::head_meaning;
 use crate::shown::{ShownText, numbered_line, whole_line};
 use crate::text_fault::shown_fault;
 use ga_asm::{AsmError, TextError};
 use ga_debug::ReplayError;
+use ga_explain::meaning;
 use ga_source::SourceError;
 use ga_transcript::TranscriptError;
 use std::alloc::{AllocError, Global};
@@ -25,7 +26,8 @@ pub fn shown_transcript_fault(
         TranscriptError::Head(error) => shown_head_fault(alloc, text, error),
         TranscriptError::EarlyReply(line) => {
             let fault = TextFault::EarlyReply(line);
-            let shown = ShownText::new(alloc, text, line as usize, None, EARLY_REPLY)?;
+            let meaning = meaning(alloc, "EarlyReply")?;
+            let shown = ShownText::new(alloc, text, line as usize, None, meaning)?;
             Ok(ServeError::Shown { fault, shown })
         }
         TranscriptError::Differs(line, lines) => {
@@ -54,7 +56,8 @@ fn shown_head_fault(alloc: Global, text: &str, error: ReplayError) -> Result<Ser
             shown_fault(alloc, text, TextError::Asm(asm_behind_head(&fault)))
         }
         _ => {
-            let (line, meaning) = (head_line(text, &error), head_meaning(text, &error));
+            let line = head_line(text, &error);
+            let meaning = head_meaning(alloc, text, &error)?;
             let shown = ShownText::new(alloc, text, line, None, meaning)?;
             let fault = TextFault::Replay(error);
             Ok(ServeError::Shown { fault, shown })
@@ -62,8 +65,8 @@ fn shown_head_fault(alloc: Global, text: &str, error: ReplayError) -> Result<Ser
     }
 }
 
-/// A fault of source lines, with its place in the whole text. One at their end is reported behind the
-/// last of them.
+/// A fault of source lines, with its place in the whole text. One at their end is reported behind
+/// the last of them.
 fn source_behind_head(text: &str, error: &SourceError) -> SourceError
     ensures { result ≡ spec.reported_at text.now error.now (spec.behind_head error.now.line) }
 {
@@ -83,8 +86,8 @@ fn source_behind_head(text: &str, error: &SourceError) -> SourceError
     }
 }
 
-/// Whether a place is the end of the source lines: the line `go` begins there, and there is a source
-/// line in front of it.
+/// Whether a place is the end of the source lines: the line `go` begins there, and there is a
+/// source line in front of it.
 fn is_source_end(text: &str, line: usize, column: usize) -> bool
     ensures { result ≡ spec.is_source_end text.now line column }
 {

@@ -5,3 +5,6 @@ pub mod StateKept
 pub mod SpinningChip
 pub mod Spins
 pub mod SpinningRun
+pub mod Assembled
+pub mod Fed
+pub mod Leaf

@@ -7,7 +7,7 @@ use Rattle.std.specs.List.{range_with_len}
 use Rattle.std.specs.Option.{option_and_then}
 use Rattle.std.proofs.lemmas.Bool.{cases_lt, le-ltb, lt-ltb}
 use Rattle.std.proofs.lemmas.Option.{slice_get-map}
-use Rattle.ga_place.specs.Cell.{index_of, name_at}
+use Rattle.ga_place.specs.Cell.{name_at}
 use Rattle.ga_place.specs.inner.Index.{index_back}
 use Rattle.ga_chip.specs.Part.{Part}
 use Rattle.ga_chip.specs.Chip.{Chip, given, part_of, part_refusal, placed, refusal, reset_chip}

@@ -2,24 +2,21 @@
 -- read.
 use Rattle.std.proofs.Common.{◌≡◌, ◌∙◌, ap, ℕ, zero, suc, Bool, true, false, List, [], ◌∷◌}
 use Rattle.std.proofs.Common.{◌++◌, ◌⊎◌, inl, inr, Option, Some, None, refl, sym, subst}
-use Rattle.std.proofs.lemmas.Bool.{cases_eq}
 use Rattle.std.proofs.lemmas.Option.{none-some, same_Some, slice_get-map}
-use Rattle.std.specs.Prelude.{map, option_map, set, slice_get}
+use Rattle.std.specs.Prelude.{option_map, set, slice_get}
 use Rattle.std.specs.List.{range_with_len}
 use Rattle.ga_place.specs.Cell.{index_of, name_at}
 use Rattle.ga_place.specs.declared.side.Side.{Side}
 use Rattle.ga_node.specs.Need.{need_of}
 use Rattle.ga_node.specs.declared.need.Need.{Need}
-use Rattle.ga_node.specs.declared.need.Need.TheVariants as need
-use Rattle.ga_node.specs.declared.need.Stop.TheVariants.{Counted}
 use Rattle.ga_chip.specs.declared.outcome.Outcome.{Outcome}
 use Rattle.ga_chip.specs.declared.outcome.Outcome.TheVariants.{Held, Stopped}
 use Rattle.ga_chip.specs.declared.outcome.Try as asked
 use Rattle.ga_chip.specs.Part.{Asks, Nothing, Own, Part, after, after_asked, asks, asks_by, asks_if}
-use Rattle.ga_chip.specs.Part.{held_by, is_held, stepped}
+use Rattle.ga_chip.specs.Part.{held_by, is_held}
 use Rattle.ga_chip.specs.Chip.{Chip, found_by, part_of, tried, tried_at}
 use Rattle.ga_chip.specs.Joining.{IsOneSided, OnePortNamesNoSide, ReadsOnePort}
-use Rattle.ga_chip.specs.Laws.{AgreesWith, IsPrefix}
+use Rattle.ga_chip.specs.Laws.{AgreesWith}
 use Rattle.ga_chip.specs.Run.{Event, Try, happened, ran, sides_of, tries_of}
 use Rattle.ga_law_examples.specs.Spinning.{spinning_chip, spinning_part}
 use Rattle.ga_law_examples.proofs.Spins.{IsOwn, Spins, need_own, step_spins}

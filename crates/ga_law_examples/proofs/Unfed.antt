@@ -1,5 +1,5 @@
 -- Tries feed nothing to any stream: so two lists of tries feed each stream alike.
-use Rattle.std.proofs.Common.{◌≡◌, ◌∙◌, ℕ, List, [], ◌++◌, append-nil, inl, sym}
+use Rattle.std.proofs.Common.{◌≡◌, ◌∙◌, ℕ, List, [], append-nil, inl, sym}
 use Rattle.ga_chip.specs.declared.outcome.Try.{Try}
 use Rattle.ga_chip.specs.Chip.{Chip}
 use Rattle.ga_chip.specs.Joining.{TriesFeedNothing}

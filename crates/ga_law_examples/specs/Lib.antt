@@ -1,1 +1,4 @@
 pub mod Spinning
+pub mod Firmware
+pub mod Pieces
+pub mod inner

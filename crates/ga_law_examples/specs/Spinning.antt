@@ -1,5 +1,5 @@
 -- The chip whose nodes spin: each runs a loop of one word in its own memory, and reads no port.
-use Rattle.std.specs.Prelude.{ℕ, List, [], ◌∷◌, None, map, replicate}
+use Rattle.std.specs.Prelude.{ℕ, [], ◌∷◌, None, map, replicate}
 use Rattle.std.specs.List.{range_with_len}
 use Rattle.ga_place.specs.Cell.{name_at}
 use Rattle.ga_chip.specs.Part.{Part}

@@ -1,12 +1,16 @@
-//! Examples of how the laws of schedules are used.
+//! Examples of how the laws of schedules and of booting are used.
 #![tactic(auto)]
 
+mod firmware;
 mod orders;
+mod pieces;
 mod plans;
 mod spinning;
 mod stuck;
 
+pub use firmware::{assemble_firmware, boot_firmware, run_firmware};
 pub use orders::{one_side, two_orders, two_parts};
+pub use pieces::{PlannedRun, in_pieces, leaf_is_loaded};
 pub use plans::{after_run, plan_behind_plan, plan_beside_tries, two_plans};
 pub use spinning::{spinning_chip, spinning_plans};
 pub use stuck::tries_beside_stuck;

@@ -19,6 +19,7 @@ use std::thread::Threads;
 /// own. Takes of several sides are to name the same sides, as far as both go, whatever the order
 /// of the tries of two nodes. Then a node that has made equally many steps ends alike. A refusal
 /// is that of `run_workers`.
+// long: all that two runs are made of
 pub fn two_plans<R: Threads + Sync, G: Gate>(
     rt: &R,
     alloc: Global,
@@ -49,6 +50,7 @@ pub fn two_plans<R: Threads + Sync, G: Gate>(
 /// one thread. Takes of several sides are to name the same sides, as far as both go. Then a node
 /// that has made equally many steps ends alike. A refusal is that of `run_workers`, and no try is
 /// made then.
+// long: all that two runs are made of
 pub fn plan_beside_tries<R: Threads + Sync, G: Gate>(
     rt: &R,
     alloc: Global,
@@ -78,6 +80,7 @@ pub fn plan_beside_tries<R: Threads + Sync, G: Gate>(
 
 /// The same, where the first chip is run by one plan and then by another, over so many turns
 /// each: runs of workers, one behind the other, are one run along the tries of both.
+// long: all that two runs are made of
 pub fn plan_behind_plan<R: Threads + Sync, G: Gate>(
     rt: &R,
     alloc: Global,

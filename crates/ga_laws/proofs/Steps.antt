@@ -17,7 +17,8 @@ use Rattle.ga_chip.proofs.Parts.{Passes, passed_after, stand_after, stands_after
 use Rattle.ga_laws.specs.Laws.{MakesRow, StepsAreRows, got}
 
 -- a step by what its try asked for is the row
-row_by : (q : Asks) (found : Option ℕ) (state : State) → Passes q found → stand_after q found state ≡ step state (got q found)
+row_by : (q : Asks) (found : Option ℕ) (state : State) → Passes q found
+    → stand_after q found state ≡ step state (got q found)
 row_by (Nothing outcome) found state passed = absurd passed
 row_by Own found state passed = refl
 row_by (Feed word) found state passed = refl
@@ -27,29 +28,37 @@ row_by (Check side cell) (Some word) state passed = cc
 row_by (Take side cell) None state passed = absurd (none-some passed.0 passed.1)
 row_by (Take side cell) (Some word) state passed = refl
 
-makes_row : (chip : Chip) (name : ℕ) (side : Side) → IsLegal chip → (tried chip name side).0 ≡ Moved → MakesRow chip name side
+makes_row : (chip : Chip) (name : ℕ) (side : Side) → IsLegal chip → (tried chip name side).0 ≡ Moved
+    → MakesRow chip name side
 unfolding tried
 makes_row chip name side legal moved = by (part_of chip name) refl moved
   where
     low : (part : Part) → part_of chip name ≡ Some part → index_of name < 144
     low part there = index_below name (has_name chip name part legal there)
 
-    by : (o : Option Part) → part_of chip name ≡ o → (tried_at o chip name side).0 ≡ Moved → MakesRow chip name side
+    by : (o : Option Part) → part_of chip name ≡ o → (tried_at o chip name side).0 ≡ Moved
+        → MakesRow chip name side
     by None e m = let no : Waits ≡ Moved = m in cc
     by (Some part) e m =
         let asked = asks part side in
         let found = found_by asked chip.cells in
         let next : Part = (after part side found).1 in
-        let leads : (tried_at (part_of chip name) chip name side).1 ≡ record { parts = set chip.parts (index_of name) next; cells = cells_after asked chip.cells } = ap (λ o. (tried_at o chip name side).1) e in
-        let stands : next.state ≡ step part.state (got asked found) = stands_after part side found ∙ row_by asked found part.state (passed_after part side found m) in
+        let leads : (tried_at (part_of chip name) chip name side).1 ≡ record
+        { parts = set chip.parts (index_of name) next; cells = cells_after asked chip.cells } =
+        ap (λ o. (tried_at o chip name side).1) e in
+        let stands : next.state ≡ step part.state (got asked found) = stands_after part side found
+        ∙ row_by asked found part.state (passed_after part side found m) in
         record {
           part = part;
           there = e;
           row = ap (λ c. option_map (λ p. p.state) (part_of c name)) leads
-              ∙ ap (option_map (λ p. p.state)) (get-set_here chip.parts (index_of name) next part e) ∙ ap Some stands;
+              ∙ ap (option_map (λ p. p.state)) (get-set_here chip.parts (index_of name) next part e)
+              ∙ ap Some stands;
           others = λ other apart. ap (λ c. part_of c other) leads
-              ∙ get-set_else chip.parts (index_of name) (index_of other) next (λ same. apart (sym (one_place name other (low part e) same)));
+              ∙ get-set_else chip.parts (index_of name) (index_of other) next
+              (λ same. apart (sym (one_place name other (low part e) same)));
         }
 
 pub steps_are_rows : StepsAreRows
-steps_are_rows chip events name side legal moved = makes_row (ran chip events) name side (legal_ran chip events legal) moved
+steps_are_rows chip events name side legal moved =
+    makes_row (ran chip events) name side (legal_ran chip events legal) moved

@@ -20,27 +20,30 @@ use Rattle.ga_chip.specs.declared.outcome.Outcome.TheVariants.{Moved}
 use Rattle.ga_boot.specs.Boot.{Begun, Holds, IsSupplied, LoadTaken, RootBegun}
 use Rattle.ga_boot.specs.Tree.{Place, found, places}
 
--- the word that a step gets from outside: the one that a take found pending, or the next one of the stream
+-- the word that a step gets from outside: the one that a take found pending, or the next one of the
+-- stream
 abbrev pub got : Asks → Option ℕ → Option ℕ
 got (Take side cell) found = found
 got (Feed word) found = Some word
 got _ found = None
 
--- A try makes one step of its node: the row of the table for the node's state and the word that the step gets. All other
--- nodes stay as they are.
+-- A try makes one step of its node: the row of the table for the node's state and the word that the
+-- step gets. All other nodes stay as they are.
 pub record MakesRow (chip : Chip) (name : ℕ) (side : Side) : Type 0 where
   pub part : Part
   pub there : part_of chip name ≡ Some part
   pub row : state_of (tried chip name side).1 name
       ≡ Some (step part.state (got (asks part side) (found_by (asks part side) chip.cells)))
-  pub others : (other : ℕ) → (other ≡ name → ⊥) → part_of (tried chip name side).1 other ≡ part_of chip other
+  pub others : (other : ℕ) → (other ≡ name → ⊥)
+      → part_of (tried chip name side).1 other ≡ part_of chip other
 
 -- Each step of each node is its row of the table, at each moment of every run of a legal chip.
 abbrev pub StepsAreRows : Type 0
 StepsAreRows = (chip : Chip) (events : List Event) (name : ℕ) (side : Side) → IsLegal chip
     → (tried (ran chip events) name side).0 ≡ Moved → MakesRow (ran chip events) name side
 
--- What the words of each image read as is what the layout of its section's items names, with fillers alone added.
+-- What the words of each image read as is what the layout of its section's items names, with
+-- fillers alone added.
 abbrev pub GiveBack : List PlacedSection → Images → Type 0
 GiveBack [] [] = Unit {0}
 GiveBack [] (image ∷ images) = ⊥
@@ -58,18 +61,25 @@ WordsGiveBack = (text : List ℕ) (images : Images) (assembled : HasImages text 
 -- a node of a tree has begun: the root, or another by its place in the tree
 abbrev pub begun_by : Option Place → Chip → Images → TreeView → List Event → Type 0
 begun_by (Some p) chip images tree events = Begun chip p events
-begun_by None chip images tree events = RootBegun chip tree.root (image_of images tree.root) (grove images tree.root tree.subtrees) events
+begun_by None chip images tree events =
+    RootBegun chip tree.root (image_of images tree.root)
+    (grove images tree.root tree.subtrees) events
 
 abbrev pub HasBegun : Chip → Images → TreeView → List Event → ℕ → Type 0
 HasBegun chip images tree events name =
-    begun_by (found name (places tree.root (grove images tree.root tree.subtrees))) chip images tree events
+    begun_by (found name (places tree.root (grove images tree.root tree.subtrees))) chip images tree
+    events
 
--- In every run of a chip that boots a tree of routes with the images of a text: once the load part was taken whole, each node
--- with an image holds it until it begins.
+-- In every run of a chip that boots a tree of routes with the images of a text: once the load part
+-- was taken whole, each node with an image holds it until it begins.
 abbrev pub BootsHold : Type 0
-BootsHold = (text : List ℕ) (images : Images) (tree : TreeView) (chip : Chip) (events : List Event) → HasImages text images
+BootsHold =
+    (text : List ℕ) (images : Images) (tree : TreeView) (chip : Chip) (events : List Event)
+    → HasImages text images
     → IsNodeName tree.root → IsSound tree → unreached images tree.nodes ≡ None
     → IsSupplied chip tree.root (tree_load images tree ++ tree_start images tree) events
-    → (name : ℕ) (image : ImageView) (now : Part) → image_of images name ≡ Some image → part_of (ran chip events) name ≡ Some now
-    → LoadTaken chip tree.root (image_of images tree.root) (grove images tree.root tree.subtrees) events
+    → (name : ℕ) (image : ImageView) (now : Part) → image_of images name ≡ Some image
+    → part_of (ran chip events) name ≡ Some now
+    → LoadTaken chip tree.root (image_of images tree.root)
+    (grove images tree.root tree.subtrees) events
     → (HasBegun chip images tree events name → ⊥) → Holds now.state (Some image)

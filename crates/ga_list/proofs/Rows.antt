@@ -18,20 +18,26 @@ use Rattle.ga_pack.specs.Decoded.{reading_of}
 use Rattle.ga_pack.specs.Followers.{followers}
 
 -- each word is one item
-pub items_length : (owed left : ℕ) (words : List ℕ) → length (items_from owed left words) ≡ length words
+pub items_length : (owed left : ℕ) (words : List ℕ)
+    → length (items_from owed left words) ≡ length words
 unfolding items_from
 items_length owed left [] = refl
 items_length owed zero (word ∷ words) = ap suc (items_length owed zero words)
-items_length zero (suc left) (word ∷ words) = ap suc (items_length (followers (reading_of word).ops) left words)
+items_length zero (suc left) (word ∷ words) =
+    ap suc (items_length (followers (reading_of word).ops) left words)
 items_length (suc owed) (suc left) (word ∷ words) = ap suc (items_length owed left words)
 
 -- the line of a word more, of those that are left
-pub rows_next : (labels : Labels) (places : List Place) (words : List ℕ) (items : List Item) (address word : ℕ) (item : Item) (old mid new total : List ℕ)
-    → address < length words → address < length items → word ≡ get_or words address word → item ≡ get_or items address item
-    → old ++ rows_from labels places address (drop address words) (drop address (map item_view items)) ≡ total → mid ≡ old ++ label_lines labels address
+pub rows_next : (labels : Labels) (places : List Place) (words : List ℕ) (items : List Item)
+    (address word : ℕ) (item : Item) (old mid new total : List ℕ) → address < length words
+    → address < length items → word ≡ get_or words address word → item ≡ get_or items address item
+    → old ++ rows_from labels places address (drop address words)
+    (drop address (map item_view items)) ≡ total → mid ≡ old ++ label_lines labels address
     → new ≡ mid ++ row_text labels address word (item_view item) (line_at places address)
-    → new ++ rows_from labels places (address + 1) (drop (address + 1) words) (drop (address + 1) (map item_view items)) ≡ total
-rows_next labels places words items address word item old mid new total h h' word_is item_is inv mid_is new_is =
+    → new ++ rows_from labels places (address + 1) (drop (address + 1) words)
+    (drop (address + 1) (map item_view items)) ≡ total
+rows_next labels places words items address word item old mid new total h h' word_is item_is inv
+    mid_is new_is =
     let views = map item_view items in
     let row = row_text labels address word (item_view item) (line_at places address) in
     let lines = label_lines labels address in
@@ -41,33 +47,46 @@ rows_next labels places words items address word item old mid new total h h' wor
     let cut_items : drop address items ≡ item ∷ drop (suc address) items =
     drop-cons items address item h' ∙ ap (λ i. i ∷ drop (suc address) items) (sym item_is) in
     let cut_views : drop address views ≡ item_view item ∷ drop (suc address) views =
-    drop-map item_view address items ∙ ap (map item_view) cut_items ∙ ap (λ t. item_view item ∷ t) (sym (drop-map item_view (suc address) items)) in
+    drop-map item_view address items ∙ ap (map item_view) cut_items
+    ∙ ap (λ t. item_view item ∷ t) (sym (drop-map item_view (suc address) items)) in
     let step : rest address ≡ lines ++ row ++ rest (suc address) =
     ap (λ ws. rows_from labels places address ws (drop address views)) cut_words
     ∙ ap (λ vs. rows_from labels places address (word ∷ drop (suc address) words) vs) cut_views in
     let next : address + 1 ≡ suc address = omega arith in
-    ap (λ n. new ++ rest n) next ∙ ap (λ t. t ++ rest (suc address)) new_is ∙ ap (λ t. (t ++ row) ++ rest (suc address)) mid_is
-    ∙ ap (λ t. t ++ rest (suc address)) (append_assoc old lines row) ∙ append_assoc old (lines ++ row) (rest (suc address)) ∙ ap (λ t. old ++ t) (sym step) ∙ inv
+    ap (λ n. new ++ rest n) next ∙ ap (λ t. t ++ rest (suc address)) new_is
+    ∙ ap (λ t. (t ++ row) ++ rest (suc address)) mid_is
+    ∙ ap (λ t. t ++ rest (suc address)) (append_assoc old lines row)
+    ∙ append_assoc old (lines ++ row) (rest (suc address)) ∙ ap (λ t. old ++ t) (sym step) ∙ inv
 
 -- behind the last word nothing is left
-pub rows_end : (labels : Labels) (places : List Place) (words : List ℕ) (views : List ItemView) (address : ℕ) (text total : List ℕ) → length words ≤ address
-    → text ++ rows_from labels places address (drop address words) (drop address views) ≡ total → text ≡ total
+pub rows_end : (labels : Labels) (places : List Place) (words : List ℕ) (views : List ItemView)
+    (address : ℕ) (text total : List ℕ) → length words ≤ address
+    → text ++ rows_from labels places address (drop address words) (drop address views) ≡ total
+    → text ≡ total
 rows_end labels places words views address text total h inv =
-    sym (append-nil text) ∙ ap (λ ws. text ++ rows_from labels places address ws (drop address views)) (sym (drop_all address words h)) ∙ inv
+    sym (append-nil text)
+    ∙ ap (λ ws. text ++ rows_from labels places address ws (drop address views))
+    (sym (drop_all address words h)) ∙ inv
 
 -- the listing of an image more, of those that are left
-pub listing_next : (program : List PlacedSection) (images : List (ℕ × ImageView)) (section : ℕ) (image : ℕ × ImageView) (old new total : List ℕ)
-    → Some image ≡ slice_get images section → old ++ listing_from program section (drop section images) ≡ total
-    → new ≡ old ++ node_listing image.0 image.1 (word_places image.1.item_counts (items_at program section))
+pub listing_next : (program : List PlacedSection) (images : List (ℕ × ImageView)) (section : ℕ)
+    (image : ℕ × ImageView) (old new total : List ℕ) → Some image ≡ slice_get images section
+    → old ++ listing_from program section (drop section images) ≡ total → new ≡ old
+    ++ node_listing image.0 image.1 (word_places image.1.item_counts (items_at program section))
     → new ++ listing_from program (section + 1) (drop (section + 1) images) ≡ total
 listing_next program images section image old new total at inv new_is =
-    let cut : drop section images ≡ image ∷ drop (suc section) images = cut_at images section image at in
+    let cut : drop section images ≡ image ∷ drop (suc section) images =
+    cut_at images section image at in
     let next : section + 1 ≡ suc section = omega arith in
-    let own = node_listing image.0 image.1 (word_places image.1.item_counts (items_at program section)) in
-    ap (λ n. new ++ listing_from program n (drop n images)) next ∙ ap (λ t. t ++ listing_from program (suc section) (drop (suc section) images)) new_is
-    ∙ append_assoc old own (listing_from program (suc section) (drop (suc section) images)) ∙ ap (λ l. old ++ listing_from program section l) (sym cut) ∙ inv
+    let own =
+    node_listing image.0 image.1 (word_places image.1.item_counts (items_at program section)) in
+    ap (λ n. new ++ listing_from program n (drop n images)) next
+    ∙ ap (λ t. t ++ listing_from program (suc section) (drop (suc section) images)) new_is
+    ∙ append_assoc old own (listing_from program (suc section) (drop (suc section) images))
+    ∙ ap (λ l. old ++ listing_from program section l) (sym cut) ∙ inv
   where
-    cut_at : (l : List (ℕ × ImageView)) (n : ℕ) (x : ℕ × ImageView) → Some x ≡ slice_get l n → drop n l ≡ x ∷ drop (suc n) l
+    cut_at : (l : List (ℕ × ImageView)) (n : ℕ) (x : ℕ × ImageView) → Some x ≡ slice_get l n
+        → drop n l ≡ x ∷ drop (suc n) l
     cut_at [] n x e = absurd (cc)
     cut_at (y ∷ l) zero x e = let same : x ≡ y = cc in ap (λ t. t ∷ l) (sym same)
     cut_at (y ∷ l) (suc n) x e = cut_at l n x e
@@ -89,7 +108,8 @@ section_found items (places ∷ all) (section ∷ program) (suc n) same =
     section_found items all program n others
 
 -- an image is found below their number
-pub is_found : (images : List (ℕ × ImageView)) (section : ℕ) → section < length images → None ≡ slice_get images section → ⊥
+pub is_found : (images : List (ℕ × ImageView)) (section : ℕ) → section < length images
+    → None ≡ slice_get images section → ⊥
 is_found [] section h none = omega (arith, h)
 is_found (i ∷ images) zero h none = cc
 is_found (i ∷ images) (suc section) h none = is_found images section (omega (arith, h)) none

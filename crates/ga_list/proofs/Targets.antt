@@ -1,15 +1,15 @@
 -- The address that a destination means which was laid for a name is that name's.
-use Rattle.std.proofs.Common.{◌≡◌, ◌∙◌, ◌≤◌, ℕ, zero, suc, ◌+◌, ◌-◌, ◌*◌, ◌/◌, ◌%◌, Bool, true, false, List, [], ◌∷◌, ◌++◌, length, Some, refl, ap, length-append, arith}
+use Rattle.std.proofs.Common.{◌≡◌, ◌∙◌, ◌≤◌, ℕ, zero, suc, ◌+◌, ◌-◌, ◌*◌, ◌/◌, ◌%◌, true, false, List, [], ◌∷◌, ◌++◌, length, Some, refl, ap, length-append, arith}
 use Rattle.std.proofs.lemmas.Bool.{eqb-true}
 use Rattle.std.proofs.lemmas.Grind.{common_steps}
-use Rattle.std.specs.Prelude.{if◌then◌else◌}
+use Rattle.std.specs.Prelude.{count_by}
 use Rattle.std.specs.Option.{unwrap_or}
 use Rattle.ga_word.specs.declared.op.Op.{Op}
 use Rattle.ga_word.specs.declared.op.Op.TheVariants.{FetchP, StoreP}
 use Rattle.ga_word.specs.Op.{takes_dest}
 use Rattle.ga_pack.specs.Followers.{is_followed}
 use Rattle.ga_pack.specs.Slots.{dest_bound}
-use Rattle.ga_pack.specs.Model.Layout.{Labels, address_of, count_followed, dest_in, p_behind, reaches}
+use Rattle.ga_pack.specs.Model.Layout.{Labels, address_of, dest_in, p_behind, reaches}
 use Rattle.ga_pack.specs.Model.Source.{Label}
 use Rattle.ga_list.specs.Reading.{target}
 
@@ -20,17 +20,13 @@ not_followed StoreP h = cc
 not_followed o h = refl
 
 count_snoc : (ops : List Op) (o : Op) → is_followed o ≡ false
-    → count_followed (ops ++ o ∷ []) ≡ count_followed ops
-count_snoc [] o h = ap (λ b. (if b then 1 else 0) + 0) h
-count_snoc (p ∷ ops) o h = ap (λ n. (if is_followed p then 1 else 0) + n) (count_snoc ops o h)
+    → count_by is_followed (ops ++ o ∷ []) ≡ count_by is_followed ops
+count_snoc [] o h = grind (arith, common_steps)
+count_snoc (p ∷ ops) o h = let rest = count_snoc ops o h in grind (arith, common_steps)
 
-one_most : (b : Bool) → (if b then 1 else 0) ≤ 1
-one_most true = omega arith
-one_most false = omega arith
-
-count_most : (ops : List Op) → count_followed ops ≤ length ops
+count_most : (ops : List Op) → count_by is_followed ops ≤ length ops
 count_most [] = omega arith
-count_most (o ∷ ops) = omega (arith, one_most (is_followed o), count_most ops)
+count_most (o ∷ ops) = let rest = count_most ops in grind (arith, common_steps)
 
 -- P with its low bits replaced by those of an address that is in reach
 replaced : (slot p at : ℕ) → p ≤ 65 + slot → at ≤ 64 → reaches slot p at ≡ true

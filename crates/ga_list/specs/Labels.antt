@@ -7,13 +7,12 @@ use Rattle.ga_asm.specs.Image.{ImageView}
 use Rattle.ga_asm.specs.Text.{HasImages, IsTextFault}
 use Rattle.ga_asm.specs.declared.text.TextError.{TextError}
 
--- a label's line: its node, its name and its address
-abbrev pub label_line : ℕ → List ℕ × ℕ → List ℕ
-label_line node label = node_text node ++ 32 ∷ (label.0 ++ 32 ∷ (hex_digits 3 label.1 ++ 10 ∷ []))
-
+-- a line for each label of a node: the node, the label's name and its address
 abbrev pub labels_of_node : ℕ → Labels → List ℕ
 labels_of_node node [] = []
-labels_of_node node (label ∷ labels) = label_line node label ++ labels_of_node node labels
+labels_of_node node (label ∷ labels) =
+    (node_text node ++ 32 ∷ (label.0 ++ 32 ∷ (hex_digits 3 label.1 ++ 10 ∷ [])))
+    ++ labels_of_node node labels
 
 abbrev pub labels_of_images : List (ℕ × ImageView) → List ℕ
 labels_of_images [] = []

@@ -17,7 +17,8 @@ node_listing node image places = image_line node image ++ rows_of image places
 abbrev pub listing_from : List PlacedSection → ℕ → List (ℕ × ImageView) → List ℕ
 listing_from program section [] = []
 listing_from program section (image ∷ images) =
-    node_listing image.0 image.1 (word_places image.1.item_counts (items_at program section)) ++ listing_from program (suc section) images
+    node_listing image.0 image.1 (word_places image.1.item_counts (items_at program section))
+    ++ listing_from program (suc section) images
 
 -- the listing of a text: that of its images, in the order of its sections
 pub record HasListing (text listing : List ℕ) : Type 0 where

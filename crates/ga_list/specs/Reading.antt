@@ -9,22 +9,27 @@ use Rattle.ga_asm.specs.Image.{label_at}
 use Rattle.ga_disasm.specs.Disassembling.{ItemView, Code}
 use Rattle.ga_disasm.specs.Printing.{item_line, line, number_text, spare_texts}
 
--- The address that a destination means which the last of these opcodes of the word at an address takes: the destination
--- replaces the low bits of P, as many as it has. The last opcode is no `@p` or `!p`, so P behind it is P in its slot.
+-- The address that a destination means which the last of these opcodes of the word at an address
+-- takes: the destination replaces the low bits of P, as many as it has. The last opcode is no `@p`
+-- or `!p`, so P behind it is P in its slot.
 abbrev pub target : ℕ → List Op → ℕ → ℕ
-target address ops dest = let bound = dest_bound (length ops - 1) in p_behind address ops / bound * bound + dest
+target address ops dest =
+    let bound = dest_bound (length ops - 1) in p_behind address ops / bound * bound + dest
 
 -- a destination: the label of the address that it means, or else its field
 abbrev pub dest_text : Labels → ℕ → ℕ → List ℕ
-dest_text labels address dest = option_map_or (λ name. name) (label_at labels address) (number_text dest)
+dest_text labels address dest =
+    option_map_or (λ name. name) (label_at labels address) (number_text dest)
 
 abbrev pub dest_texts : Labels → ℕ → List Op → Option ℕ → ℕ → List (List ℕ)
 dest_texts labels address ops None spare = []
-dest_texts labels address ops (Some dest) spare = dest_text labels (target address ops dest) dest ∷ spare_texts spare
+dest_texts labels address ops (Some dest) spare =
+    dest_text labels (target address ops dest) dest ∷ spare_texts spare
 
--- The line of the word at an address: as the disassembler writes it, but for a destination that means the address of a
--- label, which is told by the label.
+-- The line of the word at an address: as the disassembler writes it, but for a destination that
+-- means the address of a label, which is told by the label.
 abbrev pub reading_line : Labels → ℕ → ItemView → List ℕ
 reading_line labels address (Code reading) =
-    line (codes "[") (map name_of reading.ops ++ dest_texts labels address reading.ops reading.dest reading.spare ++ codes "]" ∷ [])
+    line (codes "[") (map name_of reading.ops
+    ++ dest_texts labels address reading.ops reading.dest reading.spare ++ codes "]" ∷ [])
 reading_line labels address item = item_line item

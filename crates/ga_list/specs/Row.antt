@@ -19,19 +19,22 @@ mark_text (Data word) = codes "data    "
 -- the blanks in front of a number that has less than five digits
 abbrev pub blanks_before : ℕ → List ℕ
 blanks_before n =
-    if nat_lt n 10 then codes "    " else if nat_lt n 100 then codes "   " else if nat_lt n 1000 then codes "  " else if nat_lt n 10000 then codes " " else []
+    if nat_lt n 10 then codes "    " else if nat_lt n 100 then codes "   " else if nat_lt n 1000
+    then codes "  " else if nat_lt n 10000 then codes " " else []
 
--- The line of the word at an address: the address, the word, what kind of word it is, the line of the text in which it
--- begins, and what it reads as.
+-- The line of the word at an address: the address, the word, what kind of word it is, the line of
+-- the text in which it begins, and what it reads as.
 unfoldable pub row_text : Labels → ℕ → ℕ → ItemView → ℕ → List ℕ
 row_text labels address word item text_line =
-    hex_digits 3 address ++ codes "  " ++ hex_digits 5 word ++ codes "  " ++ mark_text item ++ codes " " ++ blanks_before text_line
+    hex_digits 3 address ++ codes "  " ++ hex_digits 5 word ++ codes "  " ++ mark_text item
+    ++ codes " " ++ blanks_before text_line
     ++ decimal text_line ++ codes "  " ++ reading_line labels address item
 
 -- a line for each label that has this address
 abbrev pub label_lines : Labels → ℕ → List ℕ
 label_lines [] address = []
-label_lines (label ∷ labels) address = (if label.1 == address then label.0 ++ codes ":\n" else []) ++ label_lines labels address
+label_lines (label ∷ labels) address =
+    (if label.1 == address then label.0 ++ codes ":\n" else []) ++ label_lines labels address
 
 -- the line of the text in which the word at an address begins
 abbrev pub line_at : List Place → ℕ → ℕ
@@ -40,10 +43,13 @@ line_at places address = option_map_or (λ place. place.line) (slice_get places 
 -- the lines of words from an address on, each behind those of its labels
 abbrev pub rows_from : Labels → List Place → ℕ → List ℕ → List ItemView → List ℕ
 rows_from labels places address (word ∷ words) (item ∷ items) =
-    label_lines labels address ++ row_text labels address word item (line_at places address) ++ rows_from labels places (suc address) words items
+    label_lines labels address ++ row_text labels address word item (line_at places address)
+    ++ rows_from labels places (suc address) words items
 rows_from labels places address words items = []
 
--- the lines of a node's words, which begin at these places of the text, and of the labels behind them
+-- the lines of a node's words, which begin at these places of the text, and of the labels behind
+-- them
 unfoldable pub rows_of : ImageView → List Place → List ℕ
 rows_of image places =
-    rows_from image.labels places 0 image.words (items_of image.code_len image.words) ++ label_lines image.labels (length image.words)
+    rows_from image.labels places 0 image.words (items_of image.code_len image.words)
+    ++ label_lines image.labels (length image.words)

@@ -1,4 +1,5 @@
-//! The listing of a source text: each word of its nodes with what it reads as and where it comes from.
+//! The listing of a source text: each word of its nodes with what it reads as and where it comes
+//! from.
 #![tactic(auto)]
 
 mod labels;

@@ -8,8 +8,9 @@ use std::fmt::Write;
 impl NodeState {
     ghost use Rattle.ga_node.specs.Line.{line_of};
 
-    /// The node as one line of text, ended by LF: its name, its registers in hex digits, its place, how
-    /// many steps it has made, and what it needs for the next one. It fails only where memory is refused.
+    /// The node as one line of text, ended by LF: its name, its registers in hex digits, its place,
+    /// how many steps it has made, and what it needs for the next one. It fails only where memory
+    /// is refused.
     #[tactic(auto, unfolding(crate::specs::Line::line_of))]
     pub fn line(&self, alloc: Global) -> Result<String, AllocError>
         ensures { IfOk result (λ text. string_bytes text ≡ line_of self.now) }

@@ -15,8 +15,9 @@ use ga_word::Word18;
 /// The completion which says that another frame follows.
 const MORE: u32 = 0xAE;
 
-/// What the loader of a booting node keeps of the frame that comes in: its completion, the address of its
-/// next word, how many of its words are left, and the word that it took and has still to post.
+/// What the loader of a booting node keeps of the frame that comes in: its completion, the address
+/// of its next word, how many of its words are left, and the word that it took and has still to
+/// post.
 #[derive(Drop)]
 pub(crate) struct Loader {
     pub(crate) completion: Word18,

@@ -122,8 +122,8 @@ impl NodeState {
         }
     }
 
-    /// What the loader needs in the body of a frame: the check of a post, the post of the word that it holds,
-    /// or the next word of its stream, where that may be written.
+    /// What the loader needs in the body of a frame: the check of a post, the post of the word that
+    /// it holds, or the next word of its stream, where that may be written.
     fn body_need(&self) -> Need
         ensures { result ≡ body_need self.now.posted self.now.loader.held self.now.loader.transfer }
     {
@@ -180,8 +180,8 @@ fn held_need(at: Where, word: Word18) -> Need
     }
 }
 
-/// What the loader needs to take a word, by what its address reaches: a word of the stream, or it stops
-/// where a write stops.
+/// What the loader needs to take a word, by what its address reaches: a word of the stream, or it
+/// stops where a write stops.
 fn input_need(at: Where) -> Need
     ensures { result ≡ input_need (write_need at 0) }
 {

@@ -4,9 +4,10 @@ ghost use Rattle.ga_node.specs.inner.Work.{number_of};
 
 use std::fmt;
 
-/// Where a node stands between two steps: before a slot of the word in execution or before a fetch; or, while
-/// it loads itself, before a word of a frame's header or in its body.
-// In this order each slot and then the fetch follows the one before, so that going on is an addition.
+/// Where a node stands between two steps: before a slot of the word in execution or before a fetch;
+/// or, while it loads itself, before a word of a frame's header or in its body.
+// In this order each slot and then the fetch follows the one before, so that going on is an
+// addition.
 #[derive(Clone, Copy, Debug, PartialEq, Eq)]
 pub enum Place {
     Slot0,

@@ -10,7 +10,8 @@ use Rattle.ga_word.specs.Word.{bits}
 use Rattle.ga_pack.specs.Reading.{xor_bits}
 
 -- numbers whose low bits are the same
-bits-same : (width a b : ℕ) → ((i : ℕ) → i < width → bit_at a i ≡ bit_at b i) → bits width a ≡ bits width b
+bits-same : (width a b : ℕ) → ((i : ℕ) → i < width → bit_at a i ≡ bit_at b i)
+    → bits width a ≡ bits width b
 unfolding bits
 bits-same zero a b same = refl
 bits-same (suc width) a b same =
@@ -46,7 +47,8 @@ length-bits zero n = refl
 length-bits (suc width) n = ap suc (length-bits width n)
 
 -- the exclusive-or of two numbers, bit by bit
-pub xor_bits-bits : (width a b : ℕ) → xor_bits (bits width a) (bits width b) ≡ bits width (bit_xor a b)
+pub xor_bits-bits : (width a b : ℕ)
+    → xor_bits (bits width a) (bits width b) ≡ bits width (bit_xor a b)
 unfolding bits xor_bits
 xor_bits-bits zero a b = refl
 xor_bits-bits (suc width) a b =
@@ -54,7 +56,8 @@ xor_bits-bits (suc width) a b =
     let below = xor_bits-bits width a b in
     cc
 
-same_bit : (width a b : ℕ) → bits width a ≡ bits width b → (i : ℕ) → i < width → bit_at a i ≡ bit_at b i
+same_bit : (width a b : ℕ) → bits width a ≡ bits width b → (i : ℕ) → i < width
+    → bit_at a i ≡ bit_at b i
 unfolding bits
 same_bit zero a b e i h = absurd (omega arith)
 same_bit (suc width) a b e i h =
@@ -66,11 +69,14 @@ same_bit (suc width) a b e i h =
     ]
 
 -- numbers below `2 ^ width` with the same bits are equal
-pub bits-injective : (width a b : ℕ) → a < 2 ^ width → b < 2 ^ width → bits width a ≡ bits width b → a ≡ b
-bits-injective width a b fits_a fits_b e = same_from_bits_below width a b fits_a fits_b (same_bit width a b e)
+pub bits-injective : (width a b : ℕ) → a < 2 ^ width → b < 2 ^ width → bits width a ≡ bits width b
+    → a ≡ b
+bits-injective width a b fits_a fits_b e =
+    same_from_bits_below width a b fits_a fits_b (same_bit width a b e)
 
 -- two lists of one length, each with more behind it
-pub append_same : (xs ys r s : List ℕ) → length xs ≡ length ys → xs ++ r ≡ ys ++ s → (xs ≡ ys) × (r ≡ s)
+pub append_same : (xs ys r s : List ℕ) → length xs ≡ length ys → xs ++ r ≡ ys ++ s
+    → (xs ≡ ys) × (r ≡ s)
 append_same [] [] r s len e = (refl, e)
 append_same [] (y ∷ ys) r s len e = absurd (omega arith)
 append_same (x ∷ xs) [] r s len e = absurd (omega arith)
@@ -82,10 +88,12 @@ append_same (x ∷ xs) (y ∷ ys) r s len e =
     (cc, rest.1)
 
 -- a number put together of two fields
-pub bits-joined : (width low front field : ℕ) → field < 2 ^ low → bits (width + low) (front * 2 ^ low + field) ≡ bits width front ++ bits low field
+pub bits-joined : (width low front field : ℕ) → field < 2 ^ low
+    → bits (width + low) (front * 2 ^ low + field) ≡ bits width front ++ bits low field
 bits-joined width low front field fits =
     let above = shr_high front low field fits in
     let below = mod_low front low field fits in
     bits-add width low (front * 2 ^ low + field)
     ∙ ap (λ n. bits width n ++ bits low (front * 2 ^ low + field)) above
-    ∙ ap (λ b. bits width front ++ b) (sym (bits-mod low (front * 2 ^ low + field)) ∙ ap (bits low) below)
+    ∙ ap (λ b. bits width front ++ b) (sym (bits-mod low (front * 2 ^ low + field))
+    ∙ ap (bits low) below)

@@ -30,20 +30,31 @@ field-stored : (slot key : ℕ) → HasKey slot key → (op : Op) → stored slo
 unfolding field
 field-stored slot key has op = stored-coded slot key has op (code_of op) refl
 
-some0 : (a : Op) (dest spare : ℕ) → takes_dest a ≡ true → dest < 2 ^ 10 → spare < 2 ^ 3 → SomeWord (a ∷ []) (Some dest) spare
+some0 : (a : Op) (dest spare : ℕ) → takes_dest a ≡ true → dest < 2 ^ 10 → spare < 2 ^ 3
+    → SomeWord (a ∷ []) (Some dest) spare
 some0 a dest spare takes fits fits_spare =
     let below = field-below 0 0x0A key0 a in
-    let n = (field 0x0A a * 2 ^ 3 + spare) * 2 ^ 10 + dest in
-    (n, omega arith, made_behind_slot0 n (field 0x0A a) spare dest a takes (field-stored 0 0x0A key0 a) fits_spare fits refl)
+    let n = (field 0x0A a * 2 ^ 3 + spare) * 2 ^ 10 + dest in (
+      n,
+      omega arith,
+      made_behind_slot0 n (field 0x0A a) spare dest a takes
+          (field-stored 0 0x0A key0 a) fits_spare fits refl,
+    )
 
-some1 : (a b : Op) (dest : ℕ) → takes_dest a ≡ false → takes_dest b ≡ true → dest < 2 ^ 8 → SomeWord (a ∷ b ∷ []) (Some dest) 0
+some1 : (a b : Op) (dest : ℕ) → takes_dest a ≡ false → takes_dest b ≡ true → dest < 2 ^ 8
+    → SomeWord (a ∷ b ∷ []) (Some dest) 0
 some1 a b dest none takes fits =
     let below_a = field-below 0 0x0A key0 a in
     let below_b = field-below 1 0x15 key1 b in
-    let n = (field 0x0A a * 2 ^ 5 + field 0x15 b) * 2 ^ 8 + dest in
-    (n, omega arith, made_behind_slot1 n (field 0x0A a) (field 0x15 b) dest a b none takes (field-stored 0 0x0A key0 a) (field-stored 1 0x15 key1 b) below_b fits refl)
+    let n = (field 0x0A a * 2 ^ 5 + field 0x15 b) * 2 ^ 8 + dest in (
+      n,
+      omega arith,
+      made_behind_slot1 n (field 0x0A a) (field 0x15 b) dest a b none takes
+          (field-stored 0 0x0A key0 a) (field-stored 1 0x15 key1 b) below_b fits refl,
+    )
 
-some2 : (a b c : Op) (dest : ℕ) → takes_dest a ≡ false → takes_dest b ≡ false → takes_dest c ≡ true → dest < 2 ^ 3 → SomeWord (a ∷ b ∷ c ∷ []) (Some dest) 0
+some2 : (a b c : Op) (dest : ℕ) → takes_dest a ≡ false → takes_dest b ≡ false → takes_dest c ≡ true
+    → dest < 2 ^ 3 → SomeWord (a ∷ b ∷ c ∷ []) (Some dest) 0
 some2 a b c dest none_a none_b takes fits =
     let below_a = field-below 0 0x0A key0 a in
     let below_b = field-below 1 0x15 key1 b in
@@ -51,11 +62,14 @@ some2 a b c dest none_a none_b takes fits =
     let n = ((field 0x0A a * 2 ^ 5 + field 0x15 b) * 2 ^ 5 + field 0x0A c) * 2 ^ 3 + dest in (
       n,
       omega arith,
-      made_behind_slot2 n (field 0x0A a) (field 0x15 b) (field 0x0A c) dest a b c none_a none_b takes
-          (field-stored 0 0x0A key0 a) (field-stored 1 0x15 key1 b) (field-stored 2 0x0A key2 c) below_b below_c fits refl,
+      made_behind_slot2 n (field 0x0A a) (field 0x15 b)
+          (field 0x0A c) dest a b c none_a none_b takes
+          (field-stored 0 0x0A key0 a) (field-stored 1 0x15 key1 b)
+          (field-stored 2 0x0A key2 c) below_b below_c fits refl,
     )
 
-some3 : (a b c d : Op) → takes_dest a ≡ false → takes_dest b ≡ false → takes_dest c ≡ false → fits_slot3 d ≡ true → SomeWord (a ∷ b ∷ c ∷ d ∷ []) None 0
+some3 : (a b c d : Op) → takes_dest a ≡ false → takes_dest b ≡ false → takes_dest c ≡ false
+    → fits_slot3 d ≡ true → SomeWord (a ∷ b ∷ c ∷ d ∷ []) None 0
 some3 a b c d none_a none_b none_c fits =
     let below_a = field-below 0 0x0A key0 a in
     let below_b = field-below 1 0x15 key1 b in
@@ -66,25 +80,33 @@ some3 a b c d none_a none_b none_c fits =
     let n = ((field 0x0A a * 2 ^ 5 + field 0x15 b) * 2 ^ 5 + field 0x0A c) * 2 ^ 3 + upper in (
       n,
       omega arith,
-      made_without_dest n (field 0x0A a) (field 0x15 b) (field 0x0A c) upper a b c d none_a none_b none_c fits
-          (field-stored 0 0x0A key0 a) (field-stored 1 0x15 key1 b) (field-stored 2 0x0A key2 c) (stored_upper-coded d (code_of d / 2 ^ 2) refl) below_b below_c below_d refl,
+      made_without_dest n (field 0x0A a) (field 0x15 b)
+          (field 0x0A c) upper a b c d none_a none_b none_c fits
+          (field-stored 0 0x0A key0 a) (field-stored 1 0x15 key1 b) (field-stored 2 0x0A key2 c)
+          (stored_upper-coded d (code_of d / 2 ^ 2) refl) below_b below_c below_d refl,
     )
 
-parts_of : (shape slot3 fits none : Bool) → (if not shape then Some Shape else if not slot3 then Some Slot3 else if not fits then Some Dest else if not none then Some Spare else None) ≡ None
+parts_of : (shape slot3 fits none : Bool)
+    → (if not shape then Some Shape else if not slot3 then Some Slot3 else if not fits
+    then Some Dest else if not none then Some Spare else None) ≡ None
     → (shape ≡ true) × (slot3 ≡ true) × (fits ≡ true) × (none ≡ true)
 parts_of true true true true h = (refl, refl, refl, refl)
 parts_of _ _ _ _ h = absurd (cc)
 
 no_fault_parts : (ops : List Op) (dest : Option ℕ) (spare : ℕ) → pack_fault ops dest spare ≡ None
-    → (has_shape ops dest ≡ true) × (slot3_fits ops ≡ true) × (dest_fits ops dest ≡ true) × (spare_fits ops spare ≡ true)
+    → (has_shape ops dest ≡ true) × (slot3_fits ops ≡ true) × (dest_fits ops dest ≡ true)
+    × (spare_fits ops spare ≡ true)
 unfolding pack_fault
-no_fault_parts ops dest spare h = parts_of (has_shape ops dest) (slot3_fits ops) (dest_fits ops dest) (spare_fits ops spare) h
+no_fault_parts ops dest spare h =
+    parts_of (has_shape ops dest) (slot3_fits ops) (dest_fits ops dest) (spare_fits ops spare) h
 
-pub encodable : (ops : List Op) (dest : Option ℕ) (spare : ℕ) → pack_fault ops dest spare ≡ None → SomeWord ops dest spare
+pub encodable : (ops : List Op) (dest : Option ℕ) (spare : ℕ) → pack_fault ops dest spare ≡ None
+    → SomeWord ops dest spare
 unfolding pack_fault
 encodable [] (Some dest) spare h = absurd (cc)
 encodable (a ∷ []) (Some dest) spare h =
-    let parts = no_fault_parts (a ∷ []) (Some dest) spare h in some0 a dest spare parts.0 (ltb-true dest 1024 parts.2) (ltb-true spare 8 parts.3)
+    let parts = no_fault_parts (a ∷ []) (Some dest) spare h in
+    some0 a dest spare parts.0 (ltb-true dest 1024 parts.2) (ltb-true spare 8 parts.3)
 encodable (a ∷ b ∷ []) (Some dest) spare h =
     let parts = no_fault_parts (a ∷ b ∷ []) (Some dest) spare h in
     let none : spare ≡ 0 = omega (arith, ltb-true spare 1 parts.3) in
@@ -96,7 +118,8 @@ encodable (a ∷ b ∷ c ∷ []) (Some dest) spare h =
     let none : spare ≡ 0 = omega (arith, ltb-true spare 1 parts.3) in
     let first = and_parts (not (takes_dest a)) (ends_at_dest (b ∷ c ∷ [])) shape in
     let second = and_parts (not (takes_dest b)) (takes_dest c) first.1 in
-    rw none (some2 a b c dest (not-true (takes_dest a) first.0) (not-true (takes_dest b) second.0) second.1 (ltb-true dest 8 parts.2))
+    rw none (some2 a b c dest (not-true (takes_dest a) first.0)
+    (not-true (takes_dest b) second.0) second.1 (ltb-true dest 8 parts.2))
 encodable (a ∷ b ∷ c ∷ d ∷ []) None spare h =
     let parts = no_fault_parts (a ∷ b ∷ c ∷ d ∷ []) None spare h in
     let is_none : Op → Bool = λ op. not (takes_dest op) in
@@ -105,6 +128,8 @@ encodable (a ∷ b ∷ c ∷ d ∷ []) None spare h =
     let first = and_parts (is_none a) (list_all is_none (b ∷ c ∷ d ∷ [])) shape in
     let second = and_parts (is_none b) (list_all is_none (c ∷ d ∷ [])) first.1 in
     let third = and_parts (is_none c) (list_all is_none (d ∷ [])) second.1 in
-    rw none (some3 a b c d (not-true (takes_dest a) first.0) (not-true (takes_dest b) second.0) (not-true (takes_dest c) third.0) parts.1)
-encodable (a ∷ b ∷ c ∷ d ∷ e ∷ ops) dest spare h = absurd (let shape = shapeless_many (a ∷ b ∷ c ∷ d ∷ e ∷ ops) dest spare (omega arith) in cc)
+    rw none (some3 a b c d (not-true (takes_dest a) first.0) (not-true (takes_dest b) second.0)
+    (not-true (takes_dest c) third.0) parts.1)
+encodable (a ∷ b ∷ c ∷ d ∷ e ∷ ops) dest spare h =
+    absurd (let shape = shapeless_many (a ∷ b ∷ c ∷ d ∷ e ∷ ops) dest spare (omega arith) in cc)
 encodable _ _ spare h = absurd (cc)

@@ -2,7 +2,6 @@ pub mod BitLists
 pub mod ByCases
 pub mod Encodable
 pub mod Encoded
-mod Fillers
 pub mod ItemParts
 pub mod Laying
 mod MadeWords

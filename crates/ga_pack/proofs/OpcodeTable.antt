@@ -11,7 +11,8 @@ abbrev counts_from : ℕ → List Op → Bool
 counts_from first [] = true
 counts_from first (op ∷ ops) = (code_of op == first) && counts_from (first + 1) ops
 
-code_at : (ops : List Op) (first place : ℕ) → counts_from first ops ≡ true → place < length ops → code_of (slice_index_or ops place Nop) ≡ first + place
+code_at : (ops : List Op) (first place : ℕ) → counts_from first ops ≡ true → place < length ops
+    → code_of (slice_index_or ops place Nop) ≡ first + place
 code_at [] first place counts within = absurd (omega arith)
 code_at (op ∷ ops) first zero counts within = grind (arith, common_steps)
 code_at (op ∷ ops) first (suc place) counts within =

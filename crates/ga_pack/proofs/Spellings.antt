@@ -23,7 +23,8 @@ cut_after_slot1 n =
     ∙ ap (λ rest. bits 5 (n / 2 ^ 13) ++ rest) (bits-add 5 8 n)
     ∙ sym (append_assoc (bits 5 (n / 2 ^ 13)) (bits 5 (n / 2 ^ 8)) (bits 8 n))
 
-cut_after_slot2 : (n : ℕ) → bits 18 n ≡ bits 5 (n / 2 ^ 13) ++ bits 5 (n / 2 ^ 8) ++ bits 5 (n / 2 ^ 3) ++ bits 3 n
+cut_after_slot2 : (n : ℕ)
+    → bits 18 n ≡ bits 5 (n / 2 ^ 13) ++ bits 5 (n / 2 ^ 8) ++ bits 5 (n / 2 ^ 3) ++ bits 3 n
 cut_after_slot2 n =
     cut_after_slot1 n
     ∙ ap (λ rest. bits 5 (n / 2 ^ 13) ++ bits 5 (n / 2 ^ 8) ++ rest) (bits-add 5 3 n)
@@ -35,7 +36,8 @@ reads_after_slot0 n op takes in_slot0 =
     let cut = cut_after_slot0 n in
     let spare = bits-masked 3 (n / 2 ^ 10) in
     let dest = bits-masked 10 n in
-    let spelled : stored 0 op ++ bits 3 (bit_and (n / 2 ^ 10) (2 ^ 3 - 1)) ++ bits 10 (bit_and n (2 ^ 10 - 1)) ≡ bits 18 n = cc in
+    let spelled : stored 0 op ++ bits 3 (bit_and (n / 2 ^ 10) (2 ^ 3 - 1))
+    ++ bits 10 (bit_and n (2 ^ 10 - 1)) ≡ bits 18 n = cc in
     rw (← spelled)
     (dest_after_slot0 op (bit_and (n / 2 ^ 10) (2 ^ 3 - 1)) (bit_and n (2 ^ 10 - 1)) takes
     (masked_below (n / 2 ^ 10) 7 8 (lit< tt)) (masked_below n 1023 1024 (lit< tt)))
@@ -50,18 +52,22 @@ reads_after_slot1 n a op none_a takes in_slot0 in_slot1 =
     rw (← spelled)
     (dest_after_slot1 a op (bit_and n (2 ^ 8 - 1)) none_a takes (masked_below n 255 256 (lit< tt)))
 
-pub reads_after_slot2 : (n : ℕ) (a b op : Op) → takes_dest a ≡ false → takes_dest b ≡ false → takes_dest op ≡ true
-    → stored 0 a ≡ bits 5 (n / 2 ^ 13) → stored 1 b ≡ bits 5 (n / 2 ^ 8) → stored 2 op ≡ bits 5 (n / 2 ^ 3)
+pub reads_after_slot2 : (n : ℕ) (a b op : Op) → takes_dest a ≡ false → takes_dest b ≡ false
+    → takes_dest op ≡ true → stored 0 a ≡ bits 5 (n / 2 ^ 13) → stored 1 b ≡ bits 5 (n / 2 ^ 8)
+    → stored 2 op ≡ bits 5 (n / 2 ^ 3)
     → Reads (bits 18 n) (a ∷ b ∷ op ∷ []) (Some (bit_and n (2 ^ 3 - 1))) 0
 reads_after_slot2 n a b op none_a none_b takes in_slot0 in_slot1 in_slot2 =
     let cut = cut_after_slot2 n in
     let dest = bits-masked 3 n in
-    let spelled : stored 0 a ++ stored 1 b ++ stored 2 op ++ bits 3 (bit_and n (2 ^ 3 - 1)) ≡ bits 18 n = cc in
+    let spelled : stored 0 a ++ stored 1 b ++ stored 2 op ++ bits 3 (bit_and n (2 ^ 3 - 1))
+    ≡ bits 18 n = cc in
     rw (← spelled)
-    (dest_after_slot2 a b op (bit_and n (2 ^ 3 - 1)) none_a none_b takes (masked_below n 7 8 (lit< tt)))
+    (dest_after_slot2 a b op (bit_and n (2 ^ 3 - 1)) none_a none_b takes
+    (masked_below n 7 8 (lit< tt)))
 
-pub reads_no_dest : (n : ℕ) (a b c d : Op) → takes_dest a ≡ false → takes_dest b ≡ false → takes_dest c ≡ false → fits_slot3 d ≡ true
-    → stored 0 a ≡ bits 5 (n / 2 ^ 13) → stored 1 b ≡ bits 5 (n / 2 ^ 8) → stored 2 c ≡ bits 5 (n / 2 ^ 3) → stored_upper d ≡ bits 3 n
+pub reads_no_dest : (n : ℕ) (a b c d : Op) → takes_dest a ≡ false → takes_dest b ≡ false
+    → takes_dest c ≡ false → fits_slot3 d ≡ true → stored 0 a ≡ bits 5 (n / 2 ^ 13)
+    → stored 1 b ≡ bits 5 (n / 2 ^ 8) → stored 2 c ≡ bits 5 (n / 2 ^ 3) → stored_upper d ≡ bits 3 n
     → Reads (bits 18 n) (a ∷ b ∷ c ∷ d ∷ []) None 0
 reads_no_dest n a b c d none_a none_b none_c fits in_slot0 in_slot1 in_slot2 in_slot3 =
     let cut = cut_after_slot2 n in

@@ -40,29 +40,38 @@ key3 : slot_key 3 ≡ bits 3 5
 unfolding bits slot_key
 key3 = refl
 
-stored-bits : (slot key : ℕ) → HasKey slot key → (op : Op) → stored slot op ≡ bits 5 (bit_xor (code_of op) key)
+stored-bits : (slot key : ℕ) → HasKey slot key → (op : Op)
+    → stored slot op ≡ bits 5 (bit_xor (code_of op) key)
 unfolding stored
 stored-bits slot key has op =
     ap (xor_bits (bits 5 (code_of op))) has.is ∙ xor_bits-bits 5 (code_of op) key
 
-pub stored-coded : (slot key : ℕ) → HasKey slot key → (op : Op) (code : ℕ) → code ≡ code_of op → stored slot op ≡ bits 5 (bit_xor code key)
-stored-coded slot key has op code is = stored-bits slot key has op ∙ ap (λ n. bits 5 (bit_xor n key)) (sym is)
+pub stored-coded : (slot key : ℕ) → HasKey slot key → (op : Op) (code : ℕ) → code ≡ code_of op
+    → stored slot op ≡ bits 5 (bit_xor code key)
+stored-coded slot key has op code is =
+    stored-bits slot key has op ∙ ap (λ n. bits 5 (bit_xor n key)) (sym is)
 
 -- the opcode that five bits store has as its code these bits in exclusive-or with the key
-pub stored-field : (slot key : ℕ) → HasKey slot key → (op : Op) (field : ℕ) → code_of op ≡ bit_xor field key → stored slot op ≡ bits 5 field
+pub stored-field : (slot key : ℕ) → HasKey slot key → (op : Op) (field : ℕ)
+    → code_of op ≡ bit_xor field key → stored slot op ≡ bits 5 field
 stored-field slot key has op field is =
-    stored-bits slot key has op ∙ ap (bits 5) (ap (λ code. bit_xor code key) is ∙ xor_twice field key)
+    stored-bits slot key has op
+    ∙ ap (bits 5) (ap (λ code. bit_xor code key) is ∙ xor_twice field key)
 
-pub masked-below : (slot key : ℕ) → HasKey slot key → (n : ℕ) → bit_xor (bit_and n (2 ^ 5 - 1)) key < 2 ^ 5
+pub masked-below : (slot key : ℕ) → HasKey slot key → (n : ℕ)
+    → bit_xor (bit_and n (2 ^ 5 - 1)) key < 2 ^ 5
 masked-below slot key has n =
     let five_bits : bit_and n (2 ^ 5 - 1) < 2 ^ 5 = omega (arith, and_le_r n (2 ^ 5 - 1)) in
     xor_lt 5 (bit_and n (2 ^ 5 - 1)) key five_bits has.fits
 
-pub stored-masked : (slot key : ℕ) → HasKey slot key → (op : Op) (n : ℕ) → code_of op ≡ bit_xor (bit_and n (2 ^ 5 - 1)) key → stored slot op ≡ bits 5 n
-stored-masked slot key has op n is = stored-field slot key has op (bit_and n (2 ^ 5 - 1)) is ∙ bits-masked 5 n
+pub stored-masked : (slot key : ℕ) → HasKey slot key → (op : Op) (n : ℕ)
+    → code_of op ≡ bit_xor (bit_and n (2 ^ 5 - 1)) key → stored slot op ≡ bits 5 n
+stored-masked slot key has op n is =
+    stored-field slot key has op (bit_and n (2 ^ 5 - 1)) is ∙ bits-masked 5 n
 
 -- what is stored in front of two lists tells the opcode, and the rest is the same
-pub stored-front : (slot key : ℕ) → HasKey slot key → (a b : Op) (r s : List ℕ) → stored slot a ++ r ≡ stored slot b ++ s → (a ≡ b) × (r ≡ s)
+pub stored-front : (slot key : ℕ) → HasKey slot key → (a b : Op) (r s : List ℕ)
+    → stored slot a ++ r ≡ stored slot b ++ s → (a ≡ b) × (r ≡ s)
 stored-front slot key has a b r s e =
     let bits_a = stored-bits slot key has a in
     let bits_b = stored-bits slot key has b in
@@ -89,11 +98,14 @@ stored_upper-bits op =
     ∙ ap (xor_bits (bits 3 (code_of op / 2 ^ 2))) key3
     ∙ xor_bits-bits 3 (code_of op / 2 ^ 2) 5
 
-pub stored_upper-coded : (op : Op) (upper : ℕ) → upper ≡ code_of op / 2 ^ 2 → stored_upper op ≡ bits 3 (bit_xor upper 5)
+pub stored_upper-coded : (op : Op) (upper : ℕ) → upper ≡ code_of op / 2 ^ 2
+    → stored_upper op ≡ bits 3 (bit_xor upper 5)
 stored_upper-coded op upper is = stored_upper-bits op ∙ ap (λ n. bits 3 (bit_xor n 5)) (sym is)
 
--- the opcode that slot 3 stores has as the upper bits of its code these three in exclusive-or with the key
-pub stored_upper-masked : (op : Op) (n : ℕ) → code_of op ≡ bit_xor (bit_and n (2 ^ 3 - 1)) 5 * 2 ^ 2 → stored_upper op ≡ bits 3 n
+-- the opcode that slot 3 stores has as the upper bits of its code these three in exclusive-or with
+-- the key
+pub stored_upper-masked : (op : Op) (n : ℕ) → code_of op ≡ bit_xor (bit_and n (2 ^ 3 - 1)) 5 * 2 ^ 2
+    → stored_upper op ≡ bits 3 n
 stored_upper-masked op n is =
     let field = bit_and n (2 ^ 3 - 1) in
     stored_upper-bits op
@@ -106,7 +118,8 @@ upper_below : (op : Op) → code_of op / 2 ^ 2 < 2 ^ 3
 upper_below op = let below = code_of-below op in omega arith
 
 -- slot 3 tells an opcode whose lower two bits are 0
-pub stored_upper-injective : (a b : Op) → fits_slot3 a ≡ true → fits_slot3 b ≡ true → stored_upper a ≡ stored_upper b → a ≡ b
+pub stored_upper-injective : (a b : Op) → fits_slot3 a ≡ true → fits_slot3 b ≡ true
+    → stored_upper a ≡ stored_upper b → a ≡ b
 stored_upper-injective a b fits_a fits_b e =
     let upper = xor_same (code_of a / 2 ^ 2) (code_of b / 2 ^ 2) 5
     (bits-injective 3 (bit_xor (code_of a / 2 ^ 2) 5) (bit_xor (code_of b / 2 ^ 2) 5)

@@ -6,8 +6,10 @@ use Rattle.std.specs.Option.{is_none}
 use Rattle.std.proofs.lemmas.Bool.{and_parts, not-true}
 use Rattle.ga_word.specs.declared.op.Op.TheVariants.{Jump, Micronext, Drop, Dup, Nop}
 use Rattle.ga_pack.specs.Model.Layout.{Labels, Alone, Arrangement, is_loose, items_of, labels_behind, names_in, size}
-use Rattle.ga_pack.specs.Model.LayoutFault.{AsmFault, AsmKind, Judgement, OutOfReach, AllPass, TooLong, UndefinedLabel, UnextAlone, fault_at, fault_behind}
+use Rattle.ga_pack.specs.Model.LayoutFault.{AsmFault, Judgement, AllPass, fault_at, fault_behind}
 use Rattle.ga_pack.specs.Model.Source.{Item, Label, Instruction, Transfer, Literal, Here, Word, WordTo, Plain}
+use Rattle.ga_pack.specs.declared.error_kind.AsmErrorKind.{AsmErrorKind}
+use Rattle.ga_pack.specs.declared.error_kind.AsmErrorKind.TheVariants.{UndefinedLabel, OutOfReach, UnextAlone, TooLong}
 
 -- ---- an item at an address
 
@@ -32,19 +34,23 @@ at_address = (refl, refl, refl, refl, refl, refl, refl, refl, refl, refl)
 abbrev is_alone : Item → Bool
 is_alone i = not (is_loose i)
 
-arranged_alone : (labels : Labels) (address : ℕ) (items : List Item) → list_all is_alone items ≡ true → Arrangement labels address (map Alone items)
+arranged_alone : (labels : Labels) (address : ℕ) (items : List Item)
+    → list_all is_alone items ≡ true → Arrangement labels address (map Alone items)
 unfolding Arrangement
 arranged_alone labels address [] h = tt
 arranged_alone labels address (i ∷ is) h =
-    let parts = and_parts (is_alone i) (list_all is_alone is) h in
-    (not-true (is_loose i) parts.0, arranged_alone (labels_behind labels address (Alone i)) (address + size (Alone i)) is parts.1)
+    let parts = and_parts (is_alone i) (list_all is_alone is) h in (
+      not-true (is_loose i) parts.0,
+      arranged_alone (labels_behind labels address (Alone i)) (address + size (Alone i)) is parts.1,
+    )
 
 items_alone : (items : List Item) → items_of (map Alone items) ≡ items
 items_alone [] = refl
 items_alone (i ∷ is) = ap (λ t. i ∷ t) (items_alone is)
 
-judged_alone : (names : List (List ℕ)) (before : List Item) (item : Item) (fault : Option AsmKind)
-    → list_all is_alone before ≡ true → fault_behind names (map Alone before) item ≡ fault → Judgement names before item fault
+judged_alone : (names : List (List ℕ)) (before : List Item) (item : Item)
+    (fault : Option AsmErrorKind) → list_all is_alone before ≡ true
+    → fault_behind names (map Alone before) item ≡ fault → Judgement names before item fault
 judged_alone names before item fault alone is = record {
   groups = map Alone before;
   stand_in = record { in_order = items_alone before; arranged = arranged_alone [] 0 before alone };
@@ -54,26 +60,34 @@ judged_alone names before item fault alone is = record {
 -- a test that they pass
 abbrev all_pass : List (List ℕ) → List Item → List Item → Bool
 all_pass names before [] = true
-all_pass names before (i ∷ is) = list_all is_alone before && is_none (fault_behind names (map Alone before) i) && all_pass names (before ++ i ∷ []) is
+all_pass names before (i ∷ is) =
+    list_all is_alone before && is_none (fault_behind names (map Alone before) i)
+    && all_pass names (before ++ i ∷ []) is
 
-none-is : (fault : Option AsmKind) → is_none fault ≡ true → fault ≡ None
+none-is : (fault : Option AsmErrorKind) → is_none fault ≡ true → fault ≡ None
 none-is None h = refl
 none-is (Some kind) h = cc
 
-passed_alone : (names : List (List ℕ)) (before items : List Item) → all_pass names before items ≡ true → AllPass names before items
+passed_alone : (names : List (List ℕ)) (before items : List Item)
+    → all_pass names before items ≡ true → AllPass names before items
 unfolding AllPass
 passed_alone names before [] h = tt
 passed_alone names before (i ∷ is) h =
     let fault = fault_behind names (map Alone before) i in
-    let parts = and_parts (list_all is_alone before && is_none fault) (all_pass names (before ++ i ∷ []) is) h in
-    let here = and_parts (list_all is_alone before) (is_none fault) parts.0 in
-    (judged_alone names before i None here.0 (none-is fault here.1), passed_alone names (before ++ i ∷ []) is parts.1)
+    let parts = and_parts (list_all is_alone before && is_none fault)
+    (all_pass names (before ++ i ∷ []) is) h in
+    let here = and_parts (list_all is_alone before) (is_none fault) parts.0 in (
+      judged_alone names before i None here.0 (none-is fault here.1),
+      passed_alone names (before ++ i ∷ []) is parts.1,
+    )
 
 -- ---- the first fault of a node
 
 -- the last of some items has it
-first_fault : {items : List Item} {at : ℕ} {kind : AsmKind} (before : List Item) (item : Item) → (items ≡ before ++ item ∷ []) × (at ≡ length before)
-    → AllPass (names_in items) [] before → list_all is_alone before ≡ true → fault_behind (names_in items) (map Alone before) item ≡ Some kind → AsmFault items at kind
+first_fault : {items : List Item} {at : ℕ} {kind : AsmErrorKind} (before : List Item) (item : Item)
+    → (items ≡ before ++ item ∷ []) × (at ≡ length before) → AllPass (names_in items) [] before
+    → list_all is_alone before ≡ true
+    → fault_behind (names_in items) (map Alone before) item ≡ Some kind → AsmFault items at kind
 first_fault {items = items} {kind = kind} before item split passed alone is = inl (record {
   before = before;
   item = item;
@@ -95,7 +109,9 @@ full = passed_alone [] [] (dots 64) refl
 
 pub overfull : AsmFault (dots 65) 64 TooLong
 unfolding fault_behind
-overfull = first_fault (dots 64) (Word (Nop ∷ [])) (refl, refl) (passed_alone [] [] (dots 64) refl) refl refl
+overfull =
+    first_fault (dots 64)
+    (Word (Nop ∷ [])) (refl, refl) (passed_alone [] [] (dots 64) refl) refl refl
 
 -- `jump x`
 pub undefined : AsmFault (Transfer Jump (Label (codes "x")) ∷ []) 0 UndefinedLabel
@@ -116,12 +132,15 @@ to_back = WordTo (Dup ∷ Drop ∷ []) Jump (Label back) None
 abbrev in_front : List Item
 in_front = dots 2 ++ Here back ∷ dots 6
 
--- two words, `back:`, six words, `[ dup drop jump back ]`: at 008 P is 009, in another page than 002
+-- two words, `back:`, six words, `[ dup drop jump back ]`: at 008 P is 009, in another page than
+-- 002
 pub another_page : AsmFault (in_front ++ to_back ∷ []) 9 OutOfReach
 unfolding fault_behind
-another_page = first_fault in_front to_back (refl, refl) (passed_alone (back ∷ []) [] in_front refl) refl refl
+another_page =
+    first_fault in_front to_back (refl, refl) (passed_alone (back ∷ []) [] in_front refl) refl refl
 
--- `[ dup drop jump back ]`, seven words, `back:` and a word: at 000 P is 001, in another page than 008
+-- `[ dup drop jump back ]`, seven words, `back:` and a word: at 000 P is 001, in another page than
+-- 008
 abbrev to_later : List Item
 to_later = to_back ∷ (dots 7 ++ Here back ∷ dots 1)
 

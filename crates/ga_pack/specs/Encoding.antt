@@ -13,8 +13,8 @@ ends_at_dest [] = false
 ends_at_dest (op ∷ []) = takes_dest op
 ends_at_dest (op ∷ next ∷ ops) = not (takes_dest op) && ends_at_dest (next ∷ ops)
 
--- A word has a destination and one to three opcodes, of which the last and no other takes it, or it has no
--- destination and four opcodes, none of which takes one.
+-- A word has a destination and one to three opcodes, of which the last and no other takes it, or it
+-- has no destination and four opcodes, none of which takes one.
 abbrev pub has_shape : List Op → Option ℕ → Bool
 has_shape ops (Some dest) = nat_le (length ops) 3 && ends_at_dest ops
 has_shape ops None = (length ops == 4) && list_all (λ op. not (takes_dest op)) ops
@@ -34,7 +34,8 @@ abbrev pub spare_fits : List Op → ℕ → Bool
 spare_fits [] spare = true
 spare_fits (op ∷ ops) spare = nat_lt spare (spare_bound (length ops))
 
--- Why opcodes, a destination and spare bits make no word: the first of these that applies. `None`: they make one.
+-- Why opcodes, a destination and spare bits make no word: the first of these that applies. `None`:
+-- they make one.
 unfoldable pub pack_fault : List Op → Option ℕ → ℕ → Option PackError
 pack_fault ops dest spare =
     if not (has_shape ops dest) then Some Shape

@@ -1,7 +1,7 @@
--- The source text, its meaning and how it is laid into words, over plain numbers and lists, for every crate that reads, lays or prints it.
+-- The source text, its meaning and how it is laid into words, over plain numbers and lists, for
+-- every crate that reads, lays or prints it.
 pub mod Text
 pub mod Token
-pub mod Meaning
 pub mod Source
 pub mod SourceFault
 pub mod Program

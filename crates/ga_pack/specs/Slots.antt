@@ -3,7 +3,8 @@ use Rattle.std.specs.Prelude.{◌==◌, ◌&&◌, ◌||◌, ℕ, ◌^◌, Bool, 
 use Rattle.ga_word.specs.declared.op.Op.{Op}
 use Rattle.ga_word.specs.Op.{fits_slot3}
 
--- an opcode without destination fits slots 0 to 2, and slot 3 where the lower two bits of its code are 0
+-- an opcode without destination fits slots 0 to 2, and slot 3 where the lower two bits of its code
+-- are 0
 abbrev pub op_fits : ℕ → Op → Bool
 op_fits slot o = nat_lt slot 3 || ((slot == 3) && fits_slot3 o)
 

@@ -3,6 +3,7 @@
 
 mod decoding;
 mod encoding;
+mod error_kind;
 mod following;
 mod keys;
 mod packed;
@@ -10,6 +11,7 @@ mod slots;
 
 pub use decoding::{decode, op_in_slot0, op_in_slot1, op_in_slot2, op_in_slot3};
 pub use encoding::{PackError, encode};
+pub use error_kind::{AsmErrorKind, SourceErrorKind};
 pub use following::{followers, followers_of, is_followed};
 pub use packed::Packed;
 pub use slots::{dest_bound, op_fits, spare_bound};

@@ -6,8 +6,8 @@ use Rattle.ga_place.specs.Side.{side_to}
 use Rattle.ga_path.specs.declared.error.RouteError.{RouteError}
 use Rattle.ga_path.specs.declared.error.RouteError.TheVariants.{Empty, Memory, NotEdge, NotNeighbour, Repeated}
 
--- What is wrong with a node behind others, the last of them first: it is no neighbour of that one, or it stands
--- among them.
+-- What is wrong with a node behind others, the last of them first: it is no neighbour of that one,
+-- or it stands among them.
 abbrev pub hop_fault : List ℕ → ℕ → Option RouteError
 hop_fault [] name = None
 hop_fault (last ∷ before) name =
@@ -18,7 +18,8 @@ hop_fault (last ∷ before) name =
 -- what is wrong with nodes behind others, the last of these first
 abbrev pub hops_fault : List ℕ → List ℕ → Option RouteError
 hops_fault before [] = None
-hops_fault before (name ∷ names) = option_or (hop_fault before name) (hops_fault (name ∷ before) names)
+hops_fault before (name ∷ names) =
+    option_or (hop_fault before name) (hops_fault (name ∷ before) names)
 
 -- what is wrong with nodes as a route
 abbrev pub route_fault : List ℕ → Option RouteError

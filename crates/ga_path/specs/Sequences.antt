@@ -1,4 +1,5 @@
--- The words that boot a tree of nodes, by what a node sends at one of its sides. A route is a tree without branches.
+-- The words that boot a tree of nodes, by what a node sends at one of its sides. A route is a tree
+-- without branches.
 use Rattle.std.specs.Prelude.{ℕ, ◌+◌, ◌-◌, List, [], ◌∷◌, ◌++◌, length, Option, Some, None}
 use Rattle.ga_place.specs.Address.{idle_address_of, port_address_of}
 use Rattle.ga_place.specs.declared.side.Side.{Side}
@@ -7,8 +8,9 @@ use Rattle.ga_frame.specs.Frame.{MORE, words_of}
 use Rattle.ga_path.specs.declared.parts.Part.{Part}
 use Rattle.ga_path.specs.declared.parts.Part.TheVariants.{Load, Start}
 
--- Subtrees in order. Of each there is its root's name, the side that the root shares with its parent (both give the
--- port one name), the root's image, where it has one, and the subtrees of the root; then come the other subtrees.
+-- Subtrees in order. Of each there is its root's name, the side that the root shares with its
+-- parent (both give the port one name), the root's image, where it has one, and the subtrees of the
+-- root; then come the other subtrees.
 pub data Grove : Type 0 where
   Bare : Grove
   Tree : ℕ → Side → Option ImageView → Grove → Grove → Grove
@@ -55,26 +57,31 @@ abbrev pub start_address : ℕ → Option ImageView → ℕ
 start_address name (Some image) = image.entry
 start_address name None = idle_address_of name
 
--- What a node is sent at a side, where its subtrees are sent `inner`. To load it: the jump to the port, `inner`, its
--- memory, and a word that is taken only behind the last store. To start it: `inner`, and the jump to its entry.
+-- What a node is sent at a side, where its subtrees are sent `inner`. To load it: the jump to the
+-- port, `inner`, its memory, and a word that is taken only behind the last store. To start it:
+-- `inner`, and the jump to its entry.
 abbrev pub sent : Part → ℕ → Side → Option ImageView → List ℕ → List ℕ
-sent Load name side image inner = jump_to (port_address_of side) ∷ inner ++ (load image ++ NOPS ∷ [])
+sent Load name side image inner =
+    jump_to (port_address_of side) ∷ inner ++ (load image ++ NOPS ∷ [])
 sent Start name side image inner = inner ++ jump_to (start_address name image) ∷ []
 
 -- what a node sends to its subtrees: one pump for each
 abbrev pub pumps : Part → Grove → List ℕ
 pumps part Bare = []
-pumps part (Tree name side image inner beside) = pump side (sent part name side image (pumps part inner)) ++ pumps part beside
+pumps part (Tree name side image inner beside) =
+    pump side (sent part name side image (pumps part inner)) ++ pumps part beside
 
 -- a frame of a boot stream
 abbrev pub frame : ℕ → ℕ → List ℕ → List ℕ
-frame completion transfer words = words_of (record { completion = completion; transfer = transfer; words = words })
+frame completion transfer words =
+    words_of (record { completion = completion; transfer = transfer; words = words })
 
 -- what the root's loader sends to the subtrees: one frame for each
 abbrev pub frames : Part → Grove → List ℕ
 frames part Bare = []
 frames part (Tree name side image inner beside) =
-    frame MORE (port_address_of side) (sent part name side image (pumps part inner)) ++ frames part beside
+    frame MORE (port_address_of side) (sent part name side image (pumps part inner))
+    ++ frames part beside
 
 abbrev pub image_words : Option ImageView → List ℕ
 image_words (Some image) = image.words

@@ -25,11 +25,13 @@ image_of images name = lookup (λ other. name == other) images
 abbrev pub grove : Images → ℕ → Subtrees → Grove
 grove images from NoMore = Bare
 grove images from (Subtree name inner beside) =
-    Tree name (unwrap_or (side_to from name) Right) (image_of images name) (grove images name inner) (grove images from beside)
+    Tree name (unwrap_or (side_to from name) Right) (image_of images name) (grove images name inner)
+    (grove images from beside)
 
 -- a part of the stream that boots a tree
 abbrev pub tree_words : Part → Images → TreeView → List ℕ
-tree_words part images tree = part_words part tree.root (image_of images tree.root) (grove images tree.root tree.subtrees)
+tree_words part images tree =
+    part_words part tree.root (image_of images tree.root) (grove images tree.root tree.subtrees)
 
 -- all of it that loads the nodes of a tree, and all that starts them
 abbrev pub tree_load : Images → TreeView → List ℕ
@@ -38,25 +40,16 @@ tree_load images tree = tree_words Load images tree
 abbrev pub tree_start : Images → TreeView → List ℕ
 tree_start images tree = tree_words Start images tree
 
--- the subtree of a node from which a route goes on along these nodes
-abbrev pub below : Images → ℕ → List ℕ → Grove
-below images from names = grove images from (chain names)
-
--- a part of the stream that boots a route
+-- a part of the stream that boots a route, the load part or the start part
 abbrev pub route_words : Part → Images → List ℕ → List ℕ
 route_words part images [] = []
-route_words part images (root ∷ names) = part_words part root (image_of images root) (below images root names)
-
--- all of it that loads the nodes of a route, and all that starts them
-abbrev pub load_of : Images → List ℕ → List ℕ
-load_of images route = route_words Load images route
-
-abbrev pub start_of : Images → List ℕ → List ℕ
-start_of images route = route_words Start images route
+route_words part images (root ∷ names) =
+    part_words part root (image_of images root) (grove images root (chain names))
 
 -- the first node in the images' order that isn't among the nodes of a route or of a tree
 abbrev pub unreached : Images → List ℕ → Option ℕ
-unreached images nodes = option_map (λ entry. entry.0) (find (λ entry. not (is_among entry.0 nodes)) images)
+unreached images nodes =
+    option_map (λ entry. entry.0) (find (λ entry. not (is_among entry.0 nodes)) images)
 
 -- The fault of images for the nodes of a route or of a tree. Want of memory is none.
 abbrev pub IsBootFault : Images → List ℕ → BootError → Type 0

@@ -6,13 +6,14 @@ use Rattle.ga_place.specs.Side.{side_to}
 use Rattle.ga_path.specs.declared.error.TreeError.{TreeError}
 use Rattle.ga_path.specs.declared.error.TreeError.TheVariants.{Empty, Memory, OtherRoot, Repeated}
 
--- Subtrees in order, by the names of their nodes: the root of the first, the subtrees of that root, and the other
--- subtrees.
+-- Subtrees in order, by the names of their nodes: the root of the first, the subtrees of that root,
+-- and the other subtrees.
 pub data Subtrees : Type 0 where
   NoMore : Subtrees
   Subtree : ℕ → Subtrees → Subtrees → Subtrees
 
--- A tree: its root, the subtrees of the root, and all its nodes, in the order in which routes first name them.
+-- A tree: its root, the subtrees of the root, and all its nodes, in the order in which routes first
+-- name them.
 pub record TreeView : Type 0 where
   pub root : ℕ
   pub subtrees : Subtrees
@@ -23,19 +24,21 @@ abbrev pub chain : List ℕ → Subtrees
 chain [] = NoMore
 chain (name ∷ names) = Subtree name (chain names) NoMore
 
--- Subtrees with the nodes of a route: it goes along as long as its next node is the root of a subtree there, and each
--- node behind is the last subtree of the one before it.
+-- Subtrees with the nodes of a route: it goes along as long as its next node is the root of a
+-- subtree there, and each node behind is the last subtree of the one before it.
 abbrev pub subtrees_with : Subtrees → List ℕ → Subtrees
 subtrees_with NoMore names = chain names
 subtrees_with (Subtree name inner beside) [] = Subtree name inner beside
 subtrees_with (Subtree name inner beside) (next ∷ names) =
-    if name == next then Subtree name (subtrees_with inner names) beside else Subtree name inner (subtrees_with beside (next ∷ names))
+    if name == next then Subtree name (subtrees_with inner names) beside
+    else Subtree name inner (subtrees_with beside (next ∷ names))
 
 -- what is left of a route behind the nodes along which it goes
 abbrev pub new_names : Subtrees → List ℕ → List ℕ
 new_names NoMore names = names
 new_names (Subtree name inner beside) [] = []
-new_names (Subtree name inner beside) (next ∷ names) = if name == next then new_names inner names else new_names beside (next ∷ names)
+new_names (Subtree name inner beside) (next ∷ names) =
+    if name == next then new_names inner names else new_names beside (next ∷ names)
 
 -- a tree of one node
 abbrev pub lone_tree : ℕ → TreeView
@@ -49,23 +52,27 @@ tree_with tree names = record {
   nodes = tree.nodes ++ new_names tree.subtrees names;
 }
 
--- One more route, by its index: it begins at the tree's root, and no node that is new there stands in the tree.
+-- One more route, by its index: it begins at the tree's root, and no node that is new there stands
+-- in the tree.
 abbrev pub with_route : ℕ → TreeView → List ℕ → Result TreeView TreeError
 with_route index tree [] = Err (OtherRoot index)
 with_route index tree (first ∷ names) =
     if not (first == tree.root) then Err (OtherRoot index)
-    else if list_any (λ name. is_among name tree.nodes) (new_names tree.subtrees names) then Err (Repeated index)
+    else if list_any (λ name. is_among name tree.nodes) (new_names tree.subtrees names)
+    then Err (Repeated index)
     else Ok (tree_with tree names)
 
 -- what is made of a tree, where there is one
-abbrev pub and_then : (TreeView → Result TreeView TreeError) → Result TreeView TreeError → Result TreeView TreeError
+abbrev pub and_then : (TreeView → Result TreeView TreeError) → Result TreeView TreeError
+    → Result TreeView TreeError
 and_then more (Ok tree) = more tree
 and_then more (Err fault) = Err fault
 
 -- more routes in order, by the index of the first
 abbrev pub with_routes : ℕ → TreeView → List (List ℕ) → Result TreeView TreeError
 with_routes index tree [] = Ok tree
-with_routes index tree (route ∷ routes) = and_then (λ more. with_routes (index + 1) more routes) (with_route index tree route)
+with_routes index tree (route ∷ routes) =
+    and_then (λ more. with_routes (index + 1) more routes) (with_route index tree route)
 
 -- the tree of routes, or what is wrong with them first
 abbrev pub tree_of : List (List ℕ) → Result TreeView TreeError
@@ -85,10 +92,11 @@ names_in (Subtree name inner beside) = name ∷ (names_in inner ++ names_in besi
 -- each node is a neighbour of its parent, which the first ones have by this name
 abbrev pub AreNear : ℕ → Subtrees → Type 0
 AreNear parent NoMore = Unit
-AreNear parent (Subtree name inner beside) = IsSome (side_to parent name) × AreNear name inner × AreNear parent beside
+AreNear parent (Subtree name inner beside) =
+    IsSome (side_to parent name) × AreNear name inner × AreNear parent beside
 
--- What holds of each tree: its root stands at an edge of the chip, each other node is a neighbour of its parent, no node
--- stands twice, and its nodes are those of its subtrees and the root.
+-- What holds of each tree: its root stands at an edge of the chip, each other node is a neighbour
+-- of its parent, no node stands twice, and its nodes are those of its subtrees and the root.
 pub record IsSound (tree : TreeView) : Type 0 where
   pub edge : is_edge tree.root ≡ true
   pub near : AreNear tree.root tree.subtrees

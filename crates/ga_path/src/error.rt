@@ -48,8 +48,8 @@ pub enum TreeError {
 /// Why a text was refused as names of nodes.
 #[derive(Clone, Copy, Debug, PartialEq, Eq, Error)]
 pub enum NamesError {
-    /// It isn't names of nodes, three digits each, with commas between them, nor, of routes, such texts with `/` between
-    /// them.
+    /// It isn't names of nodes, three digits each, with commas between them, nor, of routes, such
+    /// texts with `/` between them.
     #[error("BadNames")]
     BadNames,
     /// Memory ran out.

@@ -32,9 +32,10 @@ pub fn read_nodes(alloc: Global, text: &str) -> Result<Vec<Node>, NamesError>
     }
 }
 
-/// The nodes of each route that a text names: a route as [`read_nodes`] reads it, with `/` between routes. (The form is
-/// this project's own: profile.) Any other text is refused as [`NamesError::BadNames`], and one with nothing before,
-/// between or behind a `/`. It fails as [`NamesError::Memory`] only where memory is refused.
+/// The nodes of each route that a text names: a route as [`read_nodes`] reads it, with `/` between
+/// routes. (The form is this project's own: profile.) Any other text is refused as
+/// [`NamesError::BadNames`], and one with nothing before, between or behind a `/`. It fails as
+/// [`NamesError::Memory`] only where memory is refused.
 pub fn read_routes(alloc: Global, text: &str) -> Result<Vec<Vec<Node>>, NamesError>
     ensures routes { IfOk result (λ routes. routes_in text.now ≡ Some (lists_in routes.items)) }
     ensures bad { IfErr result (λ error. (error ≡ Memory) ⊎ (routes_in text.now ≡ None)) }

@@ -1,6 +1,7 @@
 use ga_word::Word18;
 
-/// A boot stream, in its two parts, for the first node of a route or of a tree: all loads come before all starts.
+/// A boot stream, in its two parts, for the first node of a route or of a tree: all loads come
+/// before all starts.
 #[derive(Debug, PartialEq, Eq, Drop)]
 pub struct Boot {
     /// Frames that load the memory of each node.

@@ -53,7 +53,8 @@ impl Route {
     }
 }
 
-/// A route along each of these lists of nodes, in their order, or what is wrong with the first that is no route, as
+/// A route along each of these lists of nodes, in their order, or what is wrong with the first that
+/// is no route, as
 /// [`Route::new`] tells it. It fails as [`RouteError::Memory`] only where memory is refused.
 pub fn routes_along(alloc: Global, lists: &[Vec<Node>]) -> Result<Vec<Route>, RouteError>
     ensures routes { IfOk result (λ routes. routes.items ≡ lists_in lists.now) }

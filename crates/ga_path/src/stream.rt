@@ -1,5 +1,5 @@
 ghost use Rattle.std.specs.Prelude.{◌≡◌, [], ◌∷◌, IfErr, IfOk, List, None, Ok, ℕ};
-ghost use Rattle.ga_path.specs.Stream.{IsBootFault, load_of, start_of, tree_load, tree_start, unreached};
+ghost use Rattle.ga_path.specs.Stream.{IsBootFault, route_words, tree_load, tree_start, unreached};
 ghost use Rattle.ga_path.specs.Tree.{IsSound, TreeView, tree_of};
 
 use crate::error::{BootError, TreeError};
@@ -12,12 +12,12 @@ use ga_place::Node;
 use std::alloc::Global;
 use std::slice;
 
-/// The boot stream of a tree: what its root is to be given, so that each node with an image has the image's words in
-/// memory, and then each node starts, one with an image at the image's entry and one without at its idle address. (The
-/// words are this project's own: profile.)
+/// The boot stream of a tree: what its root is to be given, so that each node with an image has the
+/// image's words in memory, and then each node starts, one with an image at the image's entry and
+/// one without at its idle address. (The words are this project's own: profile.)
 ///
-/// A node that has an image and isn't in the tree is refused as [`BootError::Unreached`], the first in the images'
-/// order. It fails as [`BootError::Memory`] only where memory is refused.
+/// A node that has an image and isn't in the tree is refused as [`BootError::Unreached`], the first
+/// in the images' order. It fails as [`BootError::Memory`] only where memory is refused.
 pub fn boot_tree(alloc: Global, tree: &Tree, images: &Images) -> Result<Boot, BootError>
     ensures load { IfOk result (λ boot. boot.load.items ≡ tree_load images.now tree.now) }
     ensures start { IfOk result (λ boot. boot.start.items ≡ tree_start images.now tree.now) }
@@ -39,8 +39,10 @@ pub fn boot_tree(alloc: Global, tree: &Tree, images: &Images) -> Result<Boot, Bo
 /// A node that has an image and isn't on the route is refused as [`BootError::Unreached`], the
 /// first in the images' order. It fails as [`BootError::Memory`] only where memory is refused.
 pub fn boot(alloc: Global, route: &Route, images: &Images) -> Result<Boot, BootError>
-    ensures load { IfOk result (λ boot. boot.load.items ≡ load_of images.now route.now) }
-    ensures start { IfOk result (λ boot. boot.start.items ≡ start_of images.now route.now) }
+    ensures load { IfOk result (λ boot.
+        boot.load.items ≡ route_words Part.Load images.now route.now) }
+    ensures start { IfOk result (λ boot.
+        boot.start.items ≡ route_words Part.Start images.now route.now) }
     ensures reached { IfOk result (λ _. unreached images.now route.now ≡ None) }
     ensures fault { IfErr result (λ error. IsBootFault images.now route.now error) }
     // what is made of the tree of this one route, whose root is where the route begins and whose

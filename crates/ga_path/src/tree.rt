@@ -12,8 +12,9 @@ use ga_place::Node;
 use std::alloc::Global;
 use std::marker::Model;
 
-/// A tree of nodes: a root at an edge of the chip, and each other node a neighbour of the one above it. No node stands
-/// twice. A contract sees the root, its subtrees by the names of their nodes, and the list of all nodes.
+/// A tree of nodes: a root at an edge of the chip, and each other node a neighbour of the one above
+/// it. No node stands twice. A contract sees the root, its subtrees by the names of their nodes,
+/// and the list of all nodes.
 #[derive(Drop)]
 pub struct Tree {
     root: Node,
@@ -47,11 +48,12 @@ impl Model for Tree {
 }
 
 impl Tree {
-    /// The tree of these routes, in their order, or what is wrong with them first: there is none; then, route by route,
-    /// it begins at another node than the first one, or comes to a new node that stands in the tree. A route goes along
-    /// the tree as long as its next node is the root of a subtree there; each node behind becomes the last subtree of
-    /// the one before it. So a route that the tree has adds nothing. (Trees are this project's own: profile.) It fails
-    /// as [`TreeError::Memory`] only where memory is refused.
+    /// The tree of these routes, in their order, or what is wrong with them first: there is none;
+    /// then, route by route, it begins at another node than the first one, or comes to a new node
+    /// that stands in the tree. A route goes along the tree as long as its next node is the root of
+    /// a subtree there; each node behind becomes the last subtree of the one before it. So a route
+    /// that the tree has adds nothing. (Trees are this project's own: profile.) It fails as
+    /// [`TreeError::Memory`] only where memory is refused.
     pub fn new(alloc: Global, routes: &[Route]) -> Result<Self, TreeError>
         ensures tree { IfOk result (λ tree. tree_of routes.now ≡ Ok tree) }
         ensures sound { IfOk result (λ tree. IsSound tree) }

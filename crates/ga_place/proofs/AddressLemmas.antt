@@ -40,12 +40,17 @@ io_where-ports x some sides = grind arith
 pub io_where-nothing : (x : ℕ) → x ≢ 8 → (x ≢ 0 → x % 16 ≢ 0) → io_where x ≡ Unmapped
 io_where-nothing x other none = grind arith
 
-reached : (left up : Bool) → let bits = 0x80 + 0x40 + (if left then 0 else 0x20) + (if up then 0 else 0x10) in where_is (bit_xor 0x155 bits) ≡ Ports (sides_with bits)
+reached : (left up : Bool) → let bits =
+    0x80 + 0x40 + (if left then 0 else 0x20) + (if up then 0 else 0x10) in
+    where_is (bit_xor 0x155 bits) ≡ Ports (sides_with bits)
 reached true true = refl
 reached true false = refl
 reached false true = refl
 reached false false = refl
 
 -- the idle address of a node reaches the ports of the sides that it has
-pub where_is-idle : (name : ℕ) → where_is (bit_xor 0x155 (sides_by_edge name)) ≡ Ports (sides_with (sides_by_edge name))
-where_is-idle name = reached ((column_of name == 0) || (column_of name == 17)) ((row_of name == 0) || (row_of name == 7))
+pub where_is-idle : (name : ℕ)
+    → where_is (bit_xor 0x155 (sides_by_edge name)) ≡ Ports (sides_with (sides_by_edge name))
+where_is-idle name =
+    reached ((column_of name == 0) || (column_of name == 17))
+    ((row_of name == 0) || (row_of name == 7))

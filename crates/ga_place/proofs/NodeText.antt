@@ -11,7 +11,8 @@ two_digits n above below =
     let small : n < 2 ^ 64 = omega arith in
     rw (decimal_step n above small, decimal_digit (n / 10) tens)
 
-three_digits : (n : ℕ) → 100 ≤ n → n < 1000 → decimal n ≡ (48 + n / 100) ∷ (48 + n / 10 % 10) ∷ (48 + n % 10) ∷ []
+three_digits : (n : ℕ) → 100 ≤ n → n < 1000
+    → decimal n ≡ (48 + n / 100) ∷ (48 + n / 10 % 10) ∷ (48 + n % 10) ∷ []
 three_digits n above below =
     let step : 10 ≤ n = omega arith in
     let small : n < 2 ^ 64 = omega arith in
@@ -21,7 +22,8 @@ three_digits n above below =
     rw (decimal_step n step small, two_digits (n / 10) tens below_ten, hundreds)
 
 -- one digit behind two zeros, two digits behind one, or three digits
-pub three_places : (n : ℕ) → n < 1000 → styled_decimal (format_spec 32 0 4 3 (2 ^ 64 - 1)) n ≡ node_text n
+pub three_places : (n : ℕ) → n < 1000
+    → styled_decimal (format_spec 32 0 4 3 (2 ^ 64 - 1)) n ≡ node_text n
 unfolding padded_integral char_count
 three_places n below = elim (cases_lt n 10) [
   | inl one ↦

@@ -1,4 +1,5 @@
--- The 144 nodes, in 8 rows by 18 columns. A node is seen as its name, the number row * 100 + column.
+-- The 144 nodes, in 8 rows by 18 columns. A node is seen as its name, the number row * 100 +
+-- column.
 use Rattle.std.specs.Prelude.{◌≡◌, ℕ, ◌+◌, ◌/◌, ◌%◌, ◌<◌, nat_lt, ◌==◌, Bool, ◌||◌, ◌&&◌, List, [], ◌∷◌, length, Option, Some, None, if◌then◌else◌, ◌⊎◌}
 use Rattle.std.specs.Char.{is_digit}
 use Rattle.std.specs.List.{list_all, list_any}
@@ -23,15 +24,13 @@ is_node_name name = nat_lt (row_of name) 8 && nat_lt (column_of name) 18
 -- the node that a text names: three decimal digits, which are its name
 abbrev pub node_named : List ℕ → Option ℕ
 node_named text =
-    if (length text == 3) && list_all (λ c. is_digit c 10) text && is_node_name (digits_value 10 text) then Some (digits_value 10 text) else None
+    if (length text == 3) && list_all (λ c. is_digit c 10) text
+    && is_node_name (digits_value 10 text) then Some (digits_value 10 text) else None
 
--- the node stands in the first or the last row or column
-abbrev pub IsOnEdge : ℕ → Type 0
-IsOnEdge name = (row_of name ≡ 0) ⊎ (row_of name ≡ 7) ⊎ (column_of name ≡ 0) ⊎ (column_of name ≡ 17)
-
--- whether it does
+-- whether a node stands in the first or the last row or column
 abbrev pub is_edge : ℕ → Bool
-is_edge name = (row_of name == 0) || ((row_of name == 7) || ((column_of name == 0) || (column_of name == 17)))
+is_edge name =
+    (row_of name == 0) || ((row_of name == 7) || ((column_of name == 0) || (column_of name == 17)))
 
 -- the text of a node: the three decimal digits of its name
 abbrev pub node_text : ℕ → List ℕ

@@ -1,6 +1,7 @@
 -- The four sides of a node, and where each leads.
 use Rattle.std.specs.Prelude.{◌≡◌, ◌==◌, ℕ, ◌+◌, ◌-◌, ◌/◌, ◌%◌, Bool, false, ◌||◌, nat_lt, List, [], ◌∷◌, codes, Option, Some, None, is_some, if◌then◌else◌}
 use Rattle.std.specs.List.{find}
+use Rattle.std.specs.Option.{option_map_or}
 use Rattle.ga_place.specs.Node.{row_of, column_of}
 use Rattle.ga_place.specs.declared.side.Side.{Side}
 use Rattle.ga_place.specs.declared.side.Sides.{Sides}
@@ -13,8 +14,8 @@ pub data Direction : Type 0 where
   North : Direction
   South : Direction
 
--- the direction that a side of a node faces: east is right in even columns and left in odd ones, and
--- north is down in even rows and up in odd ones
+-- the direction that a side of a node faces: east is right in even columns and left in odd ones,
+-- and north is down in even rows and up in odd ones
 abbrev pub direction_of : ℕ → Side → Direction
 direction_of name Right = if column_of name % 2 == 0 then East else West
 direction_of name Left = if column_of name % 2 == 0 then West else East
@@ -36,14 +37,10 @@ neighbour_of name side = next_node name (direction_of name side)
 abbrev pub SIDES : List Side
 SIDES = Right ∷ Down ∷ Left ∷ Up ∷ []
 
--- a node is there, and it is the one with this name
-abbrev pub is_the_node : ℕ → Option ℕ → Bool
-is_the_node name (Some there) = there == name
-is_the_node name None = false
-
 -- the side of a node at which another node is its neighbour, if it is one
 abbrev pub side_to : ℕ → ℕ → Option Side
-side_to name other = find (λ side. is_the_node other (neighbour_of name side)) SIDES
+side_to name other =
+    find (λ side. option_map_or (λ there. there == other) (neighbour_of name side) false) SIDES
 
 -- a node has a side where it has a neighbour
 abbrev pub has_side : ℕ → Side → Bool
@@ -62,7 +59,9 @@ side_bit Up = 0x10
 
 -- the name and the bit of each side, as a set of sides is printed and read
 abbrev pub side_table : List (List ℕ × ℕ)
-side_table = (codes "RIGHT", side_bit Right) ∷ (codes "DOWN", side_bit Down) ∷ (codes "LEFT", side_bit Left) ∷ (codes "UP", side_bit Up) ∷ []
+side_table =
+    (codes "RIGHT", side_bit Right) ∷ (codes "DOWN", side_bit Down) ∷ (codes "LEFT", side_bit Left)
+    ∷ (codes "UP", side_bit Up) ∷ []
 
 -- the bits of a set of sides, one for each side in it
 abbrev pub bits_of : Sides → ℕ
@@ -78,7 +77,10 @@ is_among side sides = bits_of sides / side_bit side % 2 == 1
 
 -- the one side in a set, where it has just one
 abbrev pub one_side : Sides → Option Side
-one_side sides = if bits_of sides == 0x80 then Some Right else (if bits_of sides == 0x40 then Some Down else (if bits_of sides == 0x20 then Some Left else (if bits_of sides == 0x10 then Some Up else None)))
+one_side sides =
+    if bits_of sides == 0x80 then Some Right
+    else (if bits_of sides == 0x40 then Some Down else (if bits_of sides == 0x20 then Some Left
+    else (if bits_of sides == 0x10 then Some Up else None)))
 
 -- the bit of a side that the node has, and else nothing
 abbrev pub bit_there : ℕ → Side → ℕ
@@ -86,9 +88,12 @@ bit_there name side = if has_side name side then side_bit side else 0
 
 -- the sides that a node has, as a sum of their bits
 abbrev pub sides_bits : ℕ → ℕ
-sides_bits name = bit_there name Right + bit_there name Down + bit_there name Left + bit_there name Up
+sides_bits name =
+    bit_there name Right + bit_there name Down + bit_there name Left + bit_there name Up
 
--- the same sum by the edges of the grid: rows 0 and 7 lack up, columns 0 and 17 lack left, and every
--- node has right and down
+-- the same sum by the edges of the grid: rows 0 and 7 lack up, columns 0 and 17 lack left, and
+-- every node has right and down
 abbrev pub sides_by_edge : ℕ → ℕ
-sides_by_edge name = 0x80 + 0x40 + (if (column_of name == 0) || (column_of name == 17) then 0 else 0x20) + (if (row_of name == 0) || (row_of name == 7) then 0 else 0x10)
+sides_by_edge name =
+    0x80 + 0x40 + (if (column_of name == 0) || (column_of name == 17) then 0 else 0x20)
+    + (if (row_of name == 0) || (row_of name == 7) then 0 else 0x10)

@@ -38,8 +38,8 @@ pub fn port_address(side: Side) -> u16
     }
 }
 
-/// The address at which the node waits when it is idle, nine bits: the ports of all the sides that it
-/// has, as 1A5 where it has all four. Rows 0 and 7 lack up, and columns 0 and 17 lack left (chip
+/// The address at which the node waits when it is idle, nine bits: the ports of all the sides that
+/// it has, as 1A5 where it has all four. Rows 0 and 7 lack up, and columns 0 and 17 lack left (chip
 /// reference DB002).
 pub fn idle_address(node: Node) -> u16
     ensures value { result ≡ idle_address_of node }
@@ -83,8 +83,8 @@ pub fn advance(address: u32) -> u32
 /// What an address reaches, by its low nine bits: RAM from 000 and again from 040, ROM from 080 and
 /// again from 0C0, and I/O from 100 to 1FF (F18A reference DB001).
 ///
-/// In the I/O range, a port address is 155 with at least one of the bits 4 to 7 turned over, one for
-/// each side, and 15D is `io`. All else there is unmapped (this project's profile).
+/// In the I/O range, a port address is 155 with at least one of the bits 4 to 7 turned over, one
+/// for each side, and 15D is `io`. All else there is unmapped (this project's profile).
 pub fn locate(address: u16) -> Where
     ensures { result ≡ where_is address }
 {

@@ -7,11 +7,11 @@ use crate::node::Node;
 use crate::side::{Side, neighbour};
 use std::marker::Model;
 
-/// One of the 524 one-way cells between neighbours. Each of the 262 shared ports has two: each of its
-/// nodes writes one, and the other node reads it.
+/// One of the 524 one-way cells between neighbours. Each of the 262 shared ports has two: each of
+/// its nodes writes one, and the other node reads it.
 ///
-/// Cells are numbered from 0 to 523 by their writer's name, and those of one writer by side: right, down,
-/// left, up. A contract sees a cell as its number.
+/// Cells are numbered from 0 to 523 by their writer's name, and those of one writer by side: right,
+/// down, left, up. A contract sees a cell as its number.
 #[derive(Clone, Copy, Debug, PartialEq, Eq)]
 pub struct CellId {
     number: u16,
@@ -37,8 +37,8 @@ impl CellId {
     }
 }
 
-/// The cell that a node writes at a side, or `None` where it has no neighbour there. No two cells have
-/// one number.
+/// The cell that a node writes at a side, or `None` where it has no neighbour there. No two cells
+/// have one number.
 #[tactic(auto, using(crate::proofs::CellNumbers::no_cell, crate::proofs::CellNumbers::cell_there))]
 pub fn cell(node: Node, side: Side) -> Option<CellId>
     ensures number { result ≡ cell_of node side }
@@ -54,8 +54,8 @@ pub fn cell(node: Node, side: Side) -> Option<CellId>
     Some(CellId { number })
 }
 
-/// How many cells have a writer of a lower name: 70 in each row but the first, which has 52, and then
-/// those of the nodes to the west.
+/// How many cells have a writer of a lower name: 70 in each row but the first, which has 52, and
+/// then those of the nodes to the west.
 fn cells_before(node: Node) -> u16
     ensures value { result ≡ cells_before node }
 {

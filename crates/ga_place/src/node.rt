@@ -7,7 +7,7 @@ ghost use Rattle.std.specs.Ordering.{as_partial_cmp, nat_cmp};
 ghost use Rattle.std.proofs.Common.{rules};
 ghost use Rattle.ga_place.specs.Cell.{index_of, name_at};
 ghost use Rattle.ga_place.specs.inner.Index.{index_back};
-ghost use Rattle.ga_place.specs.Node.{IsNodeName, IsOnEdge, column_of, node_named, node_text, row_of};
+ghost use Rattle.ga_place.specs.Node.{IsNodeName, column_of, is_edge, node_named, node_text, row_of};
 ghost use Rattle.ga_place.specs.Side.{LacksSide};
 
 use std::cmp::Ordering;
@@ -17,8 +17,9 @@ use std::marker::Model;
 
 /// One of the 144 computers of the GA144, in 8 rows by 18 columns (chip reference DB002).
 ///
-/// Its name is the number `row * 100 + column`: 708 is row 7, column 8. A contract sees a node as its
-/// name, and nodes compare and hash as their names. What is kept is the node's index in order of name.
+/// Its name is the number `row * 100 + column`: 708 is row 7, column 8. A contract sees a node as
+/// its name, and nodes compare and hash as their names. What is kept is the node's index in order
+/// of name.
 #[derive(Clone, Copy, Debug)]
 pub struct Node {
     index: u8,
@@ -52,8 +53,8 @@ impl Node {
         }
     }
 
-    /// The node that a text names: three decimal digits, as 008, which are its name. `None` for every other text,
-    /// and where no node has the name.
+    /// The node that a text names: three decimal digits, as 008, which are its name. `None` for
+    /// every other text, and where no node has the name.
     pub fn from_digits(text: &[u8]) -> Option<Self>
         ensures { result ≡ node_named text.now }
     {
@@ -114,7 +115,7 @@ impl Node {
 
     /// Whether the node stands in row 0 or 7, or in column 0 or 17, and so lacks a side.
     pub fn is_edge(self) -> bool
-        ensures value { IsTrue result ↔ IsOnEdge self }
+        ensures value { result ≡ is_edge self }
         ensures sides { IsTrue result ↔ LacksSide self }
     {
         let row = self.row();

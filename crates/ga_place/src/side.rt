@@ -81,8 +81,8 @@ fn south(node: Node) -> Option<Node>
     }
 }
 
-/// The side of a node at which another node is its neighbour, or `None` where the two are no neighbours.
-/// Seen from the other node the side has the same name.
+/// The side of a node at which another node is its neighbour, or `None` where the two are no
+/// neighbours. Seen from the other node the side has the same name.
 pub fn side_to(node: Node, other: Node) -> Option<Side>
     ensures value { result ≡ side_to node other }
     ensures exact { (side : Side) → (result ≡ Some side) ↔ (neighbour_of node side ≡ Some other) }
@@ -100,8 +100,8 @@ pub fn side_to(node: Node, other: Node) -> Option<Side>
     }
 }
 
-/// A set of sides, by the bits that stand for them in a port address: right 80, down 40, left 20 and
-/// up 10. Its operations are those of `bitflags::Flags`.
+/// A set of sides, by the bits that stand for them in a port address: right 80, down 40, left 20
+/// and up 10. Its operations are those of `bitflags::Flags`.
 #[derive(Clone, Copy, Debug, PartialEq, Eq)]
 pub struct Sides(u8);
 

@@ -10,7 +10,8 @@ use Rattle.ga_port.specs.inner.Entering.{IsCellWord, pending_of}
 
 -- ---- one cell
 
-pub held_small : (o : Option ℕ) → ((word : ℕ) → o ≡ Some word → word < 2 ^ 18) → IsCellWord (word_of o)
+pub held_small : (o : Option ℕ) → ((word : ℕ) → o ≡ Some word → word < 2 ^ 18)
+    → IsCellWord (word_of o)
 held_small None small = (omega arith, λ ne. absurd (ne refl))
 held_small (Some word) small =
     let bound : word < 2 ^ 18 = small word refl in
@@ -21,45 +22,57 @@ held_word None = refl
 held_word (Some word) =
     let full : 262144 + word ≢ 0 = λ e. omega arith in
     let back : 262144 + word - 262144 ≡ word = omega arith in
-    ap (λ (b : Bool). if b then None else Some (262144 + word - 262144)) (ne_eqb (262144 + word) 0 full) ∙ ap Some back
+    ap (λ (b : Bool). if b then None
+    else Some (262144 + word - 262144)) (ne_eqb (262144 + word) 0 full) ∙ ap Some back
 
 -- ---- all cells
 
-reads_with : (cells : List (Option ℕ)) (tail : List ℕ) (cell : ℕ) → cell < length cells → get_or (map word_of cells ++ tail) cell 0 ≡ word_of (get_or cells cell None)
+reads_with : (cells : List (Option ℕ)) (tail : List ℕ) (cell : ℕ) → cell < length cells
+    → get_or (map word_of cells ++ tail) cell 0 ≡ word_of (get_or cells cell None)
 reads_with [] tail cell below = absurd (omega arith)
 reads_with (one ∷ rest) tail zero below = refl
 reads_with (one ∷ rest) tail (suc cell) below = reads_with rest tail cell (omega arith)
 
-pub row_read : (cells : List (Option ℕ)) (cell : ℕ) → cell < length cells → get_or (row_of cells) cell 0 ≡ word_of (pending_in cells cell)
+pub row_read : (cells : List (Option ℕ)) (cell : ℕ) → cell < length cells
+    → get_or (row_of cells) cell 0 ≡ word_of (pending_in cells cell)
 unfolding row_of
 row_read cells cell below = reads_with cells (replicate 1 0) cell below
 
-writes_with : (cells : List (Option ℕ)) (tail : List ℕ) (cell : ℕ) (o : Option ℕ) → cell < length cells → set (map word_of cells ++ tail) cell (word_of o) ≡ map word_of (set cells cell o) ++ tail
+writes_with : (cells : List (Option ℕ)) (tail : List ℕ) (cell : ℕ) (o : Option ℕ)
+    → cell < length cells
+    → set (map word_of cells ++ tail) cell (word_of o) ≡ map word_of (set cells cell o) ++ tail
 writes_with [] tail cell o below = absurd (omega arith)
 writes_with (one ∷ rest) tail zero o below = refl
-writes_with (one ∷ rest) tail (suc cell) o below = ap (λ l. word_of one ∷ l) (writes_with rest tail cell o (omega arith))
+writes_with (one ∷ rest) tail (suc cell) o below =
+    ap (λ l. word_of one ∷ l) (writes_with rest tail cell o (omega arith))
 
-pub row_write : (cells : List (Option ℕ)) (cell : ℕ) (o : Option ℕ) → cell < length cells → set (row_of cells) cell (word_of o) ≡ row_of (set cells cell o)
+pub row_write : (cells : List (Option ℕ)) (cell : ℕ) (o : Option ℕ) → cell < length cells
+    → set (row_of cells) cell (word_of o) ≡ row_of (set cells cell o)
 unfolding row_of
 row_write cells cell o below = writes_with cells (replicate 1 0) cell o below
 
 -- a cell that is empty already
-pub empties_again : (cells : List (Option ℕ)) (cell : ℕ) → pending_in cells cell ≡ None → set cells cell None ≡ cells
+pub empties_again : (cells : List (Option ℕ)) (cell : ℕ) → pending_in cells cell ≡ None
+    → set cells cell None ≡ cells
 empties_again [] cell e = refl
 empties_again (one ∷ rest) zero e = ap (λ o. o ∷ rest) (sym e)
 empties_again (one ∷ rest) (suc cell) e = ap (λ l. one ∷ l) (empties_again rest cell e)
 
 -- what a write leaves, at its place and at others
-set_reads : (cells : List (Option ℕ)) (cell : ℕ) (o : Option ℕ) (word : ℕ) → get_or (set cells cell o) cell None ≡ Some word → o ≡ Some word
+set_reads : (cells : List (Option ℕ)) (cell : ℕ) (o : Option ℕ) (word : ℕ)
+    → get_or (set cells cell o) cell None ≡ Some word → o ≡ Some word
 set_reads [] cell o word e = absurd (none-some word e)
 set_reads (one ∷ rest) zero o word e = e
 set_reads (one ∷ rest) (suc cell) o word e = set_reads rest cell o word e
 
-pub small_set : (cells : List (Option ℕ)) (cell : ℕ) (o : Option ℕ) → AreSmall cells → ((word : ℕ) → o ≡ Some word → word < 2 ^ 18) → AreSmall (set cells cell o)
+pub small_set : (cells : List (Option ℕ)) (cell : ℕ) (o : Option ℕ) → AreSmall cells
+    → ((word : ℕ) → o ≡ Some word → word < 2 ^ 18) → AreSmall (set cells cell o)
 small_set cells cell o small fits at word e = by (cases_eq at cell)
   where
     by : (at ≡ cell) ⊎ (at ≡ cell → ⊥) → word < 2 ^ 18
-    by (inl same) = fits word (set_reads cells cell o word (sym (ap (λ i. get_or (set cells cell o) i None) same) ∙ e))
+    by (inl same) =
+        fits word
+        (set_reads cells cell o word (sym (ap (λ i. get_or (set cells cell o) i None) same) ∙ e))
     by (inr apart) = small at word (sym (get_or-set_other cells cell at o None apart) ∙ e)
 
 -- how many words the table has
@@ -73,25 +86,37 @@ row_length cells count = longer cells ∙ (let sum : length cells + 1 ≡ 525 = 
 
 -- ---- the words of the first cells, and of one more
 
-words_more : (cells : List (Option ℕ)) (i : ℕ) (one : Option ℕ) → i < length cells → one ≡ get_or cells i one → map word_of (take (i + 1) cells) ≡ map word_of (take i cells) ++ word_of one ∷ []
+words_more : (cells : List (Option ℕ)) (i : ℕ) (one : Option ℕ) → i < length cells
+    → one ≡ get_or cells i one
+    → map word_of (take (i + 1) cells) ≡ map word_of (take i cells) ++ word_of one ∷ []
 words_more [] i one below e = absurd (omega arith)
 words_more (x ∷ xs) zero one below e = ap (λ o. word_of o ∷ []) (sym e)
 words_more (x ∷ xs) (suc i) one below e =
     let more : suc i + 1 ≡ suc (i + 1) = omega arith in
-    ap (λ n. map word_of (take n (x ∷ xs))) more ∙ ap (λ l. word_of x ∷ l) (words_more xs i one (omega arith) e)
+    ap (λ n. map word_of (take n (x ∷ xs))) more
+    ∙ ap (λ l. word_of x ∷ l) (words_more xs i one (omega arith) e)
 
-pub words_push : (words new : List ℕ) (cells : List (Option ℕ)) (i held : ℕ) (one : Option ℕ) → new ≡ words ++ held ∷ [] → words ≡ map word_of (take i cells) → held ≡ word_of one → i < length cells → one ≡ get_or cells i one → new ≡ map word_of (take (i + 1) cells)
+pub words_push : (words new : List ℕ) (cells : List (Option ℕ)) (i held : ℕ) (one : Option ℕ)
+    → new ≡ words ++ held ∷ [] → words ≡ map word_of (take i cells) → held ≡ word_of one
+    → i < length cells → one ≡ get_or cells i one → new ≡ map word_of (take (i + 1) cells)
 words_push words new cells i held one pushed before is below e =
-    pushed ∙ ap (λ l. l ++ held ∷ []) before ∙ ap (λ w. map word_of (take i cells) ++ w ∷ []) is ∙ sym (words_more cells i one below e)
+    pushed ∙ ap (λ l. l ++ held ∷ []) before ∙ ap (λ w. map word_of (take i cells) ++ w ∷ []) is
+    ∙ sym (words_more cells i one below e)
 
-same_default : (cells : List (Option ℕ)) (i : ℕ) (d e : Option ℕ) → i < length cells → get_or cells i d ≡ get_or cells i e
+same_default : (cells : List (Option ℕ)) (i : ℕ) (d e : Option ℕ) → i < length cells
+    → get_or cells i d ≡ get_or cells i e
 same_default [] i d e below = absurd (omega arith)
 same_default (x ∷ xs) zero d e below = refl
 same_default (x ∷ xs) (suc i) d e below = same_default xs i d e (omega arith)
 
-pub small_more : (cells : List (Option ℕ)) (i : ℕ) (one : Option ℕ) → i < length cells → one ≡ get_or cells i one → IfSome one (λ word. word < 2 ^ 18) → ((cell word : ℕ) → cell < i → get_or cells cell None ≡ Some word → word < 2 ^ 18) → (cell word : ℕ) → cell < i + 1 → get_or cells cell None ≡ Some word → word < 2 ^ 18
+pub small_more : (cells : List (Option ℕ)) (i : ℕ) (one : Option ℕ) → i < length cells
+    → one ≡ get_or cells i one → IfSome one (λ word. word < 2 ^ 18)
+    → ((cell word : ℕ) → cell < i → get_or cells cell None ≡ Some word → word < 2 ^ 18)
+    → (cell word : ℕ) → cell < i + 1 → get_or cells cell None ≡ Some word → word < 2 ^ 18
 small_more cells i one below e bound before cell word inside has = by (cases_eq cell i)
   where
     by : (cell ≡ i) ⊎ (cell ≡ i → ⊥) → word < 2 ^ 18
-    by (inl same) = subst (λ o. IfSome o (λ w. w < 2 ^ 18)) (e ∙ same_default cells i one None below ∙ ap (λ n. get_or cells n None) (sym same) ∙ has) bound
+    by (inl same) =
+        subst (λ o. IfSome o (λ w. w < 2 ^ 18)) (e ∙ same_default cells i one None below
+        ∙ ap (λ n. get_or cells n None) (sym same) ∙ has) bound
     by (inr apart) = before cell word (omega arith) has

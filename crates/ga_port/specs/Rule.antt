@@ -1,6 +1,7 @@
--- The rule of the cells. Whatever threads do at the cells, at each moment there is one run of the chip, along tries of its
--- nodes from the opening chip on, so that the words of the table are the cells of the chip to which the run leads, and what
--- all seats have of their nodes is what the run makes of these; and each node is at exactly one seat.
+-- The rule of the cells. Whatever threads do at the cells, at each moment there is one run of the
+-- chip, along tries of its nodes from the opening chip on, so that the words of the table are the
+-- cells of the chip to which the run leads, and what all seats have of their nodes is what the run
+-- makes of these; and each node is at exactly one seat.
 use Rattle.std.specs.Prelude.{◌≡◌, ℕ, ◌+◌, ◌<◌, ◌^◌, List, [], ◌++◌, map, length, replicate, Option, Some, None}
 use mathlib.Core.Option.{some}
 use lib.ListN.{get_elem?}
@@ -27,21 +28,30 @@ abbrev pub AreSmall : List (Option ℕ) → Type 0
 AreSmall cells = (cell word : ℕ) → pending_in cells cell ≡ Some word → word < 2 ^ 18
 
 -- The words, and what all seats have, are those of the chip to which these tries lead.
-pub record IsOf (chip : Chip) (tries : List Try) (owner : ℕ → ℕ) (s : State ℕ (List (Option Holding))) : Type 0 where
+pub record IsOf (chip : Chip) (tries : List Try)
+    (owner : ℕ → ℕ) (s : State ℕ (List (Option Holding))) : Type 0 where
   -- the words are those of the cells
   pub words : s.words ≡ row_of chip.cells
   pub cells : length chip.cells ≡ 524
   pub small : AreSmall chip.cells
   pub nodes : length chip.parts ≡ 144
   -- a seat has its nodes' parts, and the sides that their tries name
-  pub parts : (id name : ℕ) (view : List (Option Holding)) (one : Holding) → get_elem? s.views id ≡ some view → kept view name ≡ Some one → part_of chip name ≡ Some one.part
-  pub sides : (id name : ℕ) (view : List (Option Holding)) (one : Holding) → get_elem? s.views id ≡ some view → kept view name ≡ Some one → one.sides ≡ sides_tried name tries
+  pub parts : (id name : ℕ) (view : List (Option Holding)) (one : Holding)
+      → get_elem? s.views id ≡ some view → kept view name ≡ Some one
+      → part_of chip name ≡ Some one.part
+  pub sides : (id name : ℕ) (view : List (Option Holding)) (one : Holding)
+      → get_elem? s.views id ≡ some view → kept view name ≡ Some one
+      → one.sides ≡ sides_tried name tries
   -- each node is at one seat
-  pub once : (id name : ℕ) (view : List (Option Holding)) (one : Holding) → get_elem? s.views id ≡ some view → kept view name ≡ Some one → owner name ≡ id
-  pub there : (name : ℕ) (part : Part) → part_of chip name ≡ Some part → (view : List (Option Holding)) × (one : Holding) × (get_elem? s.views (owner name) ≡ some view) × (kept view name ≡ Some one)
+  pub once : (id name : ℕ) (view : List (Option Holding)) (one : Holding)
+      → get_elem? s.views id ≡ some view → kept view name ≡ Some one → owner name ≡ id
+  pub there : (name : ℕ) (part : Part) → part_of chip name ≡ Some part
+      → (view : List (Option Holding)) × (one : Holding)
+      × (get_elem? s.views (owner name) ≡ some view) × (kept view name ≡ Some one)
   -- nothing but nodes is tried
   pub beyond : (name : ℕ) → (IsNodeName name → ⊥) → sides_tried name tries ≡ []
 
 -- there is one run from the opening chip
 abbrev pub Holds : Chip → State ℕ (List (Option Holding)) → Type 0
-Holds opening s = (tries : List Try) × (owner : ℕ → ℕ) × IsOf (ran opening (tries_of tries)) tries owner s
+Holds opening s =
+    (tries : List Try) × (owner : ℕ → ℕ) × IsOf (ran opening (tries_of tries)) tries owner s

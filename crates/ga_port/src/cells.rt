@@ -48,8 +48,9 @@ impl Model for Cells {
 }
 
 impl Cells {
-    /// The cells of a chip, with the words that are pending there, and a seat that has all nodes of the chip, none of them
-    /// tried yet. An error where memory runs out. No other call takes memory.
+    /// The cells of a chip, with the words that are pending there, and a seat that has all nodes of
+    /// the chip, none of them tried yet. An error where memory runs out. No other call takes
+    /// memory.
     pub fn open(alloc: Global, chip: &Chip) -> Result<(Cells, PortSeat), AllocError>
         ensures opening { IfOk result (λ made. made.0.opening ≡ chip.now) }
         ensures own { IfOk result (λ made. made.1.table ≡ made.0.table) }
@@ -63,7 +64,8 @@ impl Cells {
         Ok((Cells { table, room }, PortSeat { seat }))
     }
 
-    /// Enters a try of a node of the seat that asks to post this word in this cell: the word is pending there.
+    /// Enters a try of a node of the seat that asks to post this word in this cell: the word is
+    /// pending there.
     #[inline]
     pub fn post(&self, seat: &mut PortSeat, what: Try, cell: CellId, word: Word18)
         requires own { seat.old.table ≡ self.now.table }
@@ -74,8 +76,9 @@ impl Cells {
         self.post_as::<Brand>(seat, what, cell, word);
     }
 
-    /// Enters a try of a node of the seat that asks to take the word of this cell: answers the word that was pending
-    /// there, if one was, and leaves the cell empty. The try is Moved exactly where it answers a word.
+    /// Enters a try of a node of the seat that asks to take the word of this cell: answers the word
+    /// that was pending there, if one was, and leaves the cell empty. The try is Moved exactly
+    /// where it answers a word.
     #[inline]
     pub fn take(&self, seat: &mut PortSeat, what: Try, cell: CellId) -> Option<Word18>
         requires own { seat.old.table ≡ self.now.table }
@@ -87,9 +90,10 @@ impl Cells {
         self.take_as::<Brand>(seat, what, cell)
     }
 
-    /// Looks whether a word is pending in the cell of which a try of a node of the seat asks to take it. Where none is,
-    /// this enters the try, as one that waits; where one is, it enters nothing, and `take` follows, which tells whether a
-    /// word is there: no clause says so here. It only reads, so that a reader that waits doesn't hold up the writer.
+    /// Looks whether a word is pending in the cell of which a try of a node of the seat asks to
+    /// take it. Where none is, this enters the try, as one that waits; where one is, it enters
+    /// nothing, and `take` follows, which tells whether a word is there: no clause says so here. It
+    /// only reads, so that a reader that waits doesn't hold up the writer.
     #[inline]
     pub fn poll(&self, seat: &mut PortSeat, what: Try, cell: CellId) -> bool
         requires own { seat.old.table ≡ self.now.table }
@@ -101,8 +105,9 @@ impl Cells {
         self.poll_as::<Brand>(seat, what, cell)
     }
 
-    /// Enters a try of a node of the seat that asks whether the word that it posted in this cell was read: true where none
-    /// is pending there any more. The try is Moved exactly then. It only reads.
+    /// Enters a try of a node of the seat that asks whether the word that it posted in this cell
+    /// was read: true where none is pending there any more. The try is Moved exactly then. It only
+    /// reads.
     #[inline]
     pub fn check(&self, seat: &mut PortSeat, what: Try, cell: CellId) -> bool
         requires own { seat.old.table ≡ self.now.table }
@@ -118,8 +123,9 @@ impl Cells {
         self.check_as::<Brand>(seat, what, cell)
     }
 
-    /// Enters a try of a node of the seat that asks for no cell: the node's own work, a word of its stream, or nothing,
-    /// since the node waits at a side without a neighbour, is held or is stopped. No cell is read or written.
+    /// Enters a try of a node of the seat that asks for no cell: the node's own work, a word of its
+    /// stream, or nothing, since the node waits at a side without a neighbour, is held or is
+    /// stopped. No cell is read or written.
     #[inline]
     pub fn own(&self, seat: &mut PortSeat, what: Try)
         requires own { seat.old.table ≡ self.now.table }
@@ -130,7 +136,8 @@ impl Cells {
         self.own_as::<Brand>(seat, what);
     }
 
-    /// A new seat, which has those of the seat's nodes that are named here. The seat has the others then.
+    /// A new seat, which has those of the seat's nodes that are named here. The seat has the others
+    /// then.
     pub fn share(&self, seat: &mut PortSeat, names: &[Node]) -> PortSeat
         requires own { seat.old.table ≡ self.now.table }
         ensures own { (seat.new.table ≡ seat.old.table) × (result.table ≡ seat.old.table) }
@@ -153,9 +160,9 @@ impl Cells {
             .join_seat::<Gathers>(&mut seat.seat, other);
     }
 
-    /// The cells at the end. There is a run from the opening chip, a list of tries, that leads to them: of each of its nodes
-    /// the seat has the part in the last chip of that run, and the sides that the tries of the node name. The row is in
-    /// room that `open` made.
+    /// The cells at the end. There is a run from the opening chip, a list of tries, that leads to
+    /// them: of each of its nodes the seat has the part in the last chip of that run, and the sides
+    /// that the tries of the node name. The row is in room that `open` made.
     pub fn close(self, seat: PortSeat) -> CellRow
         requires { seat.table ≡ self.table }
         ensures { (tries : List Try) × IsEnd self.opening seat.nodes result tries }
@@ -168,9 +175,9 @@ impl Cells {
         CellRow::new(words)
     }
 
-    // Each call above has a body `..._as`, to which it hands the type `Brand`: it stands for the try, or the names, that the
-    // call was given, since a step on the table is told by a type which try it enters, and when it runs there is no value
-    // of it.
+    // Each call above has a body `..._as`, to which it hands the type `Brand`: it stands for the
+    // try, or the names, that the call was given, since a step on the table is told by a type which
+    // try it enters, and when it runs there is no value of it.
 
     #[inline(always)]
     fn post_as<T: Named>(&self, seat: &mut PortSeat, _what: Try, cell: CellId, word: Word18)

@@ -1,5 +1,5 @@
-//! The 524 one-way cells of the chip as words of one atomic table, so that workers in threads of their own can try the
-//! nodes of one chip.
+//! The 524 one-way cells of the chip as words of one atomic table, so that workers in threads of
+//! their own can try the nodes of one chip.
 #![tactic(auto)]
 
 mod cells;

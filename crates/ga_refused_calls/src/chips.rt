@@ -7,7 +7,8 @@ use std::alloc::{AllocError, Global};
 /// What 708 runs: `right a! down b! $1 ! @b jump warm`.
 const SENDER: [u32; 6] = [0x04A12, 0x001D5, 0x00115, 0x29D2A, 0x00001, 0x017A9];
 
-/// What 709 and 608 run: `right a! down b! @ $1 + !b jump warm`; 609 has its ports the other way round.
+/// What 709 and 608 run: `right a! down b! @ $1 + !b jump warm`; 609 has its ports the other way
+/// round.
 const ADDER: [u32; 6] = [0x04A12, 0x001D5, 0x00115, 0x29E10, 0x00001, 0x097A9];
 
 const ADDER_BACK: [u32; 6] = [0x04A12, 0x00115, 0x001D5, 0x29E10, 0x00001, 0x097A9];

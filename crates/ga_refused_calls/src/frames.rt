@@ -37,8 +37,8 @@ pub fn read_frames_told(alloc: Global) -> Result<Told, AllocError> {
     Ok(told_of(came.err(), words == same))
 }
 
-/// The frames of a second piece, by a reader that has the first. After a refusal it must give what a reader gives to
-/// which that piece wasn't fed before.
+/// The frames of a second piece, by a reader that has the first. After a refusal it must give what
+/// a reader gives to which that piece wasn't fed before.
 pub fn feed_told(alloc: Global) -> Result<Told, AllocError> {
     let words = stream(alloc)?;
     let first = words.get(..FIRST).unwrap_or_default();

@@ -1,8 +1,8 @@
 //! Makes one call between two looks at what it is lent, so that a test can refuse memory to it.
 //!
-//! The arguments are the name of the call, and what it is to be given, where that is left open. It writes one line, as
-//! `Told` has it. The status is 3, and nothing is written, where memory runs out outside the call, and 2 where there is
-//! no call of this name.
+//! The arguments are the name of the call, and what it is to be given, where that is left open. It
+//! writes one line, as `Told` has it. The status is 3, and nothing is written, where memory runs
+//! out outside the call, and 2 where there is no call of this name.
 #![tactic(auto)]
 
 mod boots;
@@ -18,7 +18,7 @@ use crate::boots::boot_told;
 use crate::frames::{feed_told, read_frames_told, write_frame_told};
 use crate::runs::{chip_text_told, run_workers_told};
 use crate::serving::serve_told;
-use crate::sessions::{command_told, reply_into_told};
+use crate::sessions::{begin_told, command_told, reply_into_told};
 use crate::told::Told;
 use crate::words::{push_words_told, tokens_told, words_text_told};
 use std::alloc::AllocError;
@@ -82,6 +82,7 @@ fn told_alone<Rt: AllocGlobal + Threads + Sync>(
     let alloc = rt.alloc();
     let told = match name {
         "words_text" => words_text_told(alloc)?,
+        "begin" => begin_told(alloc),
         "push_words" => push_words_told(alloc)?,
         "tokens" => tokens_told(alloc)?,
         "write_frame" => write_frame_told(alloc)?,

@@ -1,8 +1,7 @@
 //! The engine over standard input and a writer in memory.
 use crate::told::Told;
-use ga_command_line::{Job, job};
-use ga_jobs::ServeError;
-use ga_serve::serve;
+use ga_command_line::job;
+use ga_jobs::{Job, ServeError, serve};
 use std::alloc::{AllocError, Global};
 use std::io::Read;
 use std::thread::Threads;

@@ -1,7 +1,7 @@
 //! Commands of a session over a chip on which a ring of four nodes has begun.
 use crate::chips::ring;
 use crate::told::Told;
-use ga_debug::{DebugError, Session, reply_into};
+use ga_debug::{DebugError, Session, begin, reply_into};
 use ga_place::Node;
 use std::alloc::{AllocError, Global};
 
@@ -18,7 +18,8 @@ const BEHIND: [&str; 6] = [
     "regs 709",
 ];
 
-/// A command. After a refusal the session must give what one gives to which the command wasn't given.
+/// A command. After a refusal the session must give what one gives to which the command wasn't
+/// given.
 pub fn command_told(alloc: Global, line: &str) -> Result<Told, AllocError> {
     let mut session = begun(alloc)?;
     match session.command(alloc, line) {
@@ -33,12 +34,18 @@ pub fn command_told(alloc: Global, line: &str) -> Result<Told, AllocError> {
 /// What the text has that is lent to a reply.
 const KEPT: &str = "kept";
 
-/// A reply in the place of a text. After a refusal the text must be as it was, and the chip show what one shows on which as
-/// much was done.
+/// The beginning of a replay text.
+pub fn begin_told(alloc: Global) -> Told {
+    let came = begin(alloc, "profile 2\nroute 708,709\nnode 709 .\ngo\n");
+    Told::answered(came.is_ok(), true)
+}
+
+/// A reply in the place of a text. After a refusal the text must be as it was, and the chip show
+/// what one shows on which as much was done.
 pub fn reply_into_told(alloc: Global, line: &str) -> Result<Told, AllocError> {
     let mut chip = ring(alloc)?;
     let mut text = String::from_str(alloc, KEPT)?;
-    match reply_into(alloc, &mut text, &mut chip, line) {
+    match reply_into(alloc, &mut text, &mut chip, None, line) {
         Ok(()) => Ok(Told::Answered),
         Err(fault) => {
             let is_kept = text.as_str() == KEPT;

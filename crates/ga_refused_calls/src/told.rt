@@ -12,7 +12,7 @@ pub enum Told {
 }
 
 impl Told {
-    /// What came of a call that fails for want of memory alone.
+    /// What came of a call that fails only when out of memory.
     pub fn answered(is_answered: bool, is_alike: bool) -> Told {
         if is_answered {
             Told::Answered
@@ -21,7 +21,7 @@ impl Told {
         }
     }
 
-    /// What came of a call that fails, for want of memory or otherwise.
+    /// What came of a call that fails, when out of memory or otherwise.
     pub fn failed(is_memory: bool, is_alike: bool) -> Told {
         if is_memory {
             Told::Refused { is_alike }

@@ -1,16 +1,12 @@
-//! The tests of the command line and of the engine: what the program reads, writes and refuses.
+//! The tests of the engine, by readers and writers in memory.
 #![tactic(auto)]
 
 #[cfg(test)]
-mod command_lines;
-#[cfg(test)]
-mod outputs;
+mod answers;
 #[cfg(test)]
 mod pieces;
 #[cfg(test)]
 mod reading;
-#[cfg(test)]
-mod refusals;
 #[cfg(test)]
 mod streams;
 #[cfg(test)]

@@ -1,9 +1,8 @@
-//! Every job, by readers and writers that fail at each call in turn, or take and give one byte at a call.
+//! Every job, by readers and writers that fail at each call in turn, or take and give one byte at a
+//! call.
 use crate::streams::{WORDS, boot_of, run_of, sink_of, source_of};
-use ga_command_line::Job;
 use ga_explain::Topic;
-use ga_jobs::ServeError;
-use ga_serve::serve;
+use ga_jobs::{Job, ServeError, serve};
 use std::alloc::Global;
 use std::test::Fail;
 use std::thread::Threads;
@@ -51,8 +50,8 @@ fn jobs(alloc: Global) -> Result<Vec<(Job, &'static str)>, Fail> {
     Ok(jobs)
 }
 
-/// What a job writes for an input, by reads and writes of so many bytes, and how many reads and calls of the writer that
-/// takes.
+/// What a job writes for an input, by reads and writes of so many bytes, and how many reads and
+/// calls of the writer that takes.
 fn served(
     rt: &(impl AllocGlobal + Threads + Sync),
     job: &Job,

@@ -1,9 +1,6 @@
 //! Inputs are read up to the limit, whatever the pieces they come in.
 use crate::streams::{LINE, Restless, WORDS, sink_of, source_of};
-use ga_command_line::Job;
-use ga_explain::Topic;
-use ga_jobs::{ServeError, WordsFault};
-use ga_serve::{Reads, read_input, serve};
+use ga_jobs::{Job, Reads, ServeError, WordsFault, read_input, serve};
 use std::alloc::{AllocError, Global};
 use std::io::ErrorKind;
 use std::test::Fail;
@@ -22,14 +19,6 @@ fn is_served(rt: &(impl AllocGlobal + Threads + Sync), input: &[u8], most: usize
     let mut writer = sink_of(rt.alloc(), 8192);
     let outcome = serve(rt, &mut reader, &mut writer, &Job::One { tries: 5 });
     outcome == Ok(()) && writer.taken.as_slice() == LINE.as_bytes()
-}
-
-/// Whether `one 5` refuses an input that has no words, and writes nothing.
-fn is_refused(rt: &(impl AllocGlobal + Threads + Sync), input: &[u8], most: usize) -> bool {
-    let mut reader = source_of(input, most);
-    let mut writer = sink_of(rt.alloc(), 8192);
-    let outcome = serve(rt, &mut reader, &mut writer, &Job::One { tries: 5 });
-    outcome == Err(ServeError::Words(WordsFault::Empty)) && writer.taken.is_empty()
 }
 
 /// How many bytes of an input that `one 5` refuses aren't read.
@@ -56,45 +45,15 @@ fn reads_up_to_the_limit(rt: HostRuntime) -> Result<(), Fail> {
 }
 
 #[test]
-fn fails_at_each_read(rt: HostRuntime) {
-    let alloc = rt.alloc();
-    // 23 bytes, 6 at a call, and a read at the end.
-    for call in 0..5 {
-        for (kind, expected) in [
-            (ErrorKind::Other, Err(ServeError::Read)),
-            (ErrorKind::Interrupted, Ok(())),
-        ] {
-            let mut reader = source_of(WORDS.as_bytes(), 6);
-            reader.fails_at = Some(call);
-            reader.kind = kind;
-            let mut writer = sink_of(alloc, 8192);
-            let outcome = serve(&rt, &mut reader, &mut writer, &Job::One { tries: 5 });
-            let written = if outcome.is_ok() { LINE } else { "" };
-            assert!(rt; outcome == expected, "at read {call}");
-            assert!(rt; writer.taken.as_slice() == written.as_bytes());
-        }
-    }
-}
-
-#[test]
-fn counts_reads(rt: HostRuntime) -> Result<(), Fail> {
-    // 23 bytes, 6 at a call, and a read at the end.
-    let mut reader = source_of(WORDS.as_bytes(), 6);
-    let mut reads = Reads::default();
-    let input = read_input(rt.alloc(), &mut reader, &mut reads)?;
-    assert!(rt; input.as_slice() == WORDS.as_bytes());
-    assert!(rt; reader.calls == 5 && reads.calls() == 5 && !reads.has_failed());
-    Ok(())
-}
-
-#[test]
-fn keeps_that_a_read_failed(rt: HostRuntime) {
-    for (kind, has_failed, calls) in [
-        (ErrorKind::Other, true, 2),
-        (ErrorKind::Interrupted, false, 6),
+fn counts_reads(rt: HostRuntime) {
+    // 23 bytes, 6 at a call, and a read at the end
+    for (fails_at, kind, has_failed, calls) in [
+        (None, ErrorKind::Other, false, 5),
+        (Some(1), ErrorKind::Other, true, 2),
+        (Some(1), ErrorKind::Interrupted, false, 6),
     ] {
         let mut reader = source_of(WORDS.as_bytes(), 6);
-        reader.fails_at = Some(1);
+        reader.fails_at = fails_at;
         reader.kind = kind;
         let mut reads = Reads::default();
         let input = read_input(rt.alloc(), &mut reader, &mut reads);
@@ -120,36 +79,4 @@ fn reads_so_many_times(rt: HostRuntime) {
         assert!(rt; outcome == expected);
         assert!(rt; reader.calls == 2_097_152 && writer.calls == 0);
     }
-}
-
-#[test]
-fn reads_each_length(rt: HostRuntime) -> Result<(), Fail> {
-    let alloc = rt.alloc();
-    for len in 0..3000 {
-        let mut input = vec![in alloc; b' '; len]?;
-        let most = 1 + len % 97;
-        assert!(rt; is_refused(&rt, &input, most), "{len} bytes");
-        input.extend_from_slice(WORDS.as_bytes())?;
-        assert!(rt; is_served(&rt, &input, most), "{len} bytes more");
-    }
-    Ok(())
-}
-
-/// Whether a topic, or all topics, are explained without a read, in a text that begins with this byte and ends with LF.
-fn explains(rt: &(impl AllocGlobal + Threads + Sync), topic: Option<Topic>, first: u8) -> bool {
-    let mut reader = source_of(WORDS.as_bytes(), 6);
-    let mut writer = sink_of(rt.alloc(), 8192);
-    let outcome = serve(rt, &mut reader, &mut writer, &Job::Explain { topic });
-    outcome == Ok(())
-        && reader.calls == 0
-        && writer.taken.first() == Some(&first)
-        && writer.taken.last() == Some(&b'\n')
-}
-
-#[test]
-fn explains_without_reading(rt: HostRuntime) -> Result<(), Fail> {
-    let topic = Topic::named(rt.alloc(), "NotHeld")?;
-    assert!(rt; topic.is_some());
-    assert!(rt; explains(&rt, None, b'B') && explains(&rt, topic, b'N'));
-    Ok(())
 }

@@ -1,5 +1,5 @@
 //! Readers and writers in memory, which fail where a test says it, and jobs of routes.
-use ga_command_line::Job;
+use ga_jobs::Job;
 use std::alloc::Global;
 use std::io;
 use std::io::{ErrorKind, Read, Write};

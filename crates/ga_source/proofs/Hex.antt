@@ -3,10 +3,11 @@ use Rattle.std.proofs.Common.{◌≡◌, ◌∙◌, ℕ, Bool, true, false, List
 use Rattle.std.specs.Prelude.{◌==◌, ◌&&◌, nat_le}
 use Rattle.std.specs.Option.{option_map}
 use Rattle.std.proofs.lemmas.Bool.{eqb-true}
-use Rattle.ga_pack.specs.Model.Meaning.{as_decimal, as_hex, meaning_of, numeral, ranged}
+use Rattle.ga_pack.specs.Model.Token.{as_decimal, as_hex, meaning_of, numeral, ranged}
 
 no_decimal : (rest : List ℕ) → as_decimal (36 ∷ rest) ≡ None
-no_decimal rest = rw (and_false (nat_le 1 (length (36 ∷ rest)) && nat_le (length (36 ∷ rest)) 8)) refl
+no_decimal rest =
+    rw (and_false (nat_le 1 (length (36 ∷ rest)) && nat_le (length (36 ∷ rest)) 8)) refl
   where
     and_false : (b : Bool) → (b && false) ≡ false
     and_false true = refl
@@ -21,7 +22,8 @@ pub hex_first : (text : List ℕ) (n : ℕ) → Some (ranged n) ≡ as_hex text 
 hex_first [] n e = absurd (cc)
 hex_first (c ∷ rest) n e = by_first (c == 36) refl
   where
-    by_digits : (o : Option ℕ) → numeral 16 rest ≡ o → Some (ranged n) ≡ option_map ranged o → ranged n ≡ meaning_of (36 ∷ rest)
+    by_digits : (o : Option ℕ) → numeral 16 rest ≡ o → Some (ranged n) ≡ option_map ranged o
+        → ranged n ≡ meaning_of (36 ∷ rest)
     by_digits None f g = absurd (cc)
     by_digits (Some m) f g = let same : ranged n ≡ ranged m = cc in same ∙ sym (means_hex rest m f)
 
@@ -30,4 +32,6 @@ hex_first (c ∷ rest) n e = by_first (c == 36) refl
       where
         false_hex : Some (ranged n) ≡ None → ⊥
         false_hex g = cc
-    by_first true f = by_digits (numeral 16 rest) refl (e ∙ rw f refl) ∙ ap (λ d. meaning_of (d ∷ rest)) (sym (eqb-true c 36 f))
+    by_first true f =
+        by_digits (numeral 16 rest) refl (e ∙ rw f refl)
+        ∙ ap (λ d. meaning_of (d ∷ rest)) (sym (eqb-true c 36 f))

@@ -1,12 +1,11 @@
 -- Programs, and the faults of texts, as the contracts have them.
-use Rattle.std.specs.Prelude.{ℕ, List, [], ◌∷◌, Option, Some, None}
+use Rattle.std.specs.Prelude.{ℕ, List, [], ◌∷◌, Option}
 use Rattle.std.specs.List.{slice_get}
 use Rattle.std.specs.Option.{option_map, option_map_or}
 use Rattle.ga_pack.specs.Model.Text.{Place}
-use Rattle.ga_pack.specs.Model.Token.{SourceKind}
 use Rattle.ga_pack.specs.Model.LayoutFault.{plain_items}
 use Rattle.ga_pack.specs.Model.Source.{Section, Sections}
-use Rattle.ga_pack.specs.Model.Program.{IsFault, IsProgram, PlacedItem, PlacedSection}
+use Rattle.ga_pack.specs.Model.Program.{IsProgram, PlacedItem, PlacedSection}
 use Rattle.ga_source.specs.declared.places.ItemPlace as written
 use Rattle.ga_source.specs.Token.{place_of}
 
@@ -23,15 +22,8 @@ sections_in (s ∷ ss) = section_in s ∷ sections_in ss
 unfoldable pub IsRight : List PlacedSection → Type 0
 IsRight program = Sections [] (sections_in program)
 
--- the first fault of a text, with its kind and its place, unless memory was refused
-abbrev pub IsFirstFault : List ℕ → Option SourceKind → Place → Type 0
-IsFirstFault text None place = Unit {0}
-IsFirstFault text (Some kind) place = IsFault text kind place
-
--- the text has no program, unless memory was refused
-abbrev pub HasNoProgram : List ℕ → Option SourceKind → Type 0
-HasNoProgram text None = Unit {0}
-HasNoProgram text (Some kind) = (program : List PlacedSection) → IsProgram text program → ⊥
+abbrev pub HasNoProgram : List ℕ → Type 0
+HasNoProgram text = (program : List PlacedSection) → IsProgram text program → ⊥
 
 -- the place of the first token of an item, and that of the name that it uses, if it uses one
 abbrev pub item_place : PlacedItem → Place × Option Place

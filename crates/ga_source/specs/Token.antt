@@ -6,7 +6,12 @@ use Rattle.ga_source.specs.declared.token.Place as here
 
 -- a token of a text ends behind its bytes
 abbrev pub token_of : Lexeme → written.Token
-token_of lexeme = record { start = lexeme.start; end = lexeme.start + length lexeme.text; line = lexeme.place.line; column = lexeme.place.column }
+token_of lexeme = record {
+  start = lexeme.start;
+  end = lexeme.start + length lexeme.text;
+  line = lexeme.place.line;
+  column = lexeme.place.column;
+}
 
 abbrev pub place_of : here.Place → Place
 place_of place = record { line = place.line; column = place.column }

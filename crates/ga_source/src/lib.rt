@@ -11,7 +11,8 @@ mod program;
 mod section;
 mod token;
 
-pub use error::{SourceError, SourceErrorKind};
+pub use error::SourceError;
+pub use ga_pack::SourceErrorKind;
 pub use item::{Item, TransferWord, Value};
 pub use name::Name;
 pub use places::ItemPlace;

@@ -1,11 +1,11 @@
-ghost use Rattle.std.specs.Prelude.{◌≡◌, ◌≤◌, IfOk, IfSome, Some, length};
+ghost use Rattle.std.specs.Prelude.{◌≡◌, ◌≤◌, IfOk, IfSome, length};
 ghost use Rattle.std.specs.List.{list_all};
 ghost use Rattle.std.specs.Option.{option_map};
-ghost use Rattle.ga_pack.specs.Model.Meaning as model;
+ghost use Rattle.ga_pack.specs.Model.Token as model;
 ghost use Rattle.ga_pack.specs.Model.Token.{label, name, node_name};
 ghost use Rattle.ga_source.specs.inner.Meaning.{IsShort, meaning_of, token_of};
 
-use crate::error::SourceErrorKind;
+use ga_pack::SourceErrorKind;
 use ga_place::Node;
 use ga_word::{Op, Word18};
 use std::str;
@@ -33,9 +33,9 @@ pub(crate) enum Meaning<'a> {
 
 /// What a token means that stands behind the token `node` or not. A token that is none of the
 /// language, or a number over 3FFFF, is a fault wherever it stands.
-#[tactic(auto, unfolding(ga_pack::specs::Model::Meaning::meaning_at))]
+#[tactic(auto, unfolding(ga_pack::specs::Model::Token::meaning_at))]
 pub(crate) fn meaning_at(is_behind_node: bool, text: &[u8]) -> Result<Meaning<'_>, SourceErrorKind>
-    ensures value { token_of result ≡ Some (model.meaning_at is_behind_node text.now) }
+    ensures value { token_of result ≡ model.meaning_at is_behind_node text.now }
     ensures short { IfOk result (λ meaning. IsShort (meaning_of meaning)) }
 {
     if is_behind_node {
@@ -48,7 +48,7 @@ pub(crate) fn meaning_at(is_behind_node: bool, text: &[u8]) -> Result<Meaning<'_
 
 /// Whether no label may have a name, since it is an opcode's or a number's, or a word of the
 /// language.
-#[tactic(auto, unfolding(ga_pack::specs::Model::Meaning::is_reserved))]
+#[tactic(auto, unfolding(ga_pack::specs::Model::Token::is_reserved))]
 pub(crate) fn is_reserved(name: &str) -> bool
     ensures { result ≡ model.is_reserved name.now }
 {
@@ -57,9 +57,9 @@ pub(crate) fn is_reserved(name: &str) -> bool
 }
 
 /// What a token means, but for the name of a node.
-#[tactic(auto, unfolding(ga_pack::specs::Model::Meaning::meaning_of))]
+#[tactic(auto, unfolding(ga_pack::specs::Model::Token::meaning_of))]
 fn plain_meaning(text: &[u8]) -> Result<Meaning<'_>, SourceErrorKind>
-    ensures value { token_of result ≡ Some (model.meaning_of text.now) }
+    ensures value { token_of result ≡ model.meaning_of text.now }
     ensures short { IfOk result (λ meaning. IsShort (meaning_of meaning)) }
 {
     // A comma stands in front of each word of data.
@@ -135,7 +135,7 @@ fn fixed<'a>(text: &[u8]) -> Option<Meaning<'a>>
 
 /// A number, which a word has to hold.
 fn ranged<'a>(number: u32) -> Result<Meaning<'a>, SourceErrorKind>
-    ensures value { token_of result ≡ Some (model.ranged number) }
+    ensures value { token_of result ≡ model.ranged number }
     ensures short { IfOk result (λ meaning. IsShort (meaning_of meaning)) }
 {
     match Word18::new(number) {

@@ -1,30 +1,28 @@
 //! The parser: it takes one token at a time, and refuses the first with which no text goes on.
-ghost use Rattle.std.specs.Prelude.{◌≡◌, ◌≤◌, ◌++◌, ◌∷◌, [], length, map, false, not, IfOk, IfErr, Ok, OnOk, List, ℕ};
+ghost use Rattle.std.specs.Prelude.{◌≡◌, ◌≢◌, ◌≤◌, ◌++◌, ◌∷◌, [], length, map, false, not, IfOk, IfErr, Ok, Err, OnOk, List, ℕ};
 ghost use Rattle.ga_pack.specs.Model.Layout.{names_in};
 ghost use Rattle.ga_pack.specs.Model.Source as words;
 ghost use Rattle.ga_pack.specs.Model.Source.{labels_with};
-ghost use Rattle.ga_pack.specs.Model.Meaning as model;
 ghost use Rattle.ga_pack.specs.Model.Token as token;
 ghost use Rattle.ga_pack.specs.Model.Token.{end};
-ghost use Rattle.ga_source.specs.Error.{kind_of};
 ghost use Rattle.ga_source.specs.Item.{item_of};
 ghost use Rattle.ga_source.specs.Section.{section_of};
 ghost use Rattle.ga_source.specs.inner.Machine as machine;
 ghost use Rattle.ga_source.specs.inner.Machine.{Good, IsConsistent, item_added, sections_closed, finished, nothing};
 ghost use Rattle.ga_source.specs.inner.Meaning.{IsShort, meaning_of};
-ghost use Rattle.ga_source.specs.inner.Parser.{IsAnswer, RefusedAs, Took, done_of, inside_of, labels_of, names_of, section_part, state_of};
-ghost use Rattle.ga_source.specs.declared.error.SourceErrorKind.TheVariants.{Memory};
+ghost use Rattle.ga_source.specs.inner.Parser.{IsAnswer, Took, done_of, inside_of, labels_of, names_of, section_part, state_of};
+ghost use Rattle.ga_pack.specs.declared.error_kind.SourceErrorKind.TheVariants.{Memory};
 ghost use Rattle.ga_source.specs.declared.parser.Position.TheVariants as at;
 
 mod brackets;
 mod items;
 
-use crate::error::SourceErrorKind;
 use crate::item::{Item, Value};
 use crate::meaning::{Meaning, is_reserved, meaning_at};
 use crate::name::Name;
 use crate::section::Section;
 use arrayvec::ArrayVec;
+use ga_pack::SourceErrorKind;
 use ga_place::Node;
 use ga_word::Op;
 use indexmap::{IndexMap, IndexSet};
@@ -255,10 +253,10 @@ impl Parser {
         requires good { Good (state_of self.old) }
         requires consistent { IsConsistent (state_of self.old) }
         requires empty { self.old.position ≡ at.Nothing → self.old.sections.entries ≡ [] }
-        ensures taken { Took (state_of self.old) (model.meaning_at is_behind_node text.now) result
+        ensures taken { Took (state_of self.old) (token.meaning_at is_behind_node text.now) result
             (state_of self.new) }
         ensures node { IfOk result (λ is_node. is_node ≡ token.is_node
-            (model.meaning_at is_behind_node text.now)) }
+            (token.meaning_at is_behind_node text.now)) }
     {
         match meaning_at(is_behind_node, text) {
             Ok(meaning) => {
@@ -274,8 +272,8 @@ impl Parser {
         requires consistent { IsConsistent (state_of self) }
         ensures ok { IfOk result (λ sections. machine.take (state_of self) end
             ≡ Ok (finished (map section_of sections.entries))) }
-        ensures err { IfErr result (λ kind. RefusedAs (machine.take (state_of self) end)
-            (kind_of kind)) }
+        ensures err { IfErr result (λ kind. kind ≢ Memory
+            → machine.take (state_of self) end ≡ Err kind) }
     {
         let mut parser = self;
         parser.end_text()?;
@@ -287,8 +285,8 @@ impl Parser {
         requires consistent { IsConsistent (state_of self.old) }
         ensures ok { OnOk result (machine.take (state_of self.old) end
             ≡ Ok (finished (done_of self.new))) }
-        ensures err { IfErr result (λ kind. RefusedAs (machine.take (state_of self.old) end)
-            (kind_of kind)) }
+        ensures err { IfErr result (λ kind. kind ≢ Memory
+            → machine.take (state_of self.old) end ≡ Err kind) }
     {
         match self.position {
             Position::Nothing => Err(SourceErrorKind::NoNode),

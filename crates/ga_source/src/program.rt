@@ -1,18 +1,20 @@
 //! The program of a text.
-ghost use Rattle.std.specs.Prelude.{◌≡◌, IfErr, IfOk, List, [], map};
-ghost use Rattle.ga_pack.specs.Model.Program.{IsProgram, PlacedSection, placed_sections};
+ghost use Rattle.std.specs.Prelude.{◌≡◌, ◌≢◌, IfErr, IfOk, List, [], map};
+ghost use Rattle.ga_pack.specs.Model.Program.{IsFault, IsProgram, PlacedSection, placed_sections};
 ghost use Rattle.ga_pack.specs.Model.Source.{Sections};
 ghost use Rattle.ga_pack.specs.Model.Text.{places_of};
-ghost use Rattle.ga_source.specs.Error.{error_place, kind_of};
+ghost use Rattle.ga_pack.specs.declared.error_kind.SourceErrorKind.TheVariants.{Memory};
+ghost use Rattle.ga_source.specs.Error.{error_place};
 ghost use Rattle.ga_source.specs.Section.{section_of};
-ghost use Rattle.ga_source.specs.Program.{HasNoProgram, IsFirstFault, IsRight, sections_in};
-ghost use Rattle.ga_source.specs.inner.Program.{IsTold};
+ghost use Rattle.ga_source.specs.Program.{HasNoProgram, IsRight, sections_in};
+ghost use Rattle.ga_source.specs.inner.Program.{IsReported};
 
-use crate::error::{SourceError, SourceErrorKind};
+use crate::error::SourceError;
 use crate::parser::Parser;
 use crate::places::token_place;
 use crate::section::Section;
 use crate::token::Texts;
+use ga_pack::SourceErrorKind;
 use ga_place::Node;
 use indexmap::IndexMap;
 use std::alloc::Global;
@@ -56,11 +58,11 @@ pub fn parse(alloc: Global, text: &str) -> Result<Program<'_>, SourceError>
     // it is the only program of the text
     ensures only { IfOk result (λ program. (other : List PlacedSection) → IsProgram text.now other
         → other ≡ program) }
-    // each fault but `Memory` is the first one, told at its place
-    ensures fault { IfErr result (λ error. IsFirstFault text.now (kind_of error.kind)
-        (error_place error)) }
+    // each fault but `Memory` is the first one, at its place
+    ensures fault { IfErr result (λ error. error.kind ≢ Memory
+        → IsFault text.now error.kind (error_place error)) }
     // and the text has no program
-    ensures none { IfErr result (λ error. HasNoProgram text.now (kind_of error.kind)) }
+    ensures none { IfErr result (λ error. error.kind ≢ Memory → HasNoProgram text.now) }
 {
     let mut parser = Parser::new(alloc);
     let mut is_behind_node = false;
@@ -81,7 +83,7 @@ pub fn parse(alloc: Global, text: &str) -> Result<Program<'_>, SourceError>
 // The fault of a token, by its number from 0, or of the text's end.
 #[inline(never)]
 fn fault_at(alloc: Global, text: &str, token: usize, kind: SourceErrorKind) -> SourceError
-    ensures { IsTold text.now token kind result }
+    ensures { IsReported text.now token kind result }
 {
     if kind != SourceErrorKind::Memory {
         if let Ok(place) = token_place(alloc, text, token) {

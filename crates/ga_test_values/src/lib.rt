@@ -21,6 +21,9 @@ pub const TWO_HOPS: [u32; 34] = [
     0x101B5, 0x001B5, 0x00000, 0x00000,
 ];
 
+/// A program that writes 12 to the port on the right.
+pub const WRITE_12_RIGHT: [u32; 4] = [0x05DA2, 0x00012, 0x001D5, 0x089B2];
+
 /// The word with this number; a test fails where it has more than 18 bits.
 pub fn word(number: u32) -> Result<Word18, Fail> {
     Ok(Word18::new(number).ok_or("more than 18 bits")?)

@@ -5,13 +5,7 @@
 #![tactic(auto)]
 
 #[cfg(test)]
-mod assembler;
-#[cfg(test)]
-mod disassembler;
-#[cfg(test)]
 mod frames;
-#[cfg(test)]
-mod listings;
 #[cfg(test)]
 mod packing;
 #[cfg(test)]
@@ -21,8 +15,6 @@ mod round_trips;
 #[cfg(test)]
 mod routes;
 #[cfg(test)]
-mod shared;
-#[cfg(test)]
-mod source;
+mod tokens;
 #[cfg(test)]
 mod word;

@@ -6,8 +6,4 @@ pub mod Recordings
 pub mod Writing
 pub mod Starting
 pub mod Comparing
-pub mod Letters
-pub mod Whole
-pub mod WholeReplies
-pub mod WholeSessions
 mod WorkedTranscripts

@@ -13,11 +13,18 @@ use Rattle.ga_transcript.proofs.Fronts.{head_front}
 use Rattle.ga_transcript.proofs.Recordings.{take_front}
 
 -- a reply in front of all commands
-pub early_checked : (start : Start) (line : ℕ) → early_reply (start.line + 1) start.commands ≡ Some line → checked_from start ≡ Err (EarlyReply line)
+pub early_checked : (start : Start) (line : ℕ)
+    → early_reply (start.line + 1) start.commands ≡ Some line
+    → checked_from start ≡ Err (EarlyReply line)
 unfolding checked_from
-early_checked start line early = ap (λ found. unless_early found (checked_by (checked (step_of start.images) (start.line + 1) 0 start.chip start.commands))) early
+early_checked start line early =
+    ap (λ found. unless_early found
+    (checked_by (checked (step_of start.images) (start.line + 1) 0 start.chip start.commands)))
+    early
 
-pub early_recorded : (text : List ℕ) (start : Start) (line : ℕ) → early_reply (start.line + 1) start.commands ≡ Some line → recorded_from text start ≡ Err (EarlyReply line)
+pub early_recorded : (text : List ℕ) (start : Start) (line : ℕ)
+    → early_reply (start.line + 1) start.commands ≡ Some line
+    → recorded_from text start ≡ Err (EarlyReply line)
 unfolding recorded_from
 early_recorded text start line early =
     ap (λ found. unless_early found (unless_too_long (recording_of text start))) early
@@ -30,23 +37,35 @@ fails IsRight IsAlso Memory also is = tt
 fails IsRight IsAlso fault also is = also fault is
 
 -- what is checked of the lines
-pub checked_behind : (text : List ℕ) (start : Start) (result : Result ℕ TranscriptError) → IsLoaded text (Ok start) → early_reply (start.line + 1) start.commands ≡ None
-    → Answers (λ count. count) (λ answer. checked_by (checked (step_of start.images) (start.line + 1) 0 start.chip start.commands) ≡ answer) result → Answers (λ count. count) (IsChecked text) result
+pub checked_behind : (text : List ℕ) (start : Start) (result : Result ℕ TranscriptError)
+    → IsLoaded text (Ok start) → early_reply (start.line + 1) start.commands ≡ None
+    → Answers (λ count. count) (λ answer. checked_by
+    (checked (step_of start.images) (start.line + 1) 0 start.chip start.commands) ≡ answer) result
+    → Answers (λ count. count) (IsChecked text) result
 unfolding checked_from
-checked_behind text start (Ok count) loaded none is =
-    (start, loaded, ap (λ found. unless_early found (checked_by (checked (step_of start.images) (start.line + 1) 0 start.chip start.commands))) none ∙ is)
+checked_behind text start (Ok count) loaded none is = (
+  start,
+  loaded,
+  ap (λ found. unless_early found (checked_by
+      (checked (step_of start.images) (start.line + 1) 0 start.chip start.commands))) none ∙ is,
+)
 checked_behind text start (Err error) loaded none is =
-    let whole = checked_by (checked (step_of start.images) (start.line + 1) 0 start.chip start.commands) in
+    let whole =
+    checked_by (checked (step_of start.images) (start.line + 1) 0 start.chip start.commands) in
     fails (λ answer. whole ≡ answer) (IsChecked text) (fault_of error)
     (λ fault same. inr (start, loaded, ap (λ found. unless_early found whole) none ∙ same)) is
 
 -- the line `go` has a number that isn't 0
 pub go_line : (text : List ℕ) (start : Start) → IsLoaded text (Ok start) → 0 < start.line
-go_line text start (head, is, images, chip, line, commands) = let f = head_front text head is in omega (arith, f.size, line)
+go_line text start (head, is, images, chip, line, commands) =
+    let f = head_front text head is in omega (arith, f.size, line)
 
 -- what is recorded of the lines
-lines_text_append : (line : List ℕ) (lines more : Lines) → lines_text ((line ∷ lines) ++ more) ≡ lines_text (line ∷ lines) ++ behind_ends more
-lines_text_append line lines more = ap (λ t. line ++ t) (flat_map-append (λ (l : List ℕ). 10 ∷ l) lines more) ∙ sym (append_assoc line (behind_ends lines) (behind_ends more))
+lines_text_append : (line : List ℕ) (lines more : Lines)
+    → lines_text ((line ∷ lines) ++ more) ≡ lines_text (line ∷ lines) ++ behind_ends more
+lines_text_append line lines more =
+    ap (λ t. line ++ t) (flat_map-append (λ (l : List ℕ). 10 ∷ l) lines more)
+    ∙ sym (append_assoc line (behind_ends lines) (behind_ends more))
 
 abbrev behind_go : Start → List ℕ
 behind_go start = behind_ends (recorded (step_of start.images) start.chip start.commands)

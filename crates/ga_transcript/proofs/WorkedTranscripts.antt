@@ -3,24 +3,18 @@ use Rattle.std.proofs.Common.{◌≡◌, ℕ, List, [], ◌∷◌, Result, Ok, E
 use Rattle.std.specs.Prelude.{codes}
 use Rattle.ga_place.specs.Cell.{all_cells, cell_of}
 use Rattle.ga_node.specs.Need.{need_of}
-use Rattle.ga_asm.specs.Image.{ImageView}
 use Rattle.ga_chip.specs.Chip.{reset_chip, tried}
 use Rattle.ga_chip.specs.Part.{after, asks}
 use Rattle.ga_chip.specs.Run.{happened}
-use Rattle.ga_debug.specs.declared.error.DebugError.TheVariants.{BadAddress, BadCommand, BadCount, BadNode}
 use Rattle.ga_debug.specs.declared.replay_error.ReplayError.{ReplayError}
 use Rattle.ga_debug.specs.Beginning.{Start}
-use Rattle.ga_debug.specs.Command as session
+use Rattle.ga_debug.specs.Command.{command_first, command_in}
 use Rattle.ga_debug.specs.Head.{Head, head_in}
 use Rattle.ga_debug.specs.Profile.{SESSION_PROFILE}
-use Rattle.ga_debug.specs.Word.{decimal_of}
-use Rattle.ga_transcript.specs.declared.command.TranscriptCommand.TheVariants as command
 use Rattle.ga_transcript.specs.Check.{Differs, EarlyReply, Fault, Head as BadHead, checked_from}
-use Rattle.ga_transcript.specs.Command.{arguments, command_in}
-use Rattle.ga_transcript.specs.Line.{Command, Note, Reply, kind_of}
+use Rattle.ga_transcript.specs.Line.{Command, Note, Reply, as_reply, kind_of}
 use Rattle.ga_transcript.specs.Record.{recorded_from}
-use Rattle.ga_transcript.specs.Reply.{chip_behind, reply_text}
-use Rattle.ga_transcript.specs.Whole.{lines_in}
+use Rattle.ga_transcript.specs.Reply.{reply_lines}
 
 -- ---- lines
 
@@ -34,36 +28,26 @@ kinds : (kind_of (codes "> turn 4") ≡ Command (codes "turn 4"))
 unfolding kind_of
 kinds = (refl, refl, refl, refl, refl, refl)
 
--- the lines of a text: an empty one counts, but not what is behind the last LF
-lines : (lines_in (codes "moved 4") ≡ codes "moved 4" ∷ [])
-    × (lines_in (codes "ds\n\nrs\n") ≡ codes "ds" ∷ [] ∷ codes "rs" ∷ [])
-    × (lines_in (codes "\n") ≡ [] ∷ [])
-    × (lines_in [] ≡ [])
-lines = (refl, refl, refl, refl)
+-- a line of a reply that would be read as something else stands behind a sign of its own
+quoted : (as_reply (codes "moved 4") ≡ codes "moved 4")
+    × (as_reply (codes "> 4") ≡ codes ". > 4")
+    × (as_reply (codes "\\ 4") ≡ codes ". \\ 4")
+    × (as_reply [] ≡ codes ". ")
+unfolding kind_of
+quoted = (refl, refl, refl, refl)
 
--- ---- commands
-
--- node 709 has a label at 2
-labelled : List (ℕ × ImageView)
-labelled = (709, record { words = 0x2C9B2 ∷ 0x2C9B2 ∷ 0x2C9B2 ∷ []; code_len = 3; entry = 0; labels = (codes "more", 2) ∷ []; item_counts = 4 ∷ 4 ∷ 4 ∷ [] }) ∷ []
-
-commands : (command_in labelled (codes "break 709 1fF") ≡ Ok (command.Break 709 0x1FF))
-    × (command_in labelled (codes "break 709 more") ≡ Ok (command.Break 709 2))
-    × (command_in labelled (codes "clear 708 more") ≡ Err BadAddress)
-    × (command_in labelled (codes "until 709 more 5") ≡ Ok (command.Until 709 2 5))
-    × (command_in labelled (codes "until 709 more") ≡ Ok (command.Until 709 2 1000000))
-    × (command_in labelled (codes "until 709 more x") ≡ Err BadCount)
-    × (command_in labelled (codes "node 718") ≡ Err BadNode)
-    × (command_in labelled (codes "where 709") ≡ Err BadCommand)
-    -- all other lines are left to sessions
-    × (command_in labelled (codes "turn 5") ≡ Ok command.Session)
-unfolding command_in arguments decimal_of labelled
-commands = (refl, refl, refl, refl, refl, refl, refl, refl, refl)
+-- the lines of a reply
+lines : (reply_lines (codes "moved 4") ≡ codes "moved 4" ∷ [])
+    × (reply_lines (codes "ds\n\nrs") ≡ codes "ds" ∷ codes ". " ∷ codes "rs" ∷ [])
+    × (reply_lines [] ≡ [])
+unfolding kind_of
+lines = (refl, refl, refl)
 
 -- ---- whole transcripts, of a chip after reset
 
 start_of : Head → Start
-start_of head = record { chip = reset_chip; images = []; line = head.line; commands = head.commands }
+start_of head =
+    record { chip = reset_chip; images = []; line = head.line; commands = head.commands }
 
 check_by : Result Head ReplayError → Result ℕ Fault
 check_by (Ok head) = checked_from (start_of head)
@@ -74,27 +58,38 @@ record_by text (Ok head) = recorded_from text (start_of head)
 record_by text (Err error) = Err (BadHead error)
 
 -- each reply is right, and a comment and an empty line stand in between
-right : check_by (head_in SESSION_PROFILE (codes "profile 2\nplace\ngo\n> try 709 r\n\\ it waits\nwaits\n\n> pass 709\nrefused NotHeld\n")) ≡ Ok 2
-unfolding check_by start_of checked_from kind_of reply_text chip_behind command_in arguments session.command_in session.command_first session.arguments head_in tried after asks need_of reset_chip cell_of all_cells
+right : check_by (head_in SESSION_PROFILE (codes
+    "profile 2\nplace\ngo\n> try 709 r\n\\ it waits\nwaits\n\n> pass 709\nrefused NotHeld\n"))
+    ≡ Ok 2
+unfolding check_by start_of checked_from kind_of command_in command_first head_in tried after asks
+    need_of reset_chip cell_of all_cells
 right = refl
 
 -- the second command replies something else
-differs : check_by (head_in SESSION_PROFILE (codes "profile 2\nplace\ngo\n> try 709 r\nwaits\n> try 709 r\nmoved\n> pass 709\nok")) ≡ Err (Differs 6 (codes "-moved\n+waits"))
-unfolding check_by start_of checked_from kind_of reply_text chip_behind command_in arguments session.command_in session.command_first session.arguments head_in tried after asks need_of reset_chip cell_of all_cells
+differs : check_by (head_in SESSION_PROFILE
+    (codes "profile 2\nplace\ngo\n> try 709 r\nwaits\n> try 709 r\nmoved\n> pass 709\nok"))
+    ≡ Err (Differs 6 (codes "-moved\n+waits"))
+unfolding check_by start_of checked_from kind_of command_in command_first head_in tried after asks
+    need_of reset_chip cell_of all_cells
 differs = refl
 
 -- a reply that is missing differs too
-missing : check_by (head_in SESSION_PROFILE (codes "profile 2\nplace\ngo\n> halt")) ≡ Err (Differs 4 (codes "+refused BadCommand"))
-unfolding check_by start_of checked_from kind_of reply_text chip_behind command_in arguments session.command_in session.command_first session.arguments head_in reset_chip
+missing : check_by (head_in SESSION_PROFILE (codes "profile 2\nplace\ngo\n> halt"))
+    ≡ Err (Differs 4 (codes "+refused BadCommand"))
+unfolding check_by start_of checked_from kind_of command_in command_first head_in reset_chip
 missing = refl
 
 -- a reply in front of all commands
-early : check_by (head_in SESSION_PROFILE (codes "profile 2\nplace\ngo\n\\ a comment\nwaits\n> try 709 r\nwaits")) ≡ Err (EarlyReply 5)
+early : check_by (head_in SESSION_PROFILE
+    (codes "profile 2\nplace\ngo\n\\ a comment\nwaits\n> try 709 r\nwaits")) ≡ Err (EarlyReply 5)
 unfolding check_by start_of checked_from kind_of head_in
 early = refl
 
 -- the replies that stood there are left out
-recorded_once : record_by (codes "profile 2\nplace\ngo\n> try 709 r\nmoved\nmoved\n\n> break 709 003\n") (head_in SESSION_PROFILE (codes "profile 2\nplace\ngo\n> try 709 r\nmoved\nmoved\n\n> break 709 003\n"))
+recorded_once : record_by
+    (codes "profile 2\nplace\ngo\n> try 709 r\nmoved\nmoved\n\n> break 709 003\n") (head_in
+    SESSION_PROFILE (codes "profile 2\nplace\ngo\n> try 709 r\nmoved\nmoved\n\n> break 709 003\n"))
     ≡ Ok (codes "profile 2\nplace\ngo\n> try 709 r\nwaits\n\n> break 709 003\nok\n")
-unfolding record_by start_of recorded_from kind_of reply_text chip_behind command_in arguments session.command_in session.command_first session.arguments head_in happened tried after asks need_of reset_chip cell_of all_cells
+unfolding record_by start_of recorded_from kind_of command_in command_first head_in happened tried
+    after asks need_of reset_chip cell_of all_cells
 recorded_once = refl

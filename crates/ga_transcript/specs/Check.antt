@@ -17,11 +17,12 @@ pub data Fault : Type 0 where
   Head : ReplayError → Fault
   -- a line of a reply stands in front of all commands; this is its number
   EarlyReply : ℕ → Fault
-  -- a command replies something else: the number of its line, and the wanted lines and those that came, as text
+  -- a command replies something else: the number of its line, and the wanted lines and those that
+  -- came, as text
   Differs : ℕ → List ℕ → Fault
   -- of what would be recorded: it has more bytes than a recording may have
   TooLong : Fault
-  -- want of memory, which no text has by itself
+  -- out of memory, which no text has by itself
   Memory : Fault
 
 abbrev pub fault_of_head : ReplayError → TranscriptError
@@ -41,7 +42,8 @@ signed sign lines = flat_map (λ line. sign ∷ (line ++ 10 ∷ [])) lines
 
 -- the wanted lines behind `-`, and those that came behind `+`, without the last LF
 abbrev pub difference_text : Difference → List ℕ
-difference_text difference = without_line_end (signed 45 difference.wanted ++ signed 43 difference.came)
+difference_text difference =
+    without_line_end (signed 45 difference.wanted ++ signed 43 difference.came)
 
 abbrev pub checked_by : Result ℕ Difference → Result ℕ Fault
 checked_by (Ok count) = Ok count
@@ -55,19 +57,19 @@ unless_early None result = result
 unfoldable pub checked_from : Start → Result ℕ Fault
 checked_from start =
     let first = start.line + 1 in
-    unless_early (early_reply first start.commands) (checked_by (checked (step_of start.images) first 0 start.chip start.commands))
-
--- the fault is one of the head
-abbrev pub HeadFails : List ℕ → Fault → Type 0
-HeadFails text fault = (error : ReplayError) × IsLoaded text (Err error) × (fault ≡ Head error)
+    unless_early (early_reply first start.commands)
+    (checked_by (checked (step_of start.images) first 0 start.chip start.commands))
 
 -- what a head leads to, of which that is made, or the first fault
 abbrev pub IsBehindHead : {A : Type 0} → List ℕ → (Start → Result A Fault) → Result A Fault → Type 0
-IsBehindHead text from (Ok value) = (start : Start) × IsLoaded text (Ok start) × (from start ≡ Ok value)
-IsBehindHead text from (Err fault) = HeadFails text fault ⊎ ((start : Start) × IsLoaded text (Ok start) × (from start ≡ Err fault))
+IsBehindHead text from (Ok value) =
+    (start : Start) × IsLoaded text (Ok start) × (from start ≡ Ok value)
+IsBehindHead text from (Err fault) =
+    ((error : ReplayError) × IsLoaded text (Err error) × (fault ≡ Head error))
+    ⊎ ((start : Start) × IsLoaded text (Ok start) × (from start ≡ Err fault))
 
--- How many commands a transcript has, where each replies what stands behind it; or the first fault: of its head, or else
--- a reply in front of all commands, or else the first difference.
+-- How many commands a transcript has, where each replies what stands behind it; or the first fault:
+-- of its head, or else a reply in front of all commands, or else the first difference.
 abbrev pub IsChecked : List ℕ → Result ℕ Fault → Type 0
 IsChecked text answer = IsBehindHead text checked_from answer
 
@@ -76,6 +78,7 @@ abbrev pub FailsRightly : {B : Type 0} → (Result B Fault → Type 0) → Fault
 FailsRightly IsRight Memory = Unit {0}
 FailsRightly IsRight fault = IsRight (Err fault)
 
-abbrev pub Answers : {A B : Type 0} → (A → B) → (Result B Fault → Type 0) → Result A TranscriptError → Type 0
+abbrev pub Answers : {A B : Type 0} → (A → B) → (Result B Fault → Type 0) → Result A TranscriptError
+    → Type 0
 Answers view IsRight (Ok value) = IsRight (Ok (view value))
 Answers view IsRight (Err error) = FailsRightly IsRight (fault_of error)

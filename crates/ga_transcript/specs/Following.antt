@@ -1,7 +1,7 @@
 -- What is done with the lines behind `go`, by what each command replies and does.
 use Rattle.std.specs.Prelude.{ℕ, suc, Bool, true, false, ◌&&◌, List, [], ◌∷◌, ◌++◌, Option, Some, None, Result, Ok, Err, if◌then◌else◌}
 use Rattle.std.specs.Str.{bytes_eq}
-use Rattle.ga_transcript.specs.Line.{Kind, Command, Note, Reply, kind_of}
+use Rattle.ga_transcript.specs.Line.{by_kind, kind_of}
 
 abbrev pub Lines : Type 0
 Lines = List (List ℕ)
@@ -10,15 +10,12 @@ Lines = List (List ℕ)
 abbrev pub Step : Type 0 → Type 0
 Step S = List ℕ → S → Lines × S
 
-abbrev pub by_kind : {A : Type 0} → Kind → (List ℕ → A) → A → A → A
-by_kind (Command text) command note reply = command text
-by_kind Note command note reply = note
-by_kind Reply command note reply = reply
-
--- the number of the first line of a reply in front of all commands, where there is one; the first line has this number
+-- the number of the first line of a reply in front of all commands, where there is one; the first
+-- line has this number
 abbrev pub early_reply : ℕ → Lines → Option ℕ
 early_reply number [] = None
-early_reply number (line ∷ lines) = by_kind (kind_of line) (λ command. None) (early_reply (suc number) lines) (Some number)
+early_reply number (line ∷ lines) =
+    by_kind (kind_of line) (λ command. None) (early_reply (suc number) lines) (Some number)
 
 -- the lines of a reply that stand in front of the next command
 abbrev pub wanted : Lines → Lines
@@ -37,17 +34,20 @@ pub record Difference : Type 0 where
   pub wanted : Lines
   pub came : Lines
 
--- How many commands there are, behind so many, where each has the reply that stands behind it; or the first difference.
+-- How many commands there are, behind so many, where each has the reply that stands behind it; or
+-- the first difference.
 abbrev pub checked : {S : Type 0} → Step S → ℕ → ℕ → S → Lines → Result ℕ Difference
 checked step number count state [] = Ok count
 checked step number count state (line ∷ lines) =
     by_kind (kind_of line)
-    (λ command. if same_lines (wanted lines) (step command state).0 then checked step (suc number) (suc count) (step command state).1 lines
+    (λ command. if same_lines (wanted lines) (step command state).0
+    then checked step (suc number) (suc count) (step command state).1 lines
     else Err (record { line = number; wanted = wanted lines; came = (step command state).0 }))
     (checked step (suc number) count state lines)
     (checked step (suc number) count state lines)
 
--- The lines with the replies that come: a reply stands behind its command, in the place of the one that stood there.
+-- The lines with the replies that come: a reply stands behind its command, in the place of the one
+-- that stood there.
 abbrev pub recorded : {S : Type 0} → Step S → S → Lines → Lines
 recorded step state [] = []
 recorded step state (line ∷ lines) =
@@ -55,7 +55,3 @@ recorded step state (line ∷ lines) =
     (λ command. line ∷ ((step command state).0 ++ recorded step (step command state).1 lines))
     (line ∷ recorded step state lines)
     (recorded step state lines)
-
--- whether a line can stand in a reply
-abbrev pub is_reply : List ℕ → Bool
-is_reply line = by_kind (kind_of line) (λ command. false) false true

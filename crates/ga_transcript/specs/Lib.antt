@@ -1,10 +1,6 @@
 pub mod Line
 pub mod Following
-pub mod Command
-pub mod Breaks
-pub mod Until
 pub mod Reply
-pub mod Whole
 pub mod Check
 pub mod Record
 pub mod inner

@@ -1,5 +1,5 @@
 -- What the lines of a transcript behind `go` are.
-use Rattle.std.specs.Prelude.{ℕ, ◌==◌, Bool, ◌||◌, List, codes, drop, eqb, length, if◌then◌else◌}
+use Rattle.std.specs.Prelude.{ℕ, ◌==◌, Bool, true, false, ◌||◌, List, ◌++◌, codes, drop, eqb, length, if◌then◌else◌}
 use Rattle.std.specs.List.{starts_with}
 
 pub data Kind : Type 0 where
@@ -10,10 +10,17 @@ pub data Kind : Type 0 where
   -- a line of a reply
   Reply : Kind
 
-abbrev pub begins : List ℕ → List ℕ → Bool
-begins line front = starts_with eqb line front
-
 -- a command stands behind `> `, and a comment behind `\ `
 unfoldable pub kind_of : List ℕ → Kind
 kind_of line =
-    if begins line (codes "> ") then Command (drop 2 line) else if (length line == 0) || begins line (codes "\\ ") then Note else Reply
+    if starts_with eqb line (codes "> ") then Command (drop 2 line)
+    else if (length line == 0) || starts_with eqb line (codes "\\ ") then Note else Reply
+
+abbrev pub by_kind : {A : Type 0} → Kind → (List ℕ → A) → A → A → A
+by_kind (Command text) command note reply = command text
+by_kind Note command note reply = note
+by_kind Reply command note reply = reply
+
+-- a line of a reply; one that would be read as something else stands behind `. `
+abbrev pub as_reply : List ℕ → List ℕ
+as_reply line = by_kind (kind_of line) (λ command. codes ". " ++ line) (codes ". " ++ line) line

@@ -17,7 +17,9 @@ lines_text (line ∷ lines) = line ++ behind_ends lines
 
 -- the lines of a text up to `go`, and those behind it with the replies that come
 abbrev pub recording_of : List ℕ → Start → List ℕ
-recording_of text start = lines_text (take start.line (lines_of text) ++ recorded (step_of start.images) start.chip start.commands)
+recording_of text start =
+    lines_text
+    (take start.line (lines_of text) ++ recorded (step_of start.images) start.chip start.commands)
 
 -- a recording has 268,435,456 bytes at most
 abbrev pub unless_too_long : List ℕ → Result (List ℕ) Fault

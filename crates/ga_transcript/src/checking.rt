@@ -3,15 +3,16 @@ ghost use Rattle.ga_asm.specs.Text.{AtMostOne};
 ghost use Rattle.ga_transcript.specs.Check.{Answers, Differs, IsChecked, checked_by, difference_text, fault_of, signed};
 ghost use Rattle.ga_transcript.specs.Following.{checked, early_reply, wanted};
 ghost use Rattle.ga_transcript.specs.Reply.{reply_lines, step_of};
-ghost use Rattle.ga_transcript.specs.Whole.{RepliesAreWhole};
 
 use crate::error::TranscriptError;
-use crate::lines::{LinesLeft, command_behind, early_reply, reply_lines, wanted};
-use crate::reply::reply;
+use crate::line::{Line, line_of};
+use crate::lines::{LinesLeft, command_behind, early_reply};
+use crate::reply::{lines_in, push_as_reply};
 use ga_asm::Images;
 use ga_chip::Chip;
-use ga_debug::load;
+use ga_debug::{Pieces, load, reply_or_refusal};
 use std::alloc::{AllocError, Global};
+use std::fmt::Write;
 
 /// Does the commands of a transcript, and compares the reply to each with the lines behind it:
 /// answers how many commands there are, where all replies are those that came. Or the first fault:
@@ -19,13 +20,11 @@ use std::alloc::{AllocError, Global};
 /// [`TranscriptError::EarlyReply`]; the first command that has another reply, as
 /// [`TranscriptError::Differs`]. It fails as [`TranscriptError::Memory`] only where memory is
 /// refused. (The texts are this project's own: profile.)
-#[tactic(auto, using(crate::proofs::OneTranscript::one_checked, crate::proofs::WholeSessions::replies_whole))]
+#[tactic(auto, using(crate::proofs::OneTranscript::one_checked))]
 pub fn check(alloc: Global, text: &str) -> Result<u64, TranscriptError>
     ensures checked { Answers (λ count. count) (IsChecked text.now) result }
     // a text has one count, or one first fault
     ensures only { AtMostOne (IsChecked text.now) }
-    // no line of a reply is left out
-    ensures whole { RepliesAreWhole text.now }
 {
     let loaded = load(alloc, text)?;
     let left = LinesLeft {
@@ -61,7 +60,7 @@ fn follow(
         let Some(command) = next else {
             return Ok(count);
         };
-        reply(alloc, &mut came, &mut chip, images, command)?;
+        reply_or_refusal(alloc, &mut came, &mut chip, Some(images), command)?;
         count += 1;
     }
 }
@@ -80,26 +79,38 @@ fn difference(
           came = reply_lines came.now;
         }))) }
 {
-    let wanted = wanted(alloc, behind.lines)?;
-    let came = reply_lines(alloc, came)?;
     let mut lines = String::new(alloc);
-    push_signed(&mut lines, '-', &wanted)?;
-    push_signed(&mut lines, '+', &came)?;
+    push_wanted(&mut lines, behind.lines)?;
+    push_came(&mut lines, came)?;
     if lines.as_bytes().last() == Some(&b'\n') {
         lines.truncate(lines.len() - 1);
     }
     Ok(TranscriptError::Differs(behind.number, lines))
 }
 
-/// Adds lines, each behind a sign and ended by LF.
-fn push_signed(text: &mut String, sign: char, lines: &[&str]) -> Result<(), AllocError>
-    requires { sign < 128 }
+/// Adds the lines of a reply in front of the next command, each behind `-` and ended by LF.
+fn push_wanted(text: &mut String, lines: Pieces<'_>) -> Result<(), AllocError>
     ensures { OnOk result (string_bytes text.new
-        ≡ string_bytes text.old ++ signed sign (map (λ line. line.now) lines.now)) }
+        ≡ string_bytes text.old ++ signed 45 (wanted lines.entry)) }
 {
     for line in lines {
-        text.push(sign)?;
-        text.push_str(line)?;
+        match line_of(line) {
+            Line::Command(_) => return Ok(()),
+            Line::Note => {}
+            Line::Reply => writeln!(text, "-{line}")?,
+        }
+    }
+    Ok(())
+}
+
+/// Adds the lines of a reply, each behind `+` and ended by LF.
+fn push_came(text: &mut String, came: &str) -> Result<(), AllocError>
+    ensures { OnOk result (string_bytes text.new
+        ≡ string_bytes text.old ++ signed 43 (reply_lines came.now)) }
+{
+    for line in lines_in(came) {
+        text.push('+')?;
+        push_as_reply(text, line)?;
         text.push('\n')?;
     }
     Ok(())

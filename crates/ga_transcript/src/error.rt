@@ -6,7 +6,8 @@ use ga_debug::ReplayError;
 use std::alloc::AllocError;
 use thiserror::Error;
 
-/// Why a transcript is refused, or doesn't hold. Lines are counted from 1, from the text's first line; inside `Head` as
+/// Why a transcript is refused, or doesn't hold. Lines are counted from 1, from the text's first
+/// line; inside `Head` as
 /// [`ReplayError`] counts them. (The texts are this project's own: profile.)
 #[derive(Debug, PartialEq, Eq, Drop, Error)]
 pub enum TranscriptError {
@@ -16,8 +17,8 @@ pub enum TranscriptError {
     /// A line of a reply stands in front of all commands.
     #[error("line {0} EarlyReply")]
     EarlyReply(u64),
-    /// The command of this line has another reply. The text has the lines of the wanted one, each behind `-`, and then
-    /// those of the one that came, each behind `+`.
+    /// The command of this line has another reply. The text has the lines of the wanted one, each
+    /// behind `-`, and then those of the one that came, each behind `+`.
     #[error("differs {0}\n{1}")]
     Differs(u64, String),
     /// What would be recorded has more bytes than a recording may have.

@@ -1,15 +1,12 @@
 //! Transcripts: commands of a session with the replies that are wanted, checked or recorded.
 #![tactic(auto)]
 
-mod breaks;
 mod checking;
-mod command;
 mod error;
 mod line;
 mod lines;
 mod recording;
 mod reply;
-mod until;
 
 pub use checking::check;
 pub use error::TranscriptError;

@@ -1,12 +1,13 @@
 //! Lines of a transcript behind `go`.
-ghost use Rattle.std.specs.Prelude.{◌≡◌, ◌+◌, ◌≤◌, ◌<◌, ◌^◌, ◌∷◌, [], IfOk, MatchOption, MatchResult, false, filter, length, map, true};
+ghost use Rattle.std.specs.Prelude.{◌≡◌, ◌+◌, ◌≤◌, ◌<◌, ◌^◌, [], IfOk, MatchResult, false, length, map, true};
 ghost use Rattle.ga_transcript.specs.Following as spec;
+ghost use Rattle.ga_transcript.specs.Line.{as_reply};
 ghost use Rattle.ga_transcript.specs.Reply as reply;
 ghost use Rattle.ga_transcript.specs.inner.Next.{IsNext, lines_from};
 
 use crate::line::{Line, line_of};
+use crate::reply::{is_reply_line, lines_in};
 use ga_debug::Pieces;
-use std::alloc::{AllocError, Global};
 
 /// The lines of a transcript that are left, and the number of the line in front of them.
 #[derive(Drop)]
@@ -47,8 +48,8 @@ pub(crate) fn early_reply(mut left: LinesLeft<'_>) -> Option<u64>
     None
 }
 
-/// The next command, or none, where the lines of a reply in front of it are those of the reply that came. The lines then
-/// go on behind it.
+/// The next command, or none, where the lines of a reply in front of it are those of the reply that
+/// came. The lines then go on behind it.
 pub(crate) fn command_behind<'a>(
     left: &mut LinesLeft<'a>,
     came: &str,
@@ -62,9 +63,9 @@ pub(crate) fn command_behind<'a>(
     ensures room { left.new.number + length left.new.lines
         ≡ left.old.number + length left.old.lines }
 {
-    let mut reply = Pieces::new(came, '\n');
+    let mut reply = lines_in(came);
     let next = next_command(left, &mut reply)?;
-    match next_reply(&mut reply) {
+    match reply.next() {
         None => Ok(next),
         Some(_) => Err(OtherReply),
     }
@@ -77,9 +78,9 @@ fn next_command<'a>(
 ) -> Result<Option<&'a str>, OtherReply>
     requires { left.old.number + length left.old.lines < 2 ^ 64 }
     ensures same { MatchResult result
-        (λ next. spec.same_lines (spec.wanted left.old.lines) (filter spec.is_reply reply.old)
-        ≡ spec.same_lines [] (filter spec.is_reply reply.new))
-        (λ _. spec.same_lines (spec.wanted left.old.lines) (filter spec.is_reply reply.old)
+        (λ next. spec.same_lines (spec.wanted left.old.lines) (map as_reply reply.old)
+        ≡ spec.same_lines [] (map as_reply reply.new))
+        (λ _. spec.same_lines (spec.wanted left.old.lines) (map as_reply reply.old)
         ≡ false) }
     ensures next { IfOk result (λ next. IsNext next left.new left.old) }
     ensures fewer { IfOk result (λ next. lines_from next left.new ≤ length left.old.lines) }
@@ -92,57 +93,14 @@ fn next_command<'a>(
             Line::Command(command) => return Ok(Some(command)),
             Line::Note => {}
             Line::Reply => {
-                let Some(next) = next_reply(reply) else {
+                let Some(next) = reply.next() else {
                     return Err(OtherReply);
                 };
-                if line != next {
+                if !is_reply_line(line, next) {
                     return Err(OtherReply);
                 }
             }
         }
     }
     Ok(None)
-}
-
-/// The next of the lines that are left which can stand in a reply, if there is one.
-fn next_reply<'a>(left: &mut Pieces<'a>) -> Option<&'a str>
-    ensures { MatchOption result (filter spec.is_reply left.old ≡ [])
-        (λ line. filter spec.is_reply left.old ≡ line.now ∷ filter spec.is_reply left.new) }
-{
-    while let Some(line) = left.next() {
-        if let Line::Reply = line_of(line) {
-            return Some(line);
-        }
-    }
-    None
-}
-
-/// The lines of a reply.
-pub(crate) fn reply_lines<'a>(alloc: Global, text: &'a str) -> Result<Vec<&'a str>, AllocError>
-    ensures { IfOk result (λ lines. map (λ line. line.now) lines.items
-        ≡ reply.reply_lines text.now) }
-{
-    let mut lines = Vec::new(alloc);
-    for line in Pieces::new(text, '\n') {
-        if let Line::Reply = line_of(line) {
-            lines.push(line)?;
-        }
-    }
-    Ok(lines)
-}
-
-/// The lines of a reply that stand in front of the next command.
-pub(crate) fn wanted<'a>(alloc: Global, lines: Pieces<'a>) -> Result<Vec<&'a str>, AllocError>
-    ensures { IfOk result (λ wanted. map (λ line. line.now) wanted.items
-        ≡ spec.wanted lines.entry) }
-{
-    let mut wanted = Vec::new(alloc);
-    for line in lines {
-        match line_of(line) {
-            Line::Command(_) => return Ok(wanted),
-            Line::Note => {}
-            Line::Reply => wanted.push(line)?,
-        }
-    }
-    Ok(wanted)
 }

@@ -5,15 +5,14 @@ ghost use Rattle.ga_transcript.specs.Check.{Answers};
 ghost use Rattle.ga_transcript.specs.Record.{Holds, IsRecorded, behind_ends, lines_text, unless_too_long};
 ghost use Rattle.ga_transcript.specs.Following.{recorded};
 ghost use Rattle.ga_transcript.specs.Reply as spec;
-ghost use Rattle.ga_transcript.specs.Whole.{RepliesAreWhole};
 
 use crate::error::TranscriptError;
 use crate::line::{Line, line_of};
 use crate::lines::{LinesLeft, early_reply};
-use crate::reply::reply;
+use crate::reply::{lines_in, push_as_reply};
 use ga_asm::Images;
 use ga_chip::Chip;
-use ga_debug::{Pieces, load};
+use ga_debug::{Pieces, load, reply_or_refusal};
 use std::alloc::{AllocError, Global};
 
 /// The most bytes that a recording may have.
@@ -26,7 +25,7 @@ const RECORDING_LIMIT: usize = 268_435_456;
 /// [`TranscriptError::TooLong`], and no command is done behind the one that makes it too long. It
 /// fails as [`TranscriptError::Memory`] only where memory is refused. (The texts are this project's
 /// own: profile.)
-#[tactic(auto, using(crate::proofs::OneTranscript::one_recorded, crate::proofs::WholeSessions::replies_whole))]
+#[tactic(auto, using(crate::proofs::OneTranscript::one_recorded))]
 pub fn record(alloc: Global, text: &str) -> Result<String, TranscriptError>
     ensures recorded { Answers string_bytes (IsRecorded text.now) result }
     // a text has one recording, or one first fault
@@ -36,8 +35,6 @@ pub fn record(alloc: Global, text: &str) -> Result<String, TranscriptError>
     // and it is recorded again as it is
     ensures again { IfOk result (λ recording. IsRecorded (string_bytes recording)
         (Ok (string_bytes recording))) }
-    // no line of a reply is left out
-    ensures whole { RepliesAreWhole text.now }
 {
     let loaded = load(alloc, text)?;
     let lines = loaded.lines;
@@ -96,7 +93,7 @@ fn push_came(
         ++ behind_ends (spec.step_of images.now command.now chip.old).0) }
     ensures chip { OnOk result (chip.new ≡ (spec.step_of images.now command.now chip.old).1) }
 {
-    reply(alloc, came, chip, images, command)?;
+    reply_or_refusal(alloc, came, chip, Some(images), command)?;
     push_reply(text, came)
 }
 
@@ -127,10 +124,9 @@ fn push_reply(text: &mut String, came: &str) -> Result<(), AllocError>
     ensures { OnOk result (string_bytes text.new
         ≡ string_bytes text.old ++ behind_ends (spec.reply_lines came.now)) }
 {
-    for line in Pieces::new(came, '\n') {
-        if let Line::Reply = line_of(line) {
-            push_line(text, line)?;
-        }
+    for line in lines_in(came) {
+        text.push('\n')?;
+        push_as_reply(text, line)?;
     }
     Ok(())
 }

@@ -1,102 +1,42 @@
-ghost use Rattle.std.specs.Prelude.{◌≡◌, ◌++◌, Err, OnOk, codes, string_bytes};
-ghost use Rattle.ga_debug.specs.Error.{fault_name};
-ghost use Rattle.ga_debug.specs.Session as session;
-ghost use Rattle.ga_transcript.specs.Reply.{after_command, after_reply, chip_behind, command_text, reply_text, text_or_refusal};
+//! The replies to the commands of a transcript, as they stand there.
+ghost use Rattle.std.specs.Prelude.{◌≡◌, ◌++◌, OnOk, string_bytes};
+ghost use Rattle.ga_transcript.specs.Line.{as_reply};
+ghost use Rattle.ga_transcript.specs.Reply.{lines_in};
+ghost use Rattle.std.specs.Str.{bytes_eq};
 
-use crate::breaks::{break_reply, breaks_text};
-use crate::command::{TranscriptCommand, begins_no_verb, command_in};
-use crate::until::{until, until_reply};
-use ga_asm::Images;
-use ga_chip::Chip;
-use ga_debug::{DebugError, reply_into};
-use ga_dump::node_text;
-use ga_waits::waits;
-use std::alloc::{AllocError, Global};
-use std::fmt::Write;
+use crate::line::{Line, line_of};
+use ga_debug::Pieces;
+use std::alloc::AllocError;
 
-/// Puts the reply to a command, which may have an LF at its end, in the place of a text. A refusal is a reply.
-#[tactic(auto, unfolding(crate::specs::Reply::reply_text, crate::specs::Reply::chip_behind), using(crate::proofs::Letters::session_by_letter))]
-pub(crate) fn reply(
-    alloc: Global,
-    text: &mut String,
-    chip: &mut Chip,
-    images: &Images,
-    line: &str,
-) -> Result<(), AllocError>
-    ensures text { OnOk result (string_bytes text.new ≡ reply_text images.now line.now chip.old) }
-    ensures chip { OnOk result (chip.new ≡ chip_behind images.now line.now chip.old) }
+/// The lines of a reply. An empty one has none.
+pub(crate) fn lines_in(reply: &str) -> Pieces<'_>
+    ensures { result ≡ lines_in reply.now }
 {
-    if begins_no_verb(line.as_bytes()) {
-        return session_reply(alloc, text, chip, line);
+    let mut lines = Pieces::new(reply, '\n');
+    if reply.is_empty() {
+        let _empty = lines.next();
     }
-    match command_in(images, line) {
-        Ok(command) => command_reply(alloc, text, chip, images, command, line),
-        Err(fault) => refusal(text, fault),
-    }
+    lines
 }
 
-/// The same of a command, which is this line.
-fn command_reply(
-    alloc: Global,
-    text: &mut String,
-    chip: &mut Chip,
-    images: &Images,
-    command: TranscriptCommand,
-    line: &str,
-) -> Result<(), AllocError>
-    ensures text { OnOk result (string_bytes text.new
-        ≡ command_text images.now line.now command chip.old) }
-    ensures chip { OnOk result (chip.new ≡ after_command line.now command chip.old) }
+/// Adds a line of a reply. One that would be read as something else in a transcript stands behind
+/// `. `.
+pub(crate) fn push_as_reply(text: &mut String, line: &str) -> Result<(), AllocError>
+    ensures { OnOk result (string_bytes text.new ≡ string_bytes text.old ++ as_reply line.now) }
 {
-    match command {
-        TranscriptCommand::Break { node, address } => {
-            chip.set_break(node, address.get());
-            *text = break_reply(alloc, images, node, address)?;
-        }
-        TranscriptCommand::Clear { node, address } => {
-            chip.clear_break(node, address.get());
-            *text = String::from_str(alloc, "ok")?;
-        }
-        TranscriptCommand::Node { node } => *text = node_text(alloc, chip.state(node))?,
-        TranscriptCommand::Breaks => *text = breaks_text(alloc, chip, images)?,
-        TranscriptCommand::Until {
-            node,
-            address,
-            count,
-        } => {
-            let reached = until(chip, node, address, count);
-            *text = until_reply(alloc, reached)?;
-        }
-        TranscriptCommand::Where => *text = waits(alloc, chip, images)?,
-        TranscriptCommand::Session => return session_reply(alloc, text, chip, line),
+    if !matches!(line_of(line), Line::Reply) {
+        text.push_str(". ")?;
     }
-    Ok(())
+    text.push_str(line)
 }
 
-/// The same of what a session over the chip replies.
-fn session_reply(
-    alloc: Global,
-    text: &mut String,
-    chip: &mut Chip,
-    line: &str,
-) -> Result<(), AllocError>
-    ensures text { OnOk result (string_bytes text.new
-        ≡ text_or_refusal (session.reply_to line.now chip.old)) }
-    ensures chip { OnOk result (chip.new
-        ≡ after_reply (session.reply_to line.now chip.old) line.now chip.old) }
+/// Whether a line of a transcript is this line of a reply.
+pub(crate) fn is_reply_line(line: &str, reply: &str) -> bool
+    ensures { result ≡ bytes_eq line.now (as_reply reply.now) }
 {
-    match reply_into(alloc, text, chip, line) {
-        Ok(()) => Ok(()),
-        Err(DebugError::Memory) => Err(AllocError),
-        Err(fault) => refusal(text, fault),
+    match (line_of(reply), line.strip_prefix(". ")) {
+        (Line::Reply, _) => line == reply,
+        (_, Some(quoted)) => quoted == reply,
+        (_, None) => false,
     }
-}
-
-/// The same of a command that is refused.
-fn refusal(text: &mut String, fault: DebugError) -> Result<(), AllocError>
-    ensures { OnOk result (string_bytes text.new ≡ text_or_refusal (Err fault)) }
-{
-    text.clear();
-    write!(text, "refused {}", fault.name())?;
-    Ok(())
 }

@@ -15,16 +15,19 @@ use Rattle.ga_waits.specs.Ring.{awaits_in, begins_ring, comes_back, names_behind
 use Rattle.ga_waits.specs.inner.Next.{next_in}
 use Rattle.ga_waits.proofs.Largest.{back}
 
-pub at_start : (next : ℕ → Option ℕ) (first : ℕ) (from : Option ℕ) → from ≡ next first → comes_back next first 144 from ≡ begins_ring next first
+pub at_start : (next : ℕ → Option ℕ) (first : ℕ) (from : Option ℕ) → from ≡ next first
+    → comes_back next first 144 from ≡ begins_ring next first
 unfolding begins_ring
 at_start next first from is = ap (comes_back next first 144) is
 
-pub names_start : (next : ℕ → Option ℕ) (first : ℕ) (from : Option ℕ) → from ≡ next first → names_behind next first 144 from ≡ row_behind next first
+pub names_start : (next : ℕ → Option ℕ) (first : ℕ) (from : Option ℕ) → from ≡ next first
+    → names_behind next first 144 from ≡ row_behind next first
 unfolding row_behind
 names_start next first from is = ap (names_behind next first 144) is
 
 -- behind the end of a list there is nothing
-none_there : (nexts : List (Option ℕ)) (i : ℕ) → length nexts ≤ i → slice_index_or nexts i None ≡ None
+none_there : (nexts : List (Option ℕ)) (i : ℕ) → length nexts ≤ i
+    → slice_index_or nexts i None ≡ None
 none_there [] i past = refl
 none_there (one ∷ nexts) zero past = absurd (omega (arith, past))
 none_there (one ∷ nexts) (suc i) past = none_there nexts i (omega (arith, past))
@@ -37,7 +40,9 @@ no_part (one ∷ parts) (suc i) past = no_part parts i (omega (arith, past))
 -- a name of no node waits for nobody
 next_else : (chip : Chip) (name : ℕ) → part_of chip name ≡ None → next_of chip name ≡ None
 unfolding next_of
-next_else chip name none = ap (λ o. awaits_in (option_map_or (λ part. is_hold (asks part Right)) o false) chip.cells name (option_map (λ part. part.state) o)) none
+next_else chip name none =
+    ap (λ o. awaits_in (option_map_or (λ part. is_hold (asks part Right)) o false) chip.cells name
+    (option_map (λ part. part.state) o)) none
 
 -- a name of no node
 nobody : (chip : Chip) (name : ℕ) → IsLegal chip → is_node_name name ≡ false
@@ -56,7 +61,9 @@ waits_named chip legal name other waits =
     (λ is_not. absurd (let none = next_else chip name (nobody chip name legal is_not) in cc))
 
 -- and a list with the node for which each node waits has them for all names.
-pub all_next : (chip : Chip) (nexts : List (Option ℕ)) → IsLegal chip → length nexts ≡ 144 → ((k : ℕ) → k < 144 → slice_index_or nexts k None ≡ next_of chip (name_at k)) → next_in nexts ≡ next_of chip
+pub all_next : (chip : Chip) (nexts : List (Option ℕ)) → IsLegal chip → length nexts ≡ 144
+    → ((k : ℕ) → k < 144 → slice_index_or nexts k None ≡ next_of chip (name_at k))
+    → next_in nexts ≡ next_of chip
 all_next chip nexts legal count each = fun_ext (λ name. by name (is_node_name name) refl)
   where
     by : (name : ℕ) (b : Bool) → is_node_name name ≡ b → next_in nexts name ≡ next_of chip name

@@ -60,18 +60,21 @@ down_of_301 = refl
 up_of_000 : told_need reset_chip 0 (need.Take (sides_with 0x10)) ≡ codes " take up of nobody"
 up_of_000 = refl
 
-two_sides : told_need reset_chip 0 (need.Take (sides_with 0x30)) ≡ codes " take left of nobody and up of nobody"
+two_sides : told_need reset_chip 0 (need.Take (sides_with 0x30))
+    ≡ codes " take left of nobody and up of nobody"
 two_sides = refl
 
 takes_two : act_text 0 (need.Take (sides_with 0xC0)) ≡ codes "takes right of 001/down of 100"
 takes_two = refl
 
--- a take of one side waits for the neighbour there, unless a word is pending; a take of two waits for none alone
+-- a take of one side waits for the neighbour there, unless a word is pending; a take of two waits
+-- for none alone
 one_side_alone : awaits reset_chip.cells 709 (need.Take (sides_with 0x80)) ≡ Some 708
 unfolding reset_chip cell_of all_cells
 one_side_alone = refl
 
-word_pending : awaits (set reset_chip.cells 495 (Some 0x12)) 709 (need.Take (sides_with 0x80)) ≡ None
+word_pending : awaits (set reset_chip.cells 495 (Some 0x12)) 709 (need.Take (sides_with 0x80))
+    ≡ None
 unfolding reset_chip cell_of all_cells
 word_pending = refl
 
@@ -86,10 +89,12 @@ was_read : awaits reset_chip.cells 708 (need.Check Right) ≡ None
 unfolding reset_chip cell_of all_cells
 was_read = refl
 
--- A ring is written from its least name on, and a node that waits for one of the ring begins none: 1, 3 and 2 wait for
--- one another, and 0 waits for 1.
+-- A ring is written from its least name on, and a node that waits for one of the ring begins none:
+-- 1, 3 and 2 wait for one another, and 0 waits for 1.
 abbrev round : ℕ → Option ℕ
-round name = if name == 0 then Some 1 else if name == 1 then Some 3 else if name == 3 then Some 2 else if name == 2 then Some 1 else None
+round name =
+    if name == 0 then Some 1 else if name == 1 then Some 3 else if name == 3 then Some 2
+    else if name == 2 then Some 1 else None
 
 round_rings : rings_of round ≡ (1 ∷ 3 ∷ 2 ∷ []) ∷ []
 unfolding rings_of begins_ring row_behind

@@ -11,32 +11,50 @@ use Rattle.ga_waits.specs.Sides.{joined}
 use Rattle.ga_waits.specs.Waits.{text_of}
 
 -- One side more of those that are told: where it is in the set,
-pub side_told : (text : Side → List ℕ) (front between now : List ℕ) (sides : Sides) (items : List Side) (i : ℕ) (d : Side) (old mid new whole : List ℕ) → i < length items → old ++ joined text front between sides (drop i items) ≡ whole → is_among (get_or items i d) sides ≡ true → mid ≡ old ++ front → new ≡ mid ++ text (get_or items i d) → now ≡ between → new ++ joined text now between sides (drop (i + 1) items) ≡ whole
-side_told text front between now sides items i d old mid new whole within so_far among wrote_front wrote is =
+pub side_told : (text : Side → List ℕ) (front between now : List ℕ) (sides : Sides)
+    (items : List Side) (i : ℕ) (d : Side) (old mid new whole : List ℕ) → i < length items
+    → old ++ joined text front between sides (drop i items) ≡ whole
+    → is_among (get_or items i d) sides ≡ true → mid ≡ old ++ front
+    → new ≡ mid ++ text (get_or items i d) → now ≡ between
+    → new ++ joined text now between sides (drop (i + 1) items) ≡ whole
+side_told text front between now sides items i d old mid new whole within so_far among wrote_front
+    wrote is =
     let side = get_or items i d in
     let rest = drop (i + 1) items in
     let behind = joined text between between sides rest in
     let here : drop i items ≡ side ∷ rest = rw (add-one, drop-cons items i d) in
     ap (λ n. new ++ joined text n between sides rest) is
-    ∙ ap (λ t. t ++ behind) (wrote ∙ ap (λ t. t ++ text side) wrote_front ∙ append_assoc old front (text side))
+    ∙ ap (λ t. t ++ behind) (wrote ∙ ap (λ t. t ++ text side) wrote_front
+    ∙ append_assoc old front (text side))
     ∙ append_assoc old (front ++ text side) behind
-    ∙ sym (ap (λ b. old ++ (if b then front ++ text side ++ behind else joined text front between sides rest)) among)
+    ∙ sym (ap (λ b. old
+    ++ (if b then front ++ text side ++ behind else joined text front between sides rest)) among)
     ∙ sym (ap (λ l. old ++ joined text front between sides l) here) ∙ so_far
 
 -- and where it isn't.
-pub side_left_out : (text : Side → List ℕ) (front between now : List ℕ) (sides : Sides) (items : List Side) (i : ℕ) (d : Side) (old new whole : List ℕ) → i < length items → old ++ joined text front between sides (drop i items) ≡ whole → is_among (get_or items i d) sides ≡ false → new ≡ old → now ≡ front → new ++ joined text now between sides (drop (i + 1) items) ≡ whole
+pub side_left_out : (text : Side → List ℕ) (front between now : List ℕ) (sides : Sides)
+    (items : List Side) (i : ℕ) (d : Side) (old new whole : List ℕ) → i < length items
+    → old ++ joined text front between sides (drop i items) ≡ whole
+    → is_among (get_or items i d) sides ≡ false → new ≡ old → now ≡ front
+    → new ++ joined text now between sides (drop (i + 1) items) ≡ whole
 side_left_out text front between now sides items i d old new whole within so_far among same is =
     let side = get_or items i d in
     let rest = drop (i + 1) items in
     let behind = joined text between between sides rest in
     let here : drop i items ≡ side ∷ rest = rw (add-one, drop-cons items i d) in
-    ap (λ n. new ++ joined text n between sides rest) is ∙ ap (λ t. t ++ joined text front between sides rest) same
-    ∙ sym (ap (λ b. old ++ (if b then front ++ text side ++ behind else joined text front between sides rest)) among)
+    ap (λ n. new ++ joined text n between sides rest) is
+    ∙ ap (λ t. t ++ joined text front between sides rest) same
+    ∙ sym (ap (λ b. old
+    ++ (if b then front ++ text side ++ behind else joined text front between sides rest)) among)
     ∙ sym (ap (λ l. old ++ joined text front between sides l) here) ∙ so_far
 
 -- the lines of one node more of those that are numbered from 0
-pub lines_more : (lines : ℕ → List (List ℕ)) (n : ℕ) (old text new : List ℕ) → text ≡ old ++ text_of (flat_map lines (range_with_len 0 n)) → new ≡ text ++ text_of (lines n) → new ≡ old ++ text_of (flat_map lines (range_with_len 0 (n + 1)))
+pub lines_more : (lines : ℕ → List (List ℕ)) (n : ℕ) (old text new : List ℕ)
+    → text ≡ old ++ text_of (flat_map lines (range_with_len 0 n)) → new ≡ text ++ text_of (lines n)
+    → new ≡ old ++ text_of (flat_map lines (range_with_len 0 (n + 1)))
 lines_more lines n old text new so_far wrote =
     let before = flat_map lines (range_with_len 0 n) in
-    wrote ∙ ap (λ t. t ++ text_of (lines n)) so_far ∙ append_assoc old (text_of before) (text_of (lines n))
-    ∙ ap (λ t. old ++ t) (sym (flat_map-append (λ line. line ++ 10 ∷ []) before (lines n)) ∙ sym (ap text_of (next_line lines n)))
+    wrote ∙ ap (λ t. t ++ text_of (lines n)) so_far
+    ∙ append_assoc old (text_of before) (text_of (lines n))
+    ∙ ap (λ t. old ++ t) (sym (flat_map-append (λ line. line ++ 10 ∷ []) before (lines n))
+    ∙ sym (ap text_of (next_line lines n)))

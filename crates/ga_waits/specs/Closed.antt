@@ -7,7 +7,8 @@ use Rattle.ga_chip.specs.Stuck.{is_stuck}
 
 -- A node stays in a set where it can't go on as long as no node of the set does.
 abbrev pub stays_in : Chip → (ℕ → Bool) → ℕ → Bool
-stays_in chip inside name = inside name && option_map_or (is_stuck inside chip.cells) (part_of chip name) false
+stays_in chip inside name =
+    inside name && option_map_or (is_stuck inside chip.cells) (part_of chip name) false
 
 -- what is left of all nodes after rounds, in each of which all nodes that don't stay are left out
 abbrev pub left_after : Chip → ℕ → ℕ → Bool

@@ -1,12 +1,20 @@
 -- Where P is, told by a label of the node's image.
 use Rattle.std.specs.Prelude.{ℕ, ◌-◌, ◌==◌, ◌&&◌, nat_le, nat_lt, List, [], ◌∷◌, ◌++◌, Option, Some, None, if◌then◌else◌}
+use Rattle.std.specs.Borrow.{Bor}
 use Rattle.std.specs.Fmt.{decimal}
+use Rattle.std.specs.Option.{option_map_or}
 use Rattle.ga_place.specs.declared.address.Where.{Where}
-use Rattle.ga_place.specs.declared.address.Where.TheVariants.{Ram, Rom, Ports, Io, Unmapped}
+use Rattle.ga_place.specs.declared.address.Where.TheVariants.{Ram}
 use Rattle.ga_pack.specs.Model.Layout.{Labels}
 use Rattle.ga_asm.specs.Image.{ImageView, label_at}
 
--- the address found so far, or that of one more label, where that is at or before an index and behind the one found
+-- the images whose labels are shown, or none
+abbrev pub images_in : Option (Bor (List (ℕ × ImageView))) → List (ℕ × ImageView)
+images_in None = []
+images_in (Some images) = images.now
+
+-- the address found so far, or that of one more label, where that is at or before an index and
+-- behind the one found
 abbrev pub nearer : ℕ → Option ℕ → ℕ → Option ℕ
 nearer index None at = if nat_le at index then Some at else None
 nearer index (Some found) at = if nat_le at index && nat_lt found at then Some at else Some found
@@ -23,24 +31,16 @@ nearest labels index = nearest_from index None labels
 abbrev pub distance_text : ℕ → List ℕ
 distance_text distance = if distance == 0 then [] else 43 ∷ decimal distance
 
--- a label behind a blank
-abbrev pub name_text : Option (List ℕ) → ℕ → List ℕ
-name_text (Some name) distance = 32 ∷ name ++ distance_text distance
-name_text None distance = []
-
-abbrev pub text_at : Labels → ℕ → Option ℕ → List ℕ
-text_at labels index (Some at) = name_text (label_at labels at) (index - at)
-text_at labels index None = []
-
--- the last label at or before an index of RAM, and how far the index is behind it
+-- the last label at or before an index of RAM, behind a blank, and how far the index is behind it
 unfoldable pub label_text : Labels → ℕ → List ℕ
-label_text labels index = text_at labels index (nearest labels index)
+label_text labels index =
+    elim (nearest labels index) [
+      | None ↦ []
+      | Some at ↦
+          option_map_or (λ name. 32 ∷ name ++ distance_text (index - at)) (label_at labels at) []
+    ]
 
--- only an address of RAM of a node that has an image is told so
+-- only an address of RAM of a node that has an image has one
 abbrev pub label_in : Option ImageView → Where → List ℕ
 label_in (Some image) (Ram index) = label_text image.labels index
-label_in (Some image) (Rom index) = []
-label_in (Some image) (Ports sides) = []
-label_in (Some image) Io = []
-label_in (Some image) Unmapped = []
-label_in None at = []
+label_in image at = []

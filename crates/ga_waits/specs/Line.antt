@@ -1,6 +1,7 @@
 -- The line of a node that has begun.
 use Rattle.std.specs.Prelude.{ℕ, Bool, List, [], ◌∷◌, codes, Option, Some, None, if◌then◌else◌}
 use Rattle.std.specs.List.{concat}
+use Rattle.std.specs.Option.{option_map_or}
 use Rattle.ga_word.specs.Hex.{hex_digits}
 use Rattle.ga_word.specs.Op.{name_of}
 use Rattle.ga_place.specs.Address.{where_is}
@@ -33,19 +34,18 @@ op_text Body word = []
 abbrev pub if_so : Bool → List ℕ → List ℕ
 if_so so text = if so then text else []
 
--- The line of a node in a state: where it stands, what it needs and of whom, whether its tries are held, and whether it is
--- stuck. The line's end isn't part of it.
+-- The line of a node in a state: where it stands, what it needs and of whom, whether its tries are
+-- held, and whether it is stuck. The line's end isn't part of it.
 unfoldable pub wait_line : List (ℕ × ImageView) → Chip → Bool → ℕ → State → List ℕ
 wait_line images chip stuck name state =
-    concat (node_text name ∷ codes " P " ∷ hex_digits 3 state.p ∷ label_in (image_of images name) (where_is state.p)
+    concat (node_text name ∷ codes " P " ∷ hex_digits 3 state.p
+    ∷ label_in (image_of images name) (where_is state.p)
     ∷ codes " " ∷ place_text state.place ∷ op_text state.place state.word
     ∷ told_need chip name (need_of state)
     ∷ if_so (stands_held chip name) (codes ", held") ∷ if_so stuck (codes ", stuck") ∷ [])
 
 -- only a node that has begun has a line
-abbrev pub state_lines : List (ℕ × ImageView) → Chip → Bool → ℕ → Option State → List (List ℕ)
-state_lines images chip stuck name (Some state) = if has_begun name state then wait_line images chip stuck name state ∷ [] else []
-state_lines images chip stuck name None = []
-
 abbrev pub node_lines : List (ℕ × ImageView) → Chip → Bool → ℕ → List (List ℕ)
-node_lines images chip stuck name = state_lines images chip stuck name (state_of chip name)
+node_lines images chip stuck name =
+    option_map_or (λ state. if has_begun name state then wait_line images chip stuck name state ∷ []
+    else []) (state_of chip name) []

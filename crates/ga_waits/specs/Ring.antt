@@ -15,13 +15,16 @@ use Rattle.ga_chip.specs.Stuck.{is_full}
 
 -- a take of one side waits for the neighbour there as long as no word is pending
 abbrev pub awaits_word : List (Option ℕ) → ℕ → Option Side → Option ℕ
-awaits_word cells name (Some side) = if is_full cells (read_cell name side) then None else neighbour_of name side
+awaits_word cells name (Some side) =
+    if is_full cells (read_cell name side) then None else neighbour_of name side
 awaits_word cells name None = None
 
--- the one neighbour for which a node waits that isn't held: a check waits as long as its word is pending
+-- the one neighbour for which a node waits that isn't held: a check waits as long as its word is
+-- pending
 abbrev pub awaits : List (Option ℕ) → ℕ → Need → Option ℕ
 awaits cells name (Take sides) = awaits_word cells name (one_side sides)
-awaits cells name (Check side) = if is_full cells (cell_of name side) then neighbour_of name side else None
+awaits cells name (Check side) =
+    if is_full cells (cell_of name side) then neighbour_of name side else None
 awaits cells name Own = None
 awaits cells name (Post side word) = None
 awaits cells name Input = None

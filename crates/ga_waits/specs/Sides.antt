@@ -1,5 +1,6 @@
 -- The sides at which a node waits, and what its neighbours there do.
 use Rattle.std.specs.Prelude.{ℕ, Bool, true, false, List, [], ◌∷◌, ◌++◌, codes, Option, Some, None, if◌then◌else◌}
+use Rattle.std.specs.Option.{option_map_or}
 use Rattle.ga_place.specs.Node.{node_text}
 use Rattle.ga_place.specs.Side.{SIDES, is_among, neighbour_of}
 use Rattle.ga_place.specs.declared.side.Side.{Side}
@@ -13,20 +14,19 @@ use Rattle.ga_chip.specs.Chip.{Chip, state_of}
 use Rattle.ga_chip.specs.Run.{stands_held}
 use Rattle.ga_dump.specs.Side.{side_text}
 
--- the texts of those of these sides that are in a set, with one text in front of the first, and another between two
+-- the texts of those of these sides that are in a set, with one text in front of the first, and
+-- another between two
 abbrev pub joined : (Side → List ℕ) → List ℕ → List ℕ → Sides → List Side → List ℕ
 joined text front between sides [] = []
 joined text front between sides (side ∷ rest) =
-    if is_among side sides then front ++ text side ++ joined text between between sides rest else joined text front between sides rest
+    if is_among side sides then front ++ text side ++ joined text between between sides rest
+    else joined text front between sides rest
 
--- a neighbour, if there is one
-abbrev pub other_text : Option ℕ → List ℕ
-other_text (Some other) = node_text other
-other_text None = codes "nobody"
-
--- a side of a node, and its neighbour there
+-- a side of a node, and its neighbour there, if there is one
 abbrev pub end_text : ℕ → Side → List ℕ
-end_text name side = side_text side ++ codes " of " ++ other_text (neighbour_of name side)
+end_text name side =
+    side_text side ++ codes " of "
+    ++ option_map_or node_text (neighbour_of name side) (codes "nobody")
 
 -- what a node does that isn't held, by its need
 abbrev pub act_text : ℕ → Need → List ℕ
@@ -43,18 +43,18 @@ doing_text true name state = codes "is held"
 doing_text false name (Some state) = act_text name (need_of state)
 doing_text false name None = []
 
--- a neighbour, and what it does
-abbrev pub other_doing : Chip → Option ℕ → List ℕ
-other_doing chip (Some other) = node_text other ++ codes " which " ++ doing_text (stands_held chip other) other (state_of chip other)
-other_doing chip None = codes "nobody"
-
 -- a side of a node, its neighbour there, and what that one does
 abbrev pub told_end : Chip → ℕ → Side → List ℕ
-told_end chip name side = side_text side ++ codes " of " ++ other_doing chip (neighbour_of name side)
+told_end chip name side =
+    side_text side ++ codes " of "
+    ++ option_map_or (λ other. node_text other ++ codes " which "
+    ++ doing_text (stands_held chip other) other (state_of chip other))
+    (neighbour_of name side) (codes "nobody")
 
 -- a need behind a blank, with the sides of what it takes, posts or checks
 abbrev pub told_need : Chip → ℕ → Need → List ℕ
-told_need chip name (Take sides) = codes " take " ++ joined (told_end chip name) [] (codes " and ") sides SIDES
+told_need chip name (Take sides) =
+    codes " take " ++ joined (told_end chip name) [] (codes " and ") sides SIDES
 told_need chip name (Post side word) = codes " post " ++ told_end chip name side
 told_need chip name (Check side) = codes " check " ++ told_end chip name side
 told_need chip name Own = 32 ∷ need_text Own

@@ -11,7 +11,8 @@ use Rattle.ga_waits.specs.Ring.{next_of, ring_line, rings_of}
 -- the lines of nodes, in order of name
 unfoldable pub all_node_lines : List (ℕ × ImageView) → Chip → List (List ℕ)
 all_node_lines images chip =
-    flat_map (λ index. node_lines images chip (stuck_in chip (name_at index)) (name_at index)) (range_with_len 0 144)
+    flat_map (λ index. node_lines images chip (stuck_in chip (name_at index)) (name_at index))
+    (range_with_len 0 144)
 
 -- the lines of rings
 unfoldable pub all_ring_lines : Chip → List (List ℕ)

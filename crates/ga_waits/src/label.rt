@@ -2,7 +2,7 @@
 ghost use Rattle.std.specs.Prelude.{◌≡◌, ◌++◌, OnOk, string_bytes};
 ghost use Rattle.ga_asm.specs.Image.{image_of, labels_of};
 ghost use Rattle.ga_waits.specs.Label as spec;
-ghost use Rattle.ga_waits.specs.Label.{distance_text, label_in, label_text};
+ghost use Rattle.ga_waits.specs.Label.{distance_text, images_in, label_in, label_text};
 
 use ga_asm::{Images, label_at};
 use ga_place::{Node, Where};
@@ -10,17 +10,18 @@ use indexmap::IndexMap;
 use std::alloc::AllocError;
 use std::fmt::Write;
 
-/// Adds the last label at or before what an address of a node reaches, where that is in RAM and the node has an image.
+/// Adds the last label at or before what an address of a node reaches, where that is in RAM and the
+/// node has an image.
 pub fn push_label(
     text: &mut String,
-    images: &Images,
+    images: Option<&Images>,
     node: Node,
     at: Where,
 ) -> Result<(), AllocError>
     ensures { OnOk result (string_bytes text.new
-        ≡ string_bytes text.old ++ label_in (image_of images.now node) at) }
+        ≡ string_bytes text.old ++ label_in (image_of (images_in images.entry) node) at) }
 {
-    let Some(image) = images.image_of(node) else {
+    let Some(image) = images.and_then(|images| images.image_of(node)) else {
         return Ok(());
     };
     let Where::Ram(index) = at else {
@@ -29,7 +30,8 @@ pub fn push_label(
     push_nearest(text, image.labels(), index)
 }
 
-/// Adds the last label at or before an index of RAM behind a space, and how far the index is behind it.
+/// Adds the last label at or before an index of RAM behind a space, and how far the index is behind
+/// it.
 #[tactic(auto, unfolding(crate::specs::Label::label_text))]
 fn push_nearest(
     text: &mut String,
@@ -71,7 +73,8 @@ fn nearest(labels: &IndexMap<String, u8>, index: u8) -> Option<u8>
     found
 }
 
-/// The address found so far, or that of one more label, where that is at or before an index and behind the one found.
+/// The address found so far, or that of one more label, where that is at or before an index and
+/// behind the one found.
 fn nearer(index: u8, found: Option<u8>, at: u8) -> Option<u8>
     ensures { result ≡ spec.nearer index found at }
 {

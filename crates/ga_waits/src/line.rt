@@ -1,5 +1,6 @@
 ghost use Rattle.std.specs.Prelude.{◌≡◌, ◌++◌, OnOk, string_bytes};
 ghost use Rattle.ga_waits.specs.Begun as spec;
+ghost use Rattle.ga_waits.specs.Label.{images_in};
 ghost use Rattle.ga_waits.specs.Line.{if_so, node_lines, wait_line};
 ghost use Rattle.ga_waits.specs.Waits.{text_of};
 
@@ -18,12 +19,13 @@ use std::fmt::Write;
 pub fn push_line(
     text: &mut String,
     chip: &Chip,
-    images: &Images,
+    images: Option<&Images>,
     stuck: bool,
     node: Node,
 ) -> Result<(), AllocError>
     ensures { OnOk result (string_bytes text.new
-        ≡ string_bytes text.old ++ text_of (node_lines images.now chip.now stuck node)) }
+        ≡ string_bytes text.old
+        ++ text_of (node_lines (images_in images.entry) chip.now stuck node)) }
 {
     let state = chip.state(node);
     if !has_begun(node, state) {
@@ -46,13 +48,14 @@ fn has_begun(node: Node, state: &NodeState) -> bool
 fn push_state(
     text: &mut String,
     chip: &Chip,
-    images: &Images,
+    images: Option<&Images>,
     stuck: bool,
     node: Node,
     state: &NodeState,
 ) -> Result<(), AllocError>
     ensures { OnOk result (string_bytes text.new
-        ≡ string_bytes text.old ++ wait_line images.now chip.now stuck node state.now) }
+        ≡ string_bytes text.old
+        ++ wait_line (images_in images.entry) chip.now stuck node state.now) }
 {
     let p = Hex3::new(state.p());
     write!(text, "{node} P {p}")?;

@@ -11,7 +11,8 @@ use ga_word::{Op, Word18};
 use std::alloc::AllocError;
 use std::fmt::Write;
 
-/// Adds the opcode in front of which a node stands, behind a space, where it stands in front of a slot.
+/// Adds the opcode in front of which a node stands, behind a space, where it stands in front of a
+/// slot.
 pub fn push_op(text: &mut String, place: Place, word: Word18) -> Result<(), AllocError>
     ensures { OnOk result (string_bytes text.new ≡ string_bytes text.old ++ op_text place word) }
 {

@@ -2,6 +2,7 @@ ghost use Rattle.std.specs.Prelude.{◌≡◌, ◌↔◌, ℕ, ◌++◌, Contain
 ghost use Rattle.std.specs.List.Sorted.{IsStrictlyIncreasing};
 ghost use Rattle.ga_chip.specs.Stuck.{HoldsEachClosed, IsClosed, has_node};
 ghost use Rattle.ga_waits.specs.Closed.{stuck_in};
+ghost use Rattle.ga_waits.specs.Label.{images_in};
 ghost use Rattle.ga_waits.specs.Ring.{IsRing, next_of, rings_of};
 ghost use Rattle.ga_waits.specs.Waits.{all_node_lines, all_ring_lines, text_of, waits_text};
 
@@ -17,13 +18,14 @@ use std::alloc::{AllocError, Global};
 /// of the least name of each.
 ///
 /// The line of a node tells where it stands, with the label of its image that is at P or the last
-/// before it; what it needs, and of whom; and what that neighbour does. A node whose tries are held
-/// is told to be `held`, and one of the largest closed set of nodes, which no tries in any order
-/// move, `stuck`. The call takes memory for its text alone, and fails only where that is refused.
-/// (The text is this project's own: profile.)
+/// before it, if there are images; what it needs, and of whom; and what that neighbour does. A node
+/// whose tries are held is told to be `held`, and one of the largest closed set of nodes, which no
+/// tries in any order move, `stuck`. The call takes memory for its text alone, and fails only where
+/// that is refused. (The text is this project's own: profile.)
 #[tactic(auto, unfolding(crate::specs::Waits::waits_text, crate::specs::Waits::waits_lines), using(crate::proofs::Largest::closed))]
-pub fn waits(alloc: Global, chip: &Chip, images: &Images) -> Result<String, AllocError>
-    ensures text { IfOk result (λ text. string_bytes text ≡ waits_text images.now chip.now) }
+pub fn waits(alloc: Global, chip: &Chip, images: Option<&Images>) -> Result<String, AllocError>
+    ensures text { IfOk result (λ text. string_bytes text
+        ≡ waits_text (images_in images.entry) chip.now) }
     // the nodes that are told to be stuck are the largest closed set
     ensures closed { IsClosed chip.now (stuck_in chip.now) }
     ensures largest { HoldsEachClosed chip.now (stuck_in chip.now) }
@@ -45,12 +47,12 @@ pub fn waits(alloc: Global, chip: &Chip, images: &Images) -> Result<String, Allo
 fn push_nodes(
     text: &mut String,
     chip: &Chip,
-    images: &Images,
+    images: Option<&Images>,
     stuck: &StuckNodes,
 ) -> Result<(), AllocError>
     requires stuck { (name : ℕ) → has_node stuck.now name ≡ stuck_in chip.now name }
     ensures { OnOk result (string_bytes text.new
-        ≡ string_bytes text.old ++ text_of (all_node_lines images.now chip.now)) }
+        ≡ string_bytes text.old ++ text_of (all_node_lines (images_in images.entry) chip.now)) }
 {
     for index in 0..144 {
         let node = Node::at(index);

@@ -2,7 +2,8 @@
 use Rattle.std.proofs.Common.{◌≡◌, Bool, true, false, cond, List, [], ◌∷◌, Option, Some, refl, find}
 use Rattle.std.specs.Prelude.{IfSome}
 
-chosen_passes : {X : Type 0} (p : X → Bool) (x : X) (found : Option X) (b : Bool) → p x ≡ b → IfSome found (λ y. p y ≡ true) → IfSome (cond b (Some x) found) (λ y. p y ≡ true)
+chosen_passes : {X : Type 0} (p : X → Bool) (x : X) (found : Option X) (b : Bool) → p x ≡ b
+    → IfSome found (λ y. p y ≡ true) → IfSome (cond b (Some x) found) (λ y. p y ≡ true)
 chosen_passes p x found true e h = e
 chosen_passes p x found false e h = h
 

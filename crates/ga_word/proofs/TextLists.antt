@@ -15,10 +15,13 @@ with_front front (Err bad) = Err bad
 pub utf8_word : (word end : ℕ) → end < 128 → IsUtf8 (hex_digits 5 word ++ end ∷ [])
 utf8_word word end h =
     let bytes = hex_digits 5 word ++ end ∷ [] in
-    IsUtf8-from_ascii bytes (IsAscii-from_all bytes (All-push (λ c. c < 128) (hex_digits 5 word) end (ascii-hex_digits 5 word) h))
+    IsUtf8-from_ascii bytes (IsAscii-from_all bytes
+    (All-push (λ c. c < 128) (hex_digits 5 word) end (ascii-hex_digits 5 word) h))
 
 -- five digits one by one
 pub each_digit : (digits : List ℕ) (word end : ℕ) → digits ≡ hex_digits 5 word
-    → slice_index_or digits 0 0 ∷ slice_index_or digits 1 0 ∷ slice_index_or digits 2 0 ∷ slice_index_or digits 3 0 ∷ slice_index_or digits 4 0 ∷ end ∷ [] ≡ hex_digits 5 word ++ end ∷ []
+    → slice_index_or digits 0 0 ∷ slice_index_or digits 1 0 ∷ slice_index_or digits 2 0
+    ∷ slice_index_or digits 3 0 ∷ slice_index_or digits 4 0 ∷ end ∷ [] ≡ hex_digits 5 word ++ end
+    ∷ []
 unfolding hex_digits
 each_digit digits word end is = rw is refl

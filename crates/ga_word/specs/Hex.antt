@@ -16,7 +16,9 @@ hex_number (digit ∷ digits) = digit_value digit * 16 ^ length digits + hex_num
 
 -- five digits that write a number below 2 ^ 18
 unfoldable pub is_word_text : List ℕ → Bool
-is_word_text text = (length text == 5) && (list_all (λ c. is_digit c 16) text) && (nat_lt (hex_number text) (2 ^ 18))
+is_word_text text =
+    (length text == 5) && (list_all (λ c. is_digit c 16) text)
+    && (nat_lt (hex_number text) (2 ^ 18))
 
 -- the word that a text writes, if it writes one
 abbrev pub word_of : List ℕ → Option ℕ

@@ -7,15 +7,13 @@ abbrev pub is_empty : {X : Type 0} → List X → Bool
 is_empty [] = true
 is_empty (x ∷ xs) = false
 
--- what stands behind the word at a place, before the words that follow it: LF at the end of the text and
--- behind each eighth word, else a space
-abbrev pub word_end : ℕ → List ℕ → ℕ
-word_end place words = if is_empty words || (place % 8 == 7) then 10 else 32
-
--- the text of words, of which the first stands at a place
+-- The text of words, of which the first stands at a place. LF is behind the last word and behind
+-- each eighth one, and a space behind the others.
 abbrev pub text_from : ℕ → List ℕ → List ℕ
 text_from place [] = []
-text_from place (word ∷ words) = hex_digits 5 word ++ word_end place words ∷ text_from (place + 1) words
+text_from place (word ∷ words) =
+    hex_digits 5 word ++ (if is_empty words || (place % 8 == 7) then 10 else 32)
+    ∷ text_from (place + 1) words
 
 -- eight words on a line, one space between them, each line ended by LF
 abbrev pub text_of_words : List ℕ → List ℕ
@@ -34,7 +32,8 @@ word_onto place None rest = Err place
 word_onto place (Some word) (Ok words) = Ok (word ∷ words)
 word_onto place (Some word) (Err bad) = Err bad
 
--- the words that tokens write, of which the first stands at a place, or the place of the first that writes none
+-- the words that tokens write, of which the first stands at a place, or the place of the first that
+-- writes none
 abbrev pub words_from : ℕ → List (List ℕ) → Result (List ℕ) ℕ
 words_from place [] = Ok []
 words_from place (token ∷ rest) = word_onto place (word_of token) (words_from (place + 1) rest)

@@ -2,7 +2,8 @@
 use Rattle.std.specs.Prelude.{◌==◌, ℕ, zero, suc, ◌+◌, ◌-◌, ◌*◌, ◌/◌, ◌%◌, ◌^◌, List, [], ◌∷◌, Bool, nat_le, if◌then◌else◌}
 use Rattle.std.specs.Int.{bit_at, from_bool}
 
--- the low bits of a number, as many as `width`, the highest first: a word is `bits 18` of its number
+-- the low bits of a number, as many as `width`, the highest first: a word is `bits 18` of its
+-- number
 unfoldable pub bits : ℕ → ℕ → List ℕ
 bits zero n = []
 bits (suc width) n = bit_at n width ∷ bits width n
@@ -27,20 +28,16 @@ word_twice a = 2 * a % 2 ^ 18
 abbrev pub word_half : ℕ → ℕ
 word_half a = a / 2 + a / 2 ^ 17 * 2 ^ 17
 
--- what a multiply step adds to T: S where the lowest bit of A is 1, else nothing
-abbrev pub partial_sum : ℕ → ℕ → ℕ → ℕ
-partial_sum t s a = if a % 2 == 1 then word_sum t s else t
-
--- A multiply step gives T and A: the partial sum and A, as one number of 36 bits, shift right by one,
--- and bit 17 of the sum is kept.
+-- A multiply step gives T and A: S is added to T if the lowest bit of A is 1. Then the sum and A,
+-- as one number of 36 bits, shift right by one, and bit 17 of the sum is kept.
 abbrev pub multiply_step : ℕ → ℕ → ℕ → ℕ × ℕ
-multiply_step t s a = let sum = partial_sum t s a in (word_half sum, a / 2 + sum % 2 * 2 ^ 17)
+multiply_step t s a =
+    let sum = if a % 2 == 1 then word_sum t s else t in
+    (word_half sum, a / 2 + sum % 2 * 2 ^ 17)
 
--- what a multiply step with a carry adds to T, and the carry behind it: S and the carry where the lowest bit of
--- A is 1, else nothing, and the carry stays
-abbrev pub partial_carry_sum : ℕ → ℕ → ℕ → Bool → ℕ × Bool
-partial_carry_sum t s a carry = if a % 2 == 1 then carry_sum t s carry else (t, carry)
-
--- A multiply step with a carry gives T, A and the carry; the shift is that of the step without.
+-- A multiply step with a carry gives T, A and the carry: S and the carry are added to T if the
+-- lowest bit of A is 1, and else the carry stays. Then the sum and A shift as in the step without.
 abbrev pub multiply_step_carry : ℕ → ℕ → ℕ → Bool → ℕ × ℕ × Bool
-multiply_step_carry t s a carry = let sum = partial_carry_sum t s a carry in (word_half sum.0, a / 2 + sum.0 % 2 * 2 ^ 17, sum.1)
+multiply_step_carry t s a carry =
+    let sum = if a % 2 == 1 then carry_sum t s carry else (t, carry) in
+    (word_half sum.0, a / 2 + sum.0 % 2 * 2 ^ 17, sum.1)

@@ -6,8 +6,8 @@ use crate::word::Word18;
 use std::fmt;
 use std::marker::Model;
 
-/// A number below 2^12, as an address is, which prints as three hex digits in upper case. A contract sees it as this
-/// number.
+/// A number below 2^12, as an address is, which prints as three hex digits in upper case. A
+/// contract sees it as this number.
 #[derive(Clone, Copy, Debug, PartialEq, Eq)]
 pub struct Hex3 {
     number: u16,

@@ -51,8 +51,8 @@ impl Word18 {
         }
     }
 
-    /// The sum of two words and a carry modulo 2^18, and the carry out of bit 17, as `+` makes them of T and
-    /// S in extended mode. (The carry is this project's profile.)
+    /// The sum of two words and a carry modulo 2^18, and the carry out of bit 17, as `+` makes them
+    /// of T and S in extended mode. (The carry is this project's profile.)
     pub fn add_carry(self, other: Self, carry: bool) -> (Self, bool)
         ensures { result ≡ carry_sum self other carry }
     {
@@ -124,10 +124,12 @@ impl Word18 {
         (sum.half(), low)
     }
 
-    /// One step of a multiplication in extended mode: T, A and the carry after it, from T, S, A and the carry.
+    /// One step of a multiplication in extended mode: T, A and the carry after it, from T, S, A and
+    /// the carry.
     ///
-    /// Where bit 0 of A is 1, S and the carry are first added to T, and the carry is that out of bit 17;
-    /// else it stays. Then T and A shift as in `mul_step`. (The carry is this project's profile.)
+    /// Where bit 0 of A is 1, S and the carry are first added to T, and the carry is that out of
+    /// bit 17; else it stays. Then T and A shift as in `mul_step`. (The carry is this project's
+    /// profile.)
     pub fn mul_step_carry(t: Self, s: Self, a: Self, carry: bool) -> (Self, Self, bool)
         ensures { result ≡ multiply_step_carry t s a carry }
     {

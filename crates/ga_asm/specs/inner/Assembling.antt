@@ -1,23 +1,20 @@
 -- The image of one node, and its first fault.
-use Rattle.std.specs.Prelude.{◌≡◌, ℕ, List, [], ◌∷◌, ◌++◌, length, Option, Some, None}
+use Rattle.std.specs.Prelude.{◌≡◌, ◌≢◌, ℕ, List, [], ◌∷◌, ◌++◌, length}
 use Rattle.ga_pack.specs.Model.Layout.{names_in}
-use Rattle.ga_pack.specs.Model.LayoutFault.{AsmFault, AsmKind, AllPass, fault_place}
+use Rattle.ga_pack.specs.Model.LayoutFault.{AllPass, fault_place}
 use Rattle.ga_pack.specs.Model.Program.{PlacedItem}
 use Rattle.ga_pack.specs.Model.Source.{Item}
 use Rattle.ga_pack.specs.Model.Text.{Place}
+use Rattle.ga_pack.specs.declared.error_kind.AsmErrorKind.TheVariants.{Memory}
 use Rattle.ga_asm.specs.Image.{ImageView, IsImage}
+use Rattle.ga_pack.specs.declared.error_kind.AsmErrorKind.{AsmErrorKind}
 
 -- an image of items without a fault
 pub record IsFaultless (items : List Item) (image : ImageView) : Type 0 where
   pub image_is : IsImage items image
   pub passed : AllPass (names_in items) [] items
 
--- the first fault of a node's items, unless memory was refused
-abbrev pub IsNodeFault : List Item → ℕ → Option AsmKind → Type 0
-IsNodeFault items at None = Unit {0}
-IsNodeFault items at (Some kind) = AsmFault items at kind
-
--- the place where a fault of the item behind so many others is told
+-- the place where a fault of the item behind so many others is reported
 pub record IsPlaceOf (items : List PlacedItem) (at : ℕ) (place : Place) : Type 0 where
   pub front : List PlacedItem
   pub item : PlacedItem
@@ -26,7 +23,7 @@ pub record IsPlaceOf (items : List PlacedItem) (at : ℕ) (place : Place) : Type
   pub at_is : at ≡ length front
   pub place_is : place ≡ fault_place item
 
--- a fault of the item behind so many others is told, unless memory was refused
-abbrev pub IsTold : List PlacedItem → ℕ → Option AsmKind → Option AsmKind → Place → Type 0
-IsTold items at kind None place = Unit {0}
-IsTold items at kind (Some told) place = (kind ≡ Some told) × IsPlaceOf items at place
+-- a fault of the item behind so many others is reported, unless memory was refused
+abbrev pub IsReported : List PlacedItem → ℕ → AsmErrorKind → AsmErrorKind → Place → Type 0
+IsReported items at kind reported place =
+    reported ≢ Memory → (kind ≡ reported) × IsPlaceOf items at place

@@ -1,16 +1,16 @@
 -- What is kept of the items of a node while they are laid.
-use Rattle.std.specs.Prelude.{◌≡◌, ◌<◌, ◌≤◌, ℕ, ◌+◌, Bool, true, false, List, [], ◌∷◌, ◌++◌, length, map, Option, Some, None, Result, Ok, Err, if◌then◌else◌}
+use Rattle.std.specs.Prelude.{◌≡◌, ◌≢◌, ◌<◌, ◌≤◌, ℕ, ◌+◌, Bool, true, false, List, [], ◌∷◌, ◌++◌, length, map, Option, Some, None, Result, Ok, Err, if◌then◌else◌}
 use Rattle.std.specs.Option.{option_map, option_or}
 use Rattle.ga_word.specs.declared.op.Op.{Op}
 use Rattle.ga_pack.specs.Model.Layout.{Labels, Group, Shared, Alone, StandIn, address_after, is_loose, joins, labels_after, names_in, op_of, ops_of, size}
-use Rattle.ga_pack.specs.Model.LayoutFault.{AsmKind, FirstPassFault, AllPass}
+use Rattle.ga_pack.specs.Model.LayoutFault.{AllPass}
 use Rattle.ga_pack.specs.Model.Source.{Item, Here, Data, is_among}
 use Rattle.ga_source.specs.declared.item.Item as an
 use Rattle.ga_source.specs.Item.{item_of}
 use Rattle.ga_source.specs.Name.{NameText}
-use Rattle.ga_asm.specs.Error.{kind_of}
+use Rattle.ga_pack.specs.declared.error_kind.AsmErrorKind.TheVariants.{Memory}
 use Rattle.ga_asm.specs.Image.{all_near, item_count, labels_of}
-use Rattle.ga_asm.specs.declared.error.AsmErrorKind.{AsmErrorKind}
+use Rattle.ga_pack.specs.declared.error_kind.AsmErrorKind.{AsmErrorKind}
 use Rattle.ga_asm.specs.declared.layout.Layout as the
 use Rattle.ga_asm.specs.declared.open_word.OpenWord.{OpenWord}
 
@@ -39,7 +39,8 @@ joins_open labels (Some word) i = joins labels word.0 word.1 i
 abbrev pub joins_word : the.Layout → Item → Bool
 joins_word l i = joins_open (labels_of l.labels.entries) (open_of l) i
 
--- the open word behind an item, which joins it, or begins a word at an address, or makes no word that is open
+-- the open word behind an item, which joins it, or begins a word at an address, or makes no word
+-- that is open
 abbrev pub open_after : Bool → Open → ℕ → Item → Open
 open_after true None address i = None
 open_after true (Some word) address i = Some (word.0, word.1 ++ op_of i ∷ [])
@@ -53,7 +54,8 @@ open_count (Some word) = length word.1 ∷ []
 -- how many items each closed group has, behind an item
 abbrev pub counts_after : Bool → Open → List ℕ → Item → List ℕ
 counts_after true open_word counts i = counts
-counts_after false open_word counts i = counts ++ open_count open_word ++ (if is_loose i then [] else 1 ∷ [])
+counts_after false open_word counts i =
+    counts ++ open_count open_word ++ (if is_loose i then [] else 1 ∷ [])
 
 abbrev pub is_data : Item → Bool
 is_data Data = true
@@ -87,7 +89,8 @@ closed_counts (group ∷ next ∷ groups) = item_count group ∷ closed_counts (
 abbrev pub data_at : ℕ → List Group → Option ℕ
 data_at address [] = None
 data_at address (Shared i is ∷ groups) = data_at (address + size (Shared i is)) groups
-data_at address (Alone i ∷ groups) = if is_data i then Some address else data_at (address + size (Alone i)) groups
+data_at address (Alone i ∷ groups) =
+    if is_data i then Some address else data_at (address + size (Alone i)) groups
 
 -- the names of labels
 abbrev pub names_of : Labels → List (List ℕ)
@@ -139,17 +142,8 @@ pub record Placing (items : List Item) (l : the.Layout) : Type 0 where
   pub few : l.address ≤ 64
   pub labels_near : all_near (labels_of l.labels.entries) ≡ true
 
--- what was refused for this fault, unless memory was
-abbrev pub IsRefusal : Option AsmKind → Option AsmKind → Type 0
-IsRefusal fault None = Unit {0}
-IsRefusal fault (Some kind) = fault ≡ Some kind
-
--- an item with this fault or none was refused for it, or passed where it has none
-abbrev pub Refuses : {A : Type 0} → Option AsmKind → Result A AsmErrorKind → Type 0
+-- an item with this fault or none was refused for it, unless memory was, or passed where it has
+-- none
+abbrev pub Refuses : {A : Type 0} → Option AsmErrorKind → Result A AsmErrorKind → Type 0
 Refuses fault (Ok x) = fault ≡ None
-Refuses fault (Err kind) = IsRefusal fault (kind_of kind)
-
--- The first fault of the first pass, unless memory was refused.
-abbrev pub IsFirstPassFault : List Item → ℕ → Option AsmKind → Type 0
-IsFirstPassFault items at None = Unit {0}
-IsFirstPassFault items at (Some kind) = FirstPassFault items at kind
+Refuses fault (Err kind) = kind ≢ Memory → fault ≡ Some kind

@@ -4,7 +4,7 @@ use Rattle.std.specs.Option.{unwrap_or}
 use Rattle.ga_word.specs.declared.op.Op.{Op}
 use Rattle.ga_pack.specs.Encoding.{pack_fault}
 use Rattle.ga_pack.specs.Model.Layout.{Labels, Group, Shared, Alone, GroupWords, Laid, StandIn, Words, address_after, all_in_reach, dest_in, is_loose, items_of, labels_after, last_dest, names_in, ops_of, with_fillers}
-use Rattle.ga_pack.specs.Model.LayoutFault.{AsmKind, AllPass, SecondPassFault}
+use Rattle.ga_pack.specs.Model.LayoutFault.{AllPass}
 use Rattle.ga_pack.specs.Model.Source.{Item, Transfer, is_item}
 use Rattle.ga_asm.specs.Image.{item_count, labels_of}
 use Rattle.ga_asm.specs.inner.Layout.{data_at}
@@ -25,7 +25,8 @@ IsPackable ops dest spare = pack_fault (with_fillers ops dest) dest spare ≡ No
 
 -- Items outside brackets that share a word, or an item that shares no word.
 abbrev pub IsGroupBy : Labels → Bool → Item → List Item → Type 0
-IsGroupBy labels true i is = (length (i ∷ is) ≤ 4) × IsPackable (ops_of (i ∷ is)) (last_dest labels 0 (i ∷ is)) 0
+IsGroupBy labels true i is =
+    (length (i ∷ is) ≤ 4) × IsPackable (ops_of (i ∷ is)) (last_dest labels 0 (i ∷ is)) 0
 IsGroupBy labels false i is = is_item i ≡ true
 
 -- These items are a group.
@@ -41,10 +42,13 @@ follower_list (Some n) = n ∷ []
 -- These items, which are a group, were laid as words behind others.
 unfoldable pub MoreWords : Labels → List Item → List ℕ → List ℕ → Type 0
 MoreWords labels [] words more = ⊥
-MoreWords labels (i ∷ is) words more = (new : List ℕ) × GroupWords labels (group_of i is) new × (more ≡ words ++ new)
+MoreWords labels (i ∷ is) words more =
+    (new : List ℕ) × GroupWords labels (group_of i is) new × (more ≡ words ++ new)
 
--- The words of the groups in front are made, and no name in them is out of reach. These items are left.
-pub record Making (items : List Item) (l : the.Layout) (done : ℕ) (rest : List Item) (words : List ℕ) : Type 0 where
+-- The words of the groups in front are made, and no name in them is out of reach. These items are
+-- left.
+pub record Making (items : List Item) (l : the.Layout) (done : ℕ) (rest : List Item)
+    (words : List ℕ) : Type 0 where
   pub front : List Group
   pub back : List Group
   pub stand_in : StandIn items (front ++ back)
@@ -58,11 +62,6 @@ pub record Making (items : List Item) (l : the.Layout) (done : ℕ) (rest : List
   pub words_are : Words (labels_of l.labels.entries) front words
   pub count : length words ≡ address_after 0 front
   pub near : all_in_reach (labels_of l.labels.entries) 0 front ≡ true
-
--- The first fault of the second pass, unless memory was refused.
-abbrev pub IsSecondPassFault : List Item → ℕ → Option AsmKind → Type 0
-IsSecondPassFault items at None = Unit {0}
-IsSecondPassFault items at (Some kind) = SecondPassFault items at kind
 
 -- All words are made, and no name is out of reach.
 pub record IsMade (items : List Item) (l : the.Layout) (words : List ℕ) : Type 0 where

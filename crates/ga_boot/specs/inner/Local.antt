@@ -51,11 +51,13 @@ Goes state (move ∷ moves) = Suits move (wants state) × Goes (moved state (giv
 -- no move changes the node's memory
 abbrev pub Calm : State → List Local → Type 0
 Calm state [] = Unit {0}
-Calm state (move ∷ moves) = ((moved state (given move)).ram ≡ state.ram) × Calm (moved state (given move)) moves
+Calm state (move ∷ moves) =
+    ((moved state (given move)).ram ≡ state.ram) × Calm (moved state (given move)) moves
 
 -- a move answers a need where a take may look at several sides
 abbrev pub Answers : Local → Need → Type 0
-Answers (Take side word) n = (sides : Sides) × (n ≡ need.Take sides) × (looked_at (one_side sides) sides side ≡ Some side)
+Answers (Take side word) n =
+    (sides : Sides) × (n ≡ need.Take sides) × (looked_at (one_side sides) sides side ≡ Some side)
 Answers m n = Suits m n
 
 abbrev pub Lives : State → List Local → Type 0

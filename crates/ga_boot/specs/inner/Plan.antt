@@ -16,8 +16,9 @@ use Rattle.ga_chip.specs.Legal.{IsLegal}
 use Rattle.ga_chip.specs.Laws.{AgreesWith, IsPrefix}
 use Rattle.ga_boot.specs.inner.Local.{Local, Feed, Take, lived, Goes, Calm, taken, posted, fed, history}
 
--- the root; of each other node of the tree the parent and the side that both share, and how deep it lies; and what each
--- node does up to the last word of its load words, and from there until it begins
+-- the root; of each other node of the tree the parent and the side that both share, and how deep it
+-- lies; and what each node does up to the last word of its load words, and from there until it
+-- begins
 pub record Plan : Type 0 where
   pub root : ℕ
   pub parent : ℕ → Option (ℕ × Side)
@@ -32,15 +33,17 @@ script plan name = plan.loads name ++ plan.starts name
 abbrev pub first_of : Part → State
 first_of part = record part.state { steps = 0 }
 
--- the root goes along its script, fed by its stream; its load ends with a word fed, and it takes nothing
+-- the root goes along its script, fed by its stream; its load ends with a word fed, and it takes
+-- nothing
 pub record IsRoot (plan : Plan) (part : Part) : Type 0 where
   pub goes : Goes (first_of part) (script plan plan.root)
   pub last : (front : List Local) × (word : ℕ) × (plan.loads plan.root ≡ front ++ Feed word ∷ [])
   pub takes : (side : Side) → taken side (script plan plan.root) ≡ []
   pub settled : (lived (first_of part) (plan.loads plan.root)).posted ≡ None
 
--- Another node of the tree waits for a word from any side; it takes all words of its script from its parent, which posts
--- just these. Its load ends with a word taken, and it starts with a word taken before it posts anything.
+-- Another node of the tree waits for a word from any side; it takes all words of its script from
+-- its parent, which posts just these. Its load ends with a word taken, and it starts with a word
+-- taken before it posts anything.
 pub record IsInside (plan : Plan) (name parent : ℕ) (side : Side) (part : Part) : Type 0 where
   pub there : neighbour_of parent side ≡ Some name
   pub wire : (cell : ℕ) × (cell_of parent side ≡ Some cell)
@@ -50,8 +53,8 @@ pub record IsInside (plan : Plan) (name parent : ℕ) (side : Side) (part : Part
   pub first : (word : ℕ) × (tail : List Local) × (script plan name ≡ Take side word ∷ tail)
       × Goes (moved (first_of part) (Some word)) tail
   pub last : (front : List Local) × (word : ℕ) × (plan.loads name ≡ front ++ Take side word ∷ [])
-  pub next : (front : List Local) × (word : ℕ) × (more : List Local) × (plan.starts name ≡ front ++ Take side word ∷ more)
-      × ((to : Side) → posted to front ≡ [])
+  pub next : (front : List Local) × (word : ℕ) × (more : List Local)
+      × (plan.starts name ≡ front ++ Take side word ∷ more) × ((to : Side) → posted to front ≡ [])
   pub only : (from : Side) → (from ≡ side → ⊥) → taken from (script plan name) ≡ []
   pub feeds : fed (script plan name) ≡ []
   pub loaded : posted side (plan.loads parent) ≡ taken side (plan.loads name)
@@ -68,8 +71,9 @@ pub record IsPlan (plan : Plan) (chip : Chip) : Type 0 where
   pub empty : (cell : ℕ) → pending chip cell ≡ None
   pub root : (part : Part) → part_of chip plan.root ≡ Some part → IsRoot plan part
   pub root_named : IsNodeName plan.root
-  pub inside : (name parent : ℕ) (side : Side) (part : Part) → plan.parent name ≡ Some (parent, side)
-      → part_of chip name ≡ Some part → IsInside plan name parent side part
+  pub inside : (name parent : ℕ) (side : Side) (part : Part)
+      → plan.parent name ≡ Some (parent, side) → part_of chip name ≡ Some part
+      → IsInside plan name parent side part
   pub inside_named : (name parent : ℕ) (side : Side) → plan.parent name ≡ Some (parent, side)
       → IsNodeName name × IsNodeName parent
   pub rootless : plan.parent plan.root ≡ None
@@ -79,28 +83,35 @@ pub record IsPlan (plan : Plan) (chip : Chip) : Type 0 where
   pub to_children : (name other : ℕ) (side : Side) → neighbour_of name side ≡ Some other
       → (plan.parent other ≡ Some (name, side) → ⊥) → posted side (script plan name) ≡ []
 
--- the words that the root is given in a run, those at the start and the pieces that come, are as planned as far as they go
+-- the words that the root is given in a run, those at the start and the pieces that come, are as
+-- planned as far as they go
 abbrev pub IsFed : Plan → Chip → List Event → Type 0
 IsFed plan chip events = (part : Part) → part_of chip plan.root ≡ Some part
-    → IsPrefix (words_left part.stream ++ words_fed chip events plan.root) (fed (script plan plan.root))
+    → IsPrefix (words_left part.stream ++ words_fed chip events plan.root)
+    (fed (script plan plan.root))
 
--- THE INVARIANT of a run: what each node did and its script agree as far as both go; and where some node went on behind
--- its script, no node of the tree still waits for its first word.
+-- THE INVARIANT of a run: what each node did and its script agree as far as both go; and where some
+-- node went on behind its script, no node of the tree still waits for its first word.
 pub record Booting (plan : Plan) (chip : Chip) (events : List Event) : Type 0 where
   pub agrees : (name : ℕ) → AgreesWith (history chip events name) (script plan name)
-  pub quiet : (past : ℕ) (m : Local) (rest : List Local) → history chip events past ≡ script plan past ++ m ∷ rest
-      → (name : ℕ) (above : ℕ × Side) → plan.parent name ≡ Some above → history chip events name ≡ [] → ⊥
+  pub quiet : (past : ℕ) (m : Local) (rest : List Local)
+      → history chip events past ≡ script plan past ++ m ∷ rest → (name : ℕ) (above : ℕ × Side)
+      → plan.parent name ≡ Some above → history chip events name ≡ [] → ⊥
 
 -- the root has taken its load part: as many words as were planned up to there
 abbrev pub LoadTaken : Plan → Chip → List Event → Type 0
-LoadTaken plan chip events = length (fed (plan.loads plan.root)) ≤ length (fed (history chip events plan.root))
+LoadTaken plan chip events =
+    length (fed (plan.loads plan.root)) ≤ length (fed (history chip events plan.root))
 
 -- a node has gone along its whole script
 abbrev pub Begun : Plan → Chip → List Event → ℕ → Type 0
-Begun plan chip events name = (rest : List Local) × (history chip events name ≡ script plan name ++ rest)
+Begun plan chip events name =
+    (rest : List Local) × (history chip events name ≡ script plan name ++ rest)
 
--- A node's memory is so when its load is taken, no move changes it from there until the node begins, and P is so then.
-pub record Prepares (plan : Plan) (name : ℕ) (part : Part) (ram : List ℕ) (address : ℕ) : Type 0 where
+-- A node's memory is so when its load is taken, no move changes it from there until the node
+-- begins, and P is so then.
+pub record Prepares (plan : Plan) (name : ℕ) (part : Part) (ram : List ℕ)
+    (address : ℕ) : Type 0 where
   pub memory : (lived (first_of part) (plan.loads name)).ram ≡ ram
   pub calm : Calm (lived (first_of part) (plan.loads name)) (plan.starts name)
   pub at : (lived (first_of part) (script plan name)).p ≡ address

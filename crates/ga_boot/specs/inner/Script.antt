@@ -18,17 +18,20 @@ head_moves side address count loop =
 -- the loop that sends the words that follow at another side
 abbrev pub send_moves : Side → Side → List ℕ → List Local
 send_moves side out [] = Own ∷ []
-send_moves side out (word ∷ words) = Take side word ∷ Post out word ∷ Check out ∷ Own ∷ send_moves side out words
+send_moves side out (word ∷ words) =
+    Take side word ∷ Post out word ∷ Check out ∷ Own ∷ send_moves side out words
 
 -- a pump
 abbrev pub pump_moves : Side → Side → List ℕ → List Local
-pump_moves side out words = head_moves side (port_address_of out) (length words - 1) SEND ++ send_moves side out words
+pump_moves side out words =
+    head_moves side (port_address_of out) (length words - 1) SEND ++ send_moves side out words
 
 -- one pump for each subtree
 abbrev pub subtree_moves : Part → Side → Grove → List Local
 subtree_moves part side Bare = []
 subtree_moves part side (Tree name out image inner beside) =
-    pump_moves side out (sent part name out image (pumps part inner)) ++ subtree_moves part side beside
+    pump_moves side out (sent part name out image (pumps part inner))
+    ++ subtree_moves part side beside
 
 -- the loop that stores the words that follow
 abbrev pub store_moves : Side → List ℕ → List Local
@@ -38,7 +41,8 @@ store_moves side (word ∷ words) = Take side word ∷ Own ∷ Own ∷ store_mov
 -- the node's memory is filled
 abbrev pub load_moves : Side → Option ImageView → List Local
 load_moves side None = []
-load_moves side (Some image) = head_moves side 0 (length image.words - 1) STORE ++ store_moves side image.words
+load_moves side (Some image) =
+    head_moves side 0 (length image.words - 1) STORE ++ store_moves side image.words
 
 -- what a node does up to the last word that loads it, `. . . .`
 abbrev pub load_script : Side → Option ImageView → Grove → List Local
@@ -58,7 +62,8 @@ post_moves out [] = []
 post_moves out (word ∷ words) = Feed word ∷ Post out word ∷ Check out ∷ post_moves out words
 
 abbrev pub frame_moves : Side → List ℕ → List Local
-frame_moves out words = Feed MORE ∷ Feed (port_address_of out) ∷ Feed (length words) ∷ post_moves out words
+frame_moves out words =
+    Feed MORE ∷ Feed (port_address_of out) ∷ Feed (length words) ∷ post_moves out words
 
 -- one frame for each subtree
 abbrev pub subtree_frames : Part → Grove → List Local
@@ -68,4 +73,5 @@ subtree_frames part (Tree name out image inner beside) =
 
 -- what the root does for a part of its stream
 abbrev pub root_script : Part → ℕ → Option ImageView → Grove → List Local
-root_script part name image trees = subtree_frames part trees ++ map Feed (own_frame part name image)
+root_script part name image trees =
+    subtree_frames part trees ++ map Feed (own_frame part name image)

@@ -38,8 +38,10 @@ plan_of root image trees = record {
   root = root;
   parent = λ name. option_map (λ p. (p.parent, p.side)) (found name (places root trees));
   depth = λ name. depth_in name 1 trees;
-  loads = λ name. if name == root then root_script Load root image trees else loading_by (found name (places root trees));
-  starts = λ name. if name == root then root_script Start root image trees else starting_by (found name (places root trees));
+  loads = λ name. if name == root then root_script Load root image trees
+      else loading_by (found name (places root trees));
+  starts = λ name. if name == root then root_script Start root image trees
+      else starting_by (found name (places root trees));
 }
 
 -- a chip as after reset, but that a root is to load itself from a stream

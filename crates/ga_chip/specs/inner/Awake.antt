@@ -20,7 +20,8 @@ is_in place set = is_bit place set.words
 -- A legal chip, and its nodes that are awake. All others sleep: a try of one would move at no side.
 pub record Knows (chip : Chip) (awake : NodeSet) : Type 0 where
   pub legal : IsLegal chip
-  pub still : (index : ℕ) (side : Side) → index < 144 → is_in index awake ≡ false → (tried chip (name_at index) side).0 ≢ Moved
+  pub still : (index : ℕ) (side : Side) → index < 144 → is_in index awake ≡ false
+      → (tried chip (name_at index) side).0 ≢ Moved
 
 -- the side at which a step passes a word: where the node takes or posts one
 abbrev pub port_by : Need → Side → Option Side

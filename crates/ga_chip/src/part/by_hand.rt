@@ -1,4 +1,5 @@
-//! Tries of a node by hand, over cells that stand elsewhere: what a try asks for, and its change to the node.
+//! Tries of a node by hand, over cells that stand elsewhere: what a try asks for, and its change to
+//! the node.
 ghost use Rattle.std.specs.Prelude.{◌≡◌, ◌≢◌, ℕ, false, true, None, Some};
 ghost use Rattle.ga_place.specs.declared.side.Side.{Side};
 ghost use Rattle.ga_node.specs.Need.{need_of};
@@ -18,10 +19,11 @@ use ga_place::{CellId, Side};
 use ga_word::Word18;
 
 impl NodePart {
-    /// What a try of the node that names a side asks for. `Nothing` has what comes of the try, and is never
-    /// `Moved`: a node that makes no step any more is `Stopped`; else one that is about to fetch at a breakpoint,
-    /// without a pass, is `Held`; and one that asks at a side without a neighbour, or for a word of its stream
-    /// where none is left, `Waits`. Such a try changes nothing, and needs no further call.
+    /// What a try of the node that names a side asks for. `Nothing` has what comes of the try, and
+    /// is never `Moved`: a node that makes no step any more is `Stopped`; else one that is about to
+    /// fetch at a breakpoint, without a pass, is `Held`; and one that asks at a side without a
+    /// neighbour, or for a word of its stream where none is left, `Waits`. Such a try changes
+    /// nothing, and needs no further call.
     pub fn asks(&self, side: Side) -> Asks
         ensures value { result ≡ asked_of self.now side }
         ensures still { (outcome : Outcome) → result ≡ Asks.Nothing outcome → outcome ≢ Moved }
@@ -33,8 +35,8 @@ impl NodePart {
         self.asked_by(&need, side)
     }
 
-    /// Where the node's tries look, if each of them asks to take a word or for nothing, whatever side it names. As long
-    /// as no try finds a word, the node stays as it is, and so do its looks.
+    /// Where the node's tries look, if each of them asks to take a word or for nothing, whatever
+    /// side it names. As long as no try finds a word, the node stays as it is, and so do its looks.
     #[tactic(auto, unfolding(crate::specs::Asks::looks_of))]
     pub fn looks(&self) -> Option<Looks>
         ensures { result ≡ looks_of self.now }
@@ -57,7 +59,8 @@ impl NodePart {
         }
     }
 
-    /// Makes a try that asks for `Own`: the node does its own work, or takes the next word of its stream.
+    /// Makes a try that asks for `Own`: the node does its own work, or takes the next word of its
+    /// stream.
     pub fn done_own(&mut self) -> Outcome
         requires { (side : Side) × (asked_of self.old side ≡ Asks.Own) }
         ensures part { (side : Side) → asked_of self.old side ≡ Asks.Own
@@ -83,8 +86,8 @@ impl NodePart {
         self.post(to, word)
     }
 
-    /// Makes a try that asks for a take at this side, by the word that was found in the cell and taken from it: the
-    /// node waits where there was none.
+    /// Makes a try that asks for a take at this side, by the word that was found in the cell and
+    /// taken from it: the node waits where there was none.
     pub fn done_take(&mut self, from: Side, found: Option<Word18>) -> Outcome
         requires { (side : Side) × (cell : ℕ) × (asked_of self.old side ≡ Asks.Take from cell) }
         ensures part { (side : Side) (cell : ℕ) → asked_of self.old side ≡ Asks.Take from cell
@@ -94,8 +97,8 @@ impl NodePart {
         self.take(from, found)
     }
 
-    /// Makes a try that asks for a check at this side, by whether the cell was found empty, since its word was read:
-    /// the node waits where it wasn't.
+    /// Makes a try that asks for a check at this side, by whether the cell was found empty, since
+    /// its word was read: the node waits where it wasn't.
     pub fn done_check(&mut self, to: Side, empty: bool) -> Outcome
         requires { (side : Side) × (cell : ℕ) × (asked_of self.old side ≡ Asks.Check to cell) }
         ensures read { (side : Side) (cell : ℕ) → asked_of self.old side ≡ Asks.Check to cell
@@ -107,9 +110,10 @@ impl NodePart {
         self.check(empty)
     }
 
-    /// The quick way of a try that asks for `Own`, as most do: makes its change to the node and answers true. Where the
-    /// try asks for something else it answers false, and it may do so where the node takes a word of its stream, or is
-    /// about to fetch and has a breakpoint or a pass: then nothing is changed, and `asks` tells what to do.
+    /// The quick way of a try that asks for `Own`, as most do: makes its change to the node and
+    /// answers true. Where the try asks for something else it answers false, and it may do so where
+    /// the node takes a word of its stream, or is about to fetch and has a breakpoint or a pass:
+    /// then nothing is changed, and `asks` tells what to do.
     #[inline(always)]
     pub fn done_if_own(&mut self) -> bool
         ensures asks { result ≡ true → (side : Side) → asked_of self.old side ≡ Asks.Own }

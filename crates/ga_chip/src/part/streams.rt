@@ -24,8 +24,8 @@ impl NodePart {
         }
     }
 
-    /// Gives a node that has made no step words for the front of its memory, at most 64, and P an entry, an
-    /// address of ten bits.
+    /// Gives a node that has made no step words for the front of its memory, at most 64, and P an
+    /// entry, an address of ten bits.
     pub(crate) fn give(&mut self, words: &[Word18], entry: u16)
         requires words { length words.now ≤ 64 }
         requires entry { entry < 2 ^ 10 }
@@ -45,7 +45,8 @@ impl NodePart {
         self.opened = false;
     }
 
-    /// Opens the stream of a node that has made no step: it loads itself from words that are still to come.
+    /// Opens the stream of a node that has made no step: it loads itself from words that are still
+    /// to come.
     pub(crate) fn open_stream(&mut self)
         requires new { self.old.state.steps ≡ 0 }
         ensures { self.new ≡ opening self.old }

@@ -9,8 +9,10 @@ use Rattle.ga_port.specs.Seat.{SeatView, kept}
 -- the parts stand in order of name, and the seat has each of them
 pub record AreKept (nodes : List (Option Holding)) (parts : List Part) : Type 0 where
   pub count : length parts ≡ 144
-  pub placed : (index : ℕ) (part : Part) → slice_get parts index ≡ Some part → index_of part.state.node ≡ index
-  pub has : (index : ℕ) (part : Part) → slice_get parts index ≡ Some part → (one : Holding) × (kept nodes part.state.node ≡ Some one) × (one.part ≡ part)
+  pub placed : (index : ℕ) (part : Part) → slice_get parts index ≡ Some part
+      → index_of part.state.node ≡ index
+  pub has : (index : ℕ) (part : Part) → slice_get parts index ≡ Some part
+      → (one : Holding) × (kept nodes part.state.node ≡ Some one) × (one.part ≡ part)
 
 -- a seat of these cells, with the nodes of which the caller has the parts
 pub record AreInHand (cells : CellsView) (seat : SeatView) (parts : List Part) : Type 0 where

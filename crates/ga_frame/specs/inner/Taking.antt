@@ -8,6 +8,9 @@ use Rattle.ga_frame.specs.declared.error.FrameError.{FrameError}
 abbrev pub BeginsWith : List ℕ → FrameView → List ℕ → Type 0
 BeginsWith words frame behind = (words ≡ words_of frame ++ behind) × WellFormed frame
 
--- Behind frames that go on and have so many words, words have this first fault, whatever follows them.
+-- Behind frames that go on and have so many words, words have this first fault, whatever follows
+-- them.
 pub record HasFaultBehind (at : ℕ) (words : List ℕ) (fault : FrameError) : Type 0 where
-  pub first : (front : List FrameView) (more : List ℕ) → All GoesOn front → length (flat_map words_of front) ≡ at → IsFirstFault (flat_map words_of front ++ (words ++ more)) fault
+  pub first : (front : List FrameView) (more : List ℕ) → All GoesOn front
+      → length (flat_map words_of front) ≡ at
+      → IsFirstFault (flat_map words_of front ++ (words ++ more)) fault

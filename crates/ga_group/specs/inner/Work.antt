@@ -32,37 +32,46 @@ pub record IsReady (table : CellsId) (seat : SeatView) (parts : List Part) : Typ
   pub lent : AreLent parts seat.nodes
   pub once : first_repeated [] (names_of parts) ≡ None
 
--- The nodes with these names have got tries that name these sides, and of the others nothing has changed.
-pub record HaveGained (old new : List (Option Holding)) (names : List ℕ) (sides : List Side) : Type 0 where
-  pub tried : (name : ℕ) (one : Holding) → is_among name names ≡ true → kept old name ≡ Some one → (part : Part) × (kept new name ≡ Some (record { part = part; sides = one.sides ++ sides }))
+-- The nodes with these names have got tries that name these sides, and of the others nothing has
+-- changed.
+pub record HaveGained (old new : List (Option Holding)) (names : List ℕ)
+    (sides : List Side) : Type 0 where
+  pub tried : (name : ℕ) (one : Holding) → is_among name names ≡ true → kept old name ≡ Some one
+      → (part : Part) × (kept new name ≡ Some (record { part = part; sides = one.sides ++ sides }))
   pub others : (name : ℕ) → is_among name names ≡ false → kept new name ≡ kept old name
 
--- What becomes of a seat, and of parts that are lent with it: each node of theirs has got tries that name these sides.
-pub record HasWorked (before after : SeatView) (old new : List Part) (sides : List Side) : Type 0 where
+-- What becomes of a seat, and of parts that are lent with it: each node of theirs has got tries
+-- that name these sides.
+pub record HasWorked (before after : SeatView) (old new : List Part)
+    (sides : List Side) : Type 0 where
   pub table : after.table ≡ before.table
   pub names : names_of new ≡ names_of old
   pub lent : AreLent new after.nodes
   pub gained : HaveGained before.nodes after.nodes (names_of old) sides
 
 -- Parts, nodes and groups of nodes are in one order.
-pub record AreGrouped {A : Type 0} (groups : List (Vec ℕ A)) (nodes : List ℕ) (parts : List Part) : Type 0 where
+pub record AreGrouped {A : Type 0} (groups : List (Vec ℕ A)) (nodes : List ℕ)
+    (parts : List Part) : Type 0 where
   pub nodes_is : concat (groups_in groups) ≡ nodes
   pub parts_is : names_of parts ≡ nodes
   pub few : length nodes ≤ 144
 
 -- No two of the names are one.
 pub record AreApart (names : List ℕ) : Type 0 where
-  pub places : (here there name : ℕ) → slice_get names here ≡ Some name → slice_get names there ≡ Some name → here ≡ there
+  pub places : (here there name : ℕ) → slice_get names here ≡ Some name
+      → slice_get names there ≡ Some name → here ≡ there
 
 -- Each node of the chip has one of the parts, and no node two.
 pub record HasAllNodes (parts : List Part) : Type 0 where
   pub count : length parts ≡ 144
-  pub at : (name : ℕ) → IsNodeName name → (place : ℕ) × (slice_get (names_of parts) place ≡ Some name)
+  pub at : (name : ℕ) → IsNodeName name
+      → (place : ℕ) × (slice_get (names_of parts) place ≡ Some name)
   pub once : AreApart (names_of parts)
 
 -- Each of some parts is one of others.
 pub record AreSome (parts others : List Part) : Type 0 where
-  pub at : (index : ℕ) (part : Part) → slice_get parts index ≡ Some part → (place : ℕ) × (slice_get others place ≡ Some part)
+  pub at : (index : ℕ) (part : Part) → slice_get parts index ≡ Some part
+      → (place : ℕ) × (slice_get others place ≡ Some part)
 
 -- where the tries of a node look, if it is known
 abbrev pub IsKnown : Part → Option (List (Option ℕ)) → Type 0
@@ -70,8 +79,11 @@ IsKnown part known = (looks : List (Option ℕ)) → known ≡ Some looks → lo
 
 -- so of each of some parts
 pub record AreKnown (parts : List Part) (known : List (Option (List (Option ℕ)))) : Type 0 where
-  pub at : (index : ℕ) (part : Part) (one : Option (List (Option ℕ))) → slice_get parts index ≡ Some part → slice_get known index ≡ Some one → IsKnown part one
+  pub at : (index : ℕ) (part : Part) (one : Option (List (Option ℕ)))
+      → slice_get parts index ≡ Some part → slice_get known index ≡ Some one → IsKnown part one
 
 -- A try of a node of the seat looks at this cell, or at none.
 abbrev pub LooksAt : List (Option Holding) → Try → Option ℕ → Type 0
-LooksAt nodes what look = (one : Holding) × (kept nodes what.node ≡ Some one) × (look_of (asked_of one.part what.side) ≡ Some look)
+LooksAt nodes what look =
+    (one : Holding) × (kept nodes what.node ≡ Some one)
+    × (look_of (asked_of one.part what.side) ≡ Some look)

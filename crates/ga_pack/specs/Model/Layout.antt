@@ -1,10 +1,10 @@
 -- How the items of a node are laid into words: what stands, and not how it is found.
 --
--- An item outside brackets is one opcode, and takes a slot of a word. Items that share a word fill it from
--- slot 0 on, and what is left of it holds fillers, `.`. A bracketed word, a plain word, a label, `align` and
--- `data` share no word with any item. The rules are this project's profile, on the words of the F18A reference,
--- DB001.
-use Rattle.std.specs.Prelude.{◌<◌, ◌≡◌, ◌==◌, ◌&&◌, ◌||◌, ℕ, zero, suc, ◌+◌, ◌%◌, ◌/◌, ◌^◌, Bool, true, false, not, List, [], ◌∷◌, ◌++◌, length, nat_lt, Option, Some, None, if◌then◌else◌}
+-- An item outside brackets is one opcode, and takes a slot of a word. Items that share a word fill
+-- it from slot 0 on, and what is left of it holds fillers, `.`. A bracketed word, a plain word, a
+-- label, `align` and `data` share no word with any item. The rules are this project's profile, on
+-- the words of the F18A reference, DB001.
+use Rattle.std.specs.Prelude.{◌<◌, ◌≡◌, ◌==◌, ◌&&◌, ◌||◌, ℕ, zero, suc, ◌+◌, ◌%◌, ◌/◌, ◌^◌, Bool, true, false, not, count_by, List, [], ◌∷◌, ◌++◌, length, nat_lt, Option, Some, None, if◌then◌else◌}
 use Rattle.std.specs.List.{list_all, list_any}
 use Rattle.std.specs.Option.{unwrap_or}
 use Rattle.std.specs.Str.{bytes_eq}
@@ -67,24 +67,18 @@ abbrev pub ops_of : List Item → List Op
 ops_of [] = []
 ops_of (i ∷ is) = op_of i ∷ ops_of is
 
--- The `@p` and `!p` among opcodes. Those behind `;` or `ex` count too (`followers` leaves them out).
-abbrev pub count_followed : List Op → ℕ
-count_followed [] = 0
-count_followed (o ∷ ops) = (if is_followed o then 1 else 0) + count_followed ops
-
--- P in the slot behind these opcodes of the word at an address: the next address, and one more for each word
--- that was followed
+-- P in the slot behind these opcodes of the word at an address: the next address, and one more for
+-- each `@p` and `!p`. Those behind `;` or `ex` count too (`followers` leaves them out).
 abbrev pub p_behind : ℕ → List Op → ℕ
-p_behind address ops = address + 1 + count_followed ops
+p_behind address ops = address + 1 + count_by is_followed ops
 
--- A page is eight words: a destination in slot 2 replaces the low three bits of P alone.
-abbrev pub same_page : ℕ → ℕ → Bool
-same_page p dest = dest / 8 == p / 8
-
--- The numbers that a destination in a slot reaches: from slot 0 each, from slot 1 those below 100 (hexadecimal),
--- and from slot 2 those in the page of P.
+-- The numbers that a destination in a slot reaches: from slot 0 each, from slot 1 those below 100
+-- (hexadecimal), and from slot 2 those in the page of P, which is eight words: the destination
+-- replaces its low three bits alone.
 abbrev pub reaches : ℕ → ℕ → ℕ → Bool
-reaches slot p dest = (slot == 0) || ((slot == 1) && nat_lt dest (dest_bound 1)) || ((slot == 2) && same_page p dest)
+reaches slot p dest =
+    (slot == 0) || ((slot == 1) && nat_lt dest (dest_bound 1))
+    || ((slot == 2) && (dest / 8 == p / 8))
 
 -- a label that is not defined yet may stand in slots 0 and 1, from where each address is in reach
 abbrev pub may_reach : ℕ → ℕ → Option ℕ → Bool
@@ -95,15 +89,19 @@ abbrev pub is_unext : Op → Bool
 is_unext Micronext = true
 is_unext o = false
 
--- Whether an item outside brackets fits the slot behind these opcodes of the word at an address. The labels are
--- those that are defined before the item. An `unext` runs its own word again, and never stands in slot 0.
+-- Whether an item outside brackets fits the slot behind these opcodes of the word at an address.
+-- The labels are those that are defined before the item. An `unext` runs its own word again, and
+-- never stands in slot 0.
 unfoldable pub fits : Labels → ℕ → List Op → Item → Bool
-fits labels address ops (Instruction o) = op_fits (length ops) o && (not (is_unext o) || nat_lt 0 (length ops))
-fits labels address ops (Transfer o v) = may_reach (length ops) (p_behind address ops) (value_of labels v)
+fits labels address ops (Instruction o) =
+    op_fits (length ops) o && (not (is_unext o) || nat_lt 0 (length ops))
+fits labels address ops (Transfer o v) =
+    may_reach (length ops) (p_behind address ops) (value_of labels v)
 fits labels address ops (Literal n) = op_fits (length ops) FetchP
 fits labels address ops i = false
 
--- It joins the word with these opcodes: none of them ends the word, and it fits the slot behind them.
+-- It joins the word with these opcodes: none of them ends the word, and it fits the slot behind
+-- them.
 abbrev pub joins : Labels → ℕ → List Op → Item → Bool
 joins labels address ops i = not (list_any ends_word ops) && fits labels address ops i
 
@@ -138,29 +136,32 @@ labels_behind labels address group = labels
 -- each of these items joins the word behind the opcodes before it
 abbrev pub stand : Labels → ℕ → List Op → List Item → Bool
 stand labels address ops [] = true
-stand labels address ops (i ∷ is) = joins labels address ops i && stand labels address (ops ++ op_of i ∷ []) is
+stand labels address ops (i ∷ is) =
+    joins labels address ops i && stand labels address (ops ++ op_of i ∷ []) is
 
 -- the next item would join too
 abbrev pub more_join : Labels → ℕ → List Op → List Item → Bool
 more_join labels address ops [] = false
 more_join labels address ops (i ∷ is) = joins labels address ops i
 
--- Groups from an address on, behind these labels. Items that share a word stand in it, and the word is full: the
--- next item would not join it.
+-- Groups from an address on, behind these labels. Items that share a word stand in it, and the word
+-- is full: the next item would not join it.
 --
--- So fillers stand only behind a word's last item. One in front of an item would let no item more stand in a word:
--- slot 0 holds an item, and what doesn't fit a slot from 1 on fits none behind it (`filler_gains_nothing` of
--- proofs/Fillers.antt), since slot 3 takes fewer opcodes than slot 2, and the page of P lies below 100 (hexadecimal).
+-- So fillers stand only behind a word's last item. One in front of an item would let no item more
+-- stand in a word: slot 0 holds an item, and what doesn't fit a slot from 1 on fits none behind it,
+-- since slot 3 takes fewer opcodes than slot 2, and the page of P lies below 100 (hexadecimal).
 --
--- A border closes a word: behind `;`, `ex` and a destination no item joins it, and a label, `align`, `data`, a
--- bracketed word and a plain word never do.
+-- A border closes a word: behind `;`, `ex` and a destination no item joins it, and a label,
+-- `align`, `data`, a bracketed word and a plain word never do.
 unfoldable pub Arrangement : Labels → ℕ → List Group → Type 0
 Arrangement labels address [] = Unit {0}
 Arrangement labels address (Shared i is ∷ groups) =
-    (stand labels address [] (i ∷ is) ≡ true) × (more_join labels address (ops_of (i ∷ is)) (items_of groups) ≡ false)
+    (stand labels address [] (i ∷ is) ≡ true)
+    × (more_join labels address (ops_of (i ∷ is)) (items_of groups) ≡ false)
     × Arrangement labels (address + size (Shared i is)) groups
 Arrangement labels address (Alone i ∷ groups) =
-    (is_loose i ≡ false) × Arrangement (labels_behind labels address (Alone i)) (address + size (Alone i)) groups
+    (is_loose i ≡ false)
+    × Arrangement (labels_behind labels address (Alone i)) (address + size (Alone i)) groups
 
 -- these are the groups of the items, in order, from address 0 on
 pub record StandIn (items : List Item) (groups : List Group) : Type 0 where
@@ -170,7 +171,8 @@ pub record StandIn (items : List Item) (groups : List Group) : Type 0 where
 -- the labels, and the address, behind groups
 abbrev pub labels_after : Labels → ℕ → List Group → Labels
 labels_after labels address [] = labels
-labels_after labels address (group ∷ groups) = labels_after (labels_behind labels address group) (address + size group) groups
+labels_after labels address (group ∷ groups) =
+    labels_after (labels_behind labels address group) (address + size group) groups
 
 abbrev pub address_after : ℕ → List Group → ℕ
 address_after address [] = address
@@ -214,30 +216,35 @@ pub record IsWord (word : ℕ) (ops : List Op) (dest : Option ℕ) (spare : ℕ)
   pub below : word < 2 ^ 18
   pub reads : Reads (bits 18 word) (with_fillers ops dest) dest spare
 
--- The words of a group, with the labels of the whole node. The followers of a shared word stand behind it; those
--- of a bracketed word are plain words, which stand alone.
+-- The words of a group, with the labels of the whole node. The followers of a shared word stand
+-- behind it; those of a bracketed word are plain words, which stand alone.
 unfoldable pub GroupWords : Labels → Group → List ℕ → Type 0
 GroupWords labels (Shared i is) words =
-    (word : ℕ) × IsWord word (ops_of (i ∷ is)) (last_dest labels 0 (i ∷ is)) 0 × (words ≡ word ∷ literals (i ∷ is))
-GroupWords labels (Alone (Word ops)) words = (word : ℕ) × IsWord word ops None 0 × (words ≡ word ∷ [])
+    (word : ℕ) × IsWord word (ops_of (i ∷ is)) (last_dest labels 0 (i ∷ is)) 0
+    × (words ≡ word ∷ literals (i ∷ is))
+GroupWords labels (Alone (Word ops)) words =
+    (word : ℕ) × IsWord word ops None 0 × (words ≡ word ∷ [])
 GroupWords labels (Alone (WordTo ops o v spare)) words =
-    (word : ℕ) × IsWord word (ops ++ o ∷ []) (Some (dest_in labels (length ops) v)) (unwrap_or spare 0) × (words ≡ word ∷ [])
+    (word : ℕ) × IsWord word (ops ++ o ∷ []) (Some (dest_in labels (length ops) v))
+    (unwrap_or spare 0) × (words ≡ word ∷ [])
 GroupWords labels (Alone (Plain v)) words = words ≡ value_number labels v ∷ []
 GroupWords labels (Alone i) words = words ≡ []
 
 unfoldable pub Words : Labels → List Group → List ℕ → Type 0
 Words labels [] words = words ≡ []
 Words labels (group ∷ groups) words =
-    (front : List ℕ) × (back : List ℕ) × GroupWords labels group front × Words labels groups back × (words ≡ front ++ back)
+    (front : List ℕ) × (back : List ℕ) × GroupWords labels group front × Words labels groups back
+    × (words ≡ front ++ back)
 
--- A name that is the destination of a bracketed word at an address is in reach from its slot. (A number there is the
--- field itself.) A label that is not among these is not judged.
+-- A name that is the destination of a bracketed word at an address is in reach from its slot. (A
+-- number there is the field itself.) A label that is not among these is not judged.
 abbrev pub is_near : ℕ → ℕ → Option ℕ → Bool
 is_near slot p (Some dest) = reaches slot p dest
 is_near slot p None = true
 
 abbrev pub is_in_reach : Labels → ℕ → Item → Bool
-is_in_reach labels address (WordTo ops o (Label s) spare) = is_near (length ops) (p_behind address ops) (address_of labels s)
+is_in_reach labels address (WordTo ops o (Label s) spare) =
+    is_near (length ops) (p_behind address ops) (address_of labels s)
 is_in_reach labels address i = true
 
 abbrev pub group_in_reach : Labels → ℕ → Group → Bool
@@ -246,7 +253,8 @@ group_in_reach labels address (Shared i is) = true
 
 abbrev pub all_in_reach : Labels → ℕ → List Group → Bool
 all_in_reach labels address [] = true
-all_in_reach labels address (group ∷ groups) = group_in_reach labels address group && all_in_reach labels (address + size group) groups
+all_in_reach labels address (group ∷ groups) =
+    group_in_reach labels address group && all_in_reach labels (address + size group) groups
 
 -- The items are laid as these words, with these labels, the first `code_len` words being code.
 pub record Laid (items : List Item) (words : List ℕ) (labels : Labels) (code_len : ℕ) : Type 0 where

@@ -1,23 +1,24 @@
 -- The first fault of a node's items, and of a program.
 --
--- A node is laid in two passes over its items. The first judges each item behind those that stand before it, where
--- a label is known once it is defined. The second judges the names in brackets by the labels that are defined later.
-use Rattle.std.specs.Prelude.{◌⊎◌, ◌≡◌, ◌&&◌, ℕ, ◌+◌, Bool, true, false, not, List, [], ◌∷◌, ◌++◌, length, map, nat_lt, Option, Some, None, if◌then◌else◌}
+-- A node is laid in two passes over its items. The first judges each item behind those that stand
+-- before it, where a label is known once it is defined. The second judges the names in brackets by
+-- the labels that are defined later.
+use Rattle.std.specs.Prelude.{◌⊎◌, ◌≡◌, ◌&&◌, ℕ, ◌+◌, Bool, true, false, not, List, [], ◌∷◌, ◌++◌, codes, length, map, nat_lt, Option, Some, None, if◌then◌else◌}
 use Rattle.std.specs.Option.{unwrap_or}
 use Rattle.ga_pack.specs.Model.Layout.{Labels, Group, Shared, Alone, Laid, StandIn, address_after, all_in_reach, is_defined, is_in_reach, is_unext, items_of, joins, labels_after, labels_behind, literals, names_in, ops_of, size}
 use Rattle.ga_pack.specs.Model.Program.{PlacedItem, PlacedSection}
 use Rattle.ga_pack.specs.Model.Source.{Item, Instruction, makes_word}
 use Rattle.ga_pack.specs.Model.Text.{Place}
+use Rattle.ga_pack.specs.declared.error_kind.AsmErrorKind.{AsmErrorKind}
+use Rattle.ga_pack.specs.declared.error_kind.AsmErrorKind.TheVariants.{UndefinedLabel, OutOfReach, UnextAlone, TooLong, Memory}
 
-pub data AsmKind : Type 0 where
-  -- an item uses a name that is no label of its node
-  UndefinedLabel : AsmKind
-  -- a name in brackets is out of reach from its slot
-  OutOfReach : AsmKind
-  -- an `unext` outside brackets would come to slot 0
-  UnextAlone : AsmKind
-  -- an item's word or follower would be the 65th
-  TooLong : AsmKind
+-- how the fault of a program is named
+abbrev pub asm_kind_name : AsmErrorKind → List ℕ
+asm_kind_name UndefinedLabel = codes "UndefinedLabel"
+asm_kind_name OutOfReach = codes "OutOfReach"
+asm_kind_name UnextAlone = codes "UnextAlone"
+asm_kind_name TooLong = codes "TooLong"
+asm_kind_name Memory = codes "Memory"
 
 -- ---- the first pass
 
@@ -26,7 +27,8 @@ abbrev pub joins_last : Labels → ℕ → List Group → Item → Bool
 joins_last labels address [] i = false
 joins_last labels address (Shared j js ∷ []) i = joins labels address (ops_of (j ∷ js)) i
 joins_last labels address (Alone j ∷ []) i = false
-joins_last labels address (group ∷ next ∷ groups) i = joins_last (labels_behind labels address group) (address + size group) (next ∷ groups) i
+joins_last labels address (group ∷ next ∷ groups) i =
+    joins_last (labels_behind labels address group) (address + size group) (next ∷ groups) i
 
 abbrev pub is_lone_unext : Bool → Item → Bool
 is_lone_unext joined (Instruction o) = not joined && is_unext o
@@ -34,11 +36,12 @@ is_lone_unext joined i = false
 
 -- how many words an item adds: one of its own where it joins none, and its follower
 abbrev pub words_added : Bool → Item → ℕ
-words_added joined i = (if joined then 0 else if makes_word i then 1 else 0) + length (literals (i ∷ []))
+words_added joined i =
+    (if joined then 0 else if makes_word i then 1 else 0) + length (literals (i ∷ []))
 
--- The fault of an item at an address, the first of these that applies. The names are all labels of the node, the
--- labels are those before the item, and it joins the last word or not.
-abbrev pub fault_at : List (List ℕ) → Labels → ℕ → Bool → Item → Option AsmKind
+-- The fault of an item at an address, the first of these that applies. The names are all labels of
+-- the node, the labels are those before the item, and it joins the last word or not.
+abbrev pub fault_at : List (List ℕ) → Labels → ℕ → Bool → Item → Option AsmErrorKind
 fault_at names labels address joined i =
     if not (is_defined names i) then Some UndefinedLabel
     else if not (is_in_reach labels address i) then Some OutOfReach
@@ -47,11 +50,13 @@ fault_at names labels address joined i =
     else None
 
 -- the fault of an item behind groups
-unfoldable pub fault_behind : List (List ℕ) → List Group → Item → Option AsmKind
-fault_behind names groups i = fault_at names (labels_after [] 0 groups) (address_after 0 groups) (joins_last [] 0 groups i) i
+unfoldable pub fault_behind : List (List ℕ) → List Group → Item → Option AsmErrorKind
+fault_behind names groups i =
+    fault_at names (labels_after [] 0 groups) (address_after 0 groups) (joins_last [] 0 groups i) i
 
 -- an item behind those before it, which stand in groups, has this fault or none
-pub record Judgement (names : List (List ℕ)) (before : List Item) (item : Item) (fault : Option AsmKind) : Type 0 where
+pub record Judgement (names : List (List ℕ)) (before : List Item) (item : Item)
+    (fault : Option AsmErrorKind) : Type 0 where
   pub groups : List Group
   pub stand_in : StandIn before groups
   pub fault_is : fault_behind names groups item ≡ fault
@@ -62,7 +67,7 @@ AllPass names before [] = Unit {0}
 AllPass names before (i ∷ is) = Judgement names before i None × AllPass names (before ++ i ∷ []) is
 
 -- the first item with a fault, by the number of items before it, and its fault
-pub record FirstPassFault (items : List Item) (at : ℕ) (kind : AsmKind) : Type 0 where
+pub record FirstPassFault (items : List Item) (at : ℕ) (kind : AsmErrorKind) : Type 0 where
   pub before : List Item
   pub item : Item
   pub rest : List Item
@@ -73,22 +78,24 @@ pub record FirstPassFault (items : List Item) (at : ℕ) (kind : AsmKind) : Type
 
 -- ---- the second pass
 
--- All items passed, and this one, a bracketed word, is the first whose name is out of reach, by all labels of the node.
-pub record SecondPassFault (items : List Item) (at : ℕ) (kind : AsmKind) : Type 0 where
+-- All items passed, and this one, a bracketed word, is the first whose name is out of reach, by all
+-- labels of the node.
+pub record SecondPassFault (items : List Item) (at : ℕ) (kind : AsmErrorKind) : Type 0 where
   pub passed : AllPass (names_in items) [] items
   pub front : List Group
   pub item : Item
   pub back : List Group
   pub stand_in : StandIn items (front ++ Alone item ∷ back)
   pub front_near : all_in_reach (labels_after [] 0 (front ++ Alone item ∷ back)) 0 front ≡ true
-  pub item_far : is_in_reach (labels_after [] 0 (front ++ Alone item ∷ back)) (address_after 0 front) item ≡ false
+  pub item_far : is_in_reach
+      (labels_after [] 0 (front ++ Alone item ∷ back)) (address_after 0 front) item ≡ false
   pub at_is : at ≡ length (items_of front)
   pub kind_is : kind ≡ OutOfReach
 
 -- ---- the fault of a node, and of a program
 
 -- the first fault of a node's items, by the number of items before it
-abbrev pub AsmFault : List Item → ℕ → AsmKind → Type 0
+abbrev pub AsmFault : List Item → ℕ → AsmErrorKind → Type 0
 AsmFault items at kind = FirstPassFault items at kind ⊎ SecondPassFault items at kind
 
 -- a node without a fault: its items are laid as words, and passed
@@ -112,7 +119,8 @@ abbrev pub fault_place : PlacedItem → Place
 fault_place i = unwrap_or i.name_place i.place
 
 -- the first fault of a program: of its first node that has one, with the place of the item
-pub record ProgramFault (program : List PlacedSection) (node : ℕ) (place : Place) (kind : AsmKind) : Type 0 where
+pub record ProgramFault (program : List PlacedSection) (node : ℕ) (place : Place)
+    (kind : AsmErrorKind) : Type 0 where
   pub before : List PlacedSection
   pub section : PlacedSection
   pub rest : List PlacedSection

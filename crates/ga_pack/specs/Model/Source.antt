@@ -1,7 +1,7 @@
 -- Which lists of tokens are source texts, and which program each is.
 --
--- A program is spelled token by token (`text_tokens`), and of what can be spelled the right programs are
--- told by their sections and items (`Sections`, `Items`). Nothing here walks a text.
+-- A program is spelled token by token (`text_tokens`), and of what can be spelled the right
+-- programs are told by their sections and items (`Sections`, `Items`). Nothing here walks a text.
 use Rattle.std.specs.Prelude.{◌≡◌, ◌==◌, ◌&&◌, ◌||◌, ℕ, zero, suc, Bool, true, false, not, List, [], ◌∷◌, ◌++◌, length, nat_eq, nat_lt, Option, Some, None}
 use Rattle.std.specs.List.{list_any}
 use Rattle.std.specs.Str.{bytes_eq}
@@ -9,8 +9,7 @@ use Rattle.ga_word.specs.declared.op.Op.{Op}
 use Rattle.ga_word.specs.Op.{takes_dest}
 use Rattle.ga_pack.specs.Followers.{followers, is_followed}
 use Rattle.ga_pack.specs.Slots.{dest_bound, op_fits, spare_bound}
-use Rattle.ga_pack.specs.Model.Token.{Token, op, number, name, label, node, node_name, align, data_part, open_mark, close_mark, comma, slash, end}
-use Rattle.ga_pack.specs.Model.Meaning.{is_reserved}
+use Rattle.ga_pack.specs.Model.Token.{Token, op, number, name, label, node, node_name, align, data_part, open_mark, close_mark, comma, slash, end, is_reserved}
 
 -- a number, or the address of a label of the node
 pub data Value : Type 0 where
@@ -62,7 +61,8 @@ item_tokens (Literal n) rest = number n ∷ rest
 item_tokens (Here s) rest = label s ∷ rest
 item_tokens Align rest = align ∷ rest
 item_tokens (Word ops) rest = open_mark ∷ op_tokens ops (close_mark ∷ rest)
-item_tokens (WordTo ops o v spare) rest = open_mark ∷ op_tokens ops (op o ∷ value_token v ∷ spare_tokens spare rest)
+item_tokens (WordTo ops o v spare) rest =
+    open_mark ∷ op_tokens ops (op o ∷ value_token v ∷ spare_tokens spare rest)
 item_tokens (Plain v) rest = comma ∷ value_token v ∷ rest
 item_tokens Data rest = data_part ∷ rest
 
@@ -99,19 +99,22 @@ is_item (Literal n) = true
 is_item (Here s) = not (is_reserved s)
 is_item Align = true
 is_item (Word ops) = nat_lt 0 (length ops) && stand_from 0 ops
-is_item (WordTo ops o v spare) = stand_from 0 ops && nat_lt (length ops) 3 && takes_dest o && is_below (dest_bound (length ops)) v && is_spare (length ops) spare
+is_item (WordTo ops o v spare) =
+    stand_from 0 ops && nat_lt (length ops) 3 && takes_dest o
+    && is_below (dest_bound (length ops)) v && is_spare (length ops) spare
 is_item (Plain v) = true
 is_item Data = true
 
 -- ---- the order of items
 
--- Where an item stands: in the code part, where so many followers of a bracketed word are owed, or behind `data`.
+-- Where an item stands: in the code part, where so many followers of a bracketed word are owed, or
+-- behind `data`.
 pub data Part : Type 0 where
   Code : ℕ → Part
   Behind : Part
 
--- Where the next item stands, if this one may stand here. A label may stand anywhere. A bracketed word owes its
--- followers: until they are there only plain words may stand, or `data`.
+-- Where the next item stands, if this one may stand here. A label may stand anywhere. A bracketed
+-- word owes its followers: until they are there only plain words may stand, or `data`.
 unfoldable pub part_after : Part → Item → Option Part
 part_after p (Here s) = Some p
 part_after (Code (suc owed)) (Plain v) = Some (Code owed)
@@ -127,7 +130,8 @@ part_after (Code (suc owed)) i = None
 part_after Behind (Plain v) = Some Behind
 part_after Behind i = None
 
--- what stands before an item in its section: the part that it stands in, the labels, and whether there is a word
+-- what stands before an item in its section: the part that it stands in, the labels, and whether
+-- there is a word
 pub record Before : Type 0 where
   pub part : Part
   pub labels : List (List ℕ)
@@ -154,13 +158,16 @@ makes_word Data = false
 makes_word i = true
 
 abbrev pub after : Before → Item → Part → Before
-after b i p = record { part = p; labels = labels_with i b.labels; has_word = b.has_word || makes_word i }
+after b i p =
+    record { part = p; labels = labels_with i b.labels; has_word = b.has_word || makes_word i }
 
--- The items of a section behind what stands before them: each is right by itself, its label is new in the
--- section, and it may stand there; and the section has a word.
+-- The items of a section behind what stands before them: each is right by itself, its label is new
+-- in the section, and it may stand there; and the section has a word.
 unfoldable pub Items : Before → List Item → Type 0
 Items b [] = b.has_word ≡ true
-Items b (i ∷ is) = (p : Part) × (is_item i ≡ true) × (is_new i b.labels ≡ true) × (part_after b.part i ≡ Some p) × Items (after b i p) is
+Items b (i ∷ is) =
+    (p : Part) × (is_item i ≡ true) × (is_new i b.labels ≡ true) × (part_after b.part i ≡ Some p)
+    × Items (after b i p) is
 
 abbrev pub is_named : ℕ → List ℕ → Bool
 is_named n names = list_any (nat_eq n) names
@@ -168,7 +175,8 @@ is_named n names = list_any (nat_eq n) names
 -- sections behind those of other nodes: each is of a new node, and its items are right
 unfoldable pub Sections : List ℕ → List Section → Type 0
 Sections seen [] = Unit {0}
-Sections seen (s ∷ ss) = (is_named s.name seen ≡ false) × Items start s.items × Sections (seen ++ s.name ∷ []) ss
+Sections seen (s ∷ ss) =
+    (is_named s.name seen ≡ false) × Items start s.items × Sections (seen ++ s.name ∷ []) ss
 
 -- A list of tokens, with the text's end, is a text with this program: one section or more.
 unfoldable pub Source : List Token → List Section → Type 0

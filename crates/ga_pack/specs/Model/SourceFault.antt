@@ -2,9 +2,10 @@
 use Rattle.std.specs.Prelude.{◌⊎◌, ◌≡◌, ℕ, Bool, true, false, List, [], ◌∷◌, ◌++◌, length, reverse, if◌then◌else◌}
 use Rattle.ga_word.specs.Op.{takes_dest}
 use Rattle.ga_pack.specs.Followers.{is_followed}
-use Rattle.ga_pack.specs.Model.Token.{SourceKind, BadToken, NumberRange, BadNode, DuplicateNode, DuplicateLabel, ReservedLabel, OpenBracket, BadWord, NoNode, Empty, Token, op, number, label, node, node_name, align, data_part, open_mark, close_mark, comma, bad, end, is_node}
-use Rattle.ga_pack.specs.Model.Meaning.{is_reserved, meanings}
+use Rattle.ga_pack.specs.Model.Token.{Token, op, number, label, node, node_name, align, data_part, open_mark, close_mark, comma, bad, end, is_node, is_reserved, meanings}
 use Rattle.ga_pack.specs.Model.Source.{Section, Source}
+use Rattle.ga_pack.specs.declared.error_kind.SourceErrorKind.{SourceErrorKind}
+use Rattle.ga_pack.specs.declared.error_kind.SourceErrorKind.TheVariants.{BadToken, NumberRange, BadNode, DuplicateNode, DuplicateLabel, ReservedLabel, OpenBracket, BadWord, NoNode, Empty}
 
 -- the last of these tokens is `node`
 abbrev pub ends_in_node : List Token → Bool
@@ -12,15 +13,16 @@ ends_in_node [] = false
 ends_in_node (t ∷ []) = is_node t
 ends_in_node (t ∷ u ∷ ts) = ends_in_node (u ∷ ts)
 
--- These tokens are a whole text, or a text begins with them: what further tokens are written as leads to its end.
-unfoldable pub Begins : List Token → Type 0
-Begins front =
-    ((program : List Section) × Source front program)
-    ⊎ ((texts : List (List ℕ)) × (program : List Section) × Source (front ++ meanings (ends_in_node front) texts) program)
-
--- The same; and behind a whole text one more `node` goes on, even where no node is left to name.
+-- These tokens are a whole text, or a text begins with them: what further tokens are written as
+-- leads to its end. And behind a whole text one more `node` goes on, even where no node is left to
+-- name.
 unfoldable pub GoesOn : List Token → Type 0
-GoesOn front = Begins front ⊎ ((text : List Token) × (program : List Section) × (front ≡ text ++ node ∷ []) × Source (text ++ end ∷ []) program)
+GoesOn front =
+    (((program : List Section) × Source front program)
+    ⊎ ((texts : List (List ℕ)) × (program : List Section)
+    × Source (front ++ meanings (ends_in_node front) texts) program))
+    ⊎ ((text : List Token) × (program : List Section) × (front ≡ text ++ node ∷ [])
+    × Source (text ++ end ∷ []) program)
 
 -- ---- which kind a fault has: by its token, and by the tokens before it, the nearest one first
 
@@ -44,56 +46,58 @@ wants_value comma = true
 wants_value (op o) = takes_dest o
 wants_value _ = false
 
--- A malformed token tells its own fault wherever it stands.
-
--- before the first `node`
-abbrev pub start_fault : Token → SourceKind
-start_fault (bad k) = k
-start_fault _ = NoNode
+-- A malformed token has its own fault wherever it stands.
 
 -- where a node's name is wanted
-abbrev pub name_fault : Token → SourceKind
+abbrev pub name_fault : Token → SourceErrorKind
 name_fault (bad k) = k
 name_fault (node_name n) = DuplicateNode
 name_fault _ = BadNode
 
 -- in brackets
-abbrev pub bracket_fault : Token → SourceKind
+abbrev pub bracket_fault : Token → SourceErrorKind
 bracket_fault (bad k) = k
 bracket_fault open_mark = OpenBracket
 bracket_fault end = OpenBracket
 bracket_fault _ = BadWord
 
 -- where a destination or a plain word is wanted
-abbrev pub value_fault : Token → SourceKind
+abbrev pub value_fault : Token → SourceErrorKind
 value_fault (bad k) = k
 value_fault (number n) = NumberRange
 value_fault _ = BadToken
 
--- Where an item is wanted. What begins an item of the code part can be wrong there for one reason only:
--- followers are owed.
-abbrev pub item_fault : Bool → Token → SourceKind
+-- where a follower is owed: what begins an item of the code part could stand there, but for that
+abbrev pub owed_fault : Token → SourceErrorKind
+owed_fault (op o) = if is_followed o then BadToken else BadWord
+owed_fault (number n) = BadWord
+owed_fault align = BadWord
+owed_fault open_mark = BadWord
+owed_fault _ = BadToken
+
+-- Where an item is wanted. In the code part the only reason for another fault is a follower that is
+-- owed.
+abbrev pub item_fault : Bool → Token → SourceErrorKind
 item_fault in_data (bad k) = k
 item_fault in_data node = Empty
 item_fault in_data end = Empty
 item_fault in_data (label s) = if is_reserved s then ReservedLabel else DuplicateLabel
-item_fault false (op o) = if is_followed o then BadToken else BadWord
-item_fault false (number n) = BadWord
-item_fault false align = BadWord
-item_fault false open_mark = BadWord
-item_fault in_data _ = BadToken
+item_fault true t = BadToken
+item_fault false t = owed_fault t
 
-unfoldable pub kind_at : List Token → Token → SourceKind
-kind_at [] t = start_fault t
+unfoldable pub kind_at : List Token → Token → SourceErrorKind
+kind_at [] (bad k) = k
+kind_at [] _ = NoNode
 kind_at (u ∷ back) t =
     if is_node u then name_fault t
     else if in_brackets (u ∷ back) then bracket_fault t
     else if wants_value u then value_fault t
     else item_fault (in_data (u ∷ back)) t
 
--- The first fault of a list of tokens: how many stand before it, and its kind. What stands before it goes on,
--- and with it no longer.
-unfoldable pub SourceFault : List Token → ℕ → SourceKind → Type 0
+-- The first fault of a list of tokens: how many stand before it, and its kind. What stands before
+-- it goes on, and with it no longer.
+unfoldable pub SourceFault : List Token → ℕ → SourceErrorKind → Type 0
 SourceFault ts at kind =
-    (before : List Token) × (t : Token) × (rest : List Token) × (ts ≡ before ++ t ∷ rest) × (at ≡ length before)
+    (before : List Token) × (t : Token) × (rest : List Token) × (ts ≡ before ++ t ∷ rest)
+    × (at ≡ length before)
     × GoesOn before × (GoesOn (before ++ t ∷ []) → ⊥) × (kind ≡ kind_at (reverse before) t)

@@ -1,6 +1,7 @@
 -- The tokens of a source text and where they stand.
 --
--- A text is the list of its bytes in UTF-8. Blanks and line ends are bytes below 128, so no character is cut.
+-- A text is the list of its bytes in UTF-8. Blanks and line ends are bytes below 128, so no
+-- character is cut.
 use Rattle.std.specs.Prelude.{◌==◌, ◌||◌, ℕ, ◌+◌, Bool, not, List, [], ◌∷◌, ◌++◌, codes, count_by, filter, length, map, nat_le, nat_lt, take, if◌then◌else◌}
 use Rattle.std.specs.List.{slice_split}
 use Rattle.std.specs.Str.{bytes_eq}
@@ -25,16 +26,14 @@ pub record Run : Type 0 where
 -- runs that stand one blank apart, the first at an offset
 abbrev pub runs_from : ℕ → List (List ℕ) → List Run
 runs_from offset [] = []
-runs_from offset (text ∷ texts) = record { offset = offset; text = text } ∷ runs_from (offset + length text + 1) texts
-
--- the runs of a line that are not empty
-abbrev pub runs_of : List ℕ → List Run
-runs_of line = filter (λ run. not (is_empty run.text)) (runs_from 0 (slice_split is_blank line))
+runs_from offset (text ∷ texts) =
+    record { offset = offset; text = text } ∷ runs_from (offset + length text + 1) texts
 
 -- The run `\` begins a comment, which reaches to the end of its line.
 abbrev pub before_comment : List Run → List Run
 before_comment [] = []
-before_comment (run ∷ runs) = if bytes_eq run.text (codes "\\") then [] else run ∷ before_comment runs
+before_comment (run ∷ runs) =
+    if bytes_eq run.text (codes "\\") then [] else run ∷ before_comment runs
 
 -- a byte that begins a character in UTF-8: all but 80 to BF (hexadecimal)
 abbrev pub begins_character : ℕ → Bool
@@ -44,15 +43,21 @@ begins_character byte = nat_lt byte 0x80 || nat_le 0xC0 byte
 abbrev pub place_behind : ℕ → List ℕ → Place
 place_behind line bytes = record { line = line; column = 1 + count_by begins_character bytes }
 
--- the tokens of a line, which has a number and begins at an offset
+-- the tokens of a line, which has a number and begins at an offset: its runs that are not empty
 abbrev pub line_lexemes : ℕ → ℕ → List ℕ → List Lexeme
 line_lexemes line offset bytes =
-    map (λ run. record { place = place_behind line (take run.offset bytes); start = offset + run.offset; text = run.text }) (before_comment (runs_of bytes))
+    let runs = filter (λ run. not (is_empty run.text)) (runs_from 0 (slice_split is_blank bytes)) in
+    map (λ run. record {
+      place = place_behind line (take run.offset bytes);
+      start = offset + run.offset;
+      text = run.text;
+    }) (before_comment runs)
 
 -- the tokens of lines, the first of which has a number and begins at an offset
 abbrev pub lexemes_from : ℕ → ℕ → List (List ℕ) → List Lexeme
 lexemes_from line offset [] = []
-lexemes_from line offset (bytes ∷ lines) = line_lexemes line offset bytes ++ lexemes_from (line + 1) (offset + length bytes + 1) lines
+lexemes_from line offset (bytes ∷ lines) =
+    line_lexemes line offset bytes ++ lexemes_from (line + 1) (offset + length bytes + 1) lines
 
 -- Lines end by LF. What stands behind the last LF is a line too.
 abbrev pub lines_of : List ℕ → List (List ℕ)

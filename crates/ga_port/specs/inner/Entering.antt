@@ -18,9 +18,13 @@ abbrev pub Enters : Try → Me ℕ (List (Option Holding)) → Me ℕ (List (Opt
 Enters what old new = new ≡ (tried_in old.0 what None, old.1)
 
 -- a step enters a try that found what the cell held
-abbrev pub EntersFound : Try → ℕ → Me ℕ (List (Option Holding)) → Me ℕ (List (Option Holding)) → Type 0
-EntersFound what held old new = IsCellWord held × (new ≡ (tried_in old.0 what (pending_of held), old.1))
+abbrev pub EntersFound : Try → ℕ → Me ℕ (List (Option Holding)) → Me ℕ (List (Option Holding))
+    → Type 0
+EntersFound what held old new =
+    IsCellWord held × (new ≡ (tried_in old.0 what (pending_of held), old.1))
 
 -- a step enters a try that found nothing where the cell was empty, and else none
-abbrev pub EntersEmpty : Try → ℕ → Me ℕ (List (Option Holding)) → Me ℕ (List (Option Holding)) → Type 0
-EntersEmpty what held old new = IsCellWord held × (new ≡ (if held == 0 then tried_in old.0 what None else old.0, old.1))
+abbrev pub EntersEmpty : Try → ℕ → Me ℕ (List (Option Holding)) → Me ℕ (List (Option Holding))
+    → Type 0
+EntersEmpty what held old new =
+    IsCellWord held × (new ≡ (if held == 0 then tried_in old.0 what None else old.0, old.1))

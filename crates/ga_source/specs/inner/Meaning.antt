@@ -1,8 +1,6 @@
 -- What a token means, as the model has it.
-use Rattle.std.specs.Prelude.{◌≤◌, length, Option, Some, Result, Ok, Err}
-use Rattle.std.specs.Option.{option_map}
-use Rattle.ga_source.specs.Error.{kind_of}
-use Rattle.ga_source.specs.declared.error.SourceErrorKind.{SourceErrorKind}
+use Rattle.std.specs.Prelude.{◌≤◌, length, Result, Ok, Err}
+use Rattle.ga_pack.specs.declared.error_kind.SourceErrorKind.{SourceErrorKind}
 use Rattle.ga_source.specs.declared.meaning.Meaning.{Meaning}
 use Rattle.ga_source.specs.declared.meaning.Meaning.TheVariants as means
 use Rattle.ga_pack.specs.Model.Token.{Token, op, number, name, label, node, node_name, align, data_part, open_mark, close_mark, comma, slash, bad}
@@ -22,9 +20,9 @@ meaning_of means.Comma = comma
 meaning_of means.Slash = slash
 
 -- the same of a token that may be malformed
-abbrev pub token_of : Result Meaning SourceErrorKind → Option Token
-token_of (Ok meaning) = Some (meaning_of meaning)
-token_of (Err kind) = option_map bad (kind_of kind)
+abbrev pub token_of : Result Meaning SourceErrorKind → Token
+token_of (Ok meaning) = meaning_of meaning
+token_of (Err kind) = bad kind
 
 -- a name in the token has at most sixteen bytes
 abbrev pub IsShort : Token → Type 0

@@ -1,17 +1,17 @@
 -- The parser's state, as its machine has it.
-use Rattle.std.specs.Prelude.{◌≡◌, ℕ, List, map, Option, Some, None, Result, Ok, Err}
+use Rattle.std.specs.Prelude.{◌≡◌, ◌≢◌, ℕ, List, map, Result, Ok, Err}
 use Rattle.std.specs.Map.{keys_of}
-use Rattle.ga_source.specs.declared.error.SourceErrorKind.{SourceErrorKind}
+use Rattle.ga_pack.specs.declared.error_kind.SourceErrorKind.{SourceErrorKind}
 use Rattle.ga_source.specs.declared.parser.Parser as written
 use Rattle.ga_source.specs.declared.parser.Part as standing
 use Rattle.ga_source.specs.declared.parser.Part.TheVariants as part
 use Rattle.ga_source.specs.declared.parser.Position.{Position}
 use Rattle.ga_source.specs.declared.parser.Position.TheVariants as position
-use Rattle.ga_source.specs.Error.{kind_of}
+use Rattle.ga_pack.specs.declared.error_kind.SourceErrorKind.TheVariants.{Memory}
 use Rattle.ga_source.specs.Item.{item_of, value_of}
 use Rattle.ga_source.specs.Section.{section_of}
 use Rattle.ga_source.specs.inner.Machine.{Inside, State, nothing, naming, inside, between, behind_op, behind_comma, in_word, behind_dest_op, behind_dest, behind_slash, behind_spare, take}
-use Rattle.ga_pack.specs.Model.Token.{SourceKind, Token}
+use Rattle.ga_pack.specs.Model.Token.{Token}
 use Rattle.ga_pack.specs.Model.Source.{Section, Part, Code, Behind}
 
 abbrev pub section_part : standing.Part → Part
@@ -28,7 +28,13 @@ abbrev pub labels_of : written.Parser → List (List ℕ)
 labels_of p = map (λ name. name.bytes) p.labels.keys
 
 abbrev pub inside_of : written.Parser → Inside
-inside_of p = record { done = done_of p; seen = names_of p; name = p.node; items = map item_of p.items.items; before = record { part = section_part p.part; labels = labels_of p; has_word = p.has_word } }
+inside_of p = record {
+  done = done_of p;
+  seen = names_of p;
+  name = p.node;
+  items = map item_of p.items.items;
+  before = record { part = section_part p.part; labels = labels_of p; has_word = p.has_word };
+}
 
 abbrev pub at_position : Position → written.Parser → State
 at_position position.Nothing p = nothing
@@ -38,22 +44,21 @@ at_position (position.BehindOp o) p = inside (inside_of p) (behind_op o)
 at_position position.BehindComma p = inside (inside_of p) behind_comma
 at_position position.InWord p = inside (inside_of p) (in_word p.ops.items)
 at_position (position.BehindDestOp o) p = inside (inside_of p) (behind_dest_op p.ops.items o)
-at_position (position.BehindDest o v) p = inside (inside_of p) (behind_dest p.ops.items o (value_of v))
-at_position (position.BehindSlash o v) p = inside (inside_of p) (behind_slash p.ops.items o (value_of v))
-at_position (position.BehindSpare o v k) p = inside (inside_of p) (behind_spare p.ops.items o (value_of v) k)
+at_position (position.BehindDest o v) p =
+    inside (inside_of p) (behind_dest p.ops.items o (value_of v))
+at_position (position.BehindSlash o v) p =
+    inside (inside_of p) (behind_slash p.ops.items o (value_of v))
+at_position (position.BehindSpare o v k) p =
+    inside (inside_of p) (behind_spare p.ops.items o (value_of v) k)
 
 abbrev pub state_of : written.Parser → State
 state_of p = at_position p.position p
 
--- what was refused, unless memory was
-abbrev pub RefusedAs : {A : Type 0} → Result A SourceKind → Option SourceKind → Type 0
-RefusedAs r None = Unit {0}
-RefusedAs r (Some k) = r ≡ Err k
-
 -- the answer of the parser's machine, unless memory was refused
-abbrev pub IsAnswer : {A : Type 0} → Result State SourceKind → Result A SourceErrorKind → State → Type 0
+abbrev pub IsAnswer : {A : Type 0} → Result State SourceErrorKind → Result A SourceErrorKind → State
+    → Type 0
 IsAnswer r (Ok x) s' = r ≡ Ok s'
-IsAnswer r (Err e) s' = RefusedAs r (kind_of e)
+IsAnswer r (Err kind) s' = kind ≢ Memory → r ≡ Err kind
 
 -- the answer of the parser's machine to a token, unless memory was refused
 abbrev pub Took : {A : Type 0} → State → Token → Result A SourceErrorKind → State → Type 0

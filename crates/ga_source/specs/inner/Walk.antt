@@ -31,12 +31,15 @@ run_lexemes p start [] = []
 run_lexemes p start ([] ∷ runs) = run_lexemes (columns_on p 1) (start + 1) runs
 run_lexemes p start ((c ∷ cs) ∷ runs) =
     if is_mark (c ∷ cs) then []
-    else record { place = p; start = start; text = c ∷ cs } ∷ run_lexemes (columns_on p (count_by begins_character (c ∷ cs) + 1)) (start + length (c ∷ cs) + 1) runs
+    else record { place = p; start = start; text = c ∷ cs } ∷ run_lexemes
+    (columns_on p (count_by begins_character (c ∷ cs) + 1)) (start + length (c ∷ cs) + 1) runs
 
 -- the tokens of lines
 abbrev pub left_lexemes : Place → ℕ → List (List ℕ) → List Lexeme
 left_lexemes p start [] = []
-left_lexemes p start (bytes ∷ lines) = run_lexemes p start (slice_split is_blank bytes) ++ left_lexemes (next_line p) (start + length bytes + 1) lines
+left_lexemes p start (bytes ∷ lines) =
+    run_lexemes p start (slice_split is_blank bytes)
+    ++ left_lexemes (next_line p) (start + length bytes + 1) lines
 
 -- the tokens of a text
 abbrev pub lexemes_at : Place → ℕ → List ℕ → List Lexeme
@@ -44,7 +47,8 @@ lexemes_at p start text = left_lexemes p start (lines_of text)
 
 -- what stands behind a run: nothing, or a blank and more
 abbrev pub BehindRun : List ℕ → Type 0
-BehindRun behind = (behind ≡ []) ⊎ ((c : ℕ) × (rest : List ℕ) × (behind ≡ c ∷ rest) × (is_blank c ≡ true))
+BehindRun behind =
+    (behind ≡ []) ⊎ ((c : ℕ) × (rest : List ℕ) × (behind ≡ c ∷ rest) × (is_blank c ≡ true))
 
 -- the first run of a text, behind blanks, and what stands behind it
 pub record Begins (text run behind : List ℕ) : Type 0 where
@@ -66,5 +70,6 @@ pub record FirstRun (text run behind : List ℕ) : Type 0 where
   pub whole : text ≡ front ++ (run ++ behind)
   pub some : 0 < length run
   pub first : (p : Place) (start : ℕ) → lexemes_at p start text
-      ≡ record { place = walk p front; start = start + length front; text = run } ∷ lexemes_at (walk (walk p front) run) (start + length front + length run) behind
+      ≡ record { place = walk p front; start = start + length front; text = run }
+      ∷ lexemes_at (walk (walk p front) run) (start + length front + length run) behind
   pub ends : BehindRun behind

@@ -2,7 +2,6 @@
 ghost use Rattle.std.specs.Prelude.{◌≡◌, IfOk, Some};
 ghost use Rattle.ga_pack.specs.Model.Source.{Code, Word, WordTo};
 ghost use Rattle.ga_pack.specs.Model.SourceFault as faults;
-ghost use Rattle.ga_source.specs.Error.{kind_of};
 ghost use Rattle.ga_source.specs.Item.{item_of, value_of};
 ghost use Rattle.ga_source.specs.inner.Machine as machine;
 ghost use Rattle.ga_source.specs.inner.Meaning.{IsShort, meaning_of};
@@ -10,11 +9,10 @@ ghost use Rattle.ga_source.specs.inner.Parser.{IsAnswer, Took, inside_of, sectio
 ghost use Rattle.ga_source.specs.declared.parser.Position.TheVariants as at;
 
 use super::{Parser, Part, Position, name_of};
-use crate::error::SourceErrorKind;
 use crate::item::{Item, TransferWord, Value};
 use crate::meaning::Meaning;
 use arrayvec::ArrayVec;
-use ga_pack::{dest_bound, followers_of, op_fits, spare_bound};
+use ga_pack::{SourceErrorKind, dest_bound, followers_of, op_fits, spare_bound};
 use ga_word::Op;
 use std::alloc::{AllocError, Global};
 
@@ -180,7 +178,7 @@ fn word_to(
 
 // The fault of a token that may not stand in brackets.
 fn bracket_fault(token: &Meaning<'_>) -> SourceErrorKind
-    ensures { kind_of result ≡ Some (faults.bracket_fault (meaning_of token.now)) }
+    ensures { result ≡ faults.bracket_fault (meaning_of token.now) }
 {
     match *token {
         Meaning::OpenMark => SourceErrorKind::OpenBracket,

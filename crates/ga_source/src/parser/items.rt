@@ -6,16 +6,15 @@ ghost use Rattle.ga_source.specs.inner.Machine as machine;
 ghost use Rattle.ga_source.specs.inner.Machine.{item_added};
 ghost use Rattle.ga_source.specs.inner.Meaning.{IsShort, meaning_of};
 ghost use Rattle.ga_source.specs.inner.Parser.{IsAnswer, Took, inside_of, section_part, state_of};
-ghost use Rattle.ga_source.specs.declared.error.SourceErrorKind.TheVariants.{Memory};
+ghost use Rattle.ga_pack.specs.declared.error_kind.SourceErrorKind.TheVariants.{Memory};
 ghost use Rattle.ga_source.specs.declared.parser.Part.TheVariants as part;
 ghost use Rattle.ga_source.specs.declared.parser.Position.TheVariants as at;
 
 use super::{Parser, Part, Position, name_of};
-use crate::error::SourceErrorKind;
 use crate::item::{Item, Value};
 use crate::meaning::Meaning;
 use arrayvec::ArrayVec;
-use ga_pack::{dest_bound, is_followed};
+use ga_pack::{SourceErrorKind, dest_bound, is_followed};
 use ga_word::Op;
 
 impl Parser {

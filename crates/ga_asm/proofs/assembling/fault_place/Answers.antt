@@ -7,5 +7,6 @@ use Rattle.ga_asm.proofs.assembling.fault_place.Goals as goal
 pub returns : goal.returns
 returns c =
     let found = c.index-found.result.now in
-    place_at (items_at c.args.program.now c.args.section) c.in_ok-places.places.items c.args.item found (place_of c.unwrap_or.result) c.in_ok-places.ensures c.requires
+    place_at (items_at c.args.program.now c.args.section) c.in_ok-places.places.items c.args.item
+    found (place_of c.unwrap_or.result) c.in_ok-places.ensures c.requires
     (ap place_of c.unwrap_or.ensures ∙ told_place found.name found.place ∙ (search rules))

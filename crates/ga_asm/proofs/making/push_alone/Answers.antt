@@ -10,4 +10,5 @@ pub word-requires : goal.word-requires
 word-requires c =
     let ops = c.in-Word.ops.items in
     let right = subst (λ t. is_item (item_of t) ≡ true) c.in-Word.is c.requires.right in
-    ap (λ t. pack_fault (filled 4 t) None 0) (c.slots_of.ensures ∙ c.as_slice.ensures.value) ∙ packable_word ops right
+    ap (λ t. pack_fault (filled 4 t) None 0) (c.slots_of.ensures ∙ c.as_slice.ensures.value)
+    ∙ packable_word ops right

@@ -15,9 +15,12 @@ loop-item-preserved c =
     let next = front_next items at c.item-item.result c.loop-item-test.true c.item-item.is in
     elim c.match-follower_of.branch [
       | in-Some+in_ok-push w ↦
-          followers_some c.args.words.now.items c.loop-item.words.items c.match-follower_of.words.items (plain (take (at + 1) items)) front x w.in-Some.number
-          next c.loop-item.invariant w.in-Some.ensures (ap (λ t. t.items) w.words-is ∙ w.in_ok-push.ensures.items)
+          followers_some c.args.words.now.items c.loop-item.words.items
+          c.match-follower_of.words.items (plain (take (at + 1) items)) front x w.in-Some.number
+          next c.loop-item.invariant w.in-Some.ensures
+          (ap (λ t. t.items) w.words-is ∙ w.in_ok-push.ensures.items)
       | in_default w ↦
-          followers_none c.args.words.now.items c.loop-item.words.items c.match-follower_of.words.items (plain (take (at + 1) items)) front x
+          followers_none c.args.words.now.items c.loop-item.words.items
+          c.match-follower_of.words.items (plain (take (at + 1) items)) front x
           next c.loop-item.invariant w.in_default.ensures (ap (λ t. t.items) w.words-is)
     ]

@@ -4,4 +4,5 @@ use Rattle.ga_asm.specs.inner.Layout.{plain}
 use Rattle.ga_asm.proofs.making.push_followers.Given as goal
 
 abbrev pub invariant-loop-item : goal.invariant-loop-item
-invariant-loop-item l = l.words.items ≡ l.initial.words.items ++ literals (plain (take l.item-index l.items))
+invariant-loop-item l =
+    l.words.items ≡ l.initial.words.items ++ literals (plain (take l.item-index l.items))

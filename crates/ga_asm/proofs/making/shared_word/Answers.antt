@@ -16,11 +16,14 @@ loop-item-preserved c =
     let labels = labels_of c.args.labels.now.entries in
     let front = plain (take at items) in
     let next = front_next items at c.item-item.result c.loop-item-test.true c.item-item.is in
-    let slot : c.len.result ≡ 0 + length front = omega (arith, ap length c.loop-item.invariant.ops, ops_length front) in
+    let slot : c.len.result ≡ 0 + length front =
+    omega (arith, ap length c.loop-item.invariant.ops, ops_length front) in
     record {
       count = omega arith;
       ops =
-          c.push.ensures.items ∙ ap (λ t. t ++ c.op_of.result ∷ []) c.loop-item.invariant.ops ∙ ap (λ t. ops_of front ++ t ∷ []) c.op_of.ensures
+          c.push.ensures.items ∙ ap (λ t. t ++ c.op_of.result ∷ []) c.loop-item.invariant.ops
+          ∙ ap (λ t. ops_of front ++ t ∷ []) c.op_of.ensures
           ∙ sym (ops_snoc front x) ∙ ap ops_of (sym next);
-      dest = c.item_dest-dest.ensures ∙ sym (dest_snoc labels 0 c.len.result front x slot) ∙ ap (last_dest labels 0) (sym next);
+      dest = c.item_dest-dest.ensures ∙ sym (dest_snoc labels 0 c.len.result front x slot)
+          ∙ ap (last_dest labels 0) (sym next);
     }

@@ -6,10 +6,13 @@ use Rattle.ga_asm.proofs.places.items_of.Goals as goal
 
 pub returns-in-Some : goal.returns-in-Some
 returns-in-Some c =
-    ap plain c.as_slice.ensures.value ∙ ap (λ e. plain (option_map_or items_in e [])) c.in-Some.ensures.entry
-    ∙ sym (section_items c.args.program.now c.sections.result.now.entries c.args.section c.sections.ensures.value)
+    ap plain c.as_slice.ensures.value
+    ∙ ap (λ e. plain (option_map_or items_in e [])) c.in-Some.ensures.entry
+    ∙ sym (section_items c.args.program.now c.sections.result.now.entries c.args.section
+    c.sections.ensures.value)
 
 pub returns-in-None : goal.returns-in-None
 returns-in-None c =
     ap (λ e. plain (option_map_or items_in e [])) c.in-None.ensures.entry
-    ∙ sym (section_items c.args.program.now c.sections.result.now.entries c.args.section c.sections.ensures.value)
+    ∙ sym (section_items c.args.program.now c.sections.result.now.entries c.args.section
+    c.sections.ensures.value)

@@ -18,9 +18,12 @@ returns-clause-places c =
     let own = own_places c.args.found.now items c.requires in
     c.loop-index.invariant
     ∙ ap (λ ps. map (place_at ps) (take c.loop-index.index-index indices)) own
-    ∙ ap (map (place_at (map (λ (i : PlacedItem). i.place) items))) (all ∙ c.deref-index-items.ensures.value ∙ c.in_ok-indices.ensures
-    ∙ ap (λ l. first_items 0 l (plain c.items_of-items.result.now)) c.item_counts.ensures ∙ ap (λ l. first_items 0 c.args.image.now.item_counts l) c.items_of-items.ensures)
+    ∙ ap (map (place_at (map (λ (i : PlacedItem). i.place) items)))
+    (all ∙ c.deref-index-items.ensures.value ∙ c.in_ok-indices.ensures
+    ∙ ap (λ l. first_items 0 l (plain c.items_of-items.result.now)) c.item_counts.ensures
+    ∙ ap (λ l. first_items 0 c.args.image.now.item_counts l) c.items_of-items.ensures)
 
 pub returns-clause-count : goal.returns-clause-count
 returns-clause-count c is =
-    sym (length-map c.loop-index.places.items place_of) ∙ ap length (returns-clause-places c) ∙ as_many (items_at c.args.program.now c.args.section) c.args.image.now is
+    sym (length-map c.loop-index.places.items place_of) ∙ ap length (returns-clause-places c)
+    ∙ as_many (items_at c.args.program.now c.args.section) c.args.image.now is

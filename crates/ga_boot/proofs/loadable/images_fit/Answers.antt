@@ -5,7 +5,9 @@ use Rattle.ga_asm.specs.Image.{IsLoadable}
 use Rattle.ga_boot.proofs.loadable.images_fit.Goals as goal
 
 pub loop-image-init : goal.loop-image-init
-loop-image-init c = λ all. subst (AllByRecursion (λ entry. IsLoadable entry.1)) (c.into_iter-image-iterator.ensures.into_iter_gives.0 ∙ c.images-image-items.ensures) all
+loop-image-init c =
+    λ all. subst (AllByRecursion (λ entry. IsLoadable entry.1))
+    (c.into_iter-image-iterator.ensures.into_iter_gives.0 ∙ c.images-image-items.ensures) all
 
 pub loop-image-preserved : goal.loop-image-preserved
 loop-image-preserved c =
@@ -19,7 +21,10 @@ loop-image-preserved c =
       most = subst (λ l. length l ≤ 64) value most;
       entry_near = subst (λ n. n ≤ 64) same near;
     } in
-    λ rest. c.loop-image.invariant (subst (AllByRecursion (λ entry. IsLoadable entry.1)) (sym c.in-Some.ensures.steps) (fits, rest))
+    λ rest. c.loop-image.invariant (subst (AllByRecursion (λ entry. IsLoadable entry.1))
+    (sym c.in-Some.ensures.steps) (fits, rest))
 
 pub returns : goal.returns
-returns c = All-from_recursion (λ entry. IsLoadable entry.1) c.args.images.now (c.loop-image.invariant (subst (AllByRecursion (λ entry. IsLoadable entry.1)) (sym c.in-None.ensures.steps.0) tt))
+returns c =
+    All-from_recursion (λ entry. IsLoadable entry.1) c.args.images.now (c.loop-image.invariant
+    (subst (AllByRecursion (λ entry. IsLoadable entry.1)) (sym c.in-None.ensures.steps.0) tt))

@@ -4,7 +4,8 @@ use Rattle.ga_chip.proofs.stuck.stuck_nodes.Given as goal
 
 -- the set holds each closed set
 abbrev pub invariant-loop : goal.invariant-loop
-invariant-loop l = HoldsEachClosed (record { parts = l.parts; cells = l.cells }) (has_node l.by_index)
+invariant-loop l =
+    HoldsEachClosed (record { parts = l.parts; cells = l.cells }) (has_node l.by_index)
 
 abbrev pub decreases-loop : goal.decreases-loop
 decreases-loop l = count_by (λ one. one) l.by_index

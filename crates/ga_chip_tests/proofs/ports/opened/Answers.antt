@@ -5,4 +5,8 @@ use Rattle.ga_chip_tests.proofs.ports.opened.Goals as goal
 
 pub returns : goal.returns
 returns c =
-    record { own = search rules; same = starts_kept _ _ _ c.into_parts-parts.ensures.legal (c.in_ok-cells.ensures.nodes ∙ ap untried (sym c.into_parts-parts.ensures.parts)) refl }
+    record {
+      own = search rules;
+      same = starts_kept _ _ _ c.into_parts-parts.ensures.legal
+          (c.in_ok-cells.ensures.nodes ∙ ap untried (sym c.into_parts-parts.ensures.parts)) refl;
+    }

@@ -5,7 +5,8 @@ use Rattle.ga_command_line.proofs.file.file_in.Goals as goal
 
 pub returns-in_ok-from_str-in-Some : goal.returns-in_ok-from_str-in-Some
 returns-in_ok-from_str-in-Some c =
-    ap Some c.in_ok-from_str-in-Some.ensures.ok ∙ c.in-Some.ensures ∙ first_value-rows (found_of c.args.found.now) (codes "FILE")
+    ap Some c.in_ok-from_str-in-Some.ensures.ok ∙ c.in-Some.ensures
+    ∙ first_value-rows (found_of c.args.found.now) (codes "FILE")
 
 pub returns-in-None : goal.returns-in-None
 returns-in-None c = c.in-None.ensures ∙ first_value-rows (found_of c.args.found.now) (codes "FILE")

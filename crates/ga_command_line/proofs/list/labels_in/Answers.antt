@@ -8,8 +8,10 @@ use Rattle.ga_command_line.proofs.list.labels_in.Goals as goal
 pub returns-in-Some : goal.returns-in-Some
 returns-in-Some c =
     c.eq.ensures
-    ∙ ap (λ o. option_map_or (λ text. bytes_eq text (codes "true")) o false) (c.in-Some.ensures ∙ first_value-rows (found_of c.args.found.now) (codes "LABELS"))
+    ∙ ap (λ o. option_map_or (λ text. bytes_eq text (codes "true")) o false)
+    (c.in-Some.ensures ∙ first_value-rows (found_of c.args.found.now) (codes "LABELS"))
 
 pub returns-in-None : goal.returns-in-None
 returns-in-None c =
-    ap (λ o. option_map_or (λ text. bytes_eq text (codes "true")) o false) (c.in-None.ensures ∙ first_value-rows (found_of c.args.found.now) (codes "LABELS"))
+    ap (λ o. option_map_or (λ text. bytes_eq text (codes "true")) o false)
+    (c.in-None.ensures ∙ first_value-rows (found_of c.args.found.now) (codes "LABELS"))

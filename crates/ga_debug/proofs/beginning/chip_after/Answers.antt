@@ -11,7 +11,10 @@ use Rattle.ga_debug.proofs.beginning.chip_after.Goals as goal
 pub returns : goal.returns
 returns c =
     let images = c.in_ok-images.images in
-    let loading : option_map (λ lists. lists_in lists.now) c.as_deref.result ≡ option_map (λ routes. lists_in routes.items) c.args.head.now.routes = search rules in
+    let loading : option_map (λ lists. lists_in lists.now) c.as_deref.result
+    ≡ option_map (λ routes. lists_in routes.items) c.args.head.now.routes = search rules in
     chip_answers (head_view c.args.head.now) images c.loaded_chip.result
-    (subst (λ (source : List ℕ). HasImages source images) c.as_str.ensures.value c.in_ok-images.ensures.images)
-    (subst (λ (loading : Loading). Gives (λ chip. chip) c.loaded_chip.result (chip_of loading images)) loading c.loaded_chip.ensures)
+    (subst (λ (source : List ℕ). HasImages source images) c.as_str.ensures.value
+    c.in_ok-images.ensures.images)
+    (subst (λ (loading : Loading). Gives (λ chip. chip) c.loaded_chip.result
+    (chip_of loading images)) loading c.loaded_chip.ensures)

@@ -6,5 +6,10 @@ use Rattle.ga_debug.proofs.replaying.replay.Goals as goal
 
 pub returns-clause-replayed : goal.returns-clause-replayed
 returns-clause-replayed c =
-    subst (λ (profile : Profile). IsReplayedFrom profile c.args.text.now (Ok c.in_ok-count.count)) c.profile_of-profile.ensures
-    (c.in_ok-chip.chip, head_view c.in_ok-head.head, (c.in_ok-head.ensures.head, c.in_ok-chip.ensures), ap replay_result (sym c.in_ok-count.ensures))
+    subst (λ (profile : Profile). IsReplayedFrom profile c.args.text.now (Ok c.in_ok-count.count))
+    c.profile_of-profile.ensures (
+      c.in_ok-chip.chip,
+      head_view c.in_ok-head.head,
+      (c.in_ok-head.ensures.head, c.in_ok-chip.ensures),
+      ap replay_result (sym c.in_ok-count.ensures),
+    )

@@ -5,4 +5,5 @@ use Rattle.ga_disasm.proofs.disassembling.items.Given as goal
 -- the items so far, and those of the words that are left
 abbrev pub invariant-loop-index : goal.invariant-loop-index
 invariant-loop-index l =
-    map item_view l.items.items ++ items_from l.owed (l.code_len - l.index) (drop l.index l.words) ≡ items_of l.code_len l.words
+    map item_view l.items.items ++ items_from l.owed (l.code_len - l.index) (drop l.index l.words)
+    ≡ items_of l.code_len l.words

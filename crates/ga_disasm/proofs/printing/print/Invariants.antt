@@ -5,4 +5,6 @@ use Rattle.ga_disasm.proofs.printing.print.Given as goal
 
 -- what is written, and the lines that are left
 abbrev pub invariant-loop-item : goal.invariant-loop-item
-invariant-loop-item l = string_bytes l.text ++ item_lines l.in_data (map item_view (drop l.item-index l.items)) ≡ item_lines false (map item_view l.items)
+invariant-loop-item l =
+    string_bytes l.text ++ item_lines l.in_data (map item_view (drop l.item-index l.items))
+    ≡ item_lines false (map item_view l.items)

@@ -9,11 +9,15 @@ pub loop-index-preserved : goal.loop-index-preserved
 loop-index-preserved c =
     let chip = c.args.chip.now in
     let index = c.loop-index.index in
-    c.in_ok-push_node.ensures ∙ ap (λ name. string_bytes c.loop-index.text ++ whole_node chip name (state_of chip name)) c.at.ensures
-    ∙ ap (λ front. front ++ node_at chip index) c.loop-index.invariant ∙ sym (next_line (node_at chip) index)
+    c.in_ok-push_node.ensures
+    ∙ ap (λ name. string_bytes c.loop-index.text ++ whole_node chip name (state_of chip name))
+    c.at.ensures
+    ∙ ap (λ front. front ++ node_at chip index) c.loop-index.invariant
+    ∙ sym (next_line (node_at chip) index)
 
 pub returns : goal.returns
 unfolding chip_dump
 returns c =
     let all : c.loop-index.index ≡ 144 = omega arith in
-    c.loop-index.invariant ∙ ap (λ count. flat_map (node_at c.args.chip.now) (range_with_len 0 count)) all
+    c.loop-index.invariant
+    ∙ ap (λ count. flat_map (node_at c.args.chip.now) (range_with_len 0 count)) all

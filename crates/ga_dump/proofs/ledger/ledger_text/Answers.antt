@@ -7,4 +7,6 @@ use Rattle.ga_dump.proofs.ledger.ledger_text.Goals as goal
 
 pub loop-side-preserved : goal.loop-side-preserved
 loop-side-preserved c =
-    line_more (side_line c.args.chip.now c.args.node) SIDES c.loop-side.side-index Right (string_bytes c.loop-side.text) _ _ (search rules) c.loop-side.invariant c.in_ok-push_side.ensures
+    line_more (side_line c.args.chip.now c.args.node) SIDES c.loop-side.side-index Right
+    (string_bytes c.loop-side.text) _ _
+    (search rules) c.loop-side.invariant c.in_ok-push_side.ensures

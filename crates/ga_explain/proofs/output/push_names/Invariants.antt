@@ -7,4 +7,5 @@ use Rattle.ga_explain.proofs.output.push_names.Given as goal
 -- the names so far, and those that are left
 abbrev pub invariant-loop-topic : goal.invariant-loop-topic
 invariant-loop-topic l =
-    string_bytes l.text ++ flat_map name_line (map entry_of (drop l.topic-index l.topics)) ≡ string_bytes l.initial.text ++ flat_map name_line (map entry_of l.topics)
+    string_bytes l.text ++ flat_map name_line (map entry_of (drop l.topic-index l.topics))
+    ≡ string_bytes l.initial.text ++ flat_map name_line (map entry_of l.topics)

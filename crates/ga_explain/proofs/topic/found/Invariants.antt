@@ -5,4 +5,6 @@ use Rattle.ga_explain.proofs.topic.found.Given as goal
 
 -- what is found stands in what is left
 abbrev pub invariant-loop-topic : goal.invariant-loop-topic
-invariant-loop-topic l = entry_in (map entry_of (drop l.topic-index l.topics)) l.name ≡ entry_in (map entry_of l.topics) l.name
+invariant-loop-topic l =
+    entry_in (map entry_of (drop l.topic-index l.topics)) l.name
+    ≡ entry_in (map entry_of l.topics) l.name

@@ -8,10 +8,20 @@ loop-node-preserved c =
     let name = c.node-item.result in
     let side = c.args.side in
     let made = c.attempt-outcome.ensures.chip in
-    let next = round_next c.args.nodes.now c.loop-node.node-index name side c.loop-node-test.true c.node-item.is in
-    let moved = moves_next c.loop-node.chip c.attempt-outcome.new.self name side c.attempt-outcome.result _ _ next made in
+    let next = round_next c.args.nodes.now c.loop-node.node-index name side c.loop-node-test.true
+    c.node-item.is in
+    let moved = moves_next c.loop-node.chip c.attempt-outcome.new.self name side
+    c.attempt-outcome.result _ _ next made in
     record {
-      runs = sym (ran_next c.loop-node.chip c.attempt-outcome.new.self name side c.attempt-outcome.result _ _ next made) ∙ c.loop-node.invariant.runs;
-      moves = omega (arith, moved, c.loop-node.invariant.moves, c.moves.ensures, c.from-moved.ensures);
-      few = omega (arith, moved_once c.attempt-outcome.result, c.loop-node.invariant.few, c.moves.ensures, c.from-moved.ensures);
+      runs = sym (ran_next c.loop-node.chip c.attempt-outcome.new.self name side
+          c.attempt-outcome.result _ _ next made) ∙ c.loop-node.invariant.runs;
+      moves =
+          omega (arith, moved, c.loop-node.invariant.moves, c.moves.ensures, c.from-moved.ensures);
+      few = omega (
+        arith,
+        moved_once c.attempt-outcome.result,
+        c.loop-node.invariant.few,
+        c.moves.ensures,
+        c.from-moved.ensures,
+      );
     }

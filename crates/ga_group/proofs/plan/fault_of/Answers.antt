@@ -12,19 +12,34 @@ pub returns-in-Some-clause-fault : goal.returns-in-Some-clause-fault
 returns-in-Some-clause-fault c =
     let before = concat (groups_in (take c.loop-worker.worker c.args.groups.now)) in
     let some : 0 < length c.index-groups-worker.result.items = (search rules) in
-    let told = some_group c.loop-worker.worker before c.index-groups-worker.result.items some ∙ ap (λ l. option_map Repeated (first_repeated before l)) (sym c.deref.ensures.value) ∙ ap (option_map Repeated) (sym c.first_repeated.ensures.node ∙ c.in-Some.is) in
-    sym (c.loop-worker.invariant.0 ∙ fault_next c.args.groups.now c.loop-worker.worker c.index-groups-worker.result (Some (Repeated c.in-Some.node)) c.loop-worker-test.true c.index-groups-worker.is told)
+    let told = some_group c.loop-worker.worker before c.index-groups-worker.result.items some
+    ∙ ap (λ l. option_map Repeated (first_repeated before l)) (sym c.deref.ensures.value)
+    ∙ ap (option_map Repeated) (sym c.first_repeated.ensures.node ∙ c.in-Some.is) in
+    sym (c.loop-worker.invariant.0
+    ∙ fault_next c.args.groups.now c.loop-worker.worker c.index-groups-worker.result
+    (Some (Repeated c.in-Some.node)) c.loop-worker-test.true c.index-groups-worker.is told)
 
 pub loop-worker-preserved : goal.loop-worker-preserved
 loop-worker-preserved c =
     let before = concat (groups_in (take c.loop-worker.worker c.args.groups.now)) in
     let some : 0 < length c.index-groups-worker.result.items = (search rules) in
-    let told = some_group c.loop-worker.worker before c.index-groups-worker.result.items some ∙ ap (λ l. option_map Repeated (first_repeated before l)) (sym c.deref.ensures.value) ∙ ap (option_map Repeated) (sym c.first_repeated.ensures.node ∙ c.in_default.is) in (
-      c.loop-worker.invariant.0 ∙ fault_next c.args.groups.now c.loop-worker.worker c.index-groups-worker.result None c.loop-worker-test.true c.index-groups-worker.is told,
-      more_named c.args.groups.now c.loop-worker.worker c.index-groups-worker.result c.loop-worker-test.true c.index-groups-worker.is c.loop-worker.invariant.1 (subst (AllByRecursion IsNodeName) c.deref.ensures.value (c.first_repeated.ensures.named c.in_default.is)),
+    let told = some_group c.loop-worker.worker before c.index-groups-worker.result.items some
+    ∙ ap (λ l. option_map Repeated (first_repeated before l)) (sym c.deref.ensures.value)
+    ∙ ap (option_map Repeated) (sym c.first_repeated.ensures.node ∙ c.in_default.is) in (
+      c.loop-worker.invariant.0 ∙ fault_next c.args.groups.now c.loop-worker.worker
+          c.index-groups-worker.result None c.loop-worker-test.true c.index-groups-worker.is told,
+      more_named c.args.groups.now c.loop-worker.worker c.index-groups-worker.result
+          c.loop-worker-test.true c.index-groups-worker.is c.loop-worker.invariant.1
+          (subst (AllByRecursion IsNodeName) c.deref.ensures.value
+          (c.first_repeated.ensures.named c.in_default.is)),
     )
 
 pub returns-clause-most : goal.returns-clause-most
 returns-clause-most c e =
-    let none : plan_fault (groups_in c.args.groups.now) ≡ None = c.loop-worker.invariant.0 ∙ ap (λ l. groups_fault c.loop-worker.worker (concat (groups_in (take c.loop-worker.worker c.args.groups.now))) (groups_in l)) (drop_all c.loop-worker.worker c.args.groups.now c.loop-worker-test.false) in
-    few (groups_in c.args.groups.now) none (subst (λ l. AllByRecursion IsNodeName (concat (groups_in l))) (take_all c.loop-worker.worker c.args.groups.now c.loop-worker-test.false) c.loop-worker.invariant.1)
+    let none : plan_fault (groups_in c.args.groups.now) ≡ None =
+    c.loop-worker.invariant.0 ∙ ap (λ l. groups_fault c.loop-worker.worker
+    (concat (groups_in (take c.loop-worker.worker c.args.groups.now))) (groups_in l))
+    (drop_all c.loop-worker.worker c.args.groups.now c.loop-worker-test.false) in
+    few (groups_in c.args.groups.now) none
+    (subst (λ l. AllByRecursion IsNodeName (concat (groups_in l))) (take_all c.loop-worker.worker
+    c.args.groups.now c.loop-worker-test.false) c.loop-worker.invariant.1)

@@ -6,4 +6,6 @@ use Rattle.ga_group.proofs.plan.stands_in.Given as goal
 
 -- it stands in the groups that are left where it stands in all
 abbrev pub invariant-loop-group : goal.invariant-loop-group
-invariant-loop-group l = is_among l.node (concat (groups_in l.fn.groups) ++ l.fn.front) ≡ is_among l.node (concat (groups_in (drop l.group-index l.fn.groups)) ++ l.fn.front)
+invariant-loop-group l =
+    is_among l.node (concat (groups_in l.fn.groups) ++ l.fn.front)
+    ≡ is_among l.node (concat (groups_in (drop l.group-index l.fn.groups)) ++ l.fn.front)

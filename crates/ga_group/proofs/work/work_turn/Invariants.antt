@@ -9,7 +9,8 @@ invariant-loop-index l = record {
   table : l.seat.table ≡ l.fn.seat.table;
   names : names_of l.parts ≡ names_of l.fn.parts;
   lent : AreLent l.parts l.seat.nodes;
-  gained : HaveGained l.fn.seat.nodes l.seat.nodes (take l.index (names_of l.fn.parts)) (l.side ∷ []);
+  gained : HaveGained l.fn.seat.nodes l.seat.nodes (take l.index (names_of l.fn.parts))
+      (l.side ∷ []);
   known : AreKnown l.parts l.looks;
   moved : steps_in l.parts ≡ steps_in l.fn.parts + l.moved;
   few : l.moved ≤ l.index;

@@ -6,4 +6,5 @@ pub loop-group-preserved : goal.loop-group-preserved
 loop-group-preserved c =
     c.in_ok-extend_from_slice.ensures.items
     ∙ ap₂ (λ xs ys. xs ++ ys) c.loop-group.invariant c.deref.ensures.value
-    ∙ sym (groups_done c.args.groups.now c.loop-group.group-index c.group-item.result c.loop-group-test.true c.group-item.is)
+    ∙ sym (groups_done c.args.groups.now c.loop-group.group-index c.group-item.result
+    c.loop-group-test.true c.group-item.is)

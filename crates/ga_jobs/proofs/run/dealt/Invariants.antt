@@ -6,4 +6,6 @@ use Rattle.ga_jobs.proofs.run.dealt.Given as goal
 
 -- the groups of the workers so far
 abbrev pub invariant-loop-worker : goal.invariant-loop-worker
-invariant-loop-worker l = groups_of l.groups ≡ map (λ worker. nodes_for l.workers worker 0 l.nodes) (range_with_len 0 l.worker)
+invariant-loop-worker l =
+    groups_of l.groups
+    ≡ map (λ worker. nodes_for l.workers worker 0 l.nodes) (range_with_len 0 l.worker)

@@ -1,18 +1,21 @@
 use Rattle.std.proofs.Common.{string_bytes}
 use Rattle.ga_jobs.specs.Tree.{tree_in}
 use Rattle.ga_jobs.specs.Run.{IsRunOf, IsRunOutput}
-use Rattle.ga_jobs.proofs.Faults.{answers, ran_from}
+use Rattle.ga_jobs.proofs.Faults.{answers, from_images}
 use Rattle.ga_jobs.proofs.OneRun.{run_outputs}
 use Rattle.ga_jobs.proofs.run.output.Goals as goal
 
 pub returns-clause-output : goal.returns-clause-output
 returns-clause-output g c =
     let images = c.in_ok-images.images in
-    answers string_bytes (IsRunOf images c.args.workers c.args.turns (tree_in c.args.routes.now)) (IsRunOutput c.args.routes.now c.args.workers c.args.turns c.args.input.now) c.run_text.result
-    (ran_from images c.args.routes.now c.args.workers c.args.turns c.args.input.now c.in_ok-images.ensures) c.run_text.ensures
+    answers string_bytes (IsRunOf images c.args.workers c.args.turns (tree_in c.args.routes.now))
+    (IsRunOutput c.args.routes.now c.args.workers c.args.turns c.args.input.now) c.run_text.result
+    (from_images (λ images. IsRunOf images c.args.workers c.args.turns (tree_in c.args.routes.now))
+    images c.args.input.now c.in_ok-images.ensures) c.run_text.ensures
 
 pub returns-in_err-images-clause-only : goal.returns-in_err-images-clause-only
-returns-in_err-images-clause-only g c = run_outputs c.args.routes.now c.args.input.now c.args.workers c.args.turns
+returns-in_err-images-clause-only g c =
+    run_outputs c.args.routes.now c.args.input.now c.args.workers c.args.turns
 
 pub returns-clause-only : goal.returns-clause-only
 returns-clause-only g c = run_outputs c.args.routes.now c.args.input.now c.args.workers c.args.turns

@@ -13,8 +13,10 @@ returns g c =
       made.0,
       record {
         next = c.in_ok-chip.chip;
-        ran = subst (λ plan. IsWorkersRun c.args.chip plan c.args.turns c.in_ok-chip.chip) (sym made.1) c.in_ok-chip.ensures.run;
-        alone = alone c.args.chip c.in_ok-chip.chip c.in_ok-plan.plan c.args.nodes.now c.args.workers c.args.turns (sym made.1) c.in_ok-chip.ensures.alone;
+        ran = subst (λ plan. IsWorkersRun c.args.chip plan c.args.turns c.in_ok-chip.chip)
+            (sym made.1) c.in_ok-chip.ensures.run;
+        alone = alone c.args.chip c.in_ok-chip.chip c.in_ok-plan.plan c.args.nodes.now
+            c.args.workers c.args.turns (sym made.1) c.in_ok-chip.ensures.alone;
         text_is = search rules;
       },
     )

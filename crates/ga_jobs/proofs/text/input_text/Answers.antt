@@ -8,4 +8,6 @@ returns-in-Ok c =
     rw (utf8, c.in-Ok.ensures.cases.0)
 
 pub returns-in-Err : goal.returns-in-Err
-returns-in-Err c = cond-false _ _ _ (false_from_ne_true _ (λ utf8. c.in-Err.ensures.cases.0 (IsUtf8-from_is_utf8 _ utf8)))
+returns-in-Err c =
+    cond-false _ _ _
+    (false_from_ne_true _ (λ utf8. c.in-Err.ensures.cases.0 (IsUtf8-from_is_utf8 _ utf8)))

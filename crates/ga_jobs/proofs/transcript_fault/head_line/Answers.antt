@@ -6,5 +6,6 @@ use Rattle.ga_jobs.proofs.transcript_fault.head_line.Goals as goal
 
 pub returns-in-NoGo : goal.returns-in-NoGo
 returns-in-NoGo c =
-    count_from_yields_List _ c.count.result c.count.ensures.ran (YieldsList-from_lines c.args.text.now c.lines.ensures.rest)
+    count_from_yields_List _ c.count.result c.count.ensures.ran
+    (YieldsList-from_lines c.args.text.now c.lines.ensures.rest)
     ∙ ap (spec.head_line c.args.text.now) (sym c.in-NoGo.is)

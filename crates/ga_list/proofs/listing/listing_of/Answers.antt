@@ -20,9 +20,13 @@ loop-section-preserved c =
       | in-Some+in_ok-places+in_ok-push_node w ↦
           let node = w.in-Some.node.now in
           let image = w.in-Some.image.now in
-          listing_next c.args.program.now images c.loop-section.section (node, image) _ _ _ w.in-Some.ensures.entry c.loop-section.invariant
+          listing_next c.args.program.now images c.loop-section.section
+          (node, image) _ _ _ w.in-Some.ensures.entry c.loop-section.invariant
           (ap string_bytes w.text-is ∙ w.in_ok-push_node.ensures
-          ∙ ap (λ ps. string_bytes c.loop-section.text ++ node_listing node image ps) (ap (map place_of) w.deref.ensures.value ∙ w.in_ok-places.ensures.places))
+          ∙ ap (λ ps. string_bytes c.loop-section.text ++ node_listing node image ps)
+          (ap (map place_of) w.deref.ensures.value ∙ w.in_ok-places.ensures.places))
       | in_default w ↦
-          absurd (is_found images c.loop-section.section (subst (λ (n : ℕ). c.loop-section.section < n) c.len-section-end.ensures.len c.loop-section-test.true) w.in_default.ensures.entry)
+          absurd (is_found images c.loop-section.section
+          (subst (λ (n : ℕ). c.loop-section.section < n) c.len-section-end.ensures.len
+          c.loop-section-test.true) w.in_default.ensures.entry)
     ]

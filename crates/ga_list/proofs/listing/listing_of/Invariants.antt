@@ -5,4 +5,5 @@ use Rattle.ga_list.proofs.listing.listing_of.Given as goal
 -- what is written, and the listing of the images that are left
 abbrev pub invariant-loop-section : goal.invariant-loop-section
 invariant-loop-section l =
-    string_bytes l.text ++ listing_from l.program l.section (drop l.section l.images.entries) ≡ listing_from l.program 0 l.images.entries
+    string_bytes l.text ++ listing_from l.program l.section (drop l.section l.images.entries)
+    ≡ listing_from l.program 0 l.images.entries

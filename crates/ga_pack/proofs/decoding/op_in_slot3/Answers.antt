@@ -14,5 +14,6 @@ op_with_code-requires c = let small = three_bits c.get.result in omega arith
 pub returns-clause-bits : goal.returns-clause-bits
 returns-clause-bits c =
     let small = three_bits c.get.result in
-    let code : code_of c.op_with_code.result ≡ bit_xor (bit_and c.get.result 7) 5 * 4 = omega arith in
+    let code : code_of c.op_with_code.result ≡ bit_xor (bit_and c.get.result 7) 5 * 4 =
+    omega arith in
     rw (← c.get.ensures.value) (stored_upper-masked c.op_with_code.result c.get.result code)

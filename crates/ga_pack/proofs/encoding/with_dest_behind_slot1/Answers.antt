@@ -8,8 +8,10 @@ pub returns-clause-reading : goal.returns-clause-reading
 returns-clause-reading c =
     let none : takes_dest c.args.a ≡ false = cc in
     let takes : takes_dest c.args.op ≡ true = cc in
-    let is : c.unwrap.result ≡ (c.slot0_bits.result * 2 ^ 5 + c.slot1_bits.result) * 2 ^ 8 + c.in-Some.dest = grind (arith, common_steps) in
+    let is : c.unwrap.result ≡ (c.slot0_bits.result * 2 ^ 5 + c.slot1_bits.result) * 2 ^ 8
+    + c.in-Some.dest = grind (arith, common_steps) in
     let spare : c.args.spare ≡ 0 = omega arith in
     rw (c.in-Some.is, spare)
-    (made_behind_slot1 c.unwrap.result c.slot0_bits.result c.slot1_bits.result c.in-Some.dest c.args.a c.args.op none takes
+    (made_behind_slot1 c.unwrap.result c.slot0_bits.result c.slot1_bits.result c.in-Some.dest
+    c.args.a c.args.op none takes
     c.slot0_bits.ensures.bits c.slot1_bits.ensures.bits (omega arith) (omega arith) is)

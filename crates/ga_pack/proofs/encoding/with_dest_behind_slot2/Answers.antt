@@ -9,10 +9,13 @@ returns-clause-reading c =
     let none_first : takes_dest c.args.a ≡ false = cc in
     let none_second : takes_dest c.args.b ≡ false = cc in
     let takes : takes_dest c.args.op ≡ true = cc in
-    let is : c.unwrap.result ≡ ((c.slot0_bits.result * 2 ^ 5 + c.slot1_bits.result) * 2 ^ 5 + c.slot2_bits.result) * 2 ^ 3 + c.in-Some.dest =
+    let is : c.unwrap.result ≡ ((c.slot0_bits.result * 2 ^ 5 + c.slot1_bits.result) * 2 ^ 5
+    + c.slot2_bits.result) * 2 ^ 3 + c.in-Some.dest =
     grind (arith, common_steps) in
     let spare : c.args.spare ≡ 0 = omega arith in
     rw (c.in-Some.is, spare)
-    (made_behind_slot2 c.unwrap.result c.slot0_bits.result c.slot1_bits.result c.slot2_bits.result c.in-Some.dest
+    (made_behind_slot2 c.unwrap.result c.slot0_bits.result c.slot1_bits.result c.slot2_bits.result
+    c.in-Some.dest
     c.args.a c.args.b c.args.op none_first none_second takes
-    c.slot0_bits.ensures.bits c.slot1_bits.ensures.bits c.slot2_bits.ensures.bits (omega arith) (omega arith) (omega arith) is)
+    c.slot0_bits.ensures.bits c.slot1_bits.ensures.bits c.slot2_bits.ensures.bits (omega arith)
+    (omega arith) (omega arith) is)

@@ -13,24 +13,36 @@ loop-route-preserved c =
     let text = c.args.text.now in
     let texts = slice_split (λ b. b == 47) text in
     let left = drop (length c.loop-route.yielded) texts in
-    let turn = YieldsList-turn (YieldsList-from_str_split 47 text (lit< tt) (cc) (cc) (cc)) c.loop-route.yielded _ c.loop-route.yielded_by _ _ c.in-Some.route c.in-Some.is c.next.ensures.steps in
+    let turn = YieldsList-turn
+    (YieldsList-from_str_split 47 text (lit< tt) (cc) (cc) (cc)) c.loop-route.yielded _
+    c.loop-route.yielded_by _ _ c.in-Some.route c.in-Some.is c.next.ensures.steps in
     c.loop-route.invariant
-    ∙ adds (lists_in c.loop-route.routes.items) texts (length c.loop-route.yielded) _ c.in-Some.route.now c.in_ok-read_nodes.field-0.items turn (length_push c.loop-route.yielded c.in-Some.route) c.in_ok-read_nodes.ensures.nodes
-    ∙ ap (λ front. option_map (λ more. front ++ more) (all_nodes_in (drop (length (c.loop-route.yielded ++ c.in-Some.route ∷ [])) texts)))
-    (sym (ap (map vec_items) c.in_ok-push.ensures.items ∙ map-append vec_items c.loop-route.routes.items (c.in_ok-read_nodes.field-0 ∷ [])))
+    ∙ adds (lists_in c.loop-route.routes.items) texts
+    (length c.loop-route.yielded) _ c.in-Some.route.now c.in_ok-read_nodes.field-0.items turn
+    (length_push c.loop-route.yielded c.in-Some.route) c.in_ok-read_nodes.ensures.nodes
+    ∙ ap (λ front. option_map (λ more. front ++ more)
+    (all_nodes_in (drop (length (c.loop-route.yielded ++ c.in-Some.route ∷ [])) texts)))
+    (sym (ap (map vec_items) c.in_ok-push.ensures.items
+    ∙ map-append vec_items c.loop-route.routes.items (c.in_ok-read_nodes.field-0 ∷ [])))
 
 pub returns-in_err-read_nodes-clause-bad : goal.returns-in_err-read_nodes-clause-bad
 returns-in_err-read_nodes-clause-bad c =
     let text = c.args.text.now in
     let texts = slice_split (λ b. b == 47) text in
-    let turn = YieldsList-turn (YieldsList-from_str_split 47 text (lit< tt) (cc) (cc) (cc)) c.loop-route.yielded _ c.loop-route.yielded_by _ _ c.in-Some.route c.in-Some.is c.next.ensures.steps in
+    let turn = YieldsList-turn
+    (YieldsList-from_str_split 47 text (lit< tt) (cc) (cc) (cc)) c.loop-route.yielded _
+    c.loop-route.yielded_by _ _ c.in-Some.route c.in-Some.is c.next.ensures.steps in
     let bad : (c.in_err-read_nodes.field-0.0 ≡ Memory) ⊎ (routes_in text ≡ None) =
-    ⊎_elim inl (λ none. inr (c.loop-route.invariant ∙ stops (lists_in c.loop-route.routes.items) texts (length c.loop-route.yielded) c.in-Some.route.now turn none)) c.in_err-read_nodes.ensures.bad in
+    ⊎_elim inl
+    (λ none. inr (c.loop-route.invariant ∙ stops (lists_in c.loop-route.routes.items) texts
+    (length c.loop-route.yielded) c.in-Some.route.now turn none)) c.in_err-read_nodes.ensures.bad in
     search rules
 
 pub returns-clause-routes : goal.returns-clause-routes
 returns-clause-routes c =
     let text = c.args.text.now in
     let texts = slice_split (λ b. b == 47) text in
-    let end = YieldsList-end (YieldsList-from_str_split 47 text (lit< tt) (cc) (cc) (cc)) c.loop-route.yielded _ c.loop-route.yielded_by _ _ c.in-None.is c.next.ensures.steps in
-    c.loop-route.invariant ∙ ends (lists_in c.loop-route.routes.items) texts (length c.loop-route.yielded) (search (rules, end.1))
+    let end = YieldsList-end (YieldsList-from_str_split 47 text (lit< tt) (cc) (cc) (cc))
+    c.loop-route.yielded _ c.loop-route.yielded_by _ _ c.in-None.is c.next.ensures.steps in
+    c.loop-route.invariant ∙ ends (lists_in c.loop-route.routes.items) texts
+    (length c.loop-route.yielded) (search (rules, end.1))

@@ -9,9 +9,14 @@ pub add_pumps-returns-clause-words : goal.add_pumps-returns-clause-words
 add_pumps-returns-clause-words t c =
     let inner = subtrees_of c.deref.result.now in
     let beside = subtrees_of c.deref-2.result.now in
-    let sent_words = sent c.args.part c.in-Branch.node c.unwrap-side.result (image_of c.args.images.now c.in-Branch.node) (pumps c.args.part (grove c.args.images.now c.in-Branch.node inner)) in
+    let sent_words = sent c.args.part c.in-Branch.node c.unwrap-side.result
+    (image_of c.args.images.now c.in-Branch.node)
+    (pumps c.args.part (grove c.args.images.now c.in-Branch.node inner)) in
     let beside_words = pumps c.args.part (grove c.args.images.now c.args.parent beside) in
     c.in_ok-add_pumps.ensures.words
-    ∙ pumped c.args.words.now.items c.extend_from_slice.new.self.items c.add_sent.new.words.items sent_words beside_words c.unwrap-side.result c.len-start.result c.word-5.result
+    ∙ pumped c.args.words.now.items c.extend_from_slice.new.self.items c.add_sent.new.words.items
+    sent_words beside_words c.unwrap-side.result c.len-start.result c.word-5.result
     (search rules) (search rules) c.in_ok-add_sent.ensures.words (search rules)
-    ∙ ap (λ l. c.args.words.now.items ++ l) (first_pump c.args.part c.args.images.now c.args.parent c.in-Branch.node c.unwrap-side.result (subtrees_of c.args.branches.now) inner beside (search rules) (sym c.side_to.ensures.value ∙ c.unwrap-side.ensures))
+    ∙ ap (λ l. c.args.words.now.items ++ l) (first_pump c.args.part c.args.images.now c.args.parent
+    c.in-Branch.node c.unwrap-side.result (subtrees_of c.args.branches.now) inner beside
+    (search rules) (sym c.side_to.ensures.value ∙ c.unwrap-side.ensures))

@@ -7,5 +7,8 @@ use Rattle.ga_path.proofs.stream.boot.Goals as goal
 
 pub prove-unreachable-requires : goal.prove-unreachable-requires
 prove-unreachable-requires c =
-    let memory : c.in-Err.fault ≡ Memory = memory_alone c.args.route.now c.in-Err.fault (ap route_fault (sym c.nodes-nodes.ensures.value) ∙ c.nodes-nodes.ensures.faultless) (subst (λ routes. IsTreeFault routes c.in-Err.fault) c.from_ref.ensures.value c.in-Err.ensures.fault) in
+    let memory : c.in-Err.fault ≡ Memory =
+    memory_alone c.args.route.now c.in-Err.fault (ap route_fault (sym c.nodes-nodes.ensures.value)
+    ∙ c.nodes-nodes.ensures.faultless) (subst (λ routes. IsTreeFault routes c.in-Err.fault)
+    c.from_ref.ensures.value c.in-Err.ensures.fault) in
     search rules

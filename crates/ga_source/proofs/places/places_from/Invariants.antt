@@ -7,5 +7,6 @@ use Rattle.ga_source.proofs.places.places_from.Given as goal
 
 abbrev pub invariant-loop-item : goal.invariant-loop-item
 invariant-loop-item l =
-    map item_place_of l.found.items ++ map item_place (placed_items (map place_of l.rest) (map item_of (drop l.item-index l.items)))
+    map item_place_of l.found.items
+    ++ map item_place (placed_items (map place_of l.rest) (map item_of (drop l.item-index l.items)))
     ≡ map item_place (placed_items (map place_of l.places) (map item_of l.items))

@@ -7,11 +7,16 @@ use Rattle.ga_transcript.proofs.checking.check.Goals as goal
 pub returns-in-Some-clause-checked : goal.returns-in-Some-clause-checked
 returns-in-Some-clause-checked c =
     let start = start_view c.in_ok-loaded.loaded in
-    let early : early_reply (start.line + 1) start.commands ≡ Some c.in-Some.line = ap (λ left. early_reply (left.number + 1) left.lines) (sym c.again.ensures) ∙ sym c.in-Some.ensures in
+    let early : early_reply (start.line + 1) start.commands ≡ Some c.in-Some.line =
+    ap (λ left. early_reply (left.number + 1) left.lines) (sym c.again.ensures)
+    ∙ sym c.in-Some.ensures in
     inr (start, c.in_ok-loaded.ensures.loaded, early_checked start c.in-Some.line early)
 
 pub returns-in-None-clause-checked : goal.returns-in-None-clause-checked
 returns-in-None-clause-checked c =
     let start = start_view c.in_ok-loaded.loaded in
-    let none : early_reply (start.line + 1) start.commands ≡ None = ap (λ left. early_reply (left.number + 1) left.lines) (sym c.again.ensures) ∙ sym c.in-None.ensures in
-    checked_behind c.args.text.now start c.follow.result c.in_ok-loaded.ensures.loaded none c.follow.ensures
+    let none : early_reply (start.line + 1) start.commands ≡ None =
+    ap (λ left. early_reply (left.number + 1) left.lines) (sym c.again.ensures)
+    ∙ sym c.in-None.ensures in
+    checked_behind c.args.text.now start c.follow.result c.in_ok-loaded.ensures.loaded none
+    c.follow.ensures

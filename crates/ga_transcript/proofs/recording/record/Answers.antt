@@ -8,11 +8,17 @@ use Rattle.ga_transcript.proofs.recording.record.Goals as goal
 pub returns-in-Some-clause-recorded : goal.returns-in-Some-clause-recorded
 returns-in-Some-clause-recorded c =
     let start = start_view c.in_ok-loaded.loaded in
-    let early : early_reply (start.line + 1) start.commands ≡ Some c.in-Some.line = ap (early_reply (start.line + 1)) (sym c.again.ensures) ∙ sym c.in-Some.ensures in
-    inr (start, c.in_ok-loaded.ensures.loaded, early_recorded c.args.text.now start c.in-Some.line early)
+    let early : early_reply (start.line + 1) start.commands ≡ Some c.in-Some.line =
+    ap (early_reply (start.line + 1)) (sym c.again.ensures) ∙ sym c.in-Some.ensures in
+    inr (
+      start,
+      c.in_ok-loaded.ensures.loaded,
+      early_recorded c.args.text.now start c.in-Some.line early,
+    )
 
 pub front-requires : goal.front-requires
-front-requires c = go_line c.args.text.now (start_view c.in_ok-loaded.loaded) c.in_ok-loaded.ensures.loaded
+front-requires c =
+    go_line c.args.text.now (start_view c.in_ok-loaded.loaded) c.in_ok-loaded.ensures.loaded
 
 pub returns-clause-recorded : goal.returns-clause-recorded
 returns-clause-recorded c =
@@ -38,7 +44,11 @@ returns-in_err-push_recorded-clause-recorded c =
     c.in_ok-recording.ensures c.in_err-push_recorded.ensures
 
 pub returns-clause-holds : goal.returns-clause-holds
-returns-clause-holds c = recording_holds c.args.text.now (string_bytes c.push_recorded.new.text) (returns-clause-recorded c)
+returns-clause-holds c =
+    recording_holds c.args.text.now (string_bytes c.push_recorded.new.text)
+    (returns-clause-recorded c)
 
 pub returns-clause-again : goal.returns-clause-again
-returns-clause-again c = recording_again c.args.text.now (string_bytes c.push_recorded.new.text) (returns-clause-recorded c)
+returns-clause-again c =
+    recording_again c.args.text.now (string_bytes c.push_recorded.new.text)
+    (returns-clause-recorded c)

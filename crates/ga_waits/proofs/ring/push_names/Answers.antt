@@ -6,4 +6,5 @@ use Rattle.ga_waits.proofs.ring.push_names.Goals as goal
 
 pub loop-walked-init : goal.loop-walked-init
 loop-walked-init c =
-    ap (λ names. string_bytes c.args.text.now ++ spec.names_text names) (names_start (inner.next_in c.args.nexts.now) c.args.first c.next_in-next.result c.next_in-next.ensures)
+    ap (λ names. string_bytes c.args.text.now ++ spec.names_text names) (names_start
+    (inner.next_in c.args.nexts.now) c.args.first c.next_in-next.result c.next_in-next.ensures)

@@ -8,5 +8,7 @@ use Rattle.ga_waits.proofs.sides.push_told_ends.Given as goal
 -- what is written, and the sides that are left
 abbrev pub invariant-loop-side : goal.invariant-loop-side
 invariant-loop-side l = shadow (Utf8 l.between)
-    × (string_bytes l.text ++ joined (told_end l.chip l.node) l.between (codes " and ") l.sides (drop l.side-index l.side-items)
-    ≡ string_bytes l.initial.text ++ joined (told_end l.chip l.node) [] (codes " and ") l.sides SIDES)
+    × (string_bytes l.text ++ joined (told_end l.chip l.node) l.between (codes " and ") l.sides
+    (drop l.side-index l.side-items)
+    ≡ string_bytes l.initial.text
+    ++ joined (told_end l.chip l.node) [] (codes " and ") l.sides SIDES)

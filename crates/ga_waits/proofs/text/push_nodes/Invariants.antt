@@ -2,6 +2,7 @@ use Rattle.std.proofs.Common.{◌≡◌, ◌++◌, string_bytes}
 use Rattle.std.specs.List.{flat_map, range_with_len}
 use Rattle.ga_place.specs.Cell.{name_at}
 use Rattle.ga_waits.specs.Closed.{stuck_in}
+use Rattle.ga_waits.specs.Label.{images_in}
 use Rattle.ga_waits.specs.Line.{node_lines}
 use Rattle.ga_waits.specs.Waits.{text_of}
 use Rattle.ga_waits.proofs.text.push_nodes.Given as goal
@@ -10,4 +11,5 @@ use Rattle.ga_waits.proofs.text.push_nodes.Given as goal
 abbrev pub invariant-loop-index : goal.invariant-loop-index
 invariant-loop-index l =
     string_bytes l.text
-    ≡ string_bytes l.initial.text ++ text_of (flat_map (λ index. node_lines l.images l.chip (stuck_in l.chip (name_at index)) (name_at index)) (range_with_len 0 l.index))
+    ≡ string_bytes l.initial.text ++ text_of (flat_map (λ index. node_lines (images_in l.images)
+    l.chip (stuck_in l.chip (name_at index)) (name_at index)) (range_with_len 0 l.index))

@@ -6,7 +6,10 @@ use Rattle.ga_waits.proofs.text.waits.Goals as goal
 
 pub push_nodes-requires : goal.push_nodes-requires
 push_nodes-requires c =
-    record { stuck = same_set c.args.chip.now (has_node c.stuck.result) c.legal.ensures c.stuck.ensures.closed c.stuck.ensures.largest }
+    record {
+      stuck = same_set c.args.chip.now
+          (has_node c.stuck.result) c.legal.ensures c.stuck.ensures.closed c.stuck.ensures.largest;
+    }
 
 pub returns-in_err-push_nodes-clause-largest : goal.returns-in_err-push_nodes-clause-largest
 returns-in_err-push_nodes-clause-largest c = largest c.args.chip.now c.legal.ensures

@@ -4,5 +4,6 @@ use Rattle.ga_word.proofs.text.push_words.Given as goal
 
 abbrev pub invariant-loop-place : goal.invariant-loop-place
 invariant-loop-place l =
-    (string_bytes l.text ++ text_from l.place (drop l.place l.words) ≡ string_bytes l.fn.text ++ text_of_words l.words)
+    (string_bytes l.text ++ text_from l.place (drop l.place l.words) ≡ string_bytes l.fn.text
+    ++ text_of_words l.words)
     × (string_len l.text + 6 * (length l.words - l.place) ≤ string_capacity l.text)

@@ -10,6 +10,9 @@ use Rattle.ga_asm.proofs.layout.Layout.is_value.Goals as goal
 pub returns-then-is_some-clause-ok : goal.returns-then-is_some-clause-ok
 returns-then-is_some-clause-ok c =
     let labels = labels_of c.args.self.now.labels.entries in
-    let found = ap (λ t. is_some (address_of labels t)) (sym c.as_str.ensures) ∙ ap is_some (sym c.address_of.ensures) ∙ sym c.is_some.ensures ∙ c.if-is_some.true in
-    let among = c.requires.laid c.in-Label.name.bytes (found_among c.in-Label.name.bytes labels found) in
-    c.if-is_some.true ∙ sym among ∙ ap (λ t. is_value (plain_names c.args.names.now.labels.now) (value_of t)) (sym c.in-Label.is)
+    let found = ap (λ t. is_some (address_of labels t)) (sym c.as_str.ensures)
+    ∙ ap is_some (sym c.address_of.ensures) ∙ sym c.is_some.ensures ∙ c.if-is_some.true in
+    let among =
+    c.requires.laid c.in-Label.name.bytes (found_among c.in-Label.name.bytes labels found) in
+    c.if-is_some.true ∙ sym among
+    ∙ ap (λ t. is_value (plain_names c.args.names.now.labels.now) (value_of t)) (sym c.in-Label.is)

@@ -11,7 +11,11 @@ pub returns-in_ok-insert-in-Label-clause-labels : goal.returns-in_ok-insert-in-L
 returns-in_ok-insert-in-Label-clause-labels c =
     let name = c.in-Label.name in
     let entries = c.args.self.now.labels.entries in
-    let new = subst (λ t. is_new (item_of t) (names_of (labels_of entries)) ≡ true) c.in-Label.is c.requires in
+    let new = subst (λ t. is_new (item_of t) (names_of (labels_of entries)) ≡ true) c.in-Label.is
+    c.requires in
     ap labels_of c.in_ok-insert-in-Label.ensures.entries
-    ∙ labels_more name.bytes c.in_ok-name-in-Label.name c.args.self.now.address entries (c.in_ok-name-in-Label.ensures.ok ∙ c.as_str.ensures) (not-true (is_among name.bytes (names_of (labels_of entries))) new)
-    ∙ ap (λ t. labels_with (labels_of entries) c.args.self.now.address (item_of t)) (sym c.in-Label.is)
+    ∙ labels_more name.bytes c.in_ok-name-in-Label.name c.args.self.now.address entries
+    (c.in_ok-name-in-Label.ensures.ok
+    ∙ c.as_str.ensures) (not-true (is_among name.bytes (names_of (labels_of entries))) new)
+    ∙ ap (λ t. labels_with (labels_of entries) c.args.self.now.address (item_of t))
+    (sym c.in-Label.is)

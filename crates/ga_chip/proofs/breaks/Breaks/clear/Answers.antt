@@ -7,6 +7,8 @@ use Rattle.ga_chip.proofs.breaks.Breaks.clear.Goals as goal
 pub returns : goal.returns
 returns c = rw c.from.ensures (
     bits_changed 512 c.self.inside.words c.args.address _ 0 c.requires (search rules)
-    (bit_at_clear_same w64 (get_or c.self.inside.words (c.args.address / 64) 0) (c.args.address % 64) (omega arith))
-    (λ i below apart. bit_at_clear_other w64 (get_or c.self.inside.words (c.args.address / 64) 0) (c.args.address % 64) (omega arith) i below apart)
+    (bit_at_clear_same w64 (get_or c.self.inside.words (c.args.address / 64) 0)
+    (c.args.address % 64) (omega arith))
+    (λ i below apart. bit_at_clear_other w64 (get_or c.self.inside.words (c.args.address / 64) 0)
+    (c.args.address % 64) (omega arith) i below apart)
     ∙ ap (λ breaks. set breaks c.args.address false) c.self.view_is)

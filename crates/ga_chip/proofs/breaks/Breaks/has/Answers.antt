@@ -6,6 +6,7 @@ use Rattle.ga_chip.proofs.breaks.Breaks.has.Goals as goal
 
 pub returns : goal.returns
 returns c =
-    ap (λ n. n == 1) (shr_and_one (get_or c.self.inside.words c.from.result 0) (c.args.address % 64) ∙ ap (λ at. bit_at (get_or c.self.inside.words at 0) (c.args.address % 64)) c.from.ensures)
+    ap (λ n. n == 1) (shr_and_one (get_or c.self.inside.words c.from.result 0) (c.args.address % 64)
+    ∙ ap (λ at. bit_at (get_or c.self.inside.words at 0) (c.args.address % 64)) c.from.ensures)
     ∙ sym (bit_of 512 c.args.address c.self.inside.words c.requires)
     ∙ ap (λ breaks. get_or breaks c.args.address false) c.self.view_is

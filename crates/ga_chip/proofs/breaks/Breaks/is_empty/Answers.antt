@@ -5,4 +5,5 @@ use Rattle.ga_chip.proofs.Bits.{no_bits}
 use Rattle.ga_chip.proofs.breaks.Breaks.is_empty.Goals as goal
 
 pub returns : goal.returns
-returns c = λ yes. sym c.self.view_is ∙ ap (bits_of 512) (same_text _ _ (sym yes ∙ c.eq.ensures)) ∙ no_bits
+returns c =
+    λ yes. sym c.self.view_is ∙ ap (bits_of 512) (same_text _ _ (sym yes ∙ c.eq.ensures)) ∙ no_bits

@@ -16,8 +16,13 @@ loop-index-preserved c =
 pub invariant_of-result : goal.invariant_of-result
 invariant_of-result c =
     all_knows _ c.all.result
-    (subst IsLegal (sym (reset_at c.loop-index.parts.items c.new.result (all_nodes c.loop-index.parts.items c.loop-index.index c.loop-index.invariant c.loop-index-test.false c.loop-index.auto.index-end) (c.new.ensures ∙ c.in_ok-cells.ensures.items))) reset_legal)
+    (subst IsLegal (sym (reset_at c.loop-index.parts.items c.new.result (all_nodes
+    c.loop-index.parts.items c.loop-index.index c.loop-index.invariant c.loop-index-test.false
+    c.loop-index.auto.index-end) (c.new.ensures ∙ c.in_ok-cells.ensures.items))) reset_legal)
     c.all.ensures
 
 pub returns : goal.returns
-returns c = reset_at c.loop-index.parts.items c.new.result (all_nodes c.loop-index.parts.items c.loop-index.index c.loop-index.invariant c.loop-index-test.false c.loop-index.auto.index-end) (c.new.ensures ∙ c.in_ok-cells.ensures.items)
+returns c =
+    reset_at c.loop-index.parts.items c.new.result (all_nodes c.loop-index.parts.items
+    c.loop-index.index c.loop-index.invariant c.loop-index-test.false c.loop-index.auto.index-end)
+    (c.new.ensures ∙ c.in_ok-cells.ensures.items)

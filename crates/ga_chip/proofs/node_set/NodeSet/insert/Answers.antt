@@ -6,4 +6,7 @@ use Rattle.ga_chip.proofs.node_set.NodeSet.insert.Goals as goal
 
 pub returns : goal.returns
 returns c = λ other.
-    changed c.args.self.now.words c.args.index other _ 1 (search rules) (bit_at_set_same w64 (get_or c.args.self.now.words (c.args.index / 64) 0) (c.args.index % 64) (omega arith)) (λ i below apart. bit_at_set_other w64 (get_or c.args.self.now.words (c.args.index / 64) 0) (c.args.index % 64) (omega arith) i apart)
+    changed c.args.self.now.words c.args.index other _ 1 (search rules) (bit_at_set_same w64
+    (get_or c.args.self.now.words (c.args.index / 64) 0) (c.args.index % 64) (omega arith))
+    (λ i below apart. bit_at_set_other w64 (get_or c.args.self.now.words (c.args.index / 64) 0)
+    (c.args.index % 64) (omega arith) i apart)

@@ -6,4 +6,7 @@ use Rattle.ga_chip.proofs.node_set.NodeSet.remove.Goals as goal
 
 pub returns : goal.returns
 returns c = λ other.
-    changed c.args.self.now.words c.args.index other _ 0 (search rules) (bit_at_clear_same w64 (get_or c.args.self.now.words (c.args.index / 64) 0) (c.args.index % 64) (omega arith)) (λ i below apart. bit_at_clear_other w64 (get_or c.args.self.now.words (c.args.index / 64) 0) (c.args.index % 64) (omega arith) i below apart)
+    changed c.args.self.now.words c.args.index other _ 0 (search rules) (bit_at_clear_same w64
+    (get_or c.args.self.now.words (c.args.index / 64) 0) (c.args.index % 64) (omega arith))
+    (λ i below apart. bit_at_clear_other w64 (get_or c.args.self.now.words (c.args.index / 64) 0)
+    (c.args.index % 64) (omega arith) i below apart)

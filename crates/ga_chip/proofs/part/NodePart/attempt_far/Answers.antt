@@ -12,35 +12,54 @@ use Rattle.ga_chip.proofs.Stays.{Stays, held_stays, still_all}
 use Rattle.ga_chip.proofs.part.NodePart.attempt_far.Goals as goal
 
 pub returns-then-is_held-clause-part : goal.returns-then-is_held-clause-part
-returns-then-is_held-clause-part c = after_by c.args.self.now c.args.side c.args.cells.now (Nothing Held) (Held, c.args.self.now) (c.is_held.ensures.held c.if-is_held.true c.args.side) refl
+returns-then-is_held-clause-part c =
+    after_by c.args.self.now c.args.side c.args.cells.now (Nothing Held)
+    (Held, c.args.self.now) (c.is_held.ensures.held c.if-is_held.true c.args.side) refl
 
 pub returns-then-is_held-clause-cells : goal.returns-then-is_held-clause-cells
-returns-then-is_held-clause-cells c = cells_by c.args.self.now c.args.side c.args.cells.now c.args.cells.now (Nothing Held) (c.is_held.ensures.held c.if-is_held.true c.args.side) refl
+returns-then-is_held-clause-cells c =
+    cells_by c.args.self.now c.args.side c.args.cells.now c.args.cells.now (Nothing Held)
+    (c.is_held.ensures.held c.if-is_held.true c.args.side) refl
 
 pub returns-then-is_held-clause-sleeps : goal.returns-then-is_held-clause-sleeps
-returns-then-is_held-clause-sleeps c = λ yes other. held_stays c.args.self.now c.args.cells.now other (c.is_held.ensures.held c.if-is_held.true other)
+returns-then-is_held-clause-sleeps c =
+    λ yes other. held_stays c.args.self.now c.args.cells.now other
+    (c.is_held.ensures.held c.if-is_held.true other)
 
 pub returns-in-Moved-clause-wakes : goal.returns-in-Moved-clause-wakes
 returns-in-Moved-clause-wakes c = λ moved.
     c.partner-wakes.ensures.value
-    ∙ ap₂ (λ name n. option_map index_of (partner_of name n c.args.side)) (ap (λ r. r.1.state.node) c.meet-outcome.ensures.part ∙ name_after c.args.self.now c.args.side (found_by (asks c.args.self.now c.args.side) c.args.cells.now))
+    ∙ ap₂ (λ name n. option_map index_of (partner_of name n c.args.side))
+    (ap (λ r. r.1.state.node) c.meet-outcome.ensures.part ∙ name_after c.args.self.now c.args.side
+    (found_by (asks c.args.self.now c.args.side) c.args.cells.now))
     (c.need-need.ensures ∙ ap (λ p. need_of p.state) c.self.view_is)
 
 pub is_still-sleeps-requires : goal.is_still-sleeps-requires
 is_still-sleeps-requires c =
-    let same = still_all c.args.self.now c.meet-outcome.new.self c.args.cells.now c.meet-outcome.new.cells c.args.side c.meet-outcome.result c.meet-outcome.ensures.part c.meet-outcome.ensures.cells c.in_default.not-Moved in
+    let same = still_all c.args.self.now c.meet-outcome.new.self c.args.cells.now
+    c.meet-outcome.new.cells c.args.side c.meet-outcome.result c.meet-outcome.ensures.part
+    c.meet-outcome.ensures.cells c.in_default.not-Moved in
     record {
       need = c.need-need.ensures ∙ ap (λ p. need_of p.state) (c.self.view_is ∙ sym same.0);
-      still = (c.args.side, subst (λ p. Stays p c.meet-outcome.new.cells c.args.side) (sym same.0) (subst (λ cells. Stays c.args.self.now cells c.args.side) (sym same.1) (λ moved. c.in_default.not-Moved (ap (λ r. r.0) c.meet-outcome.ensures.part ∙ moved))));
+      still = (
+        c.args.side,
+        subst (λ p. Stays p c.meet-outcome.new.cells c.args.side) (sym same.0)
+            (subst (λ cells. Stays c.args.self.now cells c.args.side) (sym same.1)
+            (λ moved. c.in_default.not-Moved (ap (λ r. r.0) c.meet-outcome.ensures.part ∙ moved))),
+      );
     }
 
 pub returns : goal.returns
 returns c =
-    let same = still_all c.args.self.now c.meet-outcome.new.self c.args.cells.now c.meet-outcome.new.cells c.args.side c.meet-outcome.result c.meet-outcome.ensures.part c.meet-outcome.ensures.cells c.in_default.not-Moved in
+    let same = still_all c.args.self.now c.meet-outcome.new.self c.args.cells.now
+    c.meet-outcome.new.cells c.args.side c.meet-outcome.result c.meet-outcome.ensures.part
+    c.meet-outcome.ensures.cells c.in_default.not-Moved in
     record {
       part = c.meet-outcome.ensures.part;
       cells = c.meet-outcome.ensures.cells;
       wakes = λ moved. absurd (c.in_default.not-Moved moved);
       place = tt;
-      sleeps = λ yes other. subst (λ p. Stays p c.args.cells.now other) same.0 (subst (λ cells. Stays c.meet-outcome.new.self cells other) same.1 (c.is_still-sleeps.ensures yes other));
+      sleeps = λ yes other. subst (λ p. Stays p c.args.cells.now other) same.0
+          (subst (λ cells. Stays c.meet-outcome.new.self cells other) same.1
+          (c.is_still-sleeps.ensures yes other));
     }

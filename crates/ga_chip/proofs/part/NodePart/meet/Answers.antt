@@ -9,33 +9,50 @@ use Rattle.ga_chip.proofs.Plain.{after_by}
 use Rattle.ga_chip.proofs.part.NodePart.meet.Goals as goal
 
 pub take-requires : goal.take-requires
-take-requires c = take_need c.args.self.now c.args.side c.in-Take.from c.in-Take.cell (c.requires.free ∙ told_take _ c.in-Take.from c.in-Take.cell (sym c.in-Take.ensures))
+take-requires c =
+    take_need c.args.self.now c.args.side c.in-Take.from c.in-Take.cell
+    (c.requires.free ∙ told_take _ c.in-Take.from c.in-Take.cell (sym c.in-Take.ensures))
 
 pub returns-in-Own-clause-part : goal.returns-in-Own-clause-part
 returns-in-Own-clause-part c =
-    let asked = asks_by c.args.need.now c.args.self.now.state.node c.args.self.now.stream c.args.side in
-    after_by c.args.self.now c.args.side c.args.cells.now asked (c.work.result, c.work.new.self) c.requires.free
-    (c.work.ensures c.args.side ∙ ap (λ found. after_asked asked found c.args.self.now) (sym (own_finds asked c.args.cells.now (sym c.in-Own.ensures))))
+    let asked =
+    asks_by c.args.need.now c.args.self.now.state.node c.args.self.now.stream c.args.side in
+    after_by c.args.self.now c.args.side c.args.cells.now asked
+    (c.work.result, c.work.new.self) c.requires.free
+    (c.work.ensures c.args.side ∙ ap (λ found. after_asked asked found c.args.self.now)
+    (sym (own_finds asked c.args.cells.now (sym c.in-Own.ensures))))
 
 pub returns-in-Post-clause-part : goal.returns-in-Post-clause-part
 returns-in-Post-clause-part c =
-    after_by c.args.self.now c.args.side c.args.cells.now (Post c.in-Post.to c.in-Post.cell c.in-Post.word) (c.post-in-Post.result, c.post-in-Post.new.self)
-    (c.requires.free ∙ told_post _ c.in-Post.to c.in-Post.cell c.in-Post.word (sym c.in-Post.ensures)) (c.post-in-Post.ensures c.in-Post.cell)
+    after_by c.args.self.now c.args.side c.args.cells.now (Post c.in-Post.to c.in-Post.cell
+    c.in-Post.word) (c.post-in-Post.result, c.post-in-Post.new.self)
+    (c.requires.free ∙ told_post _ c.in-Post.to c.in-Post.cell c.in-Post.word
+    (sym c.in-Post.ensures)) (c.post-in-Post.ensures c.in-Post.cell)
 
 pub returns-in-Take-clause-part : goal.returns-in-Take-clause-part
 returns-in-Take-clause-part c =
-    after_by c.args.self.now c.args.side c.args.cells.now (Take c.in-Take.from c.in-Take.cell) (c.take.result, c.take.new.self)
+    after_by c.args.self.now c.args.side c.args.cells.now (Take c.in-Take.from c.in-Take.cell)
+    (c.take.result, c.take.new.self)
     (c.requires.free ∙ told_take _ c.in-Take.from c.in-Take.cell (sym c.in-Take.ensures))
-    (c.take.ensures c.in-Take.cell ∙ ap (λ found. after_asked (Take c.in-Take.from c.in-Take.cell) found c.args.self.now) c.take-found.ensures.word)
+    (c.take.ensures c.in-Take.cell ∙ ap (λ found. after_asked (Take c.in-Take.from c.in-Take.cell)
+    found c.args.self.now) c.take-found.ensures.word)
 
 pub returns-in-Check-clause-part : goal.returns-in-Check-clause-part
 returns-in-Check-clause-part c =
-    after_by c.args.self.now c.args.side c.args.cells.now (Check c.in-Check.to c.in-Check.cell) (c.check.result, c.check.new.self)
+    after_by c.args.self.now c.args.side c.args.cells.now (Check c.in-Check.to c.in-Check.cell)
+    (c.check.result, c.check.new.self)
     (c.requires.free ∙ told_check _ c.in-Check.to c.in-Check.cell (sym c.in-Check.ensures))
-    (by c.args.self.now c.in-Check.to c.in-Check.cell (c.check.result, c.check.new.self) c.is_none-empty.result c.pending.result c.is_none-empty.ensures (λ e. c.check.ensures.read e c.in-Check.to c.in-Check.cell) (λ e word. c.check.ensures.unread e c.in-Check.to c.in-Check.cell word)
-    ∙ ap (λ found. after_asked (Check c.in-Check.to c.in-Check.cell) found c.args.self.now) c.pending.ensures)
+    (by c.args.self.now c.in-Check.to c.in-Check.cell
+    (c.check.result, c.check.new.self) c.is_none-empty.result c.pending.result
+    c.is_none-empty.ensures (λ e. c.check.ensures.read e c.in-Check.to c.in-Check.cell)
+    (λ e word. c.check.ensures.unread e c.in-Check.to c.in-Check.cell word)
+    ∙ ap (λ found. after_asked (Check c.in-Check.to c.in-Check.cell) found c.args.self.now)
+    c.pending.ensures)
   where
-    by : (part : Part) (to : Side) (cell : ℕ) (r : Outcome × Part) (empty : Bool) (found : Option ℕ) → is_some found ≡ not empty → (empty ≡ true → r ≡ after_asked (Check to cell) None part) → (empty ≡ false → (word : ℕ) → r ≡ after_asked (Check to cell) (Some word) part) → r ≡ after_asked (Check to cell) found part
+    by : (part : Part) (to : Side) (cell : ℕ) (r : Outcome × Part) (empty : Bool) (found : Option ℕ)
+        → is_some found ≡ not empty → (empty ≡ true → r ≡ after_asked (Check to cell) None part)
+        → (empty ≡ false → (word : ℕ) → r ≡ after_asked (Check to cell) (Some word) part)
+        → r ≡ after_asked (Check to cell) found part
     by part to cell r true None is read unread = read refl
     by part to cell r false (Some word) is read unread = unread refl word
     by part to cell r false None is read unread = absurd (false≢true is)
@@ -43,5 +60,6 @@ returns-in-Check-clause-part c =
 
 pub returns-in-Nothing-clause-part : goal.returns-in-Nothing-clause-part
 returns-in-Nothing-clause-part c =
-    after_by c.args.self.now c.args.side c.args.cells.now (Nothing c.in-Nothing.outcome) (c.in-Nothing.outcome, c.args.self.now)
+    after_by c.args.self.now c.args.side c.args.cells.now (Nothing c.in-Nothing.outcome)
+    (c.in-Nothing.outcome, c.args.self.now)
     (c.requires.free ∙ told_nothing _ c.in-Nothing.outcome (sym c.in-Nothing.ensures)) refl

@@ -10,6 +10,11 @@ use Rattle.ga_chip.proofs.part.NodePart.reset.Goals as goal
 
 pub invariant_of-result : goal.invariant_of-result
 invariant_of-result c =
-    let named : IsNodeName c.at-node.result = subst IsNodeName (sym c.at-node.ensures) (is_node _ (subst (λ i. i < 144) (sym (index_back c.args.index c.requires)) c.requires)) in
-    let bound : StepsBound c.reset.result.steps c.new-2.result c.new-3.result = search rules in
-    (bound, subst (λ name. FitsPorts name c.new-4.result) (sym (ap (λ s. s.node) c.reset.ensures)) (subst (FitsPorts c.at-node.result) (sym c.new-4.ensures) (fits_ports c.at-node.result named)), λ opened. absurd (false≢true opened))
+    let named : IsNodeName c.at-node.result = subst IsNodeName (sym c.at-node.ensures)
+    (is_node _ (subst (λ i. i < 144) (sym (index_back c.args.index c.requires)) c.requires)) in
+    let bound : StepsBound c.reset.result.steps c.new-2.result c.new-3.result = search rules in (
+      bound,
+      subst (λ name. FitsPorts name c.new-4.result) (sym (ap (λ s. s.node) c.reset.ensures)) (subst
+          (FitsPorts c.at-node.result) (sym c.new-4.ensures) (fits_ports c.at-node.result named)),
+      λ opened. absurd (false≢true opened),
+    )

@@ -12,7 +12,9 @@ load-held-requires g c =
     let words : it.table_id.words ≡ 525 = c.self.invariant.0 in (
       ap (λ z. z.table) c.seat.view_is ∙ c.requires.own ∙ sym (ap (λ z. z.table) c.self.view_is),
       omega (arith, words, c.index.ensures.bound),
-      check_step it.key it.table_id.slots c.seat.inside.seat.id c.seat.inside.seat.me g.T.Named.what c.args.cell c.index.result _ c.requires.asks (ap (λ z. z.nodes) c.seat.view_is) c.index.ensures.value c.index.ensures.bound,
+      check_step it.key it.table_id.slots c.seat.inside.seat.id c.seat.inside.seat.me g.T.Named.what
+          c.args.cell c.index.result _ c.requires.asks
+          (ap (λ z. z.nodes) c.seat.view_is) c.index.ensures.value c.index.ensures.bound,
     )
 
 pub returns-clause-unread : goal.returns-clause-unread
@@ -20,6 +22,8 @@ returns-clause-unread g c word full =
     let nodes = (ap (λ z. z.nodes) c.seat.view_is) in
     let asked = subst (λ n. AsksToCheck n g.T.Named.what c.args.cell) (sym nodes) c.requires.asks in
     ap (λ m. m.0) c.load-held.ensures.2.1
-    ∙ ap (tried_in c.seat.inside.seat.me.0 g.T.Named.what) (pending_full c.load-held.result (eqb-false c.load-held.result 0 full))
-    ∙ check_any c.seat.inside.seat.me.0 g.T.Named.what c.args.cell (c.load-held.result - 262144) word asked
+    ∙ ap (tried_in c.seat.inside.seat.me.0 g.T.Named.what)
+    (pending_full c.load-held.result (eqb-false c.load-held.result 0 full))
+    ∙ check_any c.seat.inside.seat.me.0 g.T.Named.what c.args.cell
+    (c.load-held.result - 262144) word asked
     ∙ ap (λ n. tried_in n g.T.Named.what (Some word)) nodes

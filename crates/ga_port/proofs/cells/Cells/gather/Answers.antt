@@ -10,5 +10,6 @@ join_seat-requires c =
       ap (λ z. z.table) c.other.view_is ∙ c.requires.other ∙ sym (ap (λ z. z.table) c.self.view_is),
       c.other.invariant,
       omega (arith, words),
-      gathers it.key c.seat.inside.seat.id c.other.inside.seat.id c.seat.inside.seat.me.0 c.other.inside.seat.me.0,
+      gathers it.key c.seat.inside.seat.id c.other.inside.seat.id c.seat.inside.seat.me.0
+          c.other.inside.seat.me.0,
     )

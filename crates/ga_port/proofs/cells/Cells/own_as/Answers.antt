@@ -8,5 +8,6 @@ load-requires g c =
     let words : it.table_id.words ≡ 525 = c.self.invariant.0 in (
       ap (λ z. z.table) c.seat.view_is ∙ c.requires.own ∙ sym (ap (λ z. z.table) c.self.view_is),
       omega (arith, words),
-      own_step it.key it.table_id.slots c.seat.inside.seat.id c.seat.inside.seat.me g.T.Named.what _ _ c.requires.asks (ap (λ z. z.nodes) c.seat.view_is),
+      own_step it.key it.table_id.slots c.seat.inside.seat.id c.seat.inside.seat.me g.T.Named.what _
+          _ c.requires.asks (ap (λ z. z.nodes) c.seat.view_is),
     )

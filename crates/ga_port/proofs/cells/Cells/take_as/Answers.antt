@@ -8,5 +8,7 @@ swap-requires g c =
     let words : it.table_id.words ≡ 525 = c.self.invariant.0 in (
       ap (λ z. z.table) c.seat.view_is ∙ c.requires.own ∙ sym (ap (λ z. z.table) c.self.view_is),
       omega (arith, words, c.index.ensures.bound),
-      take_step it.key it.table_id.slots c.seat.inside.seat.id c.seat.inside.seat.me g.T.Named.what c.args.cell c.index.result _ c.requires.asks (ap (λ z. z.nodes) c.seat.view_is) c.index.ensures.value c.index.ensures.bound,
+      take_step it.key it.table_id.slots c.seat.inside.seat.id c.seat.inside.seat.me g.T.Named.what
+          c.args.cell c.index.result _ c.requires.asks
+          (ap (λ z. z.nodes) c.seat.view_is) c.index.ensures.value c.index.ensures.bound,
     )

@@ -6,4 +6,5 @@ use Rattle.ga_source.proofs.name.Name.as_str.Goals as goal
 pub from_utf8_unchecked-requires : goal.from_utf8_unchecked-requires
 from_utf8_unchecked-requires c =
     let name = c.self.inside in
-    subst (λ n. IsUtf8 (take n name.cells)) (sym c.from.ensures) (IsUtf8-had (take name.len name.cells) c.self.invariant.2)
+    subst (λ n. IsUtf8 (take n name.cells)) (sym c.from.ensures)
+    (IsUtf8-had (take name.len name.cells) c.self.invariant.2)

@@ -10,12 +10,15 @@ use Rattle.ga_source.proofs.parser.Parser.end_section.Goals as goal
 pub returns-clause-done : goal.returns-clause-done
 returns-clause-done c =
     let self = c.args.self.now in
-    ap (map section_of) (c.in_ok-insert.ensures.entries ∙ section_last node.eq-value.it (λ x y. refl) self.sections.entries self.node _ c.requires.new)
+    ap (map section_of) (c.in_ok-insert.ensures.entries
+    ∙ section_last node.eq-value.it (λ x y. refl) self.sections.entries self.node _ c.requires.new)
     ∙ map-append section_of self.sections.entries ((self.node, _) ∷ [])
-    ∙ ap (λ items. map section_of self.sections.entries ++ record { name = self.node; items = map item_of items } ∷ []) (search rules)
+    ∙ ap (λ items. map section_of self.sections.entries
+    ++ record { name = self.node; items = map item_of items } ∷ []) (search rules)
 
 pub returns-clause-names : goal.returns-clause-names
 returns-clause-names c =
     let self = c.args.self.now in
-    ap keys_of (c.in_ok-insert.ensures.entries ∙ section_last node.eq-value.it (λ x y. refl) self.sections.entries self.node _ c.requires.new)
+    ap keys_of (c.in_ok-insert.ensures.entries
+    ∙ section_last node.eq-value.it (λ x y. refl) self.sections.entries self.node _ c.requires.new)
     ∙ map-append (λ e. e.0) self.sections.entries ((self.node, _) ∷ [])

@@ -1,3 +1,0 @@
-pub mod Assembled
-pub mod Fed
-pub mod Leaf

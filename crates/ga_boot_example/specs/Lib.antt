@@ -1,3 +1,0 @@
-pub mod Firmware
-pub mod Pieces
-pub mod inner

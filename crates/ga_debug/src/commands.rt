@@ -1,0 +1,310 @@
+//! The commands: the row of each, what it does and what it shows.
+ghost use Rattle.std.specs.Prelude.{◌≡◌, ◌+◌, ◌++◌, ◌≤◌, [], IfOk, OnErr, string_bytes, length};
+ghost use Rattle.std.specs.Fmt.{decimal};
+ghost use Rattle.std.specs.String.{string_capacity};
+ghost use Rattle.ga_debug.specs.Commands.{action_named, action_row, answer_text, did, note_of, shown, verb_named, verb_row, view_named, view_row};
+ghost use Rattle.ga_debug.specs.Session.{without_line_end};
+ghost use Rattle.ga_debug.specs.Word.{outcome_text};
+ghost use Rattle.ga_waits.specs.Label.{images_in};
+
+use crate::breaks::{break_note, breaks_text};
+use crate::command::Arguments;
+use crate::error::DebugError;
+use crate::row::{Row, Scope, Shape, States, is_seen_by};
+use crate::until::{Reached, until};
+use ga_asm::Images;
+use ga_chip::{Chip, Outcome, Try};
+use ga_dump::{ledger_text, memory_text, node_text};
+use ga_waits::waits;
+use itoa::Buffer;
+use std::alloc::{AllocError, Global};
+
+/// A command that does something to the chip.
+#[derive(Clone, Copy)]
+pub(crate) enum Action {
+    /// An address becomes a breakpoint of a node.
+    Break,
+    /// An address is no breakpoint of a node any more.
+    Clear,
+    /// A node that is held gets a pass.
+    Pass,
+    /// One try of a node.
+    Try,
+    /// Turns of all nodes.
+    Turn,
+    /// Turns until a node is held at an address.
+    Until,
+}
+
+/// A command that shows something.
+#[derive(Clone, Copy)]
+pub(crate) enum View {
+    /// The registers of a node.
+    Regs,
+    /// The memory of a node.
+    Mem,
+    /// The numbers of the cells that a node writes.
+    Ports,
+    /// The registers and stacks of a node.
+    Node,
+    /// The breakpoints.
+    Breaks,
+    /// Which nodes wait for which.
+    Where,
+}
+
+/// What the first word of a line names.
+#[derive(Clone, Copy)]
+pub(crate) enum Verb {
+    Act(Action),
+    Show(View),
+}
+
+/// The command of this name, `None` where texts of this scope have none.
+pub(crate) fn verb_named(scope: Scope, word: &[u8]) -> Option<Verb>
+    ensures { result ≡ verb_named scope word.now }
+{
+    let verb = match action_named(word) {
+        Some(action) => Verb::Act(action),
+        None => Verb::Show(view_named(word)?),
+    };
+    if is_seen_by(scope, verb.row().scope) {
+        Some(verb)
+    } else {
+        None
+    }
+}
+
+fn action_named(word: &[u8]) -> Option<Action>
+    ensures { result ≡ action_named word.now }
+{
+    let action = match word {
+        b"break" => Action::Break,
+        b"clear" => Action::Clear,
+        b"pass" => Action::Pass,
+        b"try" => Action::Try,
+        b"turn" => Action::Turn,
+        b"until" => Action::Until,
+        _ => return None,
+    };
+    Some(action)
+}
+
+fn view_named(word: &[u8]) -> Option<View>
+    ensures { result ≡ view_named word.now }
+{
+    let view = match word {
+        b"regs" => View::Regs,
+        b"mem" => View::Mem,
+        b"ports" => View::Ports,
+        b"node" => View::Node,
+        b"breaks" => View::Breaks,
+        b"where" => View::Where,
+        _ => return None,
+    };
+    Some(view)
+}
+
+impl Verb {
+    pub(crate) fn row(self) -> Row
+        ensures shapes { result.shapes.now ≡ (verb_row self).shapes }
+        ensures scope { result.scope ≡ (verb_row self).scope }
+        ensures states { result.states ≡ (verb_row self).states }
+    {
+        match self {
+            Verb::Act(action) => action.row(),
+            Verb::Show(view) => view.row(),
+        }
+    }
+}
+
+impl Action {
+    fn row(self) -> Row
+        ensures shapes { result.shapes.now ≡ (action_row self).shapes }
+        ensures scope { result.scope ≡ (action_row self).scope }
+        ensures states { result.states ≡ (action_row self).states }
+    {
+        let (shapes, scope, states): (&'static [Shape], Scope, States) = match self {
+            Action::Break => (
+                &[Shape::Node, Shape::Address],
+                Scope::Replays,
+                States::Nothing,
+            ),
+            Action::Clear => (
+                &[Shape::Node, Shape::Address],
+                Scope::Replays,
+                States::Nothing,
+            ),
+            Action::Pass => (&[Shape::Node], Scope::Replays, States::Nothing),
+            Action::Try => (&[Shape::Node, Shape::Side], Scope::Replays, States::Outcome),
+            Action::Turn => (&[Shape::Count], Scope::Replays, States::Steps),
+            Action::Until => (
+                &[Shape::Node, Shape::Address, Shape::CountIf],
+                Scope::Transcripts,
+                States::Nothing,
+            ),
+        };
+        Row {
+            shapes,
+            scope,
+            states,
+        }
+    }
+}
+
+impl View {
+    fn row(self) -> Row
+        ensures shapes { result.shapes.now ≡ (view_row self).shapes }
+        ensures scope { result.scope ≡ (view_row self).scope }
+        ensures states { result.states ≡ (view_row self).states }
+    {
+        let (shapes, scope): (&'static [Shape], Scope) = match self {
+            View::Regs | View::Mem | View::Ports => (&[Shape::Node], Scope::Sessions),
+            View::Node => (&[Shape::Node], Scope::Transcripts),
+            View::Breaks | View::Where => (&[], Scope::Transcripts),
+        };
+        Row {
+            shapes,
+            scope,
+            states: States::Nothing,
+        }
+    }
+}
+
+/// What an action answers.
+#[derive(Clone, Copy)]
+pub(crate) enum Answer {
+    /// It was done.
+    Done,
+    /// The outcome of a try.
+    Tried(Outcome),
+    /// How many steps turns made.
+    Moved(u64),
+    /// What it took until a node was held, if it was.
+    Reached(Option<Reached>),
+}
+
+/// Room for every answer as text, with a note behind it.
+pub(crate) const ANSWER_LENGTH: usize = 60 + 34;
+
+/// Does an action. One that is refused leaves the chip as it was.
+pub(crate) fn perform(
+    chip: &mut Chip,
+    action: Action,
+    given: Arguments,
+) -> Result<Answer, DebugError>
+    ensures done { (result, chip.new) ≡ did action given chip.old }
+    ensures same { OnErr result (chip.new ≡ chip.old) }
+{
+    let Arguments {
+        node,
+        address,
+        side,
+        count,
+    } = given;
+    match action {
+        Action::Break => {
+            chip.set_break(node, address.get());
+            Ok(Answer::Done)
+        }
+        Action::Clear => {
+            chip.clear_break(node, address.get());
+            Ok(Answer::Done)
+        }
+        Action::Pass => match chip.pass_break(node) {
+            Ok(()) => Ok(Answer::Done),
+            Err(_) => Err(DebugError::NotHeld),
+        },
+        Action::Try => Ok(Answer::Tried(chip.attempt(Try { node, side }))),
+        Action::Turn => Ok(Answer::Moved(chip.turns(count))),
+        Action::Until => Ok(Answer::Reached(until(chip, node, address, count))),
+    }
+}
+
+/// Adds an answer to an empty text that has room for it.
+pub(crate) fn push_answer(text: &mut String, answer: Answer)
+    requires empty { string_bytes text.old ≡ [] }
+    requires room { 60 ≤ string_capacity text.old }
+    ensures text { string_bytes text.new ≡ answer_text answer }
+    ensures short { length (string_bytes text.new) ≤ 60 }
+    ensures room { string_capacity text.old ≤ string_capacity text.new }
+{
+    match answer {
+        Answer::Done => text.push_str("ok").unwrap(),
+        Answer::Tried(outcome) => text.push_str(outcome_name(outcome)).unwrap(),
+        Answer::Moved(steps) => push_number(text, "moved ", steps),
+        Answer::Reached(None) => text.push_str("not reached").unwrap(),
+        Answer::Reached(Some(Reached { turns, moved })) => {
+            push_number(text, "turns ", u64::from(turns));
+            push_number(text, " moved ", moved);
+        }
+    }
+}
+
+/// Adds a number behind its name to a text that has room for both.
+fn push_number(text: &mut String, name: &str, number: u64)
+    requires { length (string_bytes text.old) + length name.now + 20 ≤ string_capacity text.old }
+    ensures added { string_bytes text.new ≡ string_bytes text.old ++ name.now ++ decimal number }
+    ensures room { string_capacity text.old ≤ string_capacity text.new }
+    ensures short { length (string_bytes text.new)
+        ≤ length (string_bytes text.old) + length name.now + 20 }
+{
+    text.push_str(name).unwrap();
+    let mut buffer = Buffer::new();
+    text.push_str(buffer.format(number)).unwrap();
+}
+
+fn outcome_name(outcome: Outcome) -> &'static str
+    ensures text { result.now ≡ outcome_text outcome }
+    ensures short { length result.now ≤ 7 }
+{
+    match outcome {
+        Outcome::Moved => "moved",
+        Outcome::Waits => "waits",
+        Outcome::Held => "held",
+        Outcome::Stopped => "stopped",
+    }
+}
+
+/// What stands behind the answer of an action.
+pub(crate) fn note_of(
+    alloc: Global,
+    images: Option<&Images>,
+    action: Action,
+    given: Arguments,
+) -> Result<&'static str, AllocError>
+    ensures note { IfOk result (λ note. note.now
+        ≡ note_of (images_in images.entry) action given) }
+    ensures short { IfOk result (λ note. length note.now ≤ 34) }
+{
+    match action {
+        Action::Break => break_note(alloc, images, given.node, given.address),
+        _ => Ok(""),
+    }
+}
+
+/// What a view shows of a chip into which these images were loaded, without the last LF.
+pub(crate) fn show(
+    alloc: Global,
+    chip: &Chip,
+    images: Option<&Images>,
+    view: View,
+    given: Arguments,
+) -> Result<String, AllocError>
+    ensures { IfOk result (λ text. string_bytes text
+        ≡ without_line_end (shown (images_in images.entry) view given chip.now)) }
+{
+    let node = given.node;
+    let mut text = match view {
+        View::Regs => chip.state(node).line(alloc)?,
+        View::Mem => memory_text(alloc, chip.state(node))?,
+        View::Ports => ledger_text(alloc, chip, node)?,
+        View::Node => node_text(alloc, chip.state(node))?,
+        View::Breaks => breaks_text(alloc, chip, images)?,
+        View::Where => waits(alloc, chip, images)?,
+    };
+    if text.as_bytes().last() == Some(&b'\n') {
+        text.truncate(text.len() - 1);
+    }
+    Ok(text)
+}

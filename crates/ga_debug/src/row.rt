@@ -1,0 +1,56 @@
+//! What the row of a command says.
+ghost use Rattle.std.specs.Prelude.{◌≡◌};
+ghost use Rattle.ga_debug.specs.Row.{is_seen_by};
+
+/// What a word behind the name of a command has to be.
+#[derive(Clone, Copy)]
+pub(crate) enum Shape {
+    /// A node's name, three digits.
+    Node,
+    /// An address of that node: three hex digits, or a label of its image.
+    Address,
+    /// The first letter of a side.
+    Side,
+    /// A count of turns, 0 to 1000000.
+    Count,
+    /// A count of turns, or no word, for 1000000.
+    CountIf,
+}
+
+/// Which texts have a command: those of one scope have the commands of the scopes before it, too.
+#[derive(Clone, Copy)]
+pub(crate) enum Scope {
+    Replays,
+    Sessions,
+    Transcripts,
+}
+
+/// What a replay states of a command, behind `=`.
+#[derive(Clone, Copy)]
+pub(crate) enum States {
+    Nothing,
+    /// The outcome of a try.
+    Outcome,
+    /// How many steps turns made.
+    Steps,
+}
+
+/// The row of a command: which words follow its name, which texts have it, and what a replay states
+/// of it. The names themselves stand in `action_named` and `view_named`.
+#[derive(Clone, Copy)]
+pub(crate) struct Row {
+    pub(crate) shapes: &'static [Shape],
+    pub(crate) scope: Scope,
+    pub(crate) states: States,
+}
+
+/// Whether texts of a scope have the commands of another.
+pub(crate) fn is_seen_by(scope: Scope, first: Scope) -> bool
+    ensures { result ≡ is_seen_by scope first }
+{
+    match first {
+        Scope::Replays => true,
+        Scope::Sessions => !matches!(scope, Scope::Replays),
+        Scope::Transcripts => matches!(scope, Scope::Transcripts),
+    }
+}

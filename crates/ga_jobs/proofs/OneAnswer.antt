@@ -1,0 +1,49 @@
+-- Two outputs of one job for one input are equal.
+use Rattle.std.proofs.Common.{◌≡◌, ◌∙◌, sym, ℕ, Bool, true, false, List, Result, Ok, Err}
+use Rattle.std.specs.Prelude.{MatchBool, string_bytes}
+use Rattle.ga_asm.specs.Text.{AtMostOne}
+use Rattle.ga_jobs.specs.declared.Job.{Job}
+use Rattle.ga_jobs.specs.declared.Job.TheVariants.{Run}
+use Rattle.ga_jobs.specs.declared.fault.ServeError.TheVariants.{Input}
+use Rattle.ga_jobs.specs.declared.fault.InputFault.TheVariants.{TooLong}
+use Rattle.ga_jobs.proofs.OneOutput.{one_outputs}
+use Rattle.ga_jobs.proofs.OneRun.{run_outputs}
+use Rattle.ga_jobs.specs.Run.{AreTextsOrEqual}
+use Rattle.ga_jobs.specs.declared.fault.ServeError.{ServeError}
+use Rattle.ga_jobs.specs.{IsJobOutput}
+use Rattle.ga_jobs.specs.Answering.{HasOneOutput, IsOutput, is_too_long}
+
+-- Answers to one input are alike, where those to one that is not too long are.
+alike_within : (job : Job) (input : List ℕ) (Alike : Result (List ℕ) ServeError
+    → Result (List ℕ) ServeError → Type 0) → ((one other : Result (List ℕ) ServeError)
+    → one ≡ Err (Input TooLong) → other ≡ Err (Input TooLong) → Alike one other)
+    → ((one other : Result (List ℕ) ServeError) → IsJobOutput job input one
+    → IsJobOutput job input other → Alike one other) → (one other : Result (List ℕ) ServeError)
+    → IsOutput job input one → IsOutput job input other → Alike one other
+alike_within job input Alike refused alike one other = by (is_too_long job input)
+  where
+    by : (b : Bool) → MatchBool b (one ≡ Err (Input TooLong)) (IsJobOutput job input one)
+        → MatchBool b (other ≡ Err (Input TooLong)) (IsJobOutput job input other) → Alike one other
+    by true p q = refused one other p q
+    by false p q = alike one other p q
+
+refused_alike : (one other : Result (List ℕ) ServeError) → one ≡ Err (Input TooLong)
+    → other ≡ Err (Input TooLong) → AreTextsOrEqual one other
+refused_alike (Ok one) other p q = absurd cc
+refused_alike (Err one) (Ok other) p q = absurd cc
+refused_alike (Err one) (Err other) p q = cc
+
+within_limit : (job : Job) (input : List ℕ) → AtMostOne (IsJobOutput job input)
+    → AtMostOne (IsOutput job input)
+within_limit job input only =
+    alike_within job input (λ one other. one ≡ other) (λ one other p q. p ∙ sym q) only
+
+pub one_output : (job : Job) (input : List ℕ) → HasOneOutput job input
+unfolding IsJobOutput
+one_output (Run route workers turns) input =
+    let runs = run_outputs (string_bytes route) input workers turns in
+    record {
+      texts = alike_within (Run route workers turns) input AreTextsOrEqual refused_alike runs.texts;
+      alone = λ single. within_limit (Run route workers turns) input (runs.alone single);
+    }
+one_output job input = within_limit job input (λ one other p q. first_of (cc, search one_outputs))

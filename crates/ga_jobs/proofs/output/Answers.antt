@@ -1,0 +1,14 @@
+use Rattle.std.proofs.Common.{string_bytes, subst, sym}
+use Rattle.ga_jobs.specs.Boot.{IsBootOutput}
+use Rattle.ga_jobs.specs.Fault.{Answers}
+use Rattle.ga_jobs.specs.{IsJobOutput}
+use Rattle.ga_jobs.proofs.output.Goals as goal
+
+pub returns-in-Boot-clause-answer : goal.returns-in-Boot-clause-answer
+unfolding IsJobOutput
+returns-in-Boot-clause-answer c =
+    let boot = c.in-Boot in
+    subst (λ job. Answers string_bytes (IsJobOutput job c.args.input.now) c.output-in-Boot.result)
+    (sym boot.is)
+    (subst (λ route. Answers string_bytes (IsBootOutput route c.args.input.now)
+    c.output-in-Boot.result) c.deref.ensures c.output-in-Boot.ensures.output)

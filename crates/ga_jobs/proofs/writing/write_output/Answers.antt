@@ -1,0 +1,36 @@
+use Rattle.std.proofs.Common.{◌+◌, ◌≡◌, ◌∙◌, ◌++◌, ℕ, List, drop, take, sym, ap, subst}
+use Rattle.std.specs.Prelude.{Option}
+use Rattle.std.specs.Io.KnownBytes.{Appends}
+use Rattle.std.proofs.KnownBytes.{Appends-trans, Appends-kept}
+use Rattle.std.proofs.Math.Seq.{take-add, drop-drop}
+use Rattle.std.proofs.lemmas.List.{take_rest}
+use Rattle.ga_jobs.proofs.writing.write_output.Goals as goal
+use Rattle.ga_jobs.proofs.writing.write_output.Goals.{in-Ok-write, in-Err-write}
+
+-- a front of what was left is written too
+writes_more : (a b c : Option (List ℕ)) (text rest : List ℕ) (count n : ℕ) → rest ≡ drop count text
+    → Appends a b (take count text) → Appends b c (take n rest)
+    → (drop n rest ≡ drop (count + n) text) × Appends a c (take (count + n) text)
+writes_more a b c text rest count n left before after = (
+  ap (drop n) left ∙ drop-drop n count text,
+  subst (Appends a c) (ap (λ l. take count text ++ take n l) left ∙ sym (take-add count n text))
+      (Appends-trans a b c _ _ before after),
+)
+
+pub loop-preserved : goal.loop-preserved
+loop-preserved g c =
+    let (count, left, written) = c.loop.invariant in
+    elim c.match-write.branch [
+      | in-Ok-write w ↦
+          let more = writes_more _ _ _ _ _ count w.in-Ok-write.count left written
+          w.in-Ok-write.ensures.bytes in (
+            count + w.in-Ok-write.count,
+            ap (λ r. r.now) w.rest-is ∙ take_rest c.loop.rest.now w.in-Ok-write.count ∙ more.0,
+            more.1,
+          )
+      | in-Err-write w ↦ (
+        count,
+        ap (λ r. r.now) w.rest-is ∙ left,
+        Appends-kept _ _ _ _ written w.in-Err-write.ensures.bytes,
+      )
+    ]

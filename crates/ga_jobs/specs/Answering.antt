@@ -1,0 +1,30 @@
+-- What the program may answer to the bytes of an input: a text, or the first fault.
+use Rattle.std.specs.Prelude.{◌≡◌, ◌&&◌, ℕ, Bool, List, length, nat_lt, MatchBool, Result, Err}
+use Rattle.ga_asm.specs.Text.{AtMostOne}
+use Rattle.ga_jobs.specs.declared.Job.{Job}
+use Rattle.ga_jobs.specs.declared.Job.TheVariants.{Run}
+use Rattle.ga_jobs.specs.declared.fault.ServeError.{ServeError}
+use Rattle.ga_jobs.specs.declared.fault.ServeError.TheVariants.{Input}
+use Rattle.ga_jobs.specs.declared.fault.InputFault.TheVariants.{TooLong}
+use Rattle.ga_jobs.specs.{IsJobOutput, reads_input}
+use Rattle.ga_jobs.specs.Run.{HasRuns}
+
+-- the most bytes that an input may have
+abbrev pub INPUT_LIMIT : ℕ
+INPUT_LIMIT = 1048576
+
+-- more bytes are too long for a job that reads them
+abbrev pub is_too_long : Job → List ℕ → Bool
+is_too_long job input = reads_input job && nat_lt INPUT_LIMIT (length input)
+
+-- what the program may answer to an input
+abbrev pub IsOutput : Job → List ℕ → Result (List ℕ) ServeError → Type 0
+IsOutput job input answer =
+    MatchBool (is_too_long job input) (answer ≡ Err (Input TooLong)) (IsJobOutput job input answer)
+
+-- Two answers of a job to one input are equal, but for the job `run`, where the order of tries is
+-- free: two answers of that are both texts or equal, and those of a single worker are equal.
+abbrev pub HasOneOutput : Job → List ℕ → Type 0
+HasOneOutput (Run route workers turns) input =
+    HasRuns workers (IsOutput (Run route workers turns) input)
+HasOneOutput job input = AtMostOne (IsOutput job input)

@@ -1,0 +1,82 @@
+ghost use Rattle.std.specs.Prelude.{◌≡◌, ◌≢◌, ℕ, ◌+◌, false, List, IfErr, IfSome};
+ghost use Rattle.std.specs.Io.KnownBytes.{Keeps};
+ghost use Rattle.ga_jobs.specs.{reads_input};
+ghost use Rattle.ga_jobs.specs.Answering.{HasOneOutput, INPUT_LIMIT};
+ghost use Rattle.ga_jobs.specs.Reading.{ConsumesUpTo, ReadsFirst};
+ghost use Rattle.ga_jobs.specs.Engine.{Serves, status_of};
+
+use crate::Job;
+use crate::answering::answer;
+use crate::fault::ServeError;
+use crate::reading::read_input;
+use crate::reads::Reads;
+use crate::writing::write_output;
+use std::io::{Read, Write};
+use std::thread::Threads;
+
+/// Serves a job, the engine under every subcommand: reads the whole input, makes the whole output,
+/// and then writes it. An input has at most 1,048,576 bytes, and comes in at most 2,097,152 reads.
+/// For `explain` nothing is read.
+///
+/// The first fault is answered. `Read` and `Input(TooLong)` come while the input is read, the
+/// faults of the input in the order of the job's output, and `Write` last; a front of the output
+/// may then have been written. `Memory` comes where memory was refused, before anything is written.
+#[tactic(auto, using(crate::proofs::OneAnswer::one_output))]
+pub fn serve<Rt: AllocGlobal + Threads + Sync, R: Read, W: Write>(
+    rt: &Rt,
+    reader: &mut R,
+    writer: &mut W,
+    job: &Job,
+) -> Result<(), ServeError>
+    // Where the reader and the writer tell their bytes, what is written is an output for what is
+    // read.
+    ensures served { IfSome (R.remaining reader.old) (λ input.
+        Serves job.now input (W.contents writer.old) (W.contents writer.new) result) }
+    ensures read_first { ReadsFirst job.now result
+        (R.remaining reader.old) (R.remaining reader.new) }
+    ensures read_no_more { ConsumesUpTo (INPUT_LIMIT + 1) (R.remaining reader.old)
+        (R.remaining reader.new) }
+
+    // At any reader.
+    ensures unread { reads_input job.now ≡ false → reader.new ≡ reader.old }
+    ensures needs_no_read { reads_input job.now ≡ false
+        → IfErr result (λ fault. fault ≢ ServeError.Read) }
+    ensures only { (input : List ℕ) → HasOneOutput job.now input }
+    ensures unwritten { IfErr result (λ fault. fault ≢ ServeError.Write
+        → Keeps (W.contents writer.old) (W.contents writer.new)) }
+{
+    if !job.reads_input() {
+        return respond(rt, writer, job, &[]);
+    }
+    let input = read_input(rt.alloc(), reader, &mut Reads::default())?;
+    respond(rt, writer, job, &input)
+}
+
+/// Makes the whole output for an input, and then writes it.
+fn respond<Rt: AllocGlobal + Threads + Sync, W: Write>(
+    rt: &Rt,
+    writer: &mut W,
+    job: &Job,
+    input: &[u8],
+) -> Result<(), ServeError>
+    ensures served { Serves job.now input.now
+        (W.contents writer.old) (W.contents writer.new) result }
+    ensures no_read { IfErr result (λ fault. fault ≢ ServeError.Read) }
+    ensures unwritten { IfErr result (λ fault. fault ≢ ServeError.Write
+        → Keeps (W.contents writer.old) (W.contents writer.new)) }
+{
+    let text = answer(rt, job, input)?;
+    write_output(writer, text.as_bytes())
+}
+
+/// The exit status of the program: 0 for an output that was written, 1 for a refused input and for
+/// a read or a write that failed, and 3 when out of memory.
+pub fn status(outcome: &Result<(), ServeError>) -> u8
+    ensures { result ≡ status_of outcome.now }
+{
+    match outcome {
+        Ok(()) => 0,
+        Err(ServeError::Memory) => 3,
+        Err(_) => 1,
+    }
+}

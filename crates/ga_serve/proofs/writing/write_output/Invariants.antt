@@ -1,8 +1,0 @@
-use Rattle.std.proofs.Common.{◌≡◌, ℕ, take, drop}
-use Rattle.std.specs.Io.KnownBytes.{Appends}
-use Rattle.ga_serve.proofs.writing.write_output.Given as goal
-
--- what is gone from the front of the text was written
-abbrev pub invariant-loop : goal.invariant-loop
-invariant-loop g l =
-    (count : ℕ) × (l.rest ≡ drop count l.text) × Appends (g.W.Write.contents l.initial.writer) (g.W.Write.contents l.writer) (take count l.text)

@@ -1,4 +1,0 @@
-pub mod Answering
-pub mod Reading
-pub mod Writing
-pub mod Engine

@@ -1,0 +1,42 @@
+//! Answers to bytes in memory.
+ghost use Rattle.std.specs.Prelude.{◌≡◌, ◌++◌, List, ℕ, Ok, OnOk};
+ghost use Rattle.ga_jobs.specs.Answering.{IsOutput};
+
+use crate::streams::{LINE, WORDS, run_of};
+use ga_jobs::{Job, ServeError, answer, answer_alone, serve, status};
+use std::test::Fail;
+use std::thread::Threads;
+
+/// Serves a job over bytes in memory. What its clause says is the composition: the bytes written
+/// are an output of the job for the bytes read.
+fn served(
+    rt: &(impl AllocGlobal + Threads + Sync),
+    job: &Job,
+    input: &[u8],
+    output: &mut Vec<u8>,
+) -> Result<(), ServeError>
+    ensures { OnOk result ((text : List ℕ) × IsOutput job.now input.now (Ok text)
+        × (output.new.items ≡ output.old.items ++ text)) }
+{
+    let mut reader = input;
+    serve(rt, &mut reader, output, job)
+}
+
+#[test]
+fn composes(rt: HostRuntime) {
+    let mut output = Vec::new(rt.alloc());
+    let outcome = served(&rt, &Job::One { tries: 5 }, WORDS.as_bytes(), &mut output);
+    assert!(rt; status(&outcome) == 0 && output.as_slice() == LINE.as_bytes());
+}
+
+#[test]
+fn answers_bytes_in_memory(rt: HostRuntime) -> Result<(), Fail> {
+    let one = Job::One { tries: 5 };
+    let text = answer(&rt, &one, WORDS.as_bytes())?;
+    assert!(rt; text.as_str() == LINE);
+    let alone = answer_alone(rt.alloc(), &one, WORDS.as_bytes()).ok_or("threads")??;
+    assert!(rt; alone == text);
+    let run = run_of(rt.alloc(), "708", 1, 1)?;
+    assert!(rt; answer_alone(rt.alloc(), &run, b"node 708 dup").is_none());
+    Ok(())
+}
