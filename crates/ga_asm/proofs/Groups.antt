@@ -1,4 +1,4 @@
--- The groups of a node, and what stands in them.
+-- The groups of a node, and their items.
 use Rattle.std.proofs.Common.{◌≡◌, ◌∙◌, ◌<◌, ◌≤◌, ℕ, suc, ◌+◌, ◌-◌, true, false, List, [], ◌∷◌, ◌++◌, length, map, drop, take, get_or, Option, Some, None, refl, sym, ap, subst, append_assoc, append-nil, length-append, arith}
 use Rattle.std.proofs.Math.Seq.{drop-append_seam, drop-cons, take-append_seam}
 use Rattle.std.proofs.Math.ListN.{drop_of_length-le}
@@ -258,7 +258,7 @@ module _ (items rest : List an.Item) (l : the.Layout) (counts : List ℕ) (done 
       let some = members_some n.group in
       omega arith
 
-  -- how many items stand before it
+  -- how many items are before it
   whole : length items ≡ length (items_of n.front) + length rest
   whole =
       sym (plain_length items) ∙ sym (ap length n.stand_in.in_order)

@@ -336,7 +336,7 @@ module _ (program : List PlacedSection)
   items_behind [] s back = refl
   items_behind (other ∷ front) s back = items_behind front s back
 
-  -- its items are found behind so many sections as there are images
+  -- its items are found behind as many sections as there are images
   items_are : items_at program (length images) ≡ left.placed.items
   items_are =
       let count : length images ≡ length o.front =

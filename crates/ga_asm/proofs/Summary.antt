@@ -148,7 +148,7 @@ counts_add l a (g ∷ h ∷ gs) x =
     ∙ counts_cons (joins_last (labels_behind l a g) (a + size g) (h ∷ gs) x)
     (open_at (a + size g) (h ∷ gs)) (item_count g) (closed_counts (h ∷ gs)) x
 
--- where the open word is closed, each group is counted
+-- if the open word is closed, each group is counted
 pub counts_closed : (a : ℕ) (gs : List Group)
     → closed_counts gs ++ open_count (open_at a gs) ≡ map item_count gs
 counts_closed a [] = refl

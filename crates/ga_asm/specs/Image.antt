@@ -29,7 +29,7 @@ label_at [] address = None
 label_at (label ∷ labels) address =
     if label.1 == address then Some label.0 else label_at labels address
 
--- the address of the label `main`, or 0 where no label is `main`
+-- the address of the label `main`, or 0 if no label is `main`
 abbrev pub entry_of : Labels → ℕ
 entry_of labels = unwrap_or (address_of labels (codes "main")) 0
 

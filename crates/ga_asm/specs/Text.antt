@@ -22,8 +22,8 @@ pub record HasImages (text : List ℕ) (images : List (ℕ × ImageView)) : Type
   pub faultless : HasNoFault program
   pub assembled : IsAssembled program images
 
--- The first fault of a text or, if it has none, of its program. That memory is refused is a fault
--- of no text.
+-- The first fault of a text or, if it has none, of its program. Out of memory is a fault of no
+-- text.
 abbrev pub IsTextFault : List ℕ → TextError → Type 0
 IsTextFault text (Source error) = IsFault text error.kind (source.error_place error)
 IsTextFault text (Asm error) =

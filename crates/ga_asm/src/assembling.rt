@@ -90,8 +90,8 @@ fn add_image(
     Ok(())
 }
 
-// Where the fault of an item is told, by the numbers of its section and of the item in it: at the
-// name that it uses, or else at its first token.
+// The place at which a fault of an item is reported, by the indices of its section and of the item
+// in it: the name that it uses, or else its first token.
 fn fault_place(
     alloc: Global,
     program: &Program<'_>,
@@ -133,7 +133,7 @@ fn error_at(
     no_memory(node)
 }
 
-// Memory was refused: the place says nothing.
+// Out of memory: the place has no meaning.
 fn no_memory(node: Node) -> AsmError
     ensures kind { result.kind ≡ Memory }
     ensures node { result.node ≡ node }
@@ -149,10 +149,9 @@ fn no_memory(node: Node) -> AsmError
 /// The images of a program, or the first fault of the program with its node and its place. (The
 /// limits are this project's own: profile.)
 ///
-/// Items outside brackets are packed in order, each in the next slot of the last word where it
-/// fits, and else in slot 0 of a word of its own. A node has 64 words at most, and a fault is that
-/// of the first node in the text's order that has one. It fails as `Memory` only where memory is
-/// refused.
+/// Items outside brackets are packed in order, each in the next slot of the last word if it fits
+/// there, else in slot 0 of a word of its own. A node has 64 words at most, and a fault is that of
+/// the first node in the text's order that has one. Fails with `Memory` only when out of memory.
 pub fn assemble(alloc: Global, program: &Program<'_>) -> Result<Images, AsmError>
     ensures images { IfOk result (λ images. IsAssembled program.now images) }
     // they are the only images of the program

@@ -7,8 +7,8 @@ use std::error::Error;
 use std::fmt;
 
 /// The first fault of a program, with its node, at the place of the name that the item uses or else
-/// of the item's first token; or that memory was refused, with the node at which it was and no
-/// place of its own.
+/// of the item's first token; or out of memory, with the node at which that was and no place of its
+/// own.
 #[derive(Clone, Copy, Debug, PartialEq, Eq)]
 pub struct AsmError {
     pub kind: AsmErrorKind,

@@ -54,8 +54,7 @@ impl Image {
         self.words.as_slice()
     }
 
-    /// How many words are code: those in front of `data`, or all words where the node has no
-    /// `data`.
+    /// How many words are code: those before `data`, or all words if the node has no `data`.
     pub fn code_len(&self) -> usize
         ensures value { result ≡ self.now.code_len }
         ensures within { result ≤ length self.now.words }
@@ -64,8 +63,8 @@ impl Image {
         self.code_len
     }
 
-    /// The address at which the node begins: that of the label `main`, or 0 where no label is
-    /// `main`. It is at most 64. (Profile.)
+    /// The address at which the node begins: that of the label `main`, or 0 if no label is `main`.
+    /// It is at most 64. (Profile.)
     pub fn entry(&self) -> u8
         ensures value { result ≡ self.now.entry }
         ensures bound { result ≤ 64 }
@@ -98,8 +97,8 @@ impl Image {
     }
 
     /// Adds to a text the line of the image: the node, its entry in three hex digits, how many of
-    /// its words are code and how many there are. (The line is this project's own: profile.) It
-    /// fails only where memory is refused, and then the text is as it was.
+    /// its words are code and how many there are. (The line is this project's own: profile.) Fails
+    /// only when out of memory, and then the text is as it was.
     pub fn push_line(&self, text: &mut String, node: Node) -> Result<(), AllocError>
         ensures line { OnOk result (string_bytes text.new
             ≡ string_bytes text.old ++ image_line node self.now) }
@@ -111,7 +110,7 @@ impl Image {
         Ok(())
     }
 
-    // The same, but where memory is refused a part of the line may be written.
+    // The same, except that a part of the line may be written when out of memory.
     #[tactic(auto, unfolding(crate::specs::Image::image_line))]
     fn write_line(&self, text: &mut String, node: Node) -> Result<(), AllocError>
         ensures { OnOk result (string_bytes text.new

@@ -1,4 +1,4 @@
-//! The first pass over the items of a node: where each one comes to stand, or the first fault.
+//! The first pass over the items of a node: the layout of each, or the first fault.
 ghost use Rattle.std.specs.Prelude.{◌≡◌, ◌≢◌, ◌+◌, ◌<◌, ◌≤◌, ◌++◌, ◌∷◌, [], IfErr, IfOk, IfSome, None, OnOk, Some, false, length, map, true};
 ghost use Rattle.std.proofs.Props.{props};
 ghost use Rattle.ga_pack.specs.Model.Layout as laid;
@@ -38,15 +38,15 @@ pub(crate) struct Layout {
     pub(crate) data_start: Option<u8>,
 }
 
-// Why the items of a node were refused, and how many items stand before the one with the fault.
+// Why the items of a node were refused, and how many items are before the one with the fault.
 #[derive(Clone, Copy)]
 pub(crate) struct Refusal {
     pub(crate) at: usize,
     pub(crate) kind: AsmErrorKind,
 }
 
-// The names of the labels of a node. A set of them is made when a name is first asked for that
-// isn't laid, which is seldom: most jumps go back.
+// The names of the labels of a node. A set of them is made only when a name is asked for that isn't
+// laid yet, which is rare: most jumps go back.
 #[derive(Drop)]
 pub(crate) struct Names<'a> {
     alloc: Global,
@@ -173,7 +173,7 @@ impl Layout {
         Ok(())
     }
 
-    // Nothing is laid, and there is room for so many labels and counts.
+    // Nothing is laid, and there is room for these numbers of labels and counts.
     fn new(alloc: Global, labels: usize, counts: usize) -> Result<Self, AllocError>
         ensures { IfOk result IsBlank }
     {
@@ -283,8 +283,8 @@ impl Layout {
     }
 }
 
-/// Where the items of a node come to stand, or the first fault of the first pass. The labels are
-/// all those of the node.
+/// The layout of the items of a node, or the first fault of the first pass. The labels are all
+/// those of the node.
 pub(crate) fn first_pass(alloc: Global, labels: &[Name], items: &[Item]) -> Result<Layout, Refusal>
     requires right { Items start (plain items.now) }
     requires names { plain_names labels.now ≡ names_in (plain items.now) }

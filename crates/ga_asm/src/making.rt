@@ -67,7 +67,7 @@ fn op_or_filler(ops: &[Op], slot: usize) -> Op
     ops.get(slot).copied().unwrap_or(Op::Nop)
 }
 
-// Fillers stand in the slots that are left.
+// The slots that are left have fillers.
 #[tactic(auto, using(crate::proofs::MakingSteps::filled_four))]
 fn with_fillers(ops: &[Op]) -> ArrayVec<Op, 4>
     requires { length ops.now ≤ 4 }
@@ -186,7 +186,6 @@ fn push_alone(
     Ok(())
 }
 
-// The words of a group.
 fn push_group(
     labels: &IndexMap<String, u8>,
     items: &[Item],

@@ -18,7 +18,7 @@ use indexmap::IndexMap;
 pub(crate) struct OpenWord {
     address: u8,
     ops: ArrayVec<Op, 4>,
-    // No item stands behind one of them.
+    // One of its opcodes ends the word.
     is_ended: bool,
     ghost near: { address ≤ 64 },
     ghost ended: { is_ended ≡ list_any ends_word ops.items },
@@ -40,7 +40,6 @@ impl OpenWord {
         }
     }
 
-    /// How many opcodes it has.
     pub(crate) fn len(&self) -> usize
         ensures { result ≡ length self.now.ops.items }
     {
@@ -76,7 +75,7 @@ impl OpenWord {
         }
     }
 
-    /// The item joins the word, with the labels that stand before it.
+    /// The item joins the word, with the labels before it.
     pub(crate) fn joins(&self, labels: &IndexMap<String, u8>, item: &Item) -> bool
         ensures room { result ≡ true → length self.now.ops.items < 4 }
         ensures test { result ≡ laid.joins (labels_of labels.now.entries) self.now.address

@@ -1,4 +1,4 @@
-//! Where the words of an image begin in the text of its program.
+//! The places at which the words of an image begin in the text of its program.
 ghost use Rattle.std.specs.Prelude.{◌≡◌, ◌+◌, ◌++◌, ◌≤◌, IfOk, OnOk, drop, length, map, take};
 ghost use Rattle.ga_pack.specs.Model.Program as model;
 ghost use Rattle.ga_source.specs.Program.{item_place, item_place_of, items_at};
@@ -14,8 +14,8 @@ use std::alloc::{AllocError, Global};
 
 /// The place in the text of the first item of each word of an image, in the order of the words: a
 /// word that items share begins with the first of them, and a follower with the number that it is.
-/// The image is that of the program's section with this number, from 0, whose items stand at these
-/// places, and there are as many places as it has words. It fails only where memory is refused.
+/// The image is that of the program's section with this number, from 0, whose items have these
+/// places, and there are as many places as it has words. Fails only when out of memory.
 pub fn word_places(
     alloc: Global,
     program: &Program<'_>,
@@ -28,7 +28,7 @@ pub fn word_places(
         ≡ map item_place (items_at program.now section) }
     ensures places { IfOk result (λ places. map place_of places.items
         ≡ spec.word_places image.now.item_counts (items_at program.now section)) }
-    // as many as words, where it is the image of that section
+    // as many as words, if it is the image of that section
     ensures count { IfOk result (λ places.
         IsImage (map (λ placed. placed.item) (items_at program.now section)) image.now
         → length places.items ≡ length image.now.words) }
@@ -63,7 +63,7 @@ fn place_at(places: &[ItemPlace], index: usize) -> Place
     }
 }
 
-// The indices of the items with which words begin, where groups have so many items each.
+// The indices of the items with which words begin, for groups with these numbers of items.
 fn first_items(alloc: Global, counts: &[usize], items: &[Item]) -> Result<Vec<usize>, AllocError>
     ensures { IfOk result (λ indices. indices.items
         ≡ spec.first_items 0 counts.now (plain items.now)) }
@@ -80,7 +80,7 @@ fn first_items(alloc: Global, counts: &[usize], items: &[Item]) -> Result<Vec<us
     Ok(indices)
 }
 
-// As many items as that, where there are so many, and those behind them.
+// The first `count` items, or fewer if there are fewer, and the rest.
 fn split_front(items: &[Item], count: usize) -> (&[Item], &[Item])
     ensures front { result.0.now ≡ take count items.now }
     ensures back { result.1.now ≡ drop count items.now }

@@ -47,7 +47,7 @@ impl From<AsmError> for TextError {
 }
 
 /// The images of a source text, or its first fault: that of the text, as `parse` reports it, or
-/// else that of its program, as `assemble` does. It fails as `Memory` only where memory is refused.
+/// else that of its program, as `assemble` does. Fails with `Memory` only when out of memory.
 #[tactic(auto, using(crate::proofs::OneAnswer::one_answer))]
 pub fn assemble_text(alloc: Global, text: &str) -> Result<Images, TextError>
     ensures images { IfOk result (λ images. HasImages text.now images) }

@@ -1,7 +1,6 @@
--- What the exit status tells of a command line.
+-- What the exit status of a command line means.
 use Rattle.std.specs.Prelude.{◌≡◌, ◌≢◌, ◌≤◌, ◌↔◌, ℕ, List, Option, Result}
 use Rattle.clap.specs.Words.{kind_of}
-use Rattle.clap.specs.declared.error.Error.{Error}
 use Rattle.clap.specs.declared.error.kind.ErrorKind.TheVariants.{DisplayHelp, DisplayVersion}
 use Rattle.ga_command_line.specs.declared.command_line.LineError.{LineError}
 use Rattle.ga_command_line.specs.declared.command_line.LineError.TheVariants.{Parse, Memory}
@@ -9,14 +8,12 @@ use Rattle.ga_jobs.specs.declared.Job.{Job}
 use Rattle.ga_jobs.specs.declared.fault.ServeError.{ServeError}
 use Rattle.ga_jobs.specs.Engine.{Serves, status_of}
 
--- a line that is wrong, and doesn't ask for help or the version
-abbrev pub IsWrong : Error → Type 0
-IsWrong error = (kind_of error ≢ DisplayHelp) × (kind_of error ≢ DisplayVersion)
-
 -- The status of a wrong line is 2, and no other has it; it is 0 or 1 for help and the version, and
 -- 3 when out of memory.
 abbrev pub IsStatusOf : LineError → ℕ → Type 0
-IsStatusOf (Parse error) status = ((status ≡ 2) ↔ IsWrong error) × (status ≤ 2)
+IsStatusOf (Parse error) status =
+    ((status ≡ 2) ↔ ((kind_of error ≢ DisplayHelp) × (kind_of error ≢ DisplayVersion)))
+    × (status ≤ 2)
 IsStatusOf Memory status = status ≡ 3
 
 -- that of some answer to a job: 0, 1 or 3

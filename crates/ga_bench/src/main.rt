@@ -68,7 +68,7 @@ fn opened<R: Files>(rt: &R, name: &str) -> Result<R::File, ServeError> {
     }
 }
 
-/// Serves a job, and tells why it could not be served. Answers the exit status.
+/// Serves a job, and reports its fault if it fails. Answers the exit status.
 fn serve_job<Rt: AllocGlobal + Eprint + Threads + Sync, R: Read, W: Write>(
     rt: &Rt,
     reader: &mut R,
@@ -76,20 +76,21 @@ fn serve_job<Rt: AllocGlobal + Eprint + Threads + Sync, R: Read, W: Write>(
     job: &Job,
 ) -> u8
     ensures status { HasStatus result }
-    // Where the reader and the writer tell their bytes, it is the status of what `serve` answers.
+    // If the bytes of the reader and the writer are known, it is the status of what `serve`
+    // answers.
     ensures served { IfSome (R.remaining reader.old) (λ input.
         HasServed job.now input (W.contents writer.old) (W.contents writer.new) result) }
 {
     let outcome = serve(rt, reader, writer, job);
     if let Err(fault) = &outcome {
-        // Where this cannot be written either, the status still tells it.
+        // If this can't be written either, the status still reports it.
         let _ = eprintln!(rt; "ga-bench: {fault}");
     }
     status(&outcome)
 }
 
-/// Tells why a command line names no job, or what it asks for in place of one. Answers the exit
-/// status.
+/// Reports why a command line names no job, or prints the help or version that it asks for. Answers
+/// the exit status.
 fn refuse<R: Print + Eprint>(rt: &R, error: LineError) -> u8
     ensures { IsStatusOf error result }
 {
@@ -105,8 +106,8 @@ fn refuse<R: Print + Eprint>(rt: &R, error: LineError) -> u8
     status(&Err(fault))
 }
 
-/// The job that the arguments of the program name. The kit tells nothing of the arguments, so no
-/// more than this is stated.
+/// The job that the arguments of the program name. The kit's contract has nothing about the
+/// arguments, so this one promises no more.
 fn job_of_arguments<R: Env + AllocGlobal>(rt: &R) -> Result<Job, LineError>
     ensures { IfOk result InRange }
 {

@@ -1,5 +1,5 @@
--- Two runs that boot one tree go alike, where besides what boots it each node takes words of
--- several sides at one side.
+-- Two runs that boot one tree agree on their common steps if, besides what boots it, each node's
+-- multiport reads take from one side only.
 use Rattle.std.proofs.Common.{◌≡◌, ◌∙◌, ◌⊎◌, inl, inr, ◌<◌, ℕ, Bool, true, false, List, [], ◌∷◌, ◌++◌, Option, Some, None, drop, is_some, refl, sym, ap, subst, arith}
 use Rattle.std.specs.Prelude.{All, if◌then◌else◌}
 use Rattle.std.specs.List.{AllByRecursion}
@@ -82,7 +82,7 @@ closed_else root name stream opened events named apart =
 fronts_agree : (xs ys words : List ℕ) → IsPrefix xs words → IsPrefix ys words → AgreesWith xs ys
 fronts_agree xs ys words (rest, e) (more, f) = agree_cut xs ys rest more (sym e ∙ f)
 
--- where the root was given its stream, no node is fed anything
+-- if the root was given its stream, no node is fed anything
 given_none : (chip : Chip) (root : ℕ) (words : List ℕ) (events : List Event) (name : ℕ)
     → IsNodeName root → DifferInBreaks chip (streamed reset_chip root words)
     → words_fed chip events name ≡ []
@@ -98,7 +98,7 @@ given_none chip root words events name named e =
     by (inl same) = ap (words_fed base events) same ∙ fed_closed root words events named
     by (inr apart) = closed_else root name (Some words) false events named apart
 
--- where it was opened, no other node is
+-- if it was opened, no other node is
 opened_none : (chip : Chip) (root : ℕ) (events : List Event) (name : ℕ) → IsNodeName root
     → DifferInBreaks chip (stream_opened reset_chip root) → (name ≡ root → ⊥)
     → words_fed chip events name ≡ []

@@ -157,7 +157,7 @@ module _ (chip : Chip) (root : ℕ) (image : Option ImageView) (trees : Grove)
       ∙ takes_ran chip events p.name cell.0 p.side g.legal named.0 reads
       ∙ takes_history chip events p.name cell.0 p.side g.legal named.0 reads
 
-  -- A node's moves up to the event by which something came to be so, and behind it.
+  -- A node's moves up to the event that made something true, and behind it.
   module _ (events : List Event) (now : Part) (name steps : ℕ) (IsSo : List Event → Type 0)
       (c : CameToBe chip name IsSo events now steps) where
     abbrev then : List Event
@@ -215,7 +215,7 @@ module _ (chip : Chip) (root : ℕ) (image : Option ImageView) (trees : Grove)
         (subst (λ l. length (part_words Load root image trees) ≤ length l)
         (sym (fed_history chip events root)) h)
 
-    -- a node that has gone along its script has begun
+    -- a node that has gone along its script has started
     root_along : planned.Begun plan chip events root → RootBegun chip root image trees events
     root_along b =
         subst (λ l. length (stream_words root image trees) ≤ length l)
@@ -371,7 +371,7 @@ module _ (chip : Chip) (root : ℕ) (image : Option ImageView) (trees : Grove)
         let part = place_part p e in names_sides plan chip plan_is p.name p.parent p.side part.0
         (has_parent root image trees tree p e) part.1 events feeding
 
-    -- a node that hasn't begun hasn't gone behind its script
+    -- a node that hasn't started hasn't gone beyond its script
     within : (p : Place) → Elem p all → (Begun chip p events → ⊥)
         → IsPrefix (history chip events p.name) (script plan p.name)
     within p e not_begun = by (agrees p.name)
@@ -381,7 +381,7 @@ module _ (chip : Chip) (root : ℕ) (image : Option ImageView) (trees : Grove)
         by (inl front) = front
         by (inr (rest, f)) = absurd (not_begun (along p e (rest, f)))
 
-    -- what was taken is a front of what is sent, or the other way round
+    -- what was taken is a prefix of what is sent, or the other way round
     sent_agrees : (p : Place) → Elem p all
         → AgreesWith (words_from chip events p.name p.side) (node_words p)
     sent_agrees p e =

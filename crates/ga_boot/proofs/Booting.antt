@@ -76,7 +76,7 @@ own_take Down word = refl
 own_take Left word = refl
 own_take Up word = refl
 
--- a node that takes a word before it posts anything has taken one where it has posted one
+-- a node that takes a word before it posts anything has taken one if it has posted one
 pub takes_first : (done front more : List Local) (side to : Side) (word : ℕ)
     → AgreesWith done (front ++ Take side word ∷ more) → posted to front ≡ []
     → 1 ≤ length (posted to done) → 1 ≤ length (taken side done)
@@ -104,7 +104,7 @@ takes_first done front more side to word agrees none one =
         ∙ ap (λ n. n + length (taken side rest)) (length-append (taken side front) (word ∷ [])) in
         omega arith
 
--- Two moves that answer one need are the same, but for the word that is fed or taken.
+-- Two moves that answer one need are the same, apart from the word that is fed or taken.
 pub data Alike : Local → Local → Type 0 where
   same : (x : Local) → Alike x x
   feeds : (w v : ℕ) → Alike (Feed w) (Feed v)

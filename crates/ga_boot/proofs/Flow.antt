@@ -148,7 +148,7 @@ takes_history chip (event ∷ events) name cell side legal named there =
     (history (happened chip event) events name))
     ∙ ap (taken side) (sym (history_more chip event events name))
 
--- WHAT ONE POSTS THE OTHER TAKES, but for the word that is pending
+-- WHAT A NODE POSTS ITS NEIGHBOUR TAKES, apart from the word that is pending
 pub hands_over : (chip : Chip) (events : List Event) (name other cell : ℕ) (side : Side)
     → IsLegal chip → pending chip cell ≡ None → IsNodeName name → IsNodeName other
     → cell_of name side ≡ Some cell → read_cell other side ≡ Some cell

@@ -1,4 +1,4 @@
--- What a node did in a run determines how it stands, and the words of its cells.
+-- What a node did in a run determines its state, and the words of its cells.
 use Rattle.std.proofs.Common.{◌≡◌, ℕ, ◌==◌, Bool, true, false, List, [], ◌∷◌, ◌++◌, ◌⊎◌, inl, inr, map, flat_map, Option, Some, None, refl, sym, ap, ap₂, ◌∙◌, subst}
 use Rattle.std.specs.Prelude.{if◌then◌else◌, ◌/◌, ◌%◌}
 use Rattle.std.proofs.lemmas.Bool.{false≢true}
@@ -110,7 +110,7 @@ pub answers : (chip : Chip) (name : ℕ) (m : Move) (a : Makes chip name m)
 answers chip name m a =
     answers_by m.asked m.found a.part.state a.part.stream a.side a.fits a.passed a.asked
 
--- how the node stands after it
+-- the node's state after it
 stood_by : (q : Asks) (found : Option ℕ) (at : State) → Passes q found
     → stand_after q found at ≡ step at (given (local_by q found))
 stood_by (chip.Nothing o) found at passed = absurd passed
@@ -122,7 +122,7 @@ stood_by (chip.Check side cell) (Some word) at passed = cc
 stood_by (chip.Take side cell) None at passed = absurd (none-some passed.0 passed.1)
 stood_by (chip.Take side cell) (Some word) at passed = refl
 
--- How a node stands after what it did, by how it stood.
+-- The state of a node after what it did, by its state before.
 pub record Stood (after : Chip) (name : ℕ) (part : Part) (done : List Local) : Type 0 where
   pub now : Part
   pub there : part_of after name ≡ Some now
@@ -190,7 +190,7 @@ stood_event chip event name part legal there = record {
         × Lives (bare part.state) (map local_of (moves_of name (move_in chip event)))
     state_is = by (one_at_most chip event name)
 
--- HISTORY DETERMINES: how a node stands after a run
+-- HISTORY DETERMINES the state of a node after a run
 pub stood_ran : (chip : Chip) (events : List Event) (name : ℕ) (part : Part) → IsLegal chip
     → part_of chip name ≡ Some part → Stood (ran chip events) name part (history chip events name)
 stood_ran chip [] name part legal there =

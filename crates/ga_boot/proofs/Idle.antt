@@ -5,7 +5,7 @@ use Rattle.std.specs.Prelude.{if◌then◌else◌, bit_xor}
 use Rattle.std.proofs.lemmas.Bool.{false≢true}
 use Rattle.ga_word.specs.Op.{op_with}
 use Rattle.ga_word.specs.declared.op.Op.TheVariants as op
-use Rattle.ga_pack.specs.Decoded.{reading_of, op_in_slot0}
+use Rattle.ga_pack.specs.Decoded.{reading_of}
 use Rattle.std.proofs.lemmas.Grind.{common_steps}
 use native.Mathlib.Bridge.{le_by_compare, IsLe}
 use Rattle.ga_place.specs.Address.{port_address_of, idle_address_of, advance_of, where_is}
@@ -159,7 +159,7 @@ apart_by false false true false = refl
 apart_by false false false true = refl
 apart_by false false false false = refl
 
--- an idle address isn't the completion that says that another frame follows
+-- an idle address isn't the completion that announces another frame
 pub idle_apart : (name : ℕ) → (idle_address_of name == MORE) ≡ false
 idle_apart name =
     apart_by (has_side name Right) (has_side name Down) (has_side name Left) (has_side name Up)
@@ -202,7 +202,8 @@ jump_port Down = (refl, refl)
 jump_port Left = (refl, refl)
 jump_port Up = (refl, refl)
 
-jump_code : (address : ℕ) → address < 2 ^ 10 → op_in_slot0 (jump_to address) ≡ op.Jump
+jump_code : (address : ℕ) → address < 2 ^ 10
+    → op_with (bit_xor (jump_to address / 2 ^ 13) 0x0A) ≡ op.Jump
 unfolding op_with
 jump_code address h = ap (λ q. op_with (bit_xor q 0x0A)) high
   where
@@ -216,7 +217,8 @@ jump_low : (address : ℕ) → address < 2 ^ 10 → (op_at (jump_to address) Slo
     × ((reading_of (jump_to address)).dest ≡ Some address)
 unfolding reading_of
 jump_low address h =
-    let code : op_in_slot0 (jump_to address) ≡ op.Jump = jump_code address h in
+    let code : op_with (bit_xor (jump_to address / 2 ^ 13) 0x0A) ≡ op.Jump =
+    jump_code address h in
     (rw code refl, rw code (ap Some (jump_dest address h)))
 
 -- a fetch of an idle node
@@ -254,7 +256,7 @@ idle_wants name state named = (
   idle_many name named,
 )
 
--- START: just behind the slot step of its start word P is where the node starts
+-- START: directly behind the slot step of its start word P is the node's start address
 pub starts : {P : Type 0} (side : Side) (name address : ℕ) (state : State) → address < 2 ^ 10
     → Comes P (fetching address) (at_port side state) (Take side (jump_to address) ∷ Own ∷ [])
 starts side name address state low =

@@ -117,7 +117,7 @@ module _ (plan : Plan) (chip : Chip) (is : IsPlan plan chip) (events : List Even
           ∙ ap (λ l. l ++ posted side rest) posts) nothing)
       by (inr (rest, e)) = behind rest e
 
-  -- how a node stands that makes a move
+  -- the state of a node that makes a move
   record Standing (name : ℕ) (m : Move) : Type 0 where
     part : Part
     there : part_of chip name ≡ Some part
@@ -350,7 +350,7 @@ module _ (plan : Plan) (chip : Chip) (is : IsPlan plan chip) (events : List Even
           (agree_push (did name) (script plan name) (local_of m) (b.agrees name)
           (λ y rest next. next_is name m y rest e next))
 
-  -- Where some node has gone along its whole script, no node of the tree waits for its first word.
+  -- If some node has gone along its whole script, no node of the tree waits for its first word.
   loaded_all : Loaded plan chip is events b.agrees plan.root → (name : ℕ) (above : ℕ × Side)
       → plan.parent name ≡ Some above → did name ≡ [] → ⊥
   loaded_all root name above e none =

@@ -57,7 +57,7 @@ own_post Down word = refl
 own_post Left word = refl
 own_post Up word = refl
 
--- a node that stands at a check has posted a word there
+-- a node at a check has posted a word there
 posts_in : (state : State) (ms : List Local) (side : Side) (word : ℕ) → Lives state ms
     → (lived state ms).posted ≡ Some (side, word)
     → (state.posted ≡ Some (side, word)) ⊎ (1 ≤ length (posted side ms))
@@ -95,12 +95,12 @@ lives_behind state (m ∷ ms) more g = lives_behind (moved state (given m)) ms m
 
 module _ (plan : Plan) (chip : Chip) (is : IsPlan plan chip) (events : List Event)
     (agrees : (name : ℕ) → AgreesWith (history chip events name) (script plan name)) where
-  -- how a node stands now
+  -- the state of a node now
   abbrev did : ℕ → List Local
   did name = history chip events name
 
-  -- the words that a node took from its parent are those that the parent posted, but for one that
-  -- is pending
+  -- the words that a node took from its parent are those that the parent posted, apart from one
+  -- that is pending
   pub handed : (name parent : ℕ) (side : Side) (part : Part)
       → plan.parent name ≡ Some (parent, side) → (i : IsInside plan name parent side part)
       → posted side (did parent) ≡ taken side (did name)
@@ -207,7 +207,7 @@ module _ (plan : Plan) (chip : Chip) (is : IsPlan plan chip) (events : List Even
           let settled = (is.inside parent above.0 above.1 over.0 f over.1).settled in
           child_loaded name parent side part over.0 e i over.1 settled (on over.0 above f over.1)
 
-  -- DOWN THE TREE: where the root is loaded, each node of the tree is
+  -- DOWN THE TREE: if the root is loaded, each node of the tree is
   pub down : (depth name parent : ℕ) (side : Side) (part : Part) → plan.depth name ≡ depth
       → plan.parent name ≡ Some (parent, side) → part_of chip name ≡ Some part → Loaded plan.root
       → Loaded name
@@ -257,7 +257,7 @@ module _ (plan : Plan) (chip : Chip) (is : IsPlan plan chip) (events : List Even
       ap (λ l. length l) i.loaded in
       omega (arith, flow, same, more)
 
-  -- UP THE TREE: where a node posts more than its load, the root is loaded
+  -- UP THE TREE: if a node posts more than its load, the root is loaded
   pub up : (depth name : ℕ) (to : Side) → plan.depth name ≡ depth → IsNodeName name
       → (name ≡ plan.root) ⊎ ((over : ℕ × Side) × (plan.parent name ≡ Some over))
       → length (posted to (plan.loads name)) < length (posted to (did name)) → Loaded plan.root

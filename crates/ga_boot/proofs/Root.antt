@@ -25,7 +25,7 @@ abbrev pub waiting : State → State
 waiting state =
     record state { place = Completion; posted = None; loader = record state.loader { held = None } }
 
--- in a frame's body, with so many words left
+-- in a frame's body, with n words left
 abbrev pub in_body : ℕ → ℕ → State → State
 in_body transfer left state = record state {
   place = Body;
@@ -243,8 +243,8 @@ loads_root (word ∷ words) state h zeros =
       memory = more.memory ∙ ap (put 0 (word ∷ words)) zeros ∙ put_zeros (word ∷ words) h;
     }
 
--- THE LAST FRAME of the start part: P is where the root starts. No root starts at 0AE, which would
--- say that another frame follows.
+-- THE LAST FRAME of the start part: P is the root's start address. No root starts at 0AE, which
+-- would announce another frame.
 pub starts_root : {P : Type 0} (address : ℕ) (state : State) → address < 2 ^ 10
     → (address == MORE) ≡ false
     → Comes P (fetching address) (waiting state) (map Feed (frame address 0 []))

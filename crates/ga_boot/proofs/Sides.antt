@@ -1,5 +1,5 @@
--- Which sides the takes of several sides name in a run that keeps to a plan: of a node of the tree,
--- its parent's first, and until the node has gone along its script no other.
+-- The sides of the multiport reads in a run that keeps to a plan: for a node of the tree its
+-- parent's first, and no other until the node has gone along its script.
 use Rattle.std.proofs.Common.{◌≡◌, ◌∙◌, ◌⊎◌, inl, inr, ℕ, Bool, true, false, List, [], ◌∷◌, ◌++◌, flat_map, Some, None, refl, sym, ap, ap₂, subst, append-nil, append_assoc}
 use Rattle.std.specs.Prelude.{if◌then◌else◌}
 use Rattle.std.proofs.lemmas.List.Concat.{flat_map-append}
@@ -28,7 +28,7 @@ use Rattle.ga_boot.proofs.Booting.{goes_from}
 use Rattle.ga_boot.proofs.History.{from_side, need_wanted, stood_ran}
 use Rattle.ga_boot.proofs.Keeps.{booting_first, kept, none_more, one_more, sooner, take_by}
 
--- a move that answers one side alone names none
+-- a move that answers only one side names none
 one_named : (side s : Side) → picked_of (one_side (sides_with (side_bit side))) s ≡ []
 one_named Right s = refl
 one_named Down s = refl
@@ -42,7 +42,7 @@ none_picked (Take side word) n s e = ap (λ n. picked_by n s) e ∙ one_named si
 none_picked (Post side word) n s e = ap (λ n. picked_by n s) e
 none_picked (Check side) n s e = ap (λ n. picked_by n s) e
 
--- a take of several sides names the side at which it takes
+-- a multiport read names the side at which it takes
 looked_by : (b : Bool) (s t : Side) → (if b then Some s else None) ≡ Some t → s ≡ t
 looked_by true s t e = same_Some s t e
 looked_by false s t e = absurd (none-some t e)
@@ -90,7 +90,7 @@ sides_one chip events event name m made =
     ∙ ap (λ ms. sides_of chip events name ++ flat_map (λ move. move.picked) ms) made
     ∙ ap (λ l. sides_of chip events name ++ l) (append-nil m.picked)
 
--- how a node stands that makes a move
+-- the state of a node that makes a move
 stands_at : (chip : Chip) (events : List Event) (name : ℕ) (part : Part) (m : Move)
     (a : Makes (ran chip events) name m) → IsLegal chip → part_of chip name ≡ Some part
     → bare a.part.state ≡ lived (first_of part) (history chip events name)
@@ -99,7 +99,7 @@ stands_at chip events name part m a legal there =
     ap (λ p. bare p.state) (same_Some a.part s.now (sym a.there ∙ s.there)) ∙ s.state
 
 -- The sides that a node of the tree names: none as long as it waits for its first word; then its
--- parent's, and behind that others only where it has gone along its script.
+-- parent's, and after that others only once it has gone along its script.
 abbrev pub NamesSides : Plan → Chip → List Event → ℕ → Side → Type 0
 NamesSides plan chip events name side =
     ((history chip events name ≡ []) × (sides_of chip events name ≡ []))

@@ -19,7 +19,7 @@ use Rattle.ga_node.specs.declared.place.Place.{Place}
 use Rattle.ga_node.specs.declared.place.Place.TheVariants.{Fetch, Slot0, Slot1, Slot2, Slot3}
 use Rattle.ga_boot.specs.inner.Local.{Local, Own, Take, Post, Check, given, lived, Suits, Goes, Calm}
 
--- The node goes along the moves, and then stands so. Where P holds, no move changes its memory.
+-- The node goes along the moves, to the end state. If P holds, no move changes its memory.
 pub record Way (P : Type 0) (state : State) (moves : List Local) (end : State) : Type 0 where
   pub goes : Goes state moves
   pub calm : P → Calm state moves
@@ -62,7 +62,7 @@ both state middle end ms more way rest = record {
   to = lived-append state ms more ∙ ap (λ s. lived s more) way.to ∙ rest.to;
 }
 
--- the memory at the end, where no move changes it
+-- the memory at the end, if no move changes it
 pub calm_ram : (state : State) (ms : List Local) → Calm state ms → (lived state ms).ram ≡ state.ram
 calm_ram state [] c = refl
 calm_ram state (m ∷ ms) c = calm_ram (moved state (given m)) ms c.1 ∙ c.0

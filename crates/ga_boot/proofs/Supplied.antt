@@ -14,7 +14,7 @@ use Rattle.ga_boot.specs.Boot.{IsSupplied}
 use Rattle.ga_boot.specs.inner.TreePlan.{IsGiven}
 use Rattle.ga_boot.proofs.Given.{from_opened, from_streamed, is_given, root_chip, root_part, root_there}
 
--- what the root had and is fed is a front of the words
+-- what the root had and is fed is a prefix of the words
 abbrev pub IsFedOf : Chip → ℕ → List ℕ → List Event → Type 0
 IsFedOf chip root words events =
     (part : Part) → part_of chip root ≡ Some part
@@ -96,7 +96,7 @@ module _ (one two : Chip) (differ : DifferInBreaks one two) where
       subst (λ l. IsPrefix l words) (ap₂ (λ (p : Part) l. words_left p.stream ++ l) b.bare
       (sym (fed_alike events root))) (fed b.old b.there)
 
--- So but for breakpoints the chip is as after reset, except for the root, which is fed the words.
+-- So apart from breakpoints and the root, which is fed the words, the chip is as after reset.
 pub supplied : (chip : Chip) (root : ℕ) (words : List ℕ) (events : List Event) → IsNodeName root
     → IsSupplied chip root words events → IsGiven root chip × IsFedOf chip root words events
 supplied chip root words events named (inl (given, e, front)) =

@@ -51,7 +51,7 @@ module _ (root : ℕ) (image : Option ImageView) (trees : Grove) (is : IsTree ro
   abbrev plan : Plan
   plan = plan_of root image trees
 
-  -- what the plan says of a node of the tree
+  -- the plan of a node of the tree
   pick_false : {A : Type 0} (b : Bool) (x y : A) → b ≡ false → (if b then x else y) ≡ y
   pick_false b x y e = rw e refl
 
@@ -143,14 +143,14 @@ module _ (root : ℕ) (image : Option ImageView) (trees : Grove) (is : IsTree ro
             (children q.name q.inner) q.name p (once_inner root trees q is.once f) there g,
       )
 
-  -- A node of the tree, which stands as after reset.
+  -- A node of the tree, which is as after reset.
   module _ (chip : Chip) (is_given : IsGiven root chip) where
     starts_low : (name : ℕ) (image : Option ImageView) → HasRoom image
         → start_address name image < 2 ^ 10
     starts_low name (Some image) h = let near = h.entry_near in grind (arith, common_steps, near)
     starts_low name None h = idle_low name
 
-    -- no start address is the completion that says that another frame follows
+    -- no start address is the completion that announces another frame
     starts_end : (name : ℕ) (image : Option ImageView) → HasRoom image
         → (start_address name image == MORE) ≡ false
     starts_end name (Some image) h =
@@ -179,7 +179,7 @@ module _ (root : ℕ) (image : Option ImageView) (trees : Grove) (is : IsTree ro
         starts_node p.name p.side p.image p.inner (load_node p e).rest
         (starts_low p.name p.image (is.images p e))
 
-    -- where it stands when its load is taken
+    -- its state when its load is taken
     load_to : (p : Place) (e : Elem p all) → lived (reset_state p.name)
         (load_script p.side p.image p.inner) ≡ in_slot p.side NOPS Slot0 (load_node p e).rest
     load_to p e = (load_node p e).way.to
@@ -216,7 +216,7 @@ module _ (root : ℕ) (image : Option ImageView) (trees : Grove) (is : IsTree ro
     start_first name side image (Tree n out i inner beside) =
         (Own ∷ Own ∷ Own ∷ Own ∷ [], SET_A, _, refl, λ to. refl)
 
-    -- what stands above it
+    -- the node above it
     over : (p : Place) → Elem p all → HasOver root trees p
         → ((p.parent ≡ root) ⊎ ((above : ℕ × Side) × (plan.parent p.parent ≡ Some above)))
         × (plan.depth p.name ≡ suc (plan.depth p.parent))
@@ -373,7 +373,7 @@ module _ (root : ℕ) (image : Option ImageView) (trees : Grove) (is : IsTree ro
         by None e = refl
         by (Some p) e = absurd (none-some (over_of p) (sym e))
 
-    -- A word is posted in the plan to a child alone.
+    -- In the plan a word is posted only to a child.
     posts_at : (name : ℕ) (side : Side) (grove : Grove)
         → ((p : Place) → Elem p (children name grove) → p.side ≡ side → ⊥)
         → (words_to Load side grove ≡ []) × (words_to Start side grove ≡ [])
@@ -453,7 +453,7 @@ module _ (root : ℕ) (image : Option ImageView) (trees : Grove) (is : IsTree ro
       to_children = to_children;
     }
 
-    -- and each node of it is prepared as its image says
+    -- and each node of it is prepared for its image
     pub prepares_root : (part : Part) → part_of chip root ≡ Some part
         → Prepares plan root part (holding (image_words image)) (start_address root image)
     prepares_root part there =

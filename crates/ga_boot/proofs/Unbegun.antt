@@ -1,5 +1,5 @@
--- From the invariant: a node of the tree that hasn't begun holds its image once the load part was
--- taken, and it begins at its address.
+-- From the invariant: a node of the tree that hasn't started holds its image once the load part was
+-- taken, and it starts at its address.
 use Rattle.std.proofs.Common.{◌≡◌, ℕ, ◌≤◌, List, [], ◌∷◌, ◌++◌, inl, inr, length, Some, refl, sym, ap, ◌∙◌, subst, append_assoc, le_refl}
 use Rattle.std.proofs.lemmas.Option.{same_Some}
 use Rattle.ga_place.specs.declared.side.Side.{Side}
@@ -39,7 +39,7 @@ module _ (plan : Plan) (chip : Chip) (is : IsPlan plan chip) (events : List Even
       ≤ length (fed (history chip events plan.root))) last.2 taken) (le_refl 1) in
       (at.0, at.1 ∙ ap (λ l. l ++ at.0) (sym last.2))
 
-  -- the memory of a loaded node that hasn't begun
+  -- the memory of a loaded node that hasn't started
   holds : (name : ℕ) (part now : Part) (ram : List ℕ) (address : ℕ) → part_of chip name ≡ Some part
       → part_of (ran chip events) name ≡ Some now → Prepares plan name part ram address
       → Loaded plan chip is events b.agrees name → (Begun plan chip events name → ⊥)
@@ -87,7 +87,7 @@ module _ (plan : Plan) (chip : Chip) (is : IsPlan plan chip) (events : List Even
       (down plan chip is events b.agrees (plan.depth name) name parent side part refl e there
       (root_loaded root root_there taken)) not_begun
 
-  -- and it begins where it was told
+  -- and it starts at the address of its start word
   pub begins : (name : ℕ) (part now : Part) (ram : List ℕ) (address : ℕ)
       → part_of chip name ≡ Some part → part_of (ran chip events) name ≡ Some now
       → Prepares plan name part ram address → history chip events name ≡ script plan name

@@ -96,7 +96,7 @@ taken_one : (side to : Side) (word : ℕ)
     → taken to (Take side word ∷ []) ≡ at_side side to (word ∷ [])
 taken_one side to word = append-nil _
 
--- A NODE TAKES THE WORDS THAT IT IS SENT, at its parent's side alone
+-- A NODE TAKES THE WORDS THAT IT IS SENT, only at its parent's side
 pub taken_loading : (name : ℕ) (side to : Side) (image : Option ImageView) (inner : Grove)
     → taken to (load_script side image inner)
     ≡ at_side side to (sent Load name side image (pumps Load inner))

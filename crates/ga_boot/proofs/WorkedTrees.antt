@@ -28,7 +28,7 @@ down_place = record { name = 608; parent = 708; side = Down; image = Some nops; 
 fork_places : places 708 fork ≡ right_place ∷ down_place ∷ []
 fork_places = refl
 
--- all loads stand before all starts
+-- all loads come before all starts
 fork_stream : stream_words 708 None fork ≡ 0x000AE ∷ 0x001D5 ∷ 0x00008 ∷ 0x101D5 ∷ 0x04A12 ∷ 0x00000
     ∷ 0x00000 ∷ 0x2E9B2 ∷ 0x05872 ∷ 0x2C9B2 ∷ 0x2C9B2 ∷ 0x000AE ∷ 0x00115 ∷ 0x00008 ∷ 0x10115
     ∷ 0x04A12 ∷ 0x00000 ∷ 0x00000 ∷ 0x2E9B2 ∷ 0x05872 ∷ 0x2C9B2 ∷ 0x2C9B2 ∷ 0x000AE ∷ 0x00000

@@ -1,5 +1,5 @@
--- What is said of the boot of a tree, at a moment of a run: which words were taken, which nodes
--- have begun, and what they hold.
+-- The boot of a tree, at a moment of a run: which words were taken, which nodes have started, and
+-- what they hold.
 use Rattle.std.specs.Prelude.{◌≡◌, ℕ, ◌+◌, ◌-◌, ◌≤◌, List, [], ◌∷◌, ◌++◌, ◌⊎◌, length, replicate, Option, Some}
 use Rattle.std.specs.Option.{option_map_or}
 use Rattle.ga_asm.specs.Image.{ImageView}
@@ -27,7 +27,7 @@ node_words p =
     sent Load p.name p.side p.image (pumps Load p.inner)
     ++ sent Start p.name p.side p.image (pumps Start p.inner)
 
--- A chip after reset, but for breakpoints, whose root was given a prefix of the words as its
+-- A chip after reset, apart from breakpoints, whose root was given a prefix of the words as its
 -- stream, or all; or whose root's stream was opened, and the pieces that it is fed in the run are
 -- together a prefix of the words.
 abbrev pub IsSupplied : Chip → ℕ → List ℕ → List Event → Type 0
@@ -47,12 +47,12 @@ abbrev pub LoadTaken : Chip → ℕ → Option ImageView → Grove → List Even
 LoadTaken chip root image trees events =
     length (part_words Load root image trees) ≤ length (input_words chip events root)
 
--- the root has begun: it has taken the last word of the start part
+-- the root has started: it has taken the last word of the start part
 abbrev pub RootBegun : Chip → ℕ → Option ImageView → Grove → List Event → Type 0
 RootBegun chip root image trees events =
     length (stream_words root image trees) ≤ length (input_words chip events root)
 
--- another node has begun: it has taken its start word, the last that it is sent
+-- another node has started: it has taken its start word, the last that it is sent
 abbrev pub Begun : Chip → Place → List Event → Type 0
 Begun chip p events = length (node_words p) ≤ length (words_from chip events p.name p.side)
 
@@ -60,8 +60,8 @@ Begun chip p events = length (node_words p) ≤ length (words_from chip events p
 abbrev pub Holds : State → Option ImageView → Type 0
 Holds state image = state.ram ≡ image_words image ++ replicate (64 - length (image_words image)) 0
 
--- By one event of a run something came to be so; and of the node that is told by its part now, so
--- many steps were made since that event.
+-- An event of a run made something true. The node, given by its part now, made this many steps
+-- since that event.
 pub record CameToBe (chip : Chip) (name : ℕ) (IsSo : List Event → Type 0) (events : List Event)
     (now : Part) (steps : ℕ)
     : Type 0 where

@@ -26,7 +26,8 @@ pub record Boots (chip : Chip) (root : ℕ) (image : Option ImageView) (trees : 
   pub holds : (p : Place) (now : Part) → Elem p (places root trees)
       → part_of (ran chip events) p.name ≡ Some now → LoadTaken chip root image trees events
       → (Begun chip p events → ⊥) → Holds now.state p.image
-  -- the root's P is where it starts as it begins, and another node's is so by the step behind it
+  -- when the root starts its P is its start address; another node's is one step after it took its
+  -- start word
   pub root_begins : (now : Part) → part_of (ran chip events) root ≡ Some now
       → CameToBe chip root (RootBegun chip root image trees) events now 0
       → now.state.p ≡ start_address root image
@@ -45,14 +46,14 @@ pub record Boots (chip : Chip) (root : ℕ) (image : Option ImageView) (trees : 
       → IsPrefix (node_words p) (words_from chip events p.name p.side)
   pub last_word : (p : Place)
       → (front : List ℕ) × (node_words p ≡ front ++ jump_to (start_address p.name p.image) ∷ [])
-  -- until the root begins it takes no word from a port, and another node takes words from its
-  -- parent alone
+  -- until the root starts it takes no word from a port, and another node takes words only from its
+  -- parent
   pub root_alone : (side : Side) → (RootBegun chip root image trees events → ⊥)
       → words_from chip events root side ≡ []
   pub parent_alone : (p : Place) (side : Side) → Elem p (places root trees)
       → (Begun chip p events → ⊥) → (side ≡ p.side → ⊥) → words_from chip events p.name side ≡ []
-  -- until it begins the root makes no take of several sides; the first one of another node names
-  -- its parent's side, and until the node begins there is no other
+  -- until it starts the root makes no multiport read; the first one of another node names its
+  -- parent's side, and until the node starts there is no other
   pub root_sides : (RootBegun chip root image trees events → ⊥) → sides_of chip events root ≡ []
   pub first_side : (p : Place) → Elem p (places root trees) → (sides_of chip events p.name ≡ [])
       ⊎ ((rest : List Side) × (sides_of chip events p.name ≡ p.side ∷ rest))
@@ -66,8 +67,8 @@ TreeBoots =
     → IsTree root image trees → IsSupplied chip root (stream_words root image trees) events
     → Boots chip root image trees events
 
--- A tree of routes is a tree, where its images have room, and its boot stream is the stream that
--- boots that tree.
+-- A tree of routes is a tree, if its images have room, and its boot stream is the stream that boots
+-- that tree.
 abbrev pub RoutesAreTree : Type 0
 RoutesAreTree = (images : Images) (tree : TreeView) → IsNodeName tree.root → IsSound tree
     → All (λ entry. IsLoadable entry.1) images
@@ -75,16 +76,15 @@ RoutesAreTree = (images : Images) (tree : TreeView) → IsNodeName tree.root →
     × (stream_words tree.root (image_of images tree.root) (grove images tree.root tree.subtrees)
     ≡ tree_load images tree ++ tree_start images tree)
 
--- the sides of a node's takes of several sides in a run, without the one by which a node of a tree
--- took its first word
+-- the sides of a node's multiport reads in a run, without the one by which a node of a tree took
+-- its first word
 abbrev pub later_sides : Chip → ℕ → Grove → List Event → ℕ → List Side
 later_sides chip root trees events name =
     if is_some (found name (places root trees)) then drop 1 (sides_of chip events name)
     else sides_of chip events name
 
--- Two runs that boot a tree agree on their common steps if, besides what boots it, each node takes
--- words by takes of several sides at one side only, the same in both. The chips may differ in
--- breakpoints.
+-- Two runs that boot a tree agree on their common steps if, besides what boots it, each node's
+-- multiport reads take from one side only, the same in both. The chips may differ in breakpoints.
 abbrev pub TreeBootsAgree : Type 0
 TreeBootsAgree =
     (one two : Chip) (root : ℕ) (image : Option ImageView) (trees : Grove)

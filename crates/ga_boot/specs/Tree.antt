@@ -27,12 +27,12 @@ abbrev pub Elem : Place → List Place → Type 0
 Elem p [] = ⊥
 Elem p (q ∷ qs) = (p ≡ q) ⊎ Elem p qs
 
--- no name stands twice
+-- no name occurs twice
 abbrev pub Once : List Place → Type 0
 Once [] = Unit {0}
 Once (p ∷ ps) = ((q : Place) → Elem q ps → q.name ≡ p.name → ⊥) × Once ps
 
--- the place of a node by its name, where it has one
+-- the place of a node by its name, if it has one
 abbrev pub found : ℕ → List Place → Option Place
 found name [] = None
 found name (p ∷ ps) = if p.name == name then Some p else found name ps
@@ -40,8 +40,8 @@ found name (p ∷ ps) = if p.name == name then Some p else found name ps
 abbrev pub HasRoom : Option ImageView → Type 0
 HasRoom image = IfSome image IsLoadable
 
--- A tree: its root is a node, each other node is a neighbour of its parent, no node stands twice,
--- and their images are such that there is room for them.
+-- A tree: its root is a node, each other node is a neighbour of its parent, no node occurs twice,
+-- and there is room for their images.
 pub record IsTree (root : ℕ) (image : Option ImageView) (trees : Grove) : Type 0 where
   pub named : IsNodeName root
   pub loads : HasRoom image

@@ -1,4 +1,4 @@
--- What a try asks for, from what a call tells of it.
+-- What a try asks for, from what a call returns.
 use Rattle.std.proofs.Common.{◌≡◌, ℕ, ◌/◌, ◌%◌, ◌==◌, Bool, true, false, List, Option, Some, None, refl, sym, ap, ◌∙◌, subst}
 use Rattle.std.specs.Prelude.{if◌then◌else◌}
 use Rattle.std.proofs.lemmas.Bool.{eqb-true}
@@ -19,7 +19,7 @@ use Rattle.ga_chip.specs.Asks.{asked_of, told_as}
 use Rattle.ga_chip.specs.Chip.{found_by}
 use Rattle.ga_chip.proofs.Parts.{Fits, asks_fits, moved_asks}
 
--- each case tells the definition's, but for a word of the stream
+-- each case is the definition's, except for a word of the stream
 pub told_post : (q : Asks) (side : Side) (cell word : ℕ) → told_as q ≡ call.Post side cell word
     → q ≡ Post side cell word
 told_post (Post at it which) side cell word e = cc
@@ -66,7 +66,7 @@ own_finds (Post side cell word) cells e = refl
 own_finds (Check side cell) cells e = cc
 own_finds (Take side cell) cells e = cc
 
--- what comes of a try that asks for nothing
+-- the result of a try that asks for nothing
 pub nothing_after : (part : Part) (side : Side) (outcome : Outcome) (found : Option ℕ)
     → asked_of part side ≡ call.Nothing outcome → after part side found ≡ (outcome, part)
 unfolding after

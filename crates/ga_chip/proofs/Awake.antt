@@ -22,7 +22,7 @@ use Rattle.ga_chip.proofs.Parts.{Fits, asks_fits, moved_asks}
 use Rattle.ga_chip.proofs.Stays.{Ports, Stays, finds_same, ports_by}
 use Rattle.ga_chip.proofs.Tries.{legal_tried, tried_none, tried_still, tried_there}
 
--- what comes of a try, by the node's part and the cells
+-- the outcome of a try, by the node's part and the cells
 abbrev comes_of : Option Part → List (Option ℕ) → Side → Outcome
 comes_of None cells side = Waits
 comes_of (Some part) cells side = (after part side (found_by (asks part side) cells)).0
@@ -39,8 +39,8 @@ outcome_of chip name side = by (part_of chip name) refl
         ap (λ r. r.0) (tried_there chip name side part e)
         ∙ ap (λ o. comes_of o chip.cells side) (sym e)
 
--- Where one node's part and the cells were changed, another node's try comes out as before, if it
--- finds the same.
+-- If one node's part and the cells were changed, another node's try has the same outcome as before
+-- if it finds the same.
 else_same : (chip : Chip) (index other : ℕ) (side : Side) (next : Part) (cells : List (Option ℕ))
     → other < 144 → (index ≡ other → ⊥) → ((part : Part) → part_of chip (name_at other) ≡ Some part
     → found_by (asks part side) cells ≡ found_by (asks part side) chip.cells)
@@ -61,7 +61,7 @@ else_same chip index other side next cells below apart same =
         ap (λ o. comes_of o cells side) e ∙ ap (λ f. (after part side f).0) (same part e)
         ∙ sym (ap (λ o. comes_of o chip.cells side) e)
 
--- what is known where a node's part was changed, and this node is awake
+-- what is known if a node's part was changed, and this node is awake
 pub part_knows : (chip : Chip) (awake now : NodeSet) (index : ℕ) (next : Part) → Knows chip awake
     → ((other : ℕ) → is_in other now ≡ false → (index ≡ other → ⊥) × (is_in other awake ≡ false))
     → IsLegal (record chip { parts = set chip.parts index next })
@@ -105,7 +105,7 @@ asleep_or place other awake now e asleep = by (other == place) refl
     by false apart =
         inr (sym (ap (λ b. if b then false else is_in other awake) apart) ∙ sym e ∙ asleep)
 
--- a node is put into the set, where its part was changed
+-- a node is put into the set, if its part was changed
 pub placed_knows : (chip : Chip) (awake now : NodeSet) (index : ℕ) (next : Part) → Knows chip awake
     → ((other : ℕ) → is_in other now ≡ (if other == index then true else is_in other awake))
     → IsLegal (record chip { parts = set chip.parts index next })
@@ -173,7 +173,7 @@ slept_knows chip awake now index knows takes still = record {
         subst (λ i. (tried chip (name_at i) side).0 ≢ Moved) (sym same) (still side)
     by other side below (inr asleep) = knows.still other side below asleep
 
--- Who sleeps goes on to sleep after a try of another node that moved, but for the neighbour at the
+-- A sleeping node still sleeps after a try of another node that moved, except the neighbour at the
 -- port.
 pub far_knows : (chip : Chip) (awake now : NodeSet) (index : ℕ) (side : Side) (part : Part)
     → Knows chip awake → index < 144 → part_of chip (name_at index) ≡ Some part
@@ -223,7 +223,7 @@ far_knows chip awake now index side part knows within there moved slept =
         ∙ ap (λ r. (tried r.1 (name_at other) at).0)
         (sym (tried_there chip (name_at index) side part there)) ∙ e)
 
--- who sleeps, where the neighbour at the port was put into the set
+-- the sleeping nodes, if the neighbour at the port was put into the set
 pub one_woken : (awake now : NodeSet) (place : ℕ) (wakes : Option ℕ) → wakes ≡ Some place
     → ((other : ℕ) → is_in other now ≡ (if other == place then true else is_in other awake))
     → (other : ℕ) → other < 144 → is_in other now ≡ false
@@ -232,14 +232,14 @@ one_woken awake now place wakes is puts other below asleep =
     let else_ = asleep_else place other awake now (puts other) asleep in
     (else_.1, λ e. else_.0 (same_Some other place (sym e ∙ is)))
 
--- and where there is none
+-- and if there is none
 pub none_woken : (awake : NodeSet) (wakes : Option ℕ) → ((place : ℕ) → wakes ≡ Some place → ⊥)
     → (other : ℕ) → other < 144 → is_in other awake ≡ false
     → (is_in other awake ≡ false) × (wakes ≡ Some other → ⊥)
 none_woken awake wakes none other below asleep = (asleep, none other)
 
--- What is known after a try of a node whose need isn't its own: where it would move at no side and
--- was put to sleep,
+-- What is known after a try of a node whose need isn't its own: if it would move at no side and was
+-- put to sleep,
 pub far_slept : (chip next : Chip) (awake now : NodeSet) (index : ℕ) (side : Side) (part : Part)
     (outcome : Outcome) → Knows chip awake → part_of chip (name_at index) ≡ Some part
     → ◌≡◌ {A = Outcome × Chip} (outcome, next) (tried chip (name_at index) side)
@@ -253,7 +253,7 @@ far_slept chip next awake now index side part outcome knows there is still takes
     (sym (ap (λ r. r.1) is ∙ tried_still chip (name_at index) side (stays side)))
     (slept_knows chip awake now index knows takes stays)
 
--- and else, where the neighbour at the port was woken if the node moved.
+-- and else, with the neighbour at the port woken if the node moved.
 pub far_woken : (chip next : Chip) (awake now : NodeSet) (index : ℕ) (side : Side) (part : Part)
     (outcome : Outcome) (wakes : Option ℕ) → Knows chip awake → index < 144
     → part_of chip (name_at index) ≡ Some part

@@ -68,7 +68,7 @@ bit_of count place words below =
     get_or-map-range_with_len (λ at. is_bit at words) 0 count place place false below
     (zero-add place)
 
--- the row where a word has one other bit
+-- the row if a word has one other bit
 pub bits_changed : (count : ℕ) (words : List ℕ) (place word bit : ℕ) → place < count
     → place / 64 < length words → bit_at word (place % 64) ≡ bit
     → ((i : ℕ) → i < 64 → i ≢ place % 64 → bit_at word i ≡ bit_at (get_or words (place / 64) 0) i)

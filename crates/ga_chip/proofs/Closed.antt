@@ -222,7 +222,7 @@ outside : (inside : ℕ → Bool) (who name : ℕ) → inside who ≡ false → 
     → ⊥
 outside inside who name out within same = false≢true (sym out ∙ ap inside same ∙ within)
 
--- a side that is shut stays so, where the cell there is as before
+-- a side that is shut stays so, if the cell there is as before
 shut_kept : (inside : ℕ → Bool) (waits now : Bool) (at : Option ℕ)
     → ((other : ℕ) → at ≡ Some other → inside other ≡ true → now ≡ waits)
     → is_shut inside waits at ≡ true → is_shut inside now at ≡ true
@@ -302,7 +302,7 @@ stuck_kept inside q n who cells part o named within stuck =
     stuck_kept_by inside q n who cells part.state.node (words_left part.stream)
     (need_of part.state) o named within stuck
 
--- so is one that stands still, as a use of its breakpoints leaves it
+-- so is one that doesn't move, as a use of its breakpoints leaves it
 stuck_still : (inside : ℕ → Bool) (cells : List (Option ℕ)) (part now : Part) → StandsStill part now
     → is_stuck inside cells part ≡ true → is_stuck inside cells now ≡ true
 unfolding is_stuck
@@ -351,7 +351,7 @@ UnfedBy chip event inside =
     (name : ℕ) (part : Part) → inside name ≡ true → part_of chip name ≡ Some part
     → piece_of part.opened name event ≡ []
 
--- the set is closed after an event, where each of its nodes is stuck then
+-- the set is closed after an event, if each of its nodes is stuck then
 closed_at : (chip : Chip) (inside : ℕ → Bool) (name : ℕ) (part : Part) (cells : List (Option ℕ))
     → part_of chip name ≡ Some part → chip.cells ≡ cells → is_stuck inside cells part ≡ true
     → option_map_or (is_stuck inside chip.cells) (part_of chip name) false ≡ true

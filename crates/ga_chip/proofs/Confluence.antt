@@ -1,6 +1,6 @@
--- Two runs agree as far as both go. By induction along the first run: the next move of a node is
--- the move that the node makes in the second run after the same moves, since both find the node
--- alike.state, and a take finds the same word.
+-- Two runs agree on their common steps. By induction along the first run: the next move of a node
+-- is the move that the node makes in the second run after the same moves, since both find the node
+-- in the same state, and a take finds the same word.
 use Rattle.std.proofs.Common.{◌≡◌, Bool, ℕ, ◌+◌, arith, length-append, List, [], ◌∷◌, ◌++◌, ◌⊎◌, inl, inr, take, length, ◌≤◌, flat_map, slice_get, option_map, Option, Some, None, refl, sym, ap, ap₂, ◌∙◌, subst, append_assoc, append-nil}
 use Rattle.std.proofs.lemmas.Option.{same_Some, slice_get-map}
 use Rattle.std.proofs.lemmas.List.Concat.{flat_map-append}
@@ -44,7 +44,7 @@ same_picked (need.Check to) s t xs ys a = refl
 same_picked need.Input s t xs ys a = refl
 same_picked (need.Stopped stop) s t xs ys a = refl
 
--- two tries that ask the same and are moved found the same, where two takes find the same word
+-- two tries that ask the same and are moved found the same, if two takes find the same word
 same_found : (q : Asks) (one two : Chip) (f g : Option ℕ) → f ≡ found_by q one.cells
     → g ≡ found_by q two.cells → Passes q f → Passes q g → ((side : Side) (cell w v : ℕ)
     → q ≡ Take side cell → pending one cell ≡ Some w → pending two cell ≡ Some v → w ≡ v) → f ≡ g
@@ -60,7 +60,7 @@ same_fields : (a b : Move) → a.node ≡ b.node → a.asked ≡ b.asked → a.f
     → a.picked ≡ b.picked → a ≡ b
 same_fields a b p q r s = λ i. record { node = p i; asked = q i; found = r i; picked = s i }
 
--- by the same need two nodes ask the same, where they are fed the same
+-- by the same need two nodes ask the same, if they are fed the same
 same_input : (p q : Option (List ℕ)) (f g : Option ℕ) → Passes (input_of p) f
     → Passes (input_of q) g → ((w v : ℕ) → input_of p ≡ Feed w → input_of q ≡ Feed v → w ≡ v)
     → input_of p ≡ input_of q
@@ -81,7 +81,7 @@ same_asked (need.Check to) name p q s t f g e a b words = refl
 same_asked need.Input name p q s t f g e a b words = same_input p q f g a b words
 same_asked (need.Stopped stop) name p q s t f g e a b words = refl
 
--- Two moves that a node makes where it stands alike are the same.
+-- Two moves that a node makes in equal states are the same.
 same_move : (one two : Chip) (name : ℕ) (m y : Move) (a : Makes one name m) (b : Makes two name y)
     → a.part.state ≡ b.part.state → (xs ys : List Side)
     → AgreesWith (m.picked ++ xs) (y.picked ++ ys) → ((side : Side) (cell w v : ℕ)
@@ -119,7 +119,7 @@ same_move one two name m y a b alike xs ys sides words fed =
         same_found m.asked one two m.found y.found a.looks (b.looks ∙ ap (λ q. found_by q two.cells)
         (sym asked)) a.passed (subst (λ q. Passes q y.found) (sym asked) b.passed) words
 
--- chips that differ in breakpoints and passes have nodes that stand alike
+-- chips that differ in breakpoints and passes have nodes in equal states
 bare_first : (one two : Chip) (name : ℕ) (p q : Part) → DifferInBreaks one two
     → part_of one name ≡ Some p → part_of two name ≡ Some q → unbroken p ≡ unbroken q
 bare_first one two name p q differ here there =
@@ -159,7 +159,7 @@ alike_later one two done before name p q legal legal' differ same here there =
     ∙ ap₂ replay (alike_first one two name first.0 first'.0 differ first.1 first'.1) same
     ∙ sym run'.stands ∙ ap (λ p. p.state) (same_Some run'.now q (sym run'.there ∙ there))
 
--- A cell's next word is the same in two runs whose reader took as many, where its writer's moves
+-- A cell's next word is the same in two runs whose reader took as many, if its writer's moves
 -- agree.
 same_word : (one two : Chip) (done before more : List Event) (name cell w v : ℕ) (side : Side)
     → IsLegal one → IsLegal two → DifferInBreaks one two
@@ -203,7 +203,7 @@ same_word one two done before more name cell w v side legal legal' differ agree 
     (agree_front (option_to_list (pending one cell)) (posts cell (moves one done))
     (posts cell (moves two before)) so_far))))
 
--- The next word of two streams is the same in two runs where the node was fed as many.
+-- The next word of two streams is the same in two runs if the node was fed as many.
 same_fed : (one two : Chip) (done rest before more : List Event) (event : Event) (name : ℕ)
     (m y : Move) (w v : ℕ) (a : Makes (ran one done) name m) (b : Makes (ran two before) name y)
     → IsLegal one → IsLegal two → DifferInBreaks one two
@@ -257,7 +257,8 @@ moves_cut chip done rest event name m now =
 abbrev picks : List Move → List Side
 picks ms = flat_map (λ move. move.picked) ms
 
--- the next move of a node in the one run is the one that it makes after the same moves in the other
+-- the next move of a node in one run is the one that it makes after the same moves in the second
+-- run
 same_next : (one two : Chip) (done rest others : List Event) (event : Event) (name : ℕ) (m y : Move)
     (r : List Move) → IsLegal one → IsLegal two → DifferInBreaks one two
     → AgreesWith (sides_of one (done ++ event ∷ rest) name) (sides_of two others name)
@@ -345,7 +346,7 @@ agree_on one two done (event ∷ rest) others legal legal' differ sides given ag
     (sym (append_assoc done (event ∷ []) rest)) (given n))
     (agree_more one two done rest others event legal legal' differ sides given agree) name)
 
--- THE MOVES AGREE: each node makes the same moves in two runs, as far as both go
+-- THE MOVES AGREE: each node makes the same moves in two runs, on their common steps
 pub moves_agree : (one two : Chip) (events others : List Event) → IsLegal one → IsLegal two
     → DifferInBreaks one two
     → ((n : ℕ) → AgreesWith (sides_of one events n) (sides_of two others n))
@@ -361,7 +362,7 @@ take_agree : {A : Type 0} (k : ℕ) (xs ys : List A) → AgreesWith xs ys → k 
 take_agree k xs ys (inl (rest, e)) h h' = sym (take-append-le k xs rest h) ∙ ap (take k) (sym e)
 take_agree k xs ys (inr (rest, e)) h h' = ap (take k) e ∙ take-append-le k ys rest h'
 
--- each node stands alike after equally many moves
+-- each node is in equal states after equally many moves
 nodes_agree : (one two : Chip) (events others : List Event) (name k : ℕ) (here there : State)
     → IsLegal one → IsLegal two → DifferInBreaks one two
     → AgreesWith (moves_of name (moves one events)) (moves_of name (moves two others))

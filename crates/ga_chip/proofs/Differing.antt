@@ -38,7 +38,7 @@ bare_part one two name part differ there = by (part_of one name) refl
     }
     by None e = absurd (none-some (unbroken part) (sym (ap (option_map unbroken) e) ∙ same))
 
--- so where the one is legal, the other is
+-- so if one is legal, both are
 pub legal_alike : (one two : Chip) → DifferInBreaks one two → IsLegal one → IsLegal two
 legal_alike one two differ legal = record {
   parts = sym (length-map two.parts unbroken) ∙ ap length (sym differ.parts)

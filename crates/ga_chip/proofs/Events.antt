@@ -24,7 +24,7 @@ abbrev pub bared : Part → Part
 bared part = record part { breaks = []; pass = false; stream = None }
 
 -- An event that changes one node's part, as a try or a use of its breakpoints does: the part after
--- it, what was asked for and found, and what came of it.
+-- it, what was asked for and found, and the outcome.
 pub record Does (chip : Chip) (event : Event) : Type 0 where
   pub name : ℕ
   pub side : Side
@@ -100,7 +100,7 @@ tries chip name side part there = record {
   steps = steps_after part side _;
 }
 
--- a change of a node's breakpoints, its pass and its stream alone, by an event that gives words to
+-- a change of only a node's breakpoints, its pass and its stream, by an event that gives words to
 -- the stream
 abbrev OnlyBreaks : (Part → Part) → Event → ℕ → Type 0
 OnlyBreaks change event name =
@@ -265,12 +265,12 @@ moves_else chip event d name apart = rw d.makes (none d.outcome _ refl)
     none Held m e = refl
     none Stopped m e = refl
 
--- how a node stands after moves
+-- the state of a node after moves
 abbrev pub replay : State → List Move → State
 replay at [] = at
 replay at (move ∷ moves) = replay (stand_after move.asked move.found at) moves
 
--- the node stands as its moves in the event say
+-- the node's state is that after its moves in the event
 pub stand_once : (chip : Chip) (event : Event) (d : Does chip event)
     → d.next.state ≡ replay d.part.state (move_in chip event)
 stand_once chip event d =

@@ -27,7 +27,7 @@ same_part chip name index part next legal is below read same =
     ∙ ap (λ ps. record chip { parts = ps }) (ap (λ i. set chip.parts i part) is ∙ set-get chip.parts
     (index_of name) part (part_at chip name index part legal.parts is below read))
 
--- what the code leaves where it refuses a piece
+-- what the code leaves if it refuses a piece
 pub feed_refused_at : (chip changed : Chip) (name index : ℕ) (part : Part) (fault : ChipError)
     → IsLegal chip → index ≡ index_of name → index < 144 → part ≡ get_or chip.parts index part
     → part_feed_refusal part ≡ Some fault → (feed_refusal chip name ≡ Some fault) × (record chip
@@ -49,7 +49,7 @@ unfolding happened
 piece_at chip name index part next words full is below read e =
     changed_at (piece_come words) chip name index part next full is below read e
 
--- and where it takes one
+-- and if it takes one
 pub fed_at : (chip : Chip) (name index : ℕ) (part next : Part) (words : List ℕ) → IsLegal chip
     → index ≡ index_of name → index < 144 → part ≡ get_or chip.parts index part
     → part_feed_refusal part ≡ None → next ≡ piece_come words part

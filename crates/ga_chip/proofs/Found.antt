@@ -1,4 +1,4 @@
--- What a take and a check make of what they find, and where tries look.
+-- The results of a take and a check by what they find, and the cells at which tries look.
 use Rattle.std.proofs.Common.{◌≡◌, ◌∙◌, ℕ, List, [], ◌∷◌, Option, Some, None, refl, sym, ap, subst}
 use Rattle.std.proofs.lemmas.Option.{same_Some}
 use Rattle.ga_place.specs.declared.side.Side.{Side}
@@ -103,7 +103,7 @@ look_there part looks side e =
     by Left (right, down, left, up) = left
     by Up (right, down, left, up) = up
 
--- a try that finds nothing where it looks leaves the node as it was
+-- a try that finds nothing at its cell leaves the node as it was
 pub looked_still : (part : Part) (side : Side) (look : Option ℕ)
     → look_of (asked_of part side) ≡ Some look → (after part side None).1 ≡ part
 looked_still part side (Some cell) e =

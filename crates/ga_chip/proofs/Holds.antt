@@ -1,4 +1,4 @@
--- A try is held just where its node stands at a breakpoint.
+-- A try is held if and only if its node is at a breakpoint.
 use Rattle.std.proofs.Common.{◌≡◌, ℕ, ◌%◌, ◌^◌, ◌==◌, Bool, true, false, List, [], ◌∷◌, get_or, slice_get, Option, Some, None, refl, sym, ap, ◌∙◌, subst}
 use Rattle.std.specs.Prelude.{◌↔◌, ◌&&◌, not}
 use Rattle.std.proofs.lemmas.Bool.{eqb-false, eqb-true, false≢true}
@@ -76,7 +76,7 @@ holds part side at =
     (get_or part.breaks (part.state.p % 2 ^ 9) false) (at.fetches, at.breaks, at.unpassed)) refl
     (λ stop e. none-some stop (sym at.runs ∙ ap stop_of e)))
 
--- what the answer of a pass tells of an outcome
+-- the answer of a pass determines whether an outcome is Held
 outcome_held : (outcome : Outcome) → unless_held outcome ≡ None → outcome ≡ Held
 outcome_held Moved e = absurd (none-some NotHeld (sym e))
 outcome_held Waits e = absurd (none-some NotHeld (sym e))

@@ -231,7 +231,7 @@ took chip event d name cell side after legal named here (inr h) = record {
   );
 }
 
--- A node that stands at a check, and doesn't pass it, stands there after its step.
+-- A node at a check that doesn't pass is at the same check after its step.
 post_kept : (state : State) (taken : Option ℕ) (n : Need) → need_of state ≡ n → is_running n ≡ true
     → post_after n state.posted ≡ state.posted → (step state taken).posted ≡ state.posted
 post_kept state taken n e running same =
@@ -256,7 +256,7 @@ still_posted (Take side cell) None name at post fits e not_yet = e
 still_posted (Take side cell) (Some word) name at post fits e not_yet =
     post_kept at (Some word) (need.Take fits.0) fits.2 refl refl ∙ e
 
--- where a word is pending after an event, it was pending before, or the event posts it
+-- if a word is pending after an event, it was pending before, or the event posts it
 pending_from : (q : Asks) (chip : Chip) (cell word : ℕ)
     → get_or (cells_after q chip.cells) cell None ≡ Some word → (cell < length chip.cells)
     → (pending chip cell ≡ Some word) ⊎ ((side : Side) × (q ≡ Post side cell word))
@@ -338,7 +338,7 @@ balance_kept chip event d name other cell side writer reader legal here next the
     w.grows r.grows (legal.balanced name other cell side w.before r.before here next w.there
     r.there) (flow chip event d cell legal)
 
--- a posted word's writer stands at its check
+-- a posted word's writer is at its check
 checked_kept : (chip : Chip) (event : Event) (d : Does chip event) (name cell word : ℕ)
     (side : Side) (writer : Part) → IsLegal chip → cell_of name side ≡ Some cell
     → pending (happened chip event) cell ≡ Some word → Here chip event d name writer

@@ -45,7 +45,7 @@ none_from n k j e h =
     ap (bit_at n) (sym there) ∙ sym (bit_from n k (j - k)) ∙ ap (λ m. bit_at m (j - k)) e
     ∙ bit_at-zero (j - k)
 
--- no bit of a word stands from one place up to the lowest that does
+-- no bit of a word is set from one place up to the lowest that is
 zeros_from : (n k : ℕ) → n < 2 ^ 64 → 0 < n / 2 ^ k → (k + trailing_zeros w64 (n / 2 ^ k) < 64)
     × ((j : ℕ) → k ≤ j → j < k + trailing_zeros w64 (n / 2 ^ k) → bit_at n j ≡ 0)
 zeros_from n k fits some = (within, below)

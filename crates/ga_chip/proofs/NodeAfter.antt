@@ -1,4 +1,4 @@
--- How a node stands after its k-th move, by its moves.
+-- The state of a node after its k-th move, by its moves.
 use Rattle.std.proofs.Common.{◌≡◌, ℕ, zero, suc, ◌≤◌, List, [], ◌∷◌, ◌++◌, ◌⊎◌, inl, inr, length, take, option_map, Option, Some, None, refl, sym, ap, ◌∙◌, subst, zero-le, suc-le-suc}
 use Rattle.std.specs.Prelude.{if◌then◌else◌}
 use Rattle.std.proofs.lemmas.Option.{same_Some, none-some}
@@ -12,7 +12,7 @@ use Rattle.ga_chip.proofs.Kept.{legal_kept}
 use Rattle.ga_chip.proofs.Runs.{moves_of-append, part_before, stand_event}
 use Rattle.ga_chip.proofs.Moments.{one_at_most}
 
--- the node stands as its first k moves say, and has made so many
+-- the node has made k moves, and its state is that after its first k moves
 pub record StandsAfter (chip : Chip) (name k : ℕ) (here : State) (ms : List Move) : Type 0 where
   pub part : Part
   pub there : part_of chip name ≡ Some part

@@ -97,8 +97,7 @@ pub moved_asks : (part : Part) (side : Side) (found : Option ℕ) → (after par
 unfolding asks after
 moved_asks part side found e = moved_if (is_held part) part side found e
 
--- By the need a try asks for the same, whichever side it names, where no side is picked or the
--- same.
+-- By the need a try asks for the same, whichever side it names, if no side is picked or the same.
 same_take : (one : Option Side) (sides : Sides) (s t : Side) → picked_of one s ≡ picked_of one t
     → looked_at one sides s ≡ looked_at one sides t
 same_take (Some only) sides s t e = refl
@@ -114,7 +113,7 @@ same_asks (need.Check to) name stream s t e = refl
 same_asks need.Input name stream s t e = refl
 same_asks (need.Stopped stop) name stream s t e = refl
 
--- how a node stands after a try
+-- the state of a node after a try
 abbrev pub stand_after : Asks → Option ℕ → State → State
 stand_after (Nothing outcome) found at = at
 stand_after Own found at = step at None
@@ -203,7 +202,7 @@ else_counted Up Down counts apart = refl
 else_counted Up Left counts apart = refl
 else_counted Up Up counts apart = absurd (apart refl)
 
--- one more at a side, where the two numbers are equal just where the sides are
+-- one more at a side, if the two numbers are equal exactly when the sides are
 count_one : (same : Bool) (side at : Side) (counts : Counts) (word : ℕ) → (same ≡ true → side ≡ at)
     → (same ≡ false → side ≡ at → ⊥) → count_at at (counted side counts) ≡ count_at at counts
     + length (if same then word ∷ [] else [])
@@ -275,7 +274,7 @@ unfolding after
 read_after part side found at cell named here =
     read_asked (asks part side) found part at cell named (asks_fits part side) here
 
--- What isn't Moved posts nothing, takes nothing, and leaves the node as it stands.
+-- An outcome other than Moved posts nothing, takes nothing, and leaves the node unchanged.
 pub record Quiet (q : Asks) (found : Option ℕ) : Type 0 where
   pub posts : (cell : ℕ) → posted_by cell q ≡ []
   pub takes : (cell : ℕ) → taken_by cell q found ≡ []

@@ -126,7 +126,7 @@ refusal_there : (chip : Chip) (name : ℕ) (part : Part) → part_of chip name �
     → refusal chip name ≡ part_refusal part
 refusal_there chip name part there = ap (option_and_then part_refusal) there
 
--- what the code leaves where it refuses
+-- what the code leaves if it refuses
 pub refused_at : (chip changed : Chip) (name index : ℕ) (part : Part) (fault : ChipError)
     → IsLegal chip → index ≡ index_of name → index < 144 → part ≡ get_or chip.parts index part
     → part_refusal part ≡ Some fault → (refusal chip name ≡ Some fault) × (record chip
@@ -151,8 +151,7 @@ unstepped part free = by (is_some part.stream) (part.state.steps == 0) refl free
     by false true e free = eqb-true _ _ e
     by false false e free = absurd cc
 
--- what the code leaves where it changes the part of a node that has made no step, and counts no
--- word
+-- what the code leaves if it changes the part of a node that has made no step, and counts no word
 pub given_at : (change : Part → Part) (chip : Chip) (name index : ℕ) (part next : Part)
     → IsLegal chip → index ≡ index_of name → index < 144 → part ≡ get_or chip.parts index part
     → part_refusal part ≡ None → next ≡ change part → (change part).state.node ≡ part.state.node
@@ -191,7 +190,7 @@ stream_refusal_of chip view name same edge =
     ap (λ c. stream_refusal c name) (sym same)
     ∙ ap (λ b. if b then refusal chip name else Some NotEdge) edge
 
--- what the code leaves where it refuses a stream, and where it begins one
+-- what the code leaves if it refuses a stream, and if it begins one
 pub stream_refused_at : (chip view changed : Chip) (name index : ℕ) (part : Part)
     (fault : ChipError) → chip ≡ view → is_edge name ≡ true → IsLegal chip → index ≡ index_of name
     → index < 144 → part ≡ get_or chip.parts index part → part_refusal part ≡ Some fault

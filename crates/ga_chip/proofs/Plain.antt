@@ -19,7 +19,7 @@ use Rattle.ga_chip.specs.Run.{is_hold}
 use Rattle.ga_chip.proofs.Within.{own_is, own_step, own_still}
 use Rattle.ga_chip.specs.Chip.{found_by, cells_after}
 
--- where nothing is set, nothing is held and no pass ends
+-- if nothing is set, nothing is held and no pass ends
 pub none_set : (n at : ℕ) → get_or (replicate n false) at false ≡ false
 none_set zero at = refl
 none_set (suc n) zero = refl

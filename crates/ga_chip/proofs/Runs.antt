@@ -1,4 +1,4 @@
--- What a run does: how its nodes stand, the words of its cells, and its moments.
+-- What a run does: the states of its nodes, the words of its cells, and its moments.
 use Rattle.std.proofs.Common.{◌≡◌, ℕ, ◌+◌, ◌==◌, Bool, true, false, List, [], ◌∷◌, ◌++◌, ◌⊎◌, inl, inr, length, flat_map, Option, Some, None, refl, sym, ap, ap₂, ◌∙◌, subst, append-nil, append_assoc, add-zero, add_assoc, length-append}
 use Rattle.std.proofs.lemmas.Option.{same_Some}
 use Rattle.std.specs.Prelude.{if◌then◌else◌}
@@ -24,7 +24,7 @@ use Rattle.ga_chip.proofs.Parts.{Fits, stand_after}
 use Rattle.ga_chip.proofs.Events.{Does, DoesNothing, does, Here, Else, part_from, part_here, part_else, moves_here, moves_else, replay, stand_once, steps_once}
 use Rattle.ga_chip.proofs.Kept.{flow, posted_else, taken_elsewhere, has_name, legal_kept}
 
--- a run goes on from where it came to
+-- a run goes on from its end
 pub ran-append : (chip : Chip) (events more : List Event)
     → ran chip (events ++ more) ≡ ran (ran chip events) more
 ran-append chip [] more = refl
@@ -114,7 +114,7 @@ stand_both one two three name part ms more first rest = record {
       ∙ ap (λ l. length l) (sym (moves_of-append name ms more)));
 }
 
--- a node stands after a run as its moves in it say
+-- a node's state after a run is that after its moves in it
 pub stand_ran : (chip : Chip) (events : List Event) (name : ℕ) (part : Part) → IsLegal chip
     → part_of chip name ≡ Some part → Stands chip (ran chip events) name part (moves chip events)
 stand_ran chip [] name part legal there =

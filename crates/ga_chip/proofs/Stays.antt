@@ -96,7 +96,7 @@ set_stays part cells at side still = by (is_held (break_set at part)) refl
         (ap (λ h. asks_if h part side) (free_before part at e)) still
         (same_outcome (asks_if false part side) _ part (break_set at part) ∙ moved))
 
--- where no side is picked, tries that name different sides ask for the same
+-- if no side is picked, tries that name different sides ask for the same
 asks_alike : (part : Part) (s t : Side)
     → picked_by (need_of part.state) s ≡ picked_by (need_of part.state) t
     → asks part s ≡ asks part t
@@ -122,7 +122,7 @@ none_picked (need.Check to) s t one = refl
 none_picked need.Input s t one = refl
 none_picked (need.Stopped stop) s t one = refl
 
--- a node that takes from no several sides stays at all sides, where it stays at one
+-- a node that makes no multiport read stays at all sides, if it stays at one
 pub stays_alike : (part : Part) (cells : List (Option ℕ)) (n : Need) → n ≡ need_of part.state
     → ((sides : Sides) → n ≡ need.Take sides → one_side sides ≡ None → ⊥)
     → (side : Side) × Stays part cells side → (other : Side) → Stays part cells other
@@ -131,7 +131,7 @@ stays_alike part cells n e one still other =
     (none_picked (need_of part.state) other still.0 (λ sides f. one sides (e ∙ f))))
     (asked_stays part still.0 cells (asks part still.0) refl still.1)
 
--- and one that takes from several, where nothing is pending at any of them
+-- and one that makes a multiport read, if nothing is pending at any of its sides
 pub stays_taking : (part : Part) (cells : List (Option ℕ)) (sides : Sides)
     → need.Take sides ≡ need_of part.state → one_side sides ≡ None → (side : Side)
     → (is_among side sides ≡ true
@@ -213,8 +213,8 @@ ports_by (need.Check to) name stream side = ports_check to (cell_of name to) Non
 ports_by need.Input name stream side = ports_input stream None
 ports_by (need.Stopped stop) name stream side = tt
 
--- the neighbour at a side, where the node writes the cell that the other reads there, or reads the
--- one that it writes
+-- the neighbour at a side, if the node writes the cell that the other reads there, or reads the one
+-- that it writes
 reads_there : (a b cell : ℕ) (s t : Side) → IsNodeName b → cell_of a s ≡ Some cell
     → read_cell b t ≡ Some cell → neighbour_of a s ≡ Some b
 reads_there a b cell s t named e f =
@@ -257,7 +257,7 @@ take_apart a b c s (Check t d) m na nb ne far here fits y f same =
 take_apart a b c s (Take t d) m na nb ne far here fits y f same =
     ne (one_reader a b c s t na nb here (fits.1 ∙ f ∙ ap Some (sym same))).0
 
--- so a try changes what another node finds only where that is the neighbour at the port
+-- so a try changes what another node finds only if that is the neighbour at the port
 pub finds_same : (a b : ℕ) (q r : Asks) (n m : Need) (at : Option Side) (cells : List (Option ℕ))
     → IsNodeName a → IsNodeName b → (a ≡ b → ⊥) → (option_and_then (neighbour_of a) at ≡ Some b → ⊥)
     → Fits q n a → Fits r m b → Ports q at → found_by r (cells_after q cells) ≡ found_by r cells
@@ -272,8 +272,8 @@ finds_same a b (Take s c) r n m at cells na nb ne far fits fits' port =
     set_finds c None r cells (take_apart a b c s r m na nb ne
     (λ e. far (ap (option_and_then (neighbour_of a)) port ∙ e)) fits.1 fits')
 
--- where a try of the new part didn't move, and no try of the new part at any side would, none of
--- the old would
+-- if a try of the new part didn't move, and no try of the new part at any side would, none of the
+-- old would
 pub still_all : (part next : Part) (cells left : List (Option ℕ)) (side : Side) (outcome : Outcome)
     → ◌≡◌ {A = Outcome × Part} (outcome, next) (after part side (found_by (asks part side) cells))
     → left ≡ cells_after (asks part side) cells → outcome ≢ Moved → (next ≡ part) × (left ≡ cells)

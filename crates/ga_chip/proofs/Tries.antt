@@ -75,7 +75,7 @@ part_at chip name index part full is below read =
     ap (slice_get chip.parts) (sym is)
     ∙ slice_get_read chip.parts 144 index part (sym full) below read
 
--- A try as the code makes it: it tries the part with the cells, and puts back what comes of them.
+-- A try as the code makes it: it tries the part with the cells, and puts back the result.
 pub attempt_at : (chip : Chip) (name index : ℕ) (side : Side) (part next : Part) (outcome : Outcome)
     (left : List (Option ℕ)) → IsLegal chip → index ≡ index_of name → index < 144
     → part ≡ get_or chip.parts index part → ◌≡◌ {A = Outcome

@@ -43,7 +43,7 @@ one_more_count chip now count moved here so_far counted turned =
     ∙ sym (ap length (moves-append chip (turns_of count) (turn_of (side_of_turn count))))
     ∙ ap (λ events. length (moves chip events)) (sym (turns-more count))
 
--- a chip that stands still does so through all further turns
+-- a chip in which no node moves stays so through all further turns
 pub still_more : (chip now : Chip) (count more : ℕ) → now ≡ ran chip (turns_of count)
     → ((side : Side) → ran now (turn_of side) ≡ now) → now ≡ ran chip (turns_of (count + more))
 still_more chip now count zero so_far still =

@@ -115,7 +115,7 @@ skips_none : (chip : Chip) (side : Side) (from to : ℕ) → turn_left side from
 skips_none chip side from to same =
     record { runs = ap (ran chip) same; moves = ap (λ l. length (moves chip l)) same }
 
-no_move : (outcome : Outcome) → outcome ≢ Moved → moved_by outcome ≡ 0
+pub no_move : (outcome : Outcome) → outcome ≢ Moved → moved_by outcome ≡ 0
 no_move Moved still = absurd (still refl)
 no_move Waits still = refl
 no_move Held still = refl

@@ -47,7 +47,7 @@ unfolding happened
 passed_at chip name index part next full is below read e =
     changed_at break_passed chip name index part next full is below read e
 
--- where a node isn't held a pass changes nothing
+-- if a node isn't held a pass changes nothing
 or_false : (a b : Bool) → b ≡ false → a || b ≡ a
 or_false true b e = refl
 or_false false b e = e
@@ -66,7 +66,7 @@ back_same chip name index part next full is below read e =
     ∙ ap (λ l. record chip { parts = l })
     (set-get chip.parts (index_of name) part (part_at chip name index part full is below read))
 
--- a try is held just where it asks for nothing because of that
+-- a try is held if and only if it asks for nothing because of that
 abbrev pub unless : Bool → Option ChipError
 unless true = None
 unless false = Some NotHeld

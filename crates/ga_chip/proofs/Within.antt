@@ -120,7 +120,7 @@ take_bound side state now written read runs e bound =
       reads = count_within side read state.steps now e bound.reads;
     }
 
--- what a try of the node's own leaves, where its need is its own
+-- what a try of the node's own leaves, if its need is its own
 pub own_step : (state next : State) → is_own (need_of state) ≡ true
     → next ≡ step_if_own (need_of state) state → next ≡ step state None
 own_step state next own e =
@@ -141,7 +141,7 @@ not_own (Check side) own other e = refl
 not_own Input own other e = refl
 not_own (Stopped stop) own other e = refl
 
--- and where it isn't, nothing
+-- and if it isn't, nothing
 pub own_still : (state next : State) → is_own (need_of state) ≡ false
     → next ≡ step_if_own (need_of state) state → next ≡ state
 own_still state next far e = e ∙ not_own (need_of state) (step state None) state far

@@ -101,8 +101,8 @@ stays : (stepped None
     (record at_3 { pass = true; state = record at_3.state { place = Slot0 } })).pass ≡ true
 stays = refl
 
--- A node that stands before `!b` with B at its right port posts T there, waits while the word is
--- pending, and goes on where it was read.
+-- A node before `!b` with B at its right port posts T there, waits while the word is pending, and
+-- goes on once it was read.
 abbrev pub writer : Part
 writer =
     record (reset_part 708)

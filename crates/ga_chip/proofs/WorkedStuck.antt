@@ -15,7 +15,7 @@ use Rattle.ga_chip.specs.Chip.{reset_chip, reset_part}
 use Rattle.ga_chip.specs.Stuck.{is_stuck, is_stuck_by}
 use Rattle.ga_chip.proofs.WorkedChip.{at_3, posted}
 
--- the set of all nodes, that of one node alone, and that of none
+-- the set of all nodes, that of a single node, and that of none
 abbrev all_nodes : ℕ → Bool
 all_nodes = is_node_name
 
@@ -37,7 +37,7 @@ all_wait : list_all (λ index. is_stuck all_nodes reset_chip.cells (reset_part (
 unfolding is_stuck need_of reset_chip cell_of all_cells
 all_wait = refl
 
--- it isn't stuck where its neighbours are outside the set, or where 708 has posted it a word
+-- it isn't stuck if its neighbours are outside the set, or if 708 has posted it a word
 apart_709 : is_stuck (alone 709) reset_chip.cells (reset_part 709) ≡ false
 unfolding is_stuck need_of reset_chip cell_of all_cells
 apart_709 = refl
@@ -46,8 +46,8 @@ word_709 : is_stuck all_nodes (set reset_chip.cells 495 (Some 0x12)) (reset_part
 unfolding is_stuck need_of reset_chip cell_of all_cells
 word_709 = refl
 
--- 708 has posted the word: it is stuck as long as the word is pending, and only where its reader is
--- in the set
+-- 708 has posted the word: it is stuck as long as the word is pending, and only if its reader is in
+-- the set
 unread_708 : is_stuck (alone 709) (set reset_chip.cells 495 (Some 0x12)) posted ≡ true
 unfolding is_stuck need_of after asks step row reading_of op_with reset_chip cell_of all_cells
 unread_708 = refl
@@ -76,7 +76,7 @@ checks_up : is_stuck_by nobody [] 709 [] (need.Check Up) ≡ true
 unfolding cell_of all_cells
 checks_up = refl
 
--- a loader waits for its stream where no word of it is left
+-- a loader waits for its stream if no word of it is left
 no_word : is_stuck_by nobody [] 708 [] need.Input ≡ true
 no_word = refl
 

@@ -1,4 +1,4 @@
--- What a try asks for, as a call tells it.
+-- What a try asks for, as a call returns it.
 use Rattle.std.specs.Prelude.{ℕ, List, [], ◌∷◌, get_or, Option, Some, None}
 use Rattle.ga_place.specs.declared.side.Side.{Side}
 use Rattle.ga_place.specs.declared.side.Side.TheVariants.{Right, Down, Left, Up}
@@ -6,7 +6,7 @@ use Rattle.ga_chip.specs.declared.asks.Asks as told
 use Rattle.ga_chip.specs.declared.asks.Asks.TheVariants as call
 use Rattle.ga_chip.specs.Part.{Part, Asks, Nothing, Own, Feed, Post, Check, Take, asks}
 
--- a word of the stream is told as the node's own work, since neither touches a cell
+-- a word of the stream counts as the node's own work, since neither touches a cell
 abbrev pub told_as : Asks → told.Asks
 told_as (Nothing outcome) = call.Nothing outcome
 told_as Own = call.Own
@@ -19,8 +19,8 @@ told_as (Take side cell) = call.Take side cell
 abbrev pub asked_of : Part → Side → told.Asks
 asked_of part side = told_as (asks part side)
 
--- where a try looks that asks for this: at the cell of which it takes the word, or at none, since
--- nothing comes of it
+-- where a try looks that asks for this: at the cell whose word it takes, or at none, since it
+-- changes nothing
 abbrev pub look_of : told.Asks → Option (Option ℕ)
 look_of (call.Take side cell) = Some (Some cell)
 look_of (call.Nothing outcome) = Some None

@@ -52,16 +52,16 @@ cells_after Own cells = cells
 cells_after (Feed fed) cells = cells
 cells_after (Check side cell) cells = cells
 
--- the chip where a node's part is another
+-- the chip with another part of a node
 abbrev pub with_part : Chip → ℕ → Part → Chip
 with_part chip name part = record chip { parts = set chip.parts (index_of name) part }
 
--- the chip where a node's part is changed; a name of no node changes nothing
+-- the chip with a node's part changed; a name of no node changes nothing
 abbrev pub with_changed : (Part → Part) → Option Part → Chip → ℕ → Chip
 with_changed change None chip name = chip
 with_changed change (Some part) chip name = with_part chip name (change part)
 
--- what came of a try of a node, and the chip, by what the try asked for and what the node's part is
+-- the outcome of a try of a node, and the chip, by what the try asked for and the node's part
 -- afterwards
 abbrev pub tried_by : Chip → ℕ → Asks → Outcome × Part → Outcome × Chip
 tried_by chip name asked result = (
@@ -75,7 +75,7 @@ tried_at None chip name side = (Waits, chip)
 tried_at (Some part) chip name side =
     tried_by chip name (asks part side) (after part side (found_by (asks part side) chip.cells))
 
--- A try of a node that names a side: what comes of it, and the chip afterwards.
+-- A try of a node that names a side: its outcome, and the chip afterwards.
 unfoldable pub tried : Chip → ℕ → Side → Outcome × Chip
 tried chip name side = tried_at (part_of chip name) chip name side
 
@@ -115,7 +115,7 @@ part_refusal part =
 abbrev pub refusal : Chip → ℕ → Option ChipError
 refusal chip name = option_and_then part_refusal (part_of chip name)
 
--- Why a node can't be given a stream: it stands at no edge of the chip, or for the reasons above.
+-- Why a node can't be given a stream: it isn't at an edge of the chip, or for the reasons above.
 abbrev pub stream_refusal : Chip → ℕ → Option ChipError
 stream_refusal chip name = if is_edge name then refusal chip name else Some NotEdge
 
@@ -124,7 +124,7 @@ abbrev pub unless_held : Outcome → Option ChipError
 unless_held Held = None
 unless_held _ = Some NotHeld
 
--- the answer of a call that may be refused, and where what was moved in comes back
+-- the answer of a call that may be refused; `with_words` then gives back the words
 abbrev pub answer_of : Option ChipError → Result (Unit {0}) ChipError
 answer_of None = Ok tt
 answer_of (Some fault) = Err fault
@@ -143,7 +143,7 @@ unless_refused (Some fault) changed chip = chip
 abbrev pub given : List ℕ → ℕ → Part → Part
 given words entry part = record part { state = loaded_state part.state.node words entry }
 
--- The chip where a node was given words and an entry.
+-- The chip after a node was given words and an entry.
 unfoldable pub placed : Chip → ℕ → List ℕ → ℕ → Chip
 placed chip name words entry = with_changed (given words entry) (part_of chip name) chip name
 
@@ -152,7 +152,7 @@ abbrev pub streaming : List ℕ → Part → Part
 streaming words part =
     record part { state = booting_state part.state.node; stream = Some words; opened = false }
 
--- The chip where a node was given a stream.
+-- The chip after a node was given a stream.
 unfoldable pub streamed : Chip → ℕ → List ℕ → Chip
 streamed chip name words = with_changed (streaming words) (part_of chip name) chip name
 
@@ -161,6 +161,6 @@ abbrev pub opening : Part → Part
 opening part =
     record part { state = booting_state part.state.node; stream = Some []; opened = true }
 
--- The chip where a node's stream was opened.
+-- The chip after a node's stream was opened.
 unfoldable pub stream_opened : Chip → ℕ → Chip
 stream_opened chip name = with_changed opening (part_of chip name) chip name

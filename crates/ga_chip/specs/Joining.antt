@@ -42,18 +42,18 @@ OpenedIsOpen =
     (chip : Chip) (name : ℕ) → IsLegal chip → IsNodeName name
     → is_open (stream_opened chip name) name ≡ true
 
--- a need to take at no more than one side
+-- a need to take at one side at most
 abbrev pub IsOneSided : Need → Type 0
 IsOneSided (Take sides) = IsSome (one_side sides)
 IsOneSided need = Unit {0}
 
--- At each moment of a run the node's need is no take of several sides.
+-- At no moment of a run is the node's need a multiport read.
 abbrev pub ReadsOnePort : Chip → List Event → ℕ → Type 0
 ReadsOnePort chip events name =
     (before : List Event) (part : Part) → IsPrefix before events
     → part_of (ran chip before) name ≡ Some part → IsOneSided (need_of part.state)
 
--- So the node makes no take of several sides, of which a side could be named.
+-- So the node makes no multiport read, for which the side of a try would count.
 abbrev pub OnePortNamesNoSide : Type 0
 OnePortNamesNoSide =
     (chip : Chip) (events : List Event) (name : ℕ) → ReadsOnePort chip events name

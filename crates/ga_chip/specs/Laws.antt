@@ -8,7 +8,7 @@ use Rattle.ga_chip.specs.Chip.{Chip, part_of, tried}
 use Rattle.ga_chip.specs.Run.{Event, ran, input_after, input_words, words_left, written_words, taken_words, sides_of, words_fed, node_after}
 use Rattle.ga_chip.specs.Legal.{IsLegal, DifferInBreaks}
 
--- the one list begins the other
+-- one list is a prefix of the second
 abbrev pub IsPrefix : {A : Type 0} → List A → List A → Type 0
 IsPrefix {A = A} xs ys = (rest : List A) × (ys ≡ xs ++ rest)
 
@@ -16,7 +16,7 @@ IsPrefix {A = A} xs ys = (rest : List A) × (ys ≡ xs ++ rest)
 abbrev pub AgreesWith : {A : Type 0} → List A → List A → Type 0
 AgreesWith xs ys = IsPrefix xs ys ⊎ IsPrefix ys xs
 
--- Two runs go alike as far as both go.
+-- Two runs agree on their common steps.
 pub record Agree (one two : Chip) (events others : List Event) : Type 0 where
   -- a node has the same state after equally many moves
   pub nodes : (name k : ℕ) (here there : State) → node_after one events name k ≡ Some here
@@ -25,14 +25,14 @@ pub record Agree (one two : Chip) (events others : List Event) : Type 0 where
   pub inputs : (name k : ℕ) (here there : State) → node_after one events name k ≡ Some here
       → node_after two others name k ≡ Some there
       → input_after one events name k ≡ input_after two others name k
-  -- so also at the ends, where its steps are equal
+  -- so also at the ends, if its steps are equal
   pub ends : (name : ℕ) (here there : Part) → part_of (ran one events) name ≡ Some here
       → part_of (ran two others) name ≡ Some there → here.state.steps ≡ there.state.steps
       → here.state ≡ there.state
   pub ends_inputs : (name : ℕ) (here there : Part) → part_of (ran one events) name ≡ Some here
       → part_of (ran two others) name ≡ Some there → here.state.steps ≡ there.state.steps
       → input_words one events name ≡ input_words two others name
-  -- and then the same words are left of its stream, where it was fed equal words
+  -- and then the same words are left of its stream, if it was fed equal words
   pub left : (name : ℕ) (here there : Part) → part_of (ran one events) name ≡ Some here
       → part_of (ran two others) name ≡ Some there → here.state.steps ≡ there.state.steps
       → words_fed one events name ≡ words_fed two others name
@@ -42,9 +42,9 @@ pub record Agree (one two : Chip) (events others : List Event) : Type 0 where
       → AgreesWith (written_words one events cell) (written_words two others cell)
   pub taken : (cell : ℕ) → AgreesWith (taken_words one events cell) (taken_words two others cell)
 
--- Two runs go alike, from legal chips that differ in breakpoints and passes at most, where the
--- takes of several sides name the same sides and the streams are fed the same words, as far as both
--- runs go. Breakpoints may be used between the tries.
+-- Two runs agree on their common steps, from legal chips that differ at most in breakpoints and
+-- passes, if on these steps the multiport reads name the same sides and the streams are fed the
+-- same words. Breakpoints may be used between the tries.
 abbrev pub Confluence : Type 0
 Confluence =
     (one two : Chip) (events others : List Event) → IsLegal one → IsLegal two

@@ -1,4 +1,4 @@
--- Chips that can stand: the numbers of each cell agree with what is pending in it.
+-- Legal chips: the numbers of each cell agree with what is pending in it.
 use Rattle.std.specs.Prelude.{◌≡◌, ℕ, ◌+◌, ◌≤◌, [], length, map, false, Some}
 use Rattle.std.specs.Option.{option_to_list}
 use Rattle.ga_place.specs.Cell.{cell_of}
@@ -17,14 +17,14 @@ pub record IsLegal (chip : Chip) : Type 0 where
   -- it has all nodes and all cells
   pub parts : length chip.parts ≡ 144
   pub cells : length chip.cells ≡ 524
-  -- the nodes stand in order of name
+  -- the nodes are in order of name
   pub named : (name : ℕ) (part : Part) → part_of chip name ≡ Some part → part.state.node ≡ name
   -- what was written into a cell is what was read from it and what is pending
   pub balanced : (name other cell : ℕ) (side : Side) (writer reader : Part)
       → cell_of name side ≡ Some cell → neighbour_of name side ≡ Some other
       → part_of chip name ≡ Some writer → part_of chip other ≡ Some reader → count_at side
       writer.written ≡ count_at side reader.read + length (option_to_list (pending chip cell))
-  -- where a word is pending, the cell's writer stands at the check of that cell
+  -- if a word is pending, the cell's writer is at the check of that cell
   pub checked : (name cell word : ℕ) (side : Side) (writer : Part) → cell_of name side ≡ Some cell
       → part_of chip name ≡ Some writer → pending chip cell ≡ Some word
       → StandsAtCheck writer.state side

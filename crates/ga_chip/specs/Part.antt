@@ -36,7 +36,7 @@ pub record Part : Type 0 where
   pub breaks : List Bool
   -- whether the next fetch passes a breakpoint
   pub pass : Bool
-  -- the words left of the node's stream, where one was given or opened
+  -- the words left of the node's stream, if one was given or opened
   pub stream : Option (List ℕ)
   -- whether the stream was opened, so that it goes on in pieces
   pub opened : Bool
@@ -89,20 +89,20 @@ asks_by (need.Check to) name stream side = at_cell (Check to) (cell_of name to)
 asks_by need.Input name stream side = input_of stream
 asks_by (need.Stopped stop) name stream side = Nothing Stopped
 
--- a node at a breakpoint asks for nothing; it is held, but where it is stopped it is stopped
+-- a node at a breakpoint asks for nothing; it is held, unless it is stopped
 abbrev pub held_by : Need → Asks
 held_by (need.Stopped stop) = Nothing Stopped
 held_by _ = Nothing Held
 
--- A breakpoint holds the node: it is about to fetch, where the low nine bits of P are a breakpoint,
--- and has no pass. It may be stopped all the same.
+-- A breakpoint holds the node: it is about to fetch, the low nine bits of P are a breakpoint, and
+-- it has no pass. It may be stopped, too.
 abbrev pub is_held : Part → Bool
 is_held part =
     (is_fetch part.state.place)
     && ((not part.pass) && (get_or part.breaks (part.state.p % 2 ^ 9) false))
 
--- So a try is held just where its node isn't stopped, is about to fetch, the low nine bits of P are
--- a breakpoint, and it has no pass.
+-- So a try is held if and only if its node isn't stopped, is about to fetch, the low nine bits of P
+-- are a breakpoint, and it has no pass.
 pub record StandsAtBreak (part : Part) : Type 0 where
   pub runs : stop_of (need_of part.state) ≡ None
   pub fetches : part.state.place ≡ Fetch
@@ -113,11 +113,11 @@ abbrev pub asks_if : Bool → Part → Side → Asks
 asks_if true part side = held_by (need_of part.state)
 asks_if false part side = asks_by (need_of part.state) part.state.node part.stream side
 
--- What a try of a node asks for, where it names a side.
+-- What a try of a node that names a side asks for.
 unfoldable pub asks : Part → Side → Asks
 asks part side = asks_if (is_held part) part side
 
--- the side that the try names, where the need is a take of several: only there it is looked at
+-- the side that the try names, if the need is a multiport read; otherwise it doesn't count
 abbrev pub picked_of : Option Side → Side → List Side
 picked_of (Some only) side = []
 picked_of None side = side ∷ []
@@ -137,8 +137,8 @@ rest_of (Some (word ∷ rest)) = Some rest
 rest_of (Some []) = Some []
 rest_of None = None
 
--- What comes of a try and the node's part afterwards, by what the try asks for and the word that it
--- found pending in that cell. A check goes on where it finds nothing, and a take where it finds a
+-- The outcome of a try and the node's part afterwards, by what the try asks for and the word that
+-- it found pending in that cell. A check goes on if it finds nothing, and a take if it finds a
 -- word.
 abbrev pub after_asked : Asks → Option ℕ → Part → Outcome × Part
 after_asked (Nothing outcome) found part = (outcome, part)
@@ -153,7 +153,7 @@ after_asked (Take side cell) (Some word) part =
     (Moved, stepped (Some word) (record part { read = counted side part.read }))
 after_asked (Take side cell) None part = (Waits, part)
 
--- What comes of a try that names a side, and the node's part afterwards, where the try found this
+-- The outcome of a try that names a side, and the node's part afterwards, if the try found this
 -- word pending in the cell that it asks for.
 unfoldable pub after : Part → Side → Option ℕ → Outcome × Part
 after part side found = after_asked (asks part side) found part

@@ -21,9 +21,9 @@ pub data Event : Type 0 where
   -- an address becomes a breakpoint, or is none any more
   SetBreak : ℕ → ℕ → Event
   ClearBreak : ℕ → ℕ → Event
-  -- a pass, where the node is held
+  -- a pass, if the node is held
   PassBreak : ℕ → Event
-  -- the node's stream goes on with these words, where it was opened
+  -- the node's stream goes on with these words, if it was opened
   Piece : ℕ → List ℕ → Event
 
 -- a list of tries
@@ -42,7 +42,7 @@ side_of_turn turn = slice_index_or SIDES (turn % 4) Right
 unfoldable pub turn_of : Side → List Event
 turn_of side = map (λ index. Try (name_at index) side) (range_with_len 0 144)
 
--- so many turns, one after another
+-- n turns, one after another
 unfoldable pub turns_of : ℕ → List Event
 turns_of count = flat_map (λ turn. turn_of (side_of_turn turn)) (range_with_len 0 count)
 
@@ -59,7 +59,7 @@ abbrev pub has_break : Chip → ℕ → ℕ → Bool
 has_break chip name at =
     option_map_or (λ part. get_or part.breaks at false) (part_of chip name) false
 
--- a part with a breakpoint more or less, or with a pass where the node is held
+-- a part with a breakpoint added or removed, or with a pass if the node is held
 abbrev pub break_set : ℕ → Part → Part
 break_set at part = record part { breaks = set part.breaks at true }
 
@@ -117,7 +117,7 @@ pub record Move : Type 0 where
   -- what the try asked for, and the word that it found pending in that cell
   pub asked : Asks
   pub found : Option ℕ
-  -- the side that it named, where it was a take of several
+  -- the side that it named, if it was a multiport read
   pub picked : List Side
 
 abbrev pub if_moved : Outcome → Move → List Move
@@ -136,7 +136,7 @@ move_at (Some part) chip name side =
       picked = picked_by (need_of part.state) side;
     })
 
--- the move that an event is, where it is one
+-- the move that an event is, if it is one
 unfoldable pub move_in : Chip → Event → List Move
 move_in chip (Try name side) = move_at (part_of chip name) chip name side
 move_in chip (SetBreak name at) = []
@@ -184,7 +184,7 @@ abbrev pub input_after : Chip → List Event → ℕ → ℕ → List ℕ
 input_after chip events name k =
     flat_map (λ move. input_by move.asked) (take k (moves_of name (moves chip events)))
 
--- the sides of a node's takes of several sides in a run
+-- the sides of a node's multiport reads in a run
 abbrev pub sides_of : Chip → List Event → ℕ → List Side
 sides_of chip events name = flat_map (λ move. move.picked) (moves_of name (moves chip events))
 
@@ -192,7 +192,7 @@ abbrev pub is_some_move : List Move → Bool
 is_some_move [] = false
 is_some_move (move ∷ rest) = true
 
--- a node's state after its k-th move in a run, where it makes so many
+-- a node's state after its k-th move in a run, if it makes k moves
 abbrev pub node_after : Chip → List Event → ℕ → ℕ → Option State
 node_after chip events name zero = state_of chip name
 node_after chip [] name (suc k) = None

@@ -17,7 +17,7 @@ use Rattle.ga_chip.specs.Legal.{IsLegal}
 
 -- A set of nodes is a test of their names.
 
--- a word is pending in a cell; where there is no cell, none is
+-- a word is pending in a cell; without a cell, none is
 abbrev pub is_full : List (Option ℕ) → Option ℕ → Bool
 is_full cells (Some cell) = is_some (pending_in cells cell)
 is_full cells None = false
@@ -57,7 +57,7 @@ is_stuck_by inside cells name words (need.Check to) = is_unread inside cells nam
 is_stuck_by inside cells name words need.Input = length words == 0
 is_stuck_by inside cells name words (need.Stopped stop) = true
 
--- It goes by the need alone: a breakpoint may be cleared at any time.
+-- Only the need counts: a breakpoint may be cleared at any time.
 unfoldable pub is_stuck : (ℕ → Bool) → List (Option ℕ) → Part → Bool
 is_stuck inside cells part =
     is_stuck_by inside cells part.state.node (words_left part.stream) (need_of part.state)
@@ -83,7 +83,7 @@ has_node nodes name = get_or nodes (index_of name) false
 abbrev pub IsUnfed : Chip → List Event → (ℕ → Bool) → Type 0
 IsUnfed chip events inside = (name : ℕ) → inside name ≡ true → words_fed chip events name ≡ []
 
--- a node is as it was, but for its breakpoints and its pass
+-- a node is as it was, apart from its breakpoints and its pass
 pub record StandsStill (part now : Part) : Type 0 where
   pub state : now.state ≡ part.state
   -- the same words are left of its stream

@@ -14,6 +14,6 @@ pub enum Asks {
     Take(Side, CellId),
     /// To see that the word posted at a side, in a cell, was read.
     Check(Side, CellId),
-    /// Nothing, since it is known what comes of the try: the node waits, is held, or is stopped.
+    /// Nothing, since the outcome of the try is known: the node waits, is held, or is stopped.
     Nothing(Outcome),
 }

@@ -19,14 +19,12 @@ impl Model for Breaks {
 }
 
 impl Breaks {
-    /// No address.
     pub(crate) fn new() -> Self
         ensures { result ≡ replicate 512 false }
     {
         Breaks { words: [0; 8] }
     }
 
-    /// Whether an address is a breakpoint.
     pub(crate) fn has(&self, address: u16) -> bool
         requires { address < 2 ^ 9 }
         ensures { result ≡ get_or self.now address false }
@@ -34,7 +32,6 @@ impl Breaks {
         self.words[usize::from(address / 64)] >> (address % 64) & 1 == 1
     }
 
-    /// Makes an address a breakpoint.
     pub(crate) fn set(&mut self, address: u16)
         requires { address < 2 ^ 9 }
         ensures { self.new ≡ set self.old address true }
@@ -42,7 +39,6 @@ impl Breaks {
         self.words[usize::from(address / 64)] |= 1 << (address % 64);
     }
 
-    /// Makes an address none any more.
     pub(crate) fn clear(&mut self, address: u16)
         requires { address < 2 ^ 9 }
         ensures { self.new ≡ set self.old address false }
@@ -50,7 +46,6 @@ impl Breaks {
         self.words[usize::from(address / 64)] &= !(1 << (address % 64));
     }
 
-    /// Whether no address is a breakpoint.
     pub(crate) fn is_empty(&self) -> bool
         ensures { result ≡ true → self.now ≡ replicate 512 false }
     {

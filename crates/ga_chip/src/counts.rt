@@ -26,7 +26,6 @@ impl Counts {
         }
     }
 
-    /// The number at a side.
     pub(crate) fn at(self, side: Side) -> u64
         ensures { result ≡ count_at side self }
     {
@@ -38,7 +37,7 @@ impl Counts {
         }
     }
 
-    /// One more at a side, where the number there isn't the largest.
+    /// One more at a side, unless the number there is the largest.
     pub(crate) fn count(&mut self, side: Side)
         requires { count_at side self.old < 2 ^ 64 - 1 }
         ensures { self.new ≡ counted side self.old }

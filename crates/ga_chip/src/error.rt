@@ -3,7 +3,7 @@ use thiserror::Error;
 /// Why a chip refuses a call. It is left as it was.
 #[derive(Clone, Copy, Debug, PartialEq, Eq, Error)]
 pub enum ChipError {
-    /// The node stands at no edge of the chip, so it can't be given a stream.
+    /// The node isn't at an edge of the chip, so it can't be given a stream.
     #[error("NotEdge")]
     NotEdge,
     /// The node was given a stream before, or one was opened for it.

@@ -4,20 +4,19 @@ ghost use Rattle.ga_chip.specs.Joining.{OnePortNamesNoSide, OpenedIsOpen, RunsAr
 ghost use Rattle.ga_chip.specs.Laws.{Commuting, Confluence};
 ghost use Rattle.ga_chip.specs.Stuck.{Stuck};
 
-/// Where the takes of several sides name the same sides and the streams are fed the same words, as
-/// far as both runs go, two runs of legal chips go alike as far as both go, whatever the order of
-/// their tries. The chips may differ in breakpoints. And tries of two nodes that would each be
-/// `Moved` commute.
+/// Two runs of legal chips agree on their common steps, whatever the order of their tries, if on
+/// these steps the multiport reads name the same sides and the streams are fed the same words. The
+/// chips may differ in breakpoints. And tries of two nodes that would each be `Moved` commute.
 pub fn confluence()
     ensures agree { Confluence }
     ensures commuting { Commuting }
 {}
 
-/// The nodes of a closed set are stuck. A set is closed where each of its nodes has stopped; or
-/// takes a word at sides at none of which one is pending, and whose neighbours are in the set; or
-/// has posted a word that is pending still, and its reader is in the set; or waits at sides without
-/// a neighbour alone; or waits for a stream of which no word is left. From a legal chip no run of
-/// events changes such a node, or makes one of its tries `Moved`, where it feeds nothing to the
+/// The nodes of a closed set are stuck. A set is closed if each of its nodes has stopped; or takes
+/// a word at sides at none of which one is pending, and whose neighbours are in the set; or has
+/// posted a word that is still pending, and its reader is in the set; or waits only at sides
+/// without a neighbour; or waits for a stream of which no word is left. From a legal chip no run of
+/// events changes such a node, or makes one of its tries `Moved`, if it feeds nothing to the
 /// streams of the set's nodes: other nodes are tried in any order, and breakpoints are used
 /// anywhere.
 pub fn stuck()
@@ -45,8 +44,8 @@ pub fn runs()
     ensures opened { OpenedIsOpen }
 {}
 
-/// A node whose need is at no moment of a run a take of several sides names no side: for it the
-/// condition of [`confluence`] holds, if this is so in both runs.
+/// A node that is never about to make a multiport read in a run names no side: for it the condition
+/// of [`confluence`] holds, if this is so in both runs.
 pub fn one_port()
     ensures { OnePortNamesNoSide }
 {}

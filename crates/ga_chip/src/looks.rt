@@ -4,9 +4,9 @@ ghost use Rattle.ga_chip.specs.Asks.{look_at};
 use ga_place::{CellId, Side};
 use std::marker::Model;
 
-/// Where the tries of a node look that takes a word or comes to nothing, whatever side a try names:
-/// for each side the cell of which the try asks to take the word, or none where it asks for
-/// nothing. A contract sees them as a list, in the order right, down, left, up.
+/// The cells at which the tries of a node look that only asks to take words or for nothing,
+/// whatever side a try names: for each side the cell whose word the try asks to take, or none if it
+/// asks for nothing. A contract sees them as a list, in the order right, down, left, up.
 #[derive(Clone, Copy)]
 pub struct Looks {
     by_side: [Option<CellId>; 4],

@@ -9,7 +9,6 @@ pub(crate) struct NodeSet {
 }
 
 impl NodeSet {
-    /// All nodes.
     pub(crate) fn all() -> Self
         ensures { (index : ℕ) → index < 144 → is_in index result ≡ true }
     {
@@ -22,6 +21,15 @@ impl NodeSet {
     #[inline(always)]
     pub(crate) fn is_crowded(&self) -> bool {
         self.words[0] & self.words[1] == u64::MAX
+    }
+
+    /// Whether the node at an index is in the set.
+    #[inline(always)]
+    pub(crate) fn contains(&self, index: usize) -> bool
+        requires { index < 144 }
+        ensures { result ≡ is_in index self.now }
+    {
+        self.words[index / 64] >> (index % 64) & 1 == 1
     }
 
     /// Puts the node at an index into the set.
@@ -42,7 +50,7 @@ impl NodeSet {
         self.words[index / 64] &= !(1 << (index % 64));
     }
 
-    /// The first index in the set from an index on, or more than 143 where there is none.
+    /// The first index in the set from an index on, or more than 143 if there is none.
     #[inline(always)]
     pub(crate) fn next(&self, from: usize) -> usize
         requires { from ≤ 144 }

@@ -4,15 +4,14 @@ ghost use Rattle.ga_chip.specs.Outcome.{moved_by};
 
 use ga_place::{Node, SIDES, Side};
 
-/// One try of one node. The side counts where the node takes a word from one of several sides: it
-/// looks at this side alone.
+/// One try of one node. Only a multiport read uses the side: it looks at this side and no other.
 #[derive(Clone, Copy, Debug, PartialEq, Eq)]
 pub struct Try {
     pub node: Node,
     pub side: Side,
 }
 
-/// What came of a try.
+/// The outcome of a try.
 #[derive(Clone, Copy, Debug, PartialEq, Eq)]
 pub enum Outcome {
     /// The node made a step.
@@ -26,7 +25,7 @@ pub enum Outcome {
 }
 
 impl Outcome {
-    /// How many steps the try made: one where it was `Moved`, and else none.
+    /// How many steps the try made: one if it was `Moved`, else none.
     pub fn moves(self) -> u8
         ensures { result ≡ moved_by self }
     {

@@ -31,9 +31,9 @@ use std::marker::Model;
 /// What the chip has of one node: its breakpoints and a pass, its state, how many words it has
 /// written and read at each side, and its stream, if it was given one.
 ///
-/// A try of the node can be made by hand, over cells that stand elsewhere: `asks` says what the try
-/// asks for, and when that was done, one of the calls `done_own`, `done_post`, `done_take` and
-/// `done_check` makes the try's change to the node. A contract sees a node's part as the record
+/// A try of the node can be made by hand, over cells that are kept elsewhere: `asks` returns what
+/// the try asks for, and when that was done, one of the calls `done_own`, `done_post`, `done_take`
+/// and `done_check` makes the try's change to the node. A contract sees a node's part as the record
 /// `Part`.
 #[derive(Drop)]
 pub struct NodePart {
@@ -43,11 +43,11 @@ pub struct NodePart {
     read: Counts,
     stream: Option<Stream>,
     opened: bool,
-    // So that they aren't worked out at each step.
+    // So that they aren't computed at each step.
     ports: Ports,
 }
 
-/// What came of a try, but for a quick one of the node's own work.
+/// The result of a try that took the slow path.
 #[derive(Clone, Copy)]
 pub(crate) struct Far {
     pub outcome: Outcome,
@@ -127,7 +127,7 @@ impl NodePart {
         self.read.at(side)
     }
 
-    /// A step where it is the node's own work, but for a fetch of a node that has a breakpoint or a
+    /// A step if it is the node's own work, except a fetch of a node that has a breakpoint or a
     /// pass; else nothing. Answers whether the node made it.
     #[inline(always)]
     pub(crate) fn try_own(&mut self) -> bool
@@ -238,7 +238,7 @@ impl NodePart {
         }
     }
 
-    /// Meets a need of a node that isn't held, where it can be met now.
+    /// Meets a need of a node that isn't held, if it can be met now.
     fn meet(&mut self, need: &Need, cells: &mut CellRow, side: Side) -> Outcome
         requires need { need.now ≡ need_of self.old.state }
         requires free { asks self.old side
@@ -280,8 +280,8 @@ impl NodePart {
         Some(usize::from(self.ports.at(at)?.neighbour))
     }
 
-    /// Whether a try would move at no side, where a try at one side didn't. It may say no all the
-    /// same.
+    /// Whether a try would move at no side, after a try at one side didn't. `false` if it isn't
+    /// known.
     fn is_still(&self, need: &Need, cells: &CellRow) -> bool
         requires need { need.now ≡ need_of self.now.state }
         requires still { (side : Side)
@@ -359,7 +359,6 @@ impl NodePart {
         }
     }
 
-    /// The node does its own work.
     fn own(&mut self) -> Outcome
         requires { need_of self.old.state ≡ need.Own }
         ensures { (result, self.new) ≡ after_asked Own None self.old }
@@ -369,7 +368,7 @@ impl NodePart {
         Outcome::Moved
     }
 
-    /// The loader takes the next word of the node's stream, where one is left.
+    /// The loader takes the next word of the node's stream, if one is left.
     fn input(&mut self) -> Outcome
         requires { need_of self.old.state ≡ need.Input }
         ensures { (result, self.new) ≡ after_asked (input_of self.old.stream) None self.old }
@@ -410,7 +409,7 @@ impl NodePart {
         Outcome::Moved
     }
 
-    /// The node goes on where the word that it posted was read.
+    /// The node goes on if the word that it posted was read.
     fn check(&mut self, empty: bool) -> Outcome
         requires { is_check (need_of self.old.state) ≡ true }
         ensures read { empty ≡ true → (side : Side) (cell : ℕ)
@@ -426,7 +425,6 @@ impl NodePart {
         Outcome::Moved
     }
 
-    /// Makes an address a breakpoint.
     pub(crate) fn set_break(&mut self, address: u16)
         requires { address < 2 ^ 9 }
         ensures { self.new ≡ break_set address self.old }
@@ -434,7 +432,6 @@ impl NodePart {
         self.watch.set(address);
     }
 
-    /// Makes an address no breakpoint any more.
     pub(crate) fn clear_break(&mut self, address: u16)
         requires { address < 2 ^ 9 }
         ensures { self.new ≡ break_cleared address self.old }
@@ -442,7 +439,6 @@ impl NodePart {
         self.watch.clear(address);
     }
 
-    /// Whether an address is a breakpoint.
     pub(crate) fn has_break(&self, address: u16) -> bool
         requires { address < 2 ^ 9 }
         ensures { result ≡ get_or self.now.breaks address false }
@@ -457,7 +453,7 @@ impl NodePart {
         self.is_held(&self.state.need())
     }
 
-    /// Gives the node a pass, where it is held. Answers whether it was.
+    /// Gives the node a pass, if it is held. Answers whether it was.
     pub(crate) fn pass_break(&mut self) -> bool
         ensures held { (side : Side) → result ≡ is_hold (asks self.old side) }
         ensures part { self.new ≡ break_passed self.old }

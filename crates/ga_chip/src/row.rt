@@ -24,7 +24,7 @@ impl Model for CellRow {
 
 impl CellRow {
     /// The row of these words, one or none for each cell. It keeps the list that it is given, and
-    /// takes no memory.
+    /// allocates nothing.
     pub fn new(words: Vec<Option<Word18>>) -> Self
         requires { length words.items ≡ 524 }
         ensures { result ≡ words.items }
@@ -56,7 +56,6 @@ impl CellRow {
         self.words[cell.index()]
     }
 
-    /// Makes a word pending in a cell.
     pub(crate) fn post(&mut self, cell: CellId, word: Word18)
         ensures { self.new ≡ set self.old cell (Some word) }
     {

@@ -6,7 +6,7 @@ use std::marker::Model;
 /// The words of a node's stream that it has not yet taken. A contract sees their list.
 #[derive(Drop)]
 pub(crate) struct Stream {
-    // None as long as no piece has come, since without an allocator there is no empty `Vec`.
+    // None until a piece has come, since an empty `Vec` needs an allocator.
     words: Option<Vec<Word18>>,
     taken: usize,
 }
@@ -43,7 +43,6 @@ impl Stream {
         }
     }
 
-    /// How many words are left.
     pub(crate) fn len(&self) -> usize
         ensures { result ≡ length self.now }
     {
@@ -53,7 +52,6 @@ impl Stream {
         }
     }
 
-    /// Whether no word is left.
     pub(crate) fn is_empty(&self) -> bool
         ensures { result ≡ is_none (slice_get self.now 0) }
     {

@@ -56,7 +56,6 @@ impl Watch {
         place == Place::Fetch && !self.pass && self.breaks.has(p % 0x200)
     }
 
-    /// Whether an address is a breakpoint.
     pub(crate) fn has(&self, address: u16) -> bool
         requires { address < 2 ^ 9 }
         ensures { result ≡ get_or self.now.breaks address false }
@@ -64,7 +63,6 @@ impl Watch {
         self.breaks.has(address)
     }
 
-    /// Makes an address a breakpoint.
     pub(crate) fn set(&mut self, address: u16)
         requires { address < 2 ^ 9 }
         ensures { self.new ≡ record self.old { breaks = set self.old.breaks address true } }
@@ -73,7 +71,6 @@ impl Watch {
         self.on = true;
     }
 
-    /// Makes an address no breakpoint any more.
     pub(crate) fn clear(&mut self, address: u16)
         requires { address < 2 ^ 9 }
         ensures { self.new ≡ record self.old { breaks = set self.old.breaks address false } }
@@ -82,7 +79,6 @@ impl Watch {
         self.on = self.pass || !self.breaks.is_empty();
     }
 
-    /// Gives a pass.
     pub(crate) fn pass(&mut self)
         ensures { self.new ≡ record self.old { pass = true } }
     {

@@ -18,8 +18,7 @@ pub fn chip_with(alloc: Global, node: Node, numbers: &[u32]) -> Result<Chip, Fai
     Ok(chip)
 }
 
-/// Gives a node a stream. Answers the fault where it is refused, and then as many words have come
-/// back.
+/// Gives a node a stream. If it is refused it answers the fault, and all words have come back.
 pub fn refusal(
     alloc: Global,
     chip: &mut Chip,
@@ -34,7 +33,7 @@ pub fn refusal(
     }
 }
 
-/// Gives a node a stream, which it isn't refused.
+/// Gives a node a stream, which must be accepted.
 pub fn give(alloc: Global, chip: &mut Chip, node: Node, numbers: &[u32]) -> Result<(), Fail> {
     match refusal(alloc, chip, node, numbers)? {
         None => Ok(()),
@@ -49,7 +48,7 @@ pub fn chip_given(alloc: Global, node: Node, numbers: &[u32]) -> Result<Chip, Fa
     Ok(chip)
 }
 
-/// How many of so many tries were `Moved` before the first that wasn't.
+/// How many of these tries were `Moved` before the first that wasn't.
 pub fn moves(chip: &mut Chip, node: Node, side: Side, tries: u32) -> u32 {
     for moved in 0..tries {
         if chip.attempt(Try { node, side }) != Outcome::Moved {

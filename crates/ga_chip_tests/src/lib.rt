@@ -1,7 +1,7 @@
-//! The tests of nodes, of the chip and of workers, in one file for each subject.
+//! The tests of nodes, of the chip and of workers, with one file for each subject.
 //!
 //! A crate that has no test of its own is proved once by the gate, and one with tests twice. So the
-//! tests stand here, and this crate has nothing else.
+//! tests have this crate to themselves.
 #![tactic(auto)]
 
 #[cfg(test)]

@@ -3,7 +3,7 @@ use ga_node::{Need, NodeState, Place, Stop};
 use ga_test_values::{node, word};
 use std::test::Fail;
 
-/// A booting node 000 to which these words came in.
+/// A booting node 000 that has taken these words.
 fn given(numbers: &[u32]) -> Result<NodeState, Fail> {
     let mut state = NodeState::booting(node(0)?);
     for number in numbers {
@@ -26,7 +26,8 @@ fn memory_goes_on_in_its_mirror(rt: HostRuntime) -> Result<(), Fail> {
 
 #[test]
 fn ends(rt: HostRuntime) -> Result<(), Fail> {
-    // a frame without words, and one with a word for io; of a completion the low ten bits count
+    // a frame without words, and one with a word for io; only the low ten bits of a completion
+    // count
     for frame in [
         [0x3F405, 0, 0].as_slice(),
         &[0x00005, 0x0015D, 1, 7],

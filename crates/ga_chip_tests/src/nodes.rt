@@ -1,4 +1,4 @@
-//! What a node shows of itself, and the steps that its caller chooses.
+//! The values that a node shows, and the steps that its caller chooses.
 use ga_node::{Need, NodeState, Place};
 use ga_place::Side;
 use ga_test_values::{WRITE_12_RIGHT, array, node, word};

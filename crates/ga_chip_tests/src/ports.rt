@@ -48,7 +48,7 @@ fn check(hand: &mut Hand, node: Node, side: Side) -> Option<bool>
     Some(empty)
 }
 
-/// A try of a node that asks for nothing: what comes of it.
+/// The outcome of a try of a node that asks for nothing.
 fn own(hand: &mut Hand, node: Node, side: Side) -> Option<Outcome>
     requires { AreInHand hand.old.cells hand.old.seat hand.old.parts.items }
     ensures { AreInHand hand.new.cells hand.new.seat hand.new.parts.items }
@@ -61,7 +61,7 @@ fn own(hand: &mut Hand, node: Node, side: Side) -> Option<Outcome>
     Some(outcome)
 }
 
-/// The cells of a chip on which 708 has made so many tries of those that write 12 to its right.
+/// The cells of a chip after some tries of 708, of those that write 12 to its right.
 fn opened(alloc: Global, node: Node, tries: u32) -> Result<Hand, Fail>
     ensures { IfOk result (λ hand. AreInHand hand.cells hand.seat hand.parts.items) }
 {

@@ -98,14 +98,14 @@ fn a_pending_word_is_taken_in_every_schedule(rt: HostRuntime) -> Result<(), Fail
     Ok(())
 }
 
-/// A gate that lets a worker into a turn only when the other one has come to it too.
+/// A gate that lets a worker into a turn only when the other worker has reached it too.
 #[derive(Drop)]
 struct InStep {
-    // How many turns each worker has come to, and how many of its tries were Moved when it came to
+    // How many turns each worker has reached, and how many of its tries were Moved when it reached
     // the last one.
     turns: [AtomicU64; 2],
     moved: [AtomicU64; 2],
-    // How often a worker has given up waiting.
+    // How many times a worker has given up waiting.
     given_up: AtomicU64,
 }
 
@@ -118,7 +118,7 @@ impl InStep {
         }
     }
 
-    /// Waits until the other worker has come to this turn, or one has given up.
+    /// Waits until the other worker has reached this turn, or one has given up.
     fn wait_for(&self, other: usize, turn: u64) {
         for _ in 0..10_000_000 {
             if self.turns[other % 2].load(Ordering::SeqCst) > turn
@@ -173,7 +173,7 @@ fn break_and_pass(rt: HostRuntime) -> Result<(), Fail> {
     Ok(())
 }
 
-/// A gate that keeps how many tries of each worker were Moved, as it is told in the last turn.
+/// A gate that keeps how many tries of each worker were Moved, as reported in the last turn.
 #[derive(Drop)]
 struct LastMoved {
     moved: [AtomicU64; 2],
@@ -185,8 +185,8 @@ impl Gate for LastMoved {
     }
 }
 
-/// The moves that a gate is told of two workers in the last of 101 turns, by a plan in which node
-/// 000 makes 16 steps and is held from then on.
+/// The moves of two workers that a gate gets in the last of 101 turns, by a plan in which node 000
+/// makes 16 steps and is held from then on.
 fn last_moved<R: Threads + Sync>(
     rt: &R,
     alloc: Global,
@@ -214,8 +214,8 @@ fn held_tries_are_not_counted_as_moved(rt: HostRuntime) -> Result<(), Fail> {
     Ok(())
 }
 
-/// A gate that counts its calls, and those in which the worker, which tries 708 alone, hasn't made
-/// a step in each turn before.
+/// A gate that counts its calls, and those in which the worker, which tries only 708, hasn't made a
+/// step in each turn before.
 #[derive(Drop)]
 struct Watching {
     calls: AtomicU64,

@@ -1,4 +1,5 @@
--- The commands, opened in one place: what says `unfolding whole_command` computes with all of them.
+-- The commands, opened in one place: a proof with `unfolding whole_command` computes with all of
+-- them.
 use Rattle.clap.specs.Words.{App}
 use Rattle.ga_command_line.specs.Boot.{boot_command}
 use Rattle.ga_command_line.specs.Command.{linked}

@@ -1,6 +1,8 @@
 -- The command line: the command as clap's definitions read it, and the job that its words name.
-use Rattle.std.specs.Prelude.{◌≡◌, ◌≤◌, ◌∷◌, [], List, true, codes, fold, IfSome, IsSomeAnd, Option, option_map, string_bytes}
-use Rattle.clap.specs.Words.{App, Row, Text, new_app, subcommand_of, takes}
+use Rattle.std.specs.Prelude.{◌≡◌, ◌≤◌, ◌∷◌, [], List, true, false, codes, fold, IfSome, IsSomeAnd, Option, option_map, string_bytes}
+use Rattle.std.specs.Option.{option_map_or}
+use Rattle.std.specs.Str.{bytes_eq}
+use Rattle.clap.specs.Words.{App, Row, Text, first_of, new_app, subcommand_of, takes}
 use Rattle.ga_jobs.specs.declared.Job.{Job}
 use Rattle.ga_jobs.specs.declared.Job.TheVariants.{One, Asm, Dis, Boot, Run, Debug, Replay, Explain}
 use Rattle.ga_jobs.specs.declared.Job.TheVariants as job
@@ -9,11 +11,11 @@ use Rattle.ga_command_line.specs.Command.{linked}
 use Rattle.ga_command_line.specs.Dis.{dis_command}
 use Rattle.ga_command_line.specs.Explain.{IsOfTable, IsTopicAt, explain_command}
 use Rattle.ga_command_line.specs.File.{IsFileAt, file_command}
-use Rattle.ga_command_line.specs.List.{IsFlagAt, list_command}
+use Rattle.ga_command_line.specs.List.{list_command}
 use Rattle.ga_command_line.specs.Number.{IsNumberAt, IsNumberIfAt}
 use Rattle.ga_command_line.specs.One.{one_command}
 use Rattle.ga_command_line.specs.Route.{IsRouteAt}
-use Rattle.ga_command_line.specs.Run.{IsRunAt, IsRunInRange, run_command}
+use Rattle.ga_command_line.specs.Run.{run_command}
 
 -- the command without its subcommands, of which one is required
 unfoldable pub bare_command : App
@@ -51,9 +53,13 @@ abbrev pub HasArguments : List Row → Job → Type 0
 HasArguments rows (One tries) = IsNumberAt (codes "TRIES") rows tries
 HasArguments rows (Dis code) = IsNumberIfAt (codes "N") rows code
 HasArguments rows (Boot route) = IsRouteAt rows (string_bytes route)
-HasArguments rows (Run route workers turns) = IsRunAt rows (string_bytes route) workers turns
+HasArguments rows (Run route workers turns) =
+    IsRouteAt rows (string_bytes route) × IsNumberAt (codes "WORKERS") rows workers
+    × IsNumberAt (codes "TURNS") rows turns
 HasArguments rows (job.List labels file) =
-    IsFlagAt (codes "LABELS") rows labels × IsFileAt rows (option_map string_bytes file)
+    -- the flag is given or not
+    (labels ≡ option_map_or (λ text. bytes_eq text (codes "true")) (first_of (codes "LABELS") rows)
+    false) × IsFileAt rows (option_map string_bytes file)
 HasArguments rows (job.Check file) = IsFileAt rows (option_map string_bytes file)
 HasArguments rows (job.Record file) = IsFileAt rows (option_map string_bytes file)
 HasArguments rows (Explain topic) = IsTopicAt rows topic
@@ -63,7 +69,7 @@ HasArguments rows job = Unit {0}
 abbrev pub InRange : Job → Type 0
 InRange (One tries) = tries ≤ 1000000
 InRange (Dis code) = IfSome code (λ number. number ≤ 64)
-InRange (Run route workers turns) = IsRunInRange workers turns
+InRange (Run route workers turns) = ((1 ≤ workers) × (workers ≤ 144)) × (turns ≤ 1000000)
 InRange (Explain topic) = IsOfTable topic
 InRange job = Unit {0}
 
@@ -71,7 +77,7 @@ InRange job = Unit {0}
 abbrev pub AsksFor : Text × List Row → Job → Type 0
 AsksFor entered job = (entered.0 ≡ job_name job) × HasArguments entered.1 job
 
--- the job that is asked for by a subcommand and its arguments, where there is one
+-- the job that is asked for by a subcommand and its arguments, if there is one
 abbrev pub IsAskedFor : Option (Text × List Row) → Job → Type 0
 IsAskedFor entered job = IsSomeAnd entered (λ found. AsksFor found job)
 

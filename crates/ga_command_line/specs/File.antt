@@ -1,4 +1,4 @@
--- The argument FILE, and the command lines of the subcommands that have it alone.
+-- The argument FILE, and the command lines of the subcommands with only this argument.
 use Rattle.std.specs.Prelude.{◌≡◌, List, codes, Option}
 use Rattle.clap.specs.Words.{App, Row, Text, first_of, new_app, new_rule, with_rule}
 

@@ -1,9 +1,7 @@
 -- The command line of the subcommand `run`.
-use Rattle.std.specs.Prelude.{ℕ, ◌≤◌, List, pos, true, codes, Some}
-use Rattle.clap.specs.Words.{App, Row, Text, new_app, new_rule, with_rule}
+use Rattle.std.specs.Prelude.{pos, true, codes, Some}
+use Rattle.clap.specs.Words.{App, new_app, new_rule, with_rule}
 use Rattle.clap.specs.declared.builder.value_parser.ValueParser.TheVariants as parser
-use Rattle.ga_command_line.specs.Number.{IsNumberAt}
-use Rattle.ga_command_line.specs.Route.{IsRouteAt}
 
 -- the subcommand as clap's definitions read it: a text and two numbers, the first from 1 to 144 and
 -- the second up to 1,000,000, all required
@@ -20,12 +18,3 @@ unfoldable pub run_command : App
 run_command =
     with_rule shared_command (record (new_rule (codes "TURNS"))
     { required = true; parser = Some (parser.Signed (pos 0) (pos 1000000)) })
-
-abbrev pub IsRunInRange : ℕ → ℕ → Type 0
-IsRunInRange workers turns = ((1 ≤ workers) × (workers ≤ 144)) × (turns ≤ 1000000)
-
--- the arguments ask for this run
-abbrev pub IsRunAt : List Row → Text → ℕ → ℕ → Type 0
-IsRunAt rows route workers turns =
-    IsRouteAt rows route × IsNumberAt (codes "WORKERS") rows workers
-    × IsNumberAt (codes "TURNS") rows turns

@@ -12,11 +12,11 @@ use ga_jobs::Job;
 use std::alloc::{AllocError, Global};
 
 const HELP: &str = "\
-Reads source text from standard input, as asm does. Writes a line 'load' with a number and so many
-words, eight on a line, and 'start' in the same way: what the loader of the first node is to be given,
-so that each node has its words in memory, and then starts. These are words for the loader of this
-bench's chip, and no bytes for a serial line. Several routes that begin at one node, with '/' between
-them, are a tree.
+Reads source text from standard input, as asm does. Writes the boot stream for the first node: a line
+'load' with the number of words, these words, eight on a line, and 'start' in the same way. The first
+part puts each node's words into its memory, the second starts the nodes. These are words for the
+loader of this bench's chip, not bytes for a serial line. Several routes from one node, with '/'
+between them, are a tree.
 
 Example: echo 'node 709 .' | ga-bench boot 708,709
 More: Boot streams in docs/FORMATS.md";
@@ -27,7 +27,7 @@ pub fn command<'a>(alloc: Global) -> Result<Command<'a>, AllocError>
     ensures { IfOk result (IsCommandOf boot_command) }
 {
     let route = Arg::new(alloc, "ROUTE").required(true).help(
-        "Node names with commas between them, from an edge node on; or several such routes with / between them",
+        "Node names with commas between them, from an edge node on, or several such routes with / between them",
     );
     Command::new(alloc, "boot")
         .about("Assembles source text, and prints the words that boot a route or a tree")
@@ -35,7 +35,7 @@ pub fn command<'a>(alloc: Global) -> Result<Command<'a>, AllocError>
         .arg(route)
 }
 
-/// The job that the arguments of `boot` ask for.
+/// The job for the arguments of `boot`.
 pub fn job_of(alloc: Global, found: &ArgMatches<'_>) -> Result<Job, LineError>
     ensures in_range { IfOk result InRange }
     ensures asked { IfOk result (AsksFor (codes "boot", rows_of (found_of found.now))) }

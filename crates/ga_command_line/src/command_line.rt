@@ -43,9 +43,8 @@ impl From<AllocError> for LineError {
     }
 }
 
-/// Reads a command line, of which the first word is the program's name. It fails as `Parse` where
-/// the words are no command line, or ask for help or the version, and as `Memory` only where memory
-/// is refused.
+/// Reads a command line, whose first word is the program's name. Fails with `Parse` if the words
+/// are no command line, or ask for help or the version, and with `Memory` only when out of memory.
 pub fn job(alloc: Global, words: &[&str]) -> Result<Job, LineError>
     ensures in_range { IfOk result InRange }
     ensures named { IfOk result (IsJobOf (map (λ word. word.now) words.now)) }
@@ -81,7 +80,7 @@ pub(crate) fn missing(alloc: Global) -> LineError {
     )
 }
 
-/// An error in a command line that this program finds itself, with the usage.
+/// An error that this program, not clap, finds in a command line. It shows the usage.
 pub fn refusal(alloc: Global, kind: ErrorKind, message: &str) -> LineError {
     match refused(alloc, kind, message) {
         Ok(error) => LineError::from(error),
@@ -131,9 +130,9 @@ fn linked<'a>(command: Command<'a>, subcommand: Command<'a>) -> Result<Command<'
 }
 
 const STATUS_HELP: &str = "\
-Each command but explain reads standard input to its end, or a file where it takes one, and then writes
-standard output. explain tells what a name means: that of a fault, a need, a stop, an outcome or the
-carry.
+Each command except explain reads its whole input, standard input or a file, and then writes standard
+output. 'ga-bench explain NAME' explains an error, a state or a term.
 
-Exit status: 0 where all was written, 1 where the input was refused or a read or a write failed,
-2 where the command line is wrong, 3 where memory ran out. What failed is told on standard error.";
+Exit status: 0 if the output was written, 1 if the input was refused or a read or a write failed,
+2 if the command line is wrong, 3 if the program ran out of memory. Errors are reported on standard
+error.";

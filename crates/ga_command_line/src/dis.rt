@@ -15,10 +15,10 @@ use std::alloc::{AllocError, Global};
 const CODE_LIMIT: u32 = 64;
 
 const HELP: &str = "\
-Reads 1 to 64 words from standard input, each as five hex digits up to 3FFFF, between spaces, tabs
-and line ends. Writes a line 'node 000', and for each word a line: a word of code in brackets, and a
-follower of it or a word of data behind a comma. Where there is data, a line 'data' stands before it.
-It is source text, of which asm makes the same words.
+Reads 1 to 64 words from standard input, each as five hex digits up to 3FFFF, separated by spaces, tabs
+or line ends. Writes a line 'node 000', and a line for each word: a word of code in brackets, a follower
+or a word of data behind a comma. A line 'data' comes before the data, if there is any. The output is
+source text, from which asm makes the same words.
 
 Example: echo 05872 2C9B2 00001 | ga-bench dis --code 2
 More: Source text in docs/FORMATS.md";
@@ -31,16 +31,14 @@ pub fn command<'a>(alloc: Global) -> Result<Command<'a>, AllocError>
     let code = Arg::new(alloc, "N")
         .long("code")
         .value_parser(value_parser!(u32).range(0..=i64::from(CODE_LIMIT)))
-        .help(
-            "How many words are code, from 0 to 64; the others are data. By default all are code",
-        );
+        .help("How many words are code, from 0 to 64; the rest are data. By default all are code");
     Command::new(alloc, "dis")
         .about("Prints words as source text")
         .after_help(HELP)
         .arg(code)
 }
 
-/// The job that the arguments of `dis` ask for.
+/// The job for the arguments of `dis`.
 pub fn job_of(alloc: Global, found: &ArgMatches<'_>) -> Result<Job, LineError>
     ensures in_range { IfOk result InRange }
     ensures asked { IfOk result (AsksFor (codes "dis", rows_of (found_of found.now))) }

@@ -12,9 +12,9 @@ use ga_jobs::Job;
 use std::alloc::{AllocError, Global};
 
 const HELP: &str = "\
-Writes what a name means that the program writes, with an example that has it and the mended one; without
-NAME the names, one on a line: faults, what a node needs, why it stopped, its carry, and what comes of
-a try. Reads no input.
+Explains a name that the program writes, with an example, and for an error a fixed one. Without NAME it
+lists the names, one on a line: errors, needs and stops of a node, outcomes of a try, and terms. Reads no
+input.
 
 Example: ga-bench explain BadToken
 More: docs/FORMATS.md and docs/CHIP.md";
@@ -24,14 +24,14 @@ More: docs/FORMATS.md and docs/CHIP.md";
 pub fn command<'a>(alloc: Global) -> Result<Command<'a>, AllocError>
     ensures { IfOk result (IsCommandOf explain_command) }
 {
-    let name = Arg::new(alloc, "NAME").help("The name, as the program writes it, or carry");
+    let name = Arg::new(alloc, "NAME").help("The name, as the program writes it, or a term");
     Command::new(alloc, "explain")
-        .about("Tells what the name of a fault, a need, a stop, an outcome or the carry means")
+        .about("Explains an error, a state or a term")
         .after_help(HELP)
         .arg(name)
 }
 
-/// The job that the arguments of `explain` ask for.
+/// The job for the arguments of `explain`.
 pub fn job_of(alloc: Global, found: &ArgMatches<'_>) -> Result<Job, LineError>
     ensures in_range { IfOk result InRange }
     ensures asked { IfOk result (AsksFor (codes "explain", rows_of (found_of found.now))) }
@@ -42,7 +42,7 @@ pub fn job_of(alloc: Global, found: &ArgMatches<'_>) -> Result<Job, LineError>
     Ok(Job::Explain { topic })
 }
 
-/// The topic that the arguments of `explain` name, where they name one.
+/// The topic that the arguments of `explain` name, if they name one.
 fn topic_of(alloc: Global, found: &ArgMatches<'_>) -> Result<Option<Topic>, LineError>
     ensures in_range { IfOk result IsOfTable }
     ensures topic { IfOk result (IsTopicAt (rows_of (found_of found.now))) }

@@ -5,7 +5,7 @@ ghost use Rattle.ga_command_line.specs.File.{IsFileAt};
 use clap::ArgMatches;
 use std::alloc::{AllocError, Global};
 
-/// The file that the arguments name, where they name one.
+/// The file that the arguments name, if they name one.
 pub fn file_in(alloc: Global, found: &ArgMatches<'_>) -> Result<Option<String>, AllocError>
     ensures { IfOk result (λ file. IsFileAt (rows_of (found_of found.now))
         (option_map string_bytes file)) }

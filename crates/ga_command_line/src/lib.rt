@@ -1,5 +1,5 @@
-//! The command line of the bench: the job that its words name. A subcommand with arguments reads
-//! them in a module of its name; this file lists all subcommands, and has those without.
+//! The command line of the bench: the job that its words name. A subcommand with arguments has a
+//! module of its name; this file lists all subcommands, and has those without arguments.
 #![tactic(auto)]
 
 ghost use Rattle.std.specs.Prelude.{◌≡◌, IfErr, IfOk};
@@ -44,13 +44,13 @@ fn subcommands<'a>(alloc: Global) -> [Result<Command<'a>, AllocError>; 11]
         plain(
             alloc,
             "debug",
-            "Does commands on a chip that source text is loaded into, and prints the replies",
+            "Loads source text into a chip, runs commands on it, and prints the replies",
             DEBUG_HELP,
         ),
         plain(
             alloc,
             "replay",
-            "Does the commands of a replay text, and compares what comes of them",
+            "Runs the commands of a replay text, and compares their results",
             REPLAY_HELP,
         ),
         list::command(alloc),
@@ -73,7 +73,7 @@ fn plain<'a>(
     Ok(command)
 }
 
-/// The job that a subcommand with these arguments names.
+/// The job of a subcommand with these arguments.
 fn job_named(alloc: Global, name: &str, found: &ArgMatches<'_>) -> Result<Job, LineError>
     ensures in_range { IfOk result InRange }
     ensures named { IfOk result (AsksFor (name.now, rows_of (found_of found.now))) }
@@ -99,41 +99,41 @@ fn job_named(alloc: Global, name: &str, found: &ArgMatches<'_>) -> Result<Job, L
 
 const ASM_HELP: &str = "\
 Reads source text from standard input: for each node `node`, its name in three digits, and its items.
-Writes for each node a line with its entry, how many of its words are code and how many there are, and
-its words, eight on a line.
+Writes for each node a line with its entry, the number of its words of code and of all its words, and
+then the words, eight on a line.
 
 Example: echo 'node 709 main: $5 $7 + @b' | ga-bench asm
 More: Source text in docs/FORMATS.md";
 
 const DEBUG_HELP: &str = "\
-Reads from standard input a replay text whose commands state nothing: the line 'profile 2', the line
-'place' or 'route' and a ROUTE as of boot, source text, the line 'go', and commands.
-Writes the reply to each command, or 'refused' and why, and goes on.
+Reads a session from standard input: the line 'profile 2'; the line 'place', or 'route' and a ROUTE as
+for boot; source text; the line 'go'; and commands.
+Writes the reply to each command, or 'refused' and the reason, and goes on.
 
   break NNN HHH   node NNN, three digits, is held before it fetches at address HHH, three hex digits
-  clear NNN HHH   it is held there no more
+  clear NNN HHH   it isn't held there any more
   pass NNN        a node that is held isn't held at its next fetch
-  try NNN SIDE    one try of the node, for the side r, d, l or u where it reads at several ports
-  turn K          K turns, to 1000000: each tries all 144 nodes once, with the side right, down, left,
-                  up, and again, beginning with right. 'moved 0' of fewer than four turns doesn't show
-                  that all nodes stand still
-  regs NNN        the node's registers; mem NNN its memory, ports NNN how many words went through
-                  each of its ports
+  try NNN SIDE    one try of the node; in a multiport read it takes from the side r, d, l or u
+  turn K          K turns, up to 1000000: each tries all 144 nodes once. The turns' sides are right,
+                  down, left, up, and again. Use at least 4 turns: fewer don't look at every port, so
+                  'moved 0' doesn't show that no node can move
+  regs NNN        the node's registers; mem NNN its memory; ports NNN how many words it wrote at each
+                  port, and how many of them were read
 
 Example: printf 'profile 2\\nplace\\nnode 000 .\\ngo\\nturn 4\\nregs 000\\n' | ga-bench debug
 More: docs/GUIDE.md, and Sessions in docs/FORMATS.md";
 
 const REPLAY_HELP: &str = "\
-Reads from standard input a replay text: the line 'profile 2' or 'profile 1', the line 'place' or
-'route' and a ROUTE as of boot, source text, the line 'go', and commands with what comes of them. Does
-the commands, and writes 'same' and how many stated outcomes were compared, where all of them hold. With
+Reads a replay text from standard input: the line 'profile 2' or 'profile 1'; the line 'place', or
+'route' and a ROUTE as for boot; source text; the line 'go'; and commands with their results. Runs the
+commands, and writes 'same' and the number of results that were compared, if all are right. With
 'profile 1' a node that is about to fetch with bit 9 of P set counts as stopped.
 
   break NNN HHH, clear NNN HHH, pass NNN   as debug has them
   try NNN SIDE = OUTCOME                   OUTCOME is moved, waits, held or stopped
   turn K = STEPS                           STEPS is how many steps the turns make
 
-Steps, outcomes and breakpoints are compared, and no data: a session of debug shows data.
+It compares steps, outcomes and breakpoints, but no data. Use debug to see data.
 
 Example: printf 'profile 2\\nplace\\nnode 000 .\\ngo\\nturn 4 = 4\\n' | ga-bench replay
 More: docs/GUIDE.md, and Replay texts in docs/FORMATS.md";

@@ -7,7 +7,7 @@ use clap::ArgMatches;
 use clap::error::ErrorKind;
 use std::alloc::Global;
 
-/// The number of an argument, from a least to a most one.
+/// The number of an argument, from `least` to `most`.
 pub fn number_of(
     alloc: Global,
     found: &ArgMatches<'_>,
@@ -26,10 +26,10 @@ pub fn number_of(
     }
 }
 
-/// The number of an argument that may be left out, from a least to a most one.
+/// The number of an argument that may be left out, from `least` to `most`.
 ///
-/// Its range is looked at once more, since what clap promises of a value is about the words before
-/// a subcommand.
+/// The range is checked again, since clap's contract promises it only for words before a
+/// subcommand.
 pub fn number_if(
     alloc: Global,
     found: &ArgMatches<'_>,

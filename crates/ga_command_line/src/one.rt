@@ -11,15 +11,16 @@ use clap::{Arg, ArgMatches, Command, value_parser};
 use ga_jobs::Job;
 use std::alloc::{AllocError, Global};
 
-/// The most tries that a job may ask for.
+/// The largest number of tries of a job.
 const TRIES_LIMIT: u32 = 1_000_000;
 
 const HELP: &str = "\
-Reads 1 to 64 words from standard input, each as five hex digits up to 3FFFF, between spaces, tabs
-and line ends. They stand in the memory of node 000 from address 000 on, where it begins.
-A try is one step where the node needs nothing from outside, and else nothing.
+Reads 1 to 64 words from standard input, each as five hex digits up to 3FFFF, separated by spaces, tabs
+or line ends. They are put into the memory of node 000 from address 000 on, where the node starts.
+A try is one step if the node needs nothing from outside. Otherwise it does nothing.
 
-Writes one line: the registers of the node, its place, its steps, and its need for the next one.
+Writes one line: the registers of the node, its place, the number of its steps, and its need for the
+next one.
 
 Example: echo 04A12 00005 00003 2C9B2 | ga-bench one 5
 More: docs/CHIP.md, and The line in docs/FORMATS.md";
@@ -39,7 +40,7 @@ pub fn command<'a>(alloc: Global) -> Result<Command<'a>, AllocError>
         .arg(tries)
 }
 
-/// The job that the arguments of `one` ask for.
+/// The job for the arguments of `one`.
 pub fn job_of(alloc: Global, found: &ArgMatches<'_>) -> Result<Job, LineError>
     ensures in_range { IfOk result InRange }
     ensures asked { IfOk result (AsksFor (codes "one", rows_of (found_of found.now))) }

@@ -10,8 +10,8 @@ use ga_jobs::Job;
 use std::alloc::{AllocError, Global};
 
 const HELP: &str = "\
-Reads a transcript, as check does, and writes it with the replies that come in the place of those that
-it has. So write commands, each behind '> ', record them, read what came, and keep it for check.
+Reads a transcript, as check does, and writes it with the actual replies in place of those in it. Write
+commands, each behind '> ', record them, read the replies, and keep the output as a test for check.
 
 Example: printf 'profile 2\\nplace\\nnode 000 .\\ngo\\n> turn 4\\n' | ga-bench record
 More: Transcripts in docs/FORMATS.md";
@@ -22,15 +22,15 @@ pub fn command<'a>(alloc: Global) -> Result<Command<'a>, AllocError>
     ensures { IfOk result (IsCommandOf (file_command (codes "record"))) }
 {
     let file = Arg::new(alloc, "FILE").help(
-        "The transcript; by default, or where it is -, standard input",
+        "The transcript; standard input by default or if it is -",
     );
     Command::new(alloc, "record")
-        .about("Writes a transcript with the replies that come")
+        .about("Runs the commands of a transcript, and writes it with their replies")
         .after_help(HELP)
         .arg(file)
 }
 
-/// The job that the arguments of `record` ask for.
+/// The job for the arguments of `record`.
 pub fn job_of(alloc: Global, found: &ArgMatches<'_>) -> Result<Job, AllocError>
     ensures in_range { IfOk result InRange }
     ensures asked { IfOk result (AsksFor (codes "record", rows_of (found_of found.now))) }

@@ -7,7 +7,7 @@ use clap::ArgMatches;
 use clap::error::ErrorKind;
 use std::alloc::Global;
 
-/// The argument ROUTE, as the text that it is: it is judged after the input.
+/// The argument ROUTE as text. It is read after the input, since the input's faults come first.
 pub fn route_at(alloc: Global, found: &ArgMatches<'_>) -> Result<String, LineError>
     ensures route { IfOk result (λ route. IsRouteAt (rows_of (found_of found.now))
         (string_bytes route)) }

@@ -1,8 +1,10 @@
-ghost use Rattle.std.specs.Prelude.{◌≡◌, ℕ, IfErr, IfOk, codes};
+ghost use Rattle.std.specs.Prelude.{◌≡◌, ◌≤◌, ℕ, IfErr, IfOk, codes};
 ghost use Rattle.clap.specs.Words.{Text, found_of, rows_of};
 ghost use Rattle.ga_command_line.specs.inner.Command.{IsCommandOf};
 ghost use Rattle.ga_command_line.specs.CommandLine.{AsksFor, InRange};
-ghost use Rattle.ga_command_line.specs.Run.{IsRunAt, IsRunInRange, routed_command, run_command, shared_command};
+ghost use Rattle.ga_command_line.specs.Number.{IsNumberAt};
+ghost use Rattle.ga_command_line.specs.Route.{IsRouteAt};
+ghost use Rattle.ga_command_line.specs.Run.{routed_command, run_command, shared_command};
 
 use crate::command_line::LineError;
 use crate::number::number_of;
@@ -11,21 +13,20 @@ use clap::{Arg, ArgMatches, Command, value_parser};
 use ga_jobs::Job;
 use std::alloc::{AllocError, Global};
 
-/// The most workers that a job may ask for, one for each node of the chip.
+/// The most workers of a job, one for each node of the chip.
 const WORKERS_LIMIT: u32 = 144;
 
-/// The most turns that a job may ask for.
+/// The most turns of a job.
 const TURNS_LIMIT: u32 = 1_000_000;
 
 const HELP: &str = "\
-Reads source text from standard input, as asm does. On a chip after reset, the first node is given the
-boot stream that boot prints, and the nodes of the routes, as ROUTE first names them, are tried by
-workers: the first node by worker 0, the next by worker 1, and so on, and behind the last worker by
-worker 0 again. In each turn each worker tries each of its nodes once, with the side right, down, left,
-up, and again. Nodes off the routes are never tried.
+Reads source text from standard input, as asm does. It feeds the boot stream, as boot prints it, to the
+first node of a chip after reset. Workers, each a thread, run the nodes of the routes. The nodes are
+assigned to them round robin, in the order in which ROUTE names them. In each turn each worker tries each
+of its nodes once. The turns' sides are right, down, left, up, and again. Other nodes are never tried.
 
-Writes for each of these nodes its registers and stacks, and how many words it has written at each
-side, those of the boot too.
+Writes for each of these nodes its registers and stacks, and how many words it wrote at each port and how
+many of them were read, including those of the boot.
 
 Example: echo 'node 709 main: $5 $7 + @b' | ga-bench run 708,709 1 200
 More: docs/GUIDE.md, and Dumps in docs/FORMATS.md";
@@ -38,7 +39,7 @@ pub fn command<'a>(alloc: Global) -> Result<Command<'a>, AllocError>
     let turns = Arg::new(alloc, "TURNS")
         .required(true)
         .value_parser(value_parser!(u32).range(0..=i64::from(TURNS_LIMIT)))
-        .help("How many turns they make, from 0 to 1000000");
+        .help("How many turns each worker makes, from 0 to 1000000");
     let command = shared_command(alloc)?;
     command.arg(turns)
 }
@@ -56,27 +57,30 @@ fn shared_command<'a>(alloc: Global) -> Result<Command<'a>, AllocError>
     command.arg(workers)
 }
 
-/// The subcommand with ROUTE alone.
+/// The subcommand with only ROUTE.
 #[tactic(auto, unfolding(crate::specs::Run::routed_command))]
 fn routed_command<'a>(alloc: Global) -> Result<Command<'a>, AllocError>
     ensures { IfOk result (IsCommandOf routed_command) }
 {
     let route = Arg::new(alloc, "ROUTE").required(true).help(
-        "Node names with commas between them, from an edge node on; or several such routes with / between them",
+        "Node names with commas between them, from an edge node on, or several such routes with / between them",
     );
     Command::new(alloc, "run")
-        .about("Boots a route or a tree, runs its nodes by workers, and prints them")
+        .about("Boots a route or a tree, runs its nodes in threads, and prints them")
         .after_help(HELP)
         .arg(route)
 }
 
-/// The run that the arguments of `run` ask for.
+/// The job for the arguments of `run`.
 pub fn job_of(alloc: Global, found: &ArgMatches<'_>) -> Result<Job, LineError>
     ensures in_range { IfOk result InRange }
     ensures asked { IfOk result (AsksFor (codes "run", rows_of (found_of found.now))) }
     ensures right { IfErr result (λ error. (route : Text) (workers turns : ℕ)
-        → IsRunInRange workers turns
-        → IsRunAt (rows_of (found_of found.now)) route workers turns → error ≡ LineError.Memory) }
+        → ((1 ≤ workers) × (workers ≤ 144)) × (turns ≤ 1000000)
+        → IsRouteAt (rows_of (found_of found.now)) route
+        × IsNumberAt (codes "WORKERS") (rows_of (found_of found.now)) workers
+        × IsNumberAt (codes "TURNS") (rows_of (found_of found.now)) turns
+        → error ≡ LineError.Memory) }
 {
     let workers = number_of(alloc, found, "WORKERS", 1, WORKERS_LIMIT)?;
     let turns = number_of(alloc, found, "TURNS", 0, TURNS_LIMIT)?;

@@ -4,16 +4,16 @@ use std::alloc::{AllocError, Global};
 /// Where a stream is cut.
 #[derive(Clone, Copy)]
 pub enum Cut {
-    /// Behind so many words.
+    /// Behind this many words.
     Behind(usize),
     /// Behind each word.
     Everywhere,
-    /// Behind about one word of eight, as chance has it that begins with this number.
+    /// Behind about one word of eight, at random, from this seed.
     Chance(u64),
 }
 
 impl Cut {
-    /// Whether the stream is cut behind so many words, and how it goes on behind them.
+    /// Whether the stream is cut behind this word, and how it goes on.
     fn at(self, place: usize) -> (bool, Cut) {
         match self {
             Cut::Behind(only) => (place == only, self),

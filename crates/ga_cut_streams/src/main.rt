@@ -1,10 +1,10 @@
-//! Cuts a boot stream into pieces, so that a test sees that nothing comes of the cuts: neither to
-//! its frames nor to a chip.
+//! Cuts a boot stream into pieces, so that a test sees that the cuts change neither its frames nor
+//! a chip.
 //!
 //! The arguments are the name of the first node, which is given the stream, and the words of the
-//! stream, of five digits each. It writes one line: in how many ways the stream was cut and left
-//! its frames and the chip alike, or what differs first. Where the stream could not be cut the line
-//! tells why, and the status is 1.
+//! stream, of five digits each. It writes one line: the number of ways to cut the stream that left
+//! its frames and the chip alike, or the first difference. If the stream could not be cut the line
+//! is the reason, and the status is 1.
 #![tactic(auto)]
 
 mod cut;
@@ -23,7 +23,7 @@ use std::env;
 use std::process::ExitCode;
 use std::rt::Env;
 
-/// How many times chance cuts a stream.
+/// How many times a stream is cut at random.
 const CHANCES: u64 = 8;
 
 fn main(rt: HostRuntime) -> ExitCode {
@@ -36,7 +36,7 @@ fn main(rt: HostRuntime) -> ExitCode {
     }
 }
 
-/// Cuts the stream that the arguments name, and writes what came of it.
+/// Cuts the stream that the arguments name, and writes the result.
 fn tell_cuts<R: Env + AllocGlobal + Print>(rt: &R) -> Result<(), Fault> {
     let alloc = rt.alloc();
     let (node, words) = stream(rt)?;
@@ -62,7 +62,7 @@ fn tell_cuts<R: Env + AllocGlobal + Print>(rt: &R) -> Result<(), Fault> {
     Ok(())
 }
 
-/// The ways to cut a stream of so many words.
+/// The ways to cut a stream of this many words.
 fn cuts(alloc: Global, count: usize) -> Result<Vec<Cut>, Fault> {
     let mut cuts = Vec::new(alloc);
     cuts.push(Cut::Everywhere)?;

@@ -22,7 +22,7 @@ const TO_REST: u32 = 10_000;
 pub struct WholeRun {
     turns: u64,
     dump: String,
-    // Where the chip comes to rest.
+    // The dump of the chip at rest.
     rest: Option<String>,
 }
 
@@ -70,8 +70,8 @@ impl WholeRun {
         Ok(chip_text(alloc, &chip)? != self.dump)
     }
 
-    /// Whether the chip comes to rest otherwise where the stream is cut so, and each piece comes
-    /// late, so that the node waits for it. `None` where it comes to no rest.
+    /// Whether the chip comes to rest otherwise if the stream is cut so and each piece comes late,
+    /// so that the node waits for it. `None` if it comes to no rest.
     pub fn differs_late(
         &self,
         alloc: Global,
@@ -121,7 +121,7 @@ fn take_stream(chip: &mut Chip, node: Node) -> Result<u64, Fault> {
     Err(Fault::NotTaken)
 }
 
-/// Runs a chip until no node moves. Answers its dump then, or `None` where it comes to no rest.
+/// Runs a chip until no node moves. Answers its dump then, or `None` if it comes to no rest.
 fn dump_at_rest(alloc: Global, chip: &mut Chip) -> Result<Option<String>, AllocError> {
     for _ in 0..TO_REST {
         if chip.turns(4) == 0 {

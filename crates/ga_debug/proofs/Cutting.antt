@@ -14,7 +14,7 @@ no_cut separator text ascii h =
     slice_split_none (λ c. c == separator) text (λ k d within.
     fails_before_first (λ c. c == separator) text k d (subst (λ n. k < n) (sym none) within))
 
--- else the first piece stands before the first separator
+-- else the first piece is before the first separator
 pub first_cut : (separator : ℕ) (text : List ℕ) (piece behind : Bor (List ℕ)) → separator < 128
     → IsSplitOnceResult separator text (Some (piece, behind))
     → pieces separator text ≡ piece.now ∷ pieces separator behind.now

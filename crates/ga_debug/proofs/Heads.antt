@@ -8,7 +8,8 @@ use Rattle.ga_debug.specs.declared.replay_error.ReplayError.{ReplayError}
 use Rattle.ga_debug.specs.declared.replay_error.ReplayError.TheVariants.{BadRoute, Memory}
 use Rattle.ga_debug.specs.ReplayError.{FailsRightly}
 use Rattle.ga_debug.specs.inner.ReplayError.{Gives}
-use Rattle.ga_debug.specs.Head.{Loading, head_in, loaded_by, loading_in, up_to_go}
+use Rattle.ga_debug.specs.Head.{Loading, head_in, loaded_by, loading_by, up_to_go}
+use Rattle.ga_debug.specs.Command.{words_of}
 use Rattle.ga_debug.specs.Pieces.{pieces}
 use Rattle.ga_debug.specs.Profile.{profile_line}
 
@@ -17,11 +18,11 @@ pub nine : (profile : Profile) → length (profile_line profile) ≡ 9
 nine One = refl
 nine Two = refl
 
--- behind the profile stands the line that says how the chip is loaded
+-- behind the profile is the line of how the chip is loaded
 pub behind_two_lines : (profile : Profile) (text first line : List ℕ)
     (all others rest : List (List ℕ)) → all ≡ pieces 10 text → all ≡ first ∷ others
     → others ≡ line ∷ rest → first ≡ profile_line profile
-    → head_in profile text ≡ loaded_by (loading_in line) rest
+    → head_in profile text ≡ loaded_by (loading_by (words_of line)) rest
 unfolding head_in
 behind_two_lines One text first line all others rest whole one two is =
     rw (sym whole, one, two, is) refl

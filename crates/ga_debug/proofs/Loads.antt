@@ -36,7 +36,7 @@ chip_fails : (head : Head) (images : Images) (fault : ReplayError) → HasImages
 chip_fails head images Memory has made = tt
 chip_fails head images fault has made = inr (images, has, made)
 
--- the chip of the images of a head's source, or what is wrong with its routes, is that of the head
+-- the chip of the images of a head's source, or the fault of its routes, is that of the head
 pub chip_answers : (head : Head) (images : Images) (result : Result Chip ReplayError)
     → HasImages head.source images → Gives (λ chip. chip) result (chip_of head.loading images)
     → Answers (λ chip. chip) (IsChipOf head) result

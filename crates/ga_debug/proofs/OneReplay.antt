@@ -1,12 +1,13 @@
 -- Two answers to one replay text are equal.
 use Rattle.std.proofs.Common.{◌≡◌, ◌∙◌, ◌+◌, inl, inr, ℕ, List, Result, Ok, Err, ap, subst, sym}
+use Rattle.std.specs.Result.{result_map_both}
 use Rattle.ga_asm.specs.Text.{AtMostOne, HasImages}
 use Rattle.ga_asm.proofs.OneAnswer.{one_answer}
 use Rattle.ga_chip.specs.Chip.{Chip}
 use Rattle.ga_debug.specs.Beginning.{IsBeginning, IsBegun, IsChipOf, IsLoaded, Start, chip_of}
 use Rattle.ga_path.specs.Stream.{Images}
 use Rattle.ga_debug.specs.Head.{Head, head_in}
-use Rattle.ga_debug.specs.Replaying.{IsReplayed, IsReplayedAs, IsReplayedFrom, lines_on, replay_result}
+use Rattle.ga_debug.specs.Replaying.{IsReplayed, IsReplayedAs, IsReplayedFrom, fault_of_line, lines_on}
 use Rattle.ga_debug.specs.Profile.{profile_in}
 use Rattle.ga_debug.specs.declared.profile.Profile.{Profile}
 use Rattle.ga_debug.specs.declared.profile.Profile.TheVariants.{Two}
@@ -110,7 +111,8 @@ one_from profile text one other (chip, head, p, is) (chip', head', q, is') =
     let same : (chip, head) ≡ (chip', head') =
     cc (one_begun profile text (Ok (chip, head)) (Ok (chip', head')) p q) in
     sym is ∙ ap (λ (begun : Chip × Head).
-    replay_result (lines_on profile (begun.1.line + 1) 0 begun.0 begun.1.commands)) same ∙ is'
+    result_map_both (λ (count : ℕ). count) fault_of_line
+    (lines_on profile (begun.1.line + 1) 0 begun.0 begun.1.commands)) same ∙ is'
 
 -- a text that begins has no fault of its beginning
 begins : (profile : Profile) (text : List ℕ) (answer : Result ℕ ReplayError) (fault : ReplayError)

@@ -80,7 +80,7 @@ later_take_part chip index side below all other from within =
 counted : (moved steps rest all : ℕ) → all ≡ steps + rest → moved + steps + rest ≡ moved + all
 counted moved steps rest all e = omega arith
 
--- where it stops no node, its tries are those of a turn of the chip
+-- if it stops no node, its tries are those of a turn of the chip
 pub whole_turn : (left index moved : ℕ) (side : Side) (chip : Chip) → left + index ≡ 144
     → TakePart chip index → ◌≡◌ {A = ℕ × Chip} (tries_in_profile_1 left index side moved chip)
     (moved + length (moves chip (turn_left side index)), ran chip (turn_left side index))
@@ -175,7 +175,7 @@ still_tries (suc left) index side moved chip e =
 abbrev pub IsIdle : Chip → ℕ → Type 0
 IsIdle chip turn = ◌≡◌ {A = ℕ × Chip} (turn_in_profile_1 (side_of_turn turn) chip) (0, chip)
 
--- of the four turns from a number on, the last so many make no step
+-- of the four turns from a number on, the last ones make no step
 abbrev pub AreIdle : Chip → ℕ → ℕ → Type 0
 AreIdle chip turn idle = (ahead : ℕ) → 4 ≤ ahead + idle → ahead < 4 → IsIdle chip (turn + ahead)
 
@@ -216,7 +216,7 @@ idle_next chip next turn idle steps side is made none so_far =
 pub idle_none : (chip : Chip) (turn : ℕ) → AreIdle chip turn 0
 idle_none chip turn ahead reaches below = absurd (omega (arith, reaches, below))
 
--- where none of four turns makes a step, no later one does
+-- if none of four turns makes a step, no later one does
 idle_turns : (left turn moved : ℕ) (chip : Chip) → AreIdle chip turn 4
     → ◌≡◌ {A = ℕ × Chip} (turns_in_profile_1 left turn moved chip) (moved, chip)
 idle_turns zero turn moved chip idle = refl

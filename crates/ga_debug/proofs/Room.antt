@@ -7,7 +7,7 @@ room_least : (all : List (List ℕ)) → length all ≤ span all
 room_least [] = omega arith
 room_least (piece ∷ all) = omega (arith, room_least all)
 
--- behind a first line of so many characters
+-- behind a first line of this length
 pub lines_left : (separator : ℕ) (text first : List ℕ) (rest : List (List ℕ))
     → pieces separator text ≡ first ∷ rest → length first + length rest ≤ length text
 lines_left separator text first rest e =

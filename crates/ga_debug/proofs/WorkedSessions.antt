@@ -1,4 +1,4 @@
--- What texts and commands come to, worked out by hand.
+-- The results of texts and commands, worked out by hand.
 use Rattle.std.proofs.Common.{◌≡◌, ℕ, List, [], ◌∷◌, Option, Some, None, Result, Ok, Err, length, take, refl}
 use Rattle.std.specs.Prelude.{codes, option_map}
 use Rattle.std.specs.Option.{option_map_or}
@@ -186,7 +186,7 @@ replays = (refl, refl, refl)
 extended_000 : Chip
 extended_000 = placed reset_chip 0 (0x2C9B2 ∷ []) 0x200
 
--- a try of it is stopped, where the chip would move it, and a pass is refused
+-- a try of it is stopped, though the chip would move it, and a pass is refused
 stopped_000 : ((did_as One Try (of_node 0) extended_000).0 ≡ Ok (Tried Stopped))
     × ((did_as Two Try (of_node 0) extended_000).0 ≡ Ok (Tried outcome.Moved))
     × ((did_as One Pass (of_node 0) (happened extended_000 (SetBreak 0 0))).0 ≡ Err NotHeld)

@@ -1,5 +1,5 @@
 -- The chip after the head of a replay text.
-use Rattle.std.specs.Prelude.{◌≡◌, ◌⊎◌, ℕ, List, [], ◌∷◌, ◌++◌, Option, Some, None, Result, Ok, Err}
+use Rattle.std.specs.Prelude.{◌≡◌, ◌⊎◌, ℕ, List, [], ◌∷◌, ◌++◌, Some, None, Result, Ok, Err}
 use Rattle.std.specs.Option.{option_map_or}
 use Rattle.ga_asm.specs.Text.{HasImages, IsTextFault}
 use Rattle.ga_asm.specs.declared.text.TextError.{TextError}
@@ -12,9 +12,9 @@ use Rattle.ga_debug.specs.declared.beginning.Loaded.{Loaded}
 use Rattle.ga_debug.specs.declared.profile.Profile.{Profile}
 use Rattle.ga_debug.specs.declared.replay_error.ReplayError.{ReplayError}
 use Rattle.ga_debug.specs.declared.replay_error.ReplayError.TheVariants.{Boot}
+use Rattle.ga_debug.specs.Profile.{SESSION_PROFILE}
 use Rattle.ga_debug.specs.ReplayError.{fault_of_route, fault_of_text, fault_of_tree}
 use Rattle.ga_debug.specs.Head.{Head, Loading, head_in}
-use Rattle.ga_debug.specs.Profile.{SESSION_PROFILE}
 
 -- each image is placed in its node, with its entry
 abbrev pub all_placed : Images → Chip → Chip
@@ -23,18 +23,15 @@ all_placed (image ∷ images) chip =
     all_placed images
     (unless_refused (refusal chip image.0) (placed chip image.0 image.1.words image.1.entry) chip)
 
--- the chip after reset where a node is given a stream
-abbrev pub stream_chip : ℕ → List ℕ → Chip
-stream_chip node words =
-    unless_refused (stream_refusal reset_chip node) (streamed reset_chip node words) reset_chip
-
 -- a chip after reset that boots a tree: its root was given both parts of the boot stream, as one
 -- stream
 abbrev pub booted_tree : Images → TreeView → Chip
-booted_tree images tree = stream_chip tree.root (tree_load images tree ++ tree_start images tree)
+booted_tree images tree =
+    unless_refused (stream_refusal reset_chip tree.root)
+    (streamed reset_chip tree.root (tree_load images tree ++ tree_start images tree)) reset_chip
 
--- The chip that images are loaded into, or what is wrong: with a route, with the tree of the
--- routes, or that a node with an image isn't in the tree.
+-- The chip with images loaded into it, or the fault: that of a route, or of the tree of the routes,
+-- or that a node with an image isn't in the tree.
 abbrev pub chip_of : Loading → Images → Result Chip ReplayError
 chip_of None images = Ok (all_placed images reset_chip)
 chip_of (Some lists) images =

@@ -6,10 +6,9 @@ use Rattle.ga_word.specs.Hex.{hex_digits}
 use Rattle.ga_place.specs.Address.{where_is}
 use Rattle.ga_place.specs.Cell.{name_at}
 use Rattle.ga_place.specs.Node.{node_text}
-use Rattle.ga_place.specs.declared.address.Where.{Where}
 use Rattle.ga_place.specs.declared.address.Where.TheVariants as at
-use Rattle.ga_asm.specs.Image.{ImageView, image_of, label_at}
-use Rattle.ga_disasm.specs.Disassembling.{ItemView, Code, Follower, Data, items_of}
+use Rattle.ga_asm.specs.Image.{image_of, label_at}
+use Rattle.ga_disasm.specs.Disassembling.{Code, items_of}
 use Rattle.ga_path.specs.Stream.{Images}
 use Rattle.ga_chip.specs.Chip.{Chip, state_of}
 use Rattle.ga_chip.specs.Run.{has_break, stands_held}
@@ -26,15 +25,11 @@ abbrev pub label_of : Images → ℕ → ℕ → Option (List ℕ)
 label_of images name address =
     option_and_then (λ image. label_at image.labels address) (image_of images name)
 
-abbrev pub behind_space : Option (List ℕ) → List ℕ
-behind_space None = []
-behind_space (Some text) = 32 ∷ text
-
 -- a breakpoint: its node, the address, the label there, and whether the node is held there
 unfoldable pub break_line : Images → Chip → ℕ → ℕ → List ℕ
 break_line images chip name address =
     node_text name ++ codes " " ++ hex_digits 3 address
-    ++ behind_space (label_of images name address)
+    ++ option_map_or (λ label. 32 ∷ label) (label_of images name address) []
     ++ (if is_held_at chip name address then codes ", held\n" else codes "\n")
 
 abbrev pub break_at : Images → Chip → ℕ → ℕ → List ℕ
@@ -63,7 +58,7 @@ begins_no_instruction images name address =
           ]
     ]
 
--- what stands behind the reply to `break`
+-- the note behind the reply to `break`
 abbrev pub break_note : Images → ℕ → ℕ → List ℕ
 break_note images name address =
     if begins_no_instruction images name address then codes ", but no instruction begins there"

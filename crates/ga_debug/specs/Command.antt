@@ -1,5 +1,5 @@
 -- Which words are which command, or else which word is the first bad one.
-use Rattle.std.specs.Prelude.{ℕ, List, [], ◌∷◌, Option, Some, None, ok_or, option_map, Result, Ok, Err, if◌then◌else◌}
+use Rattle.std.specs.Prelude.{ℕ, List, [], ◌∷◌, Option, Some, None, ok_or, option_map, Result, Ok, Err}
 use Rattle.std.specs.Option.{option_and_then, option_or}
 use Rattle.ga_asm.specs.Image.{image_of}
 use Rattle.ga_pack.specs.Model.Layout as laid
@@ -14,7 +14,6 @@ use Rattle.ga_debug.specs.declared.row.Scope.{Scope}
 use Rattle.ga_debug.specs.declared.row.Scope.TheVariants.{Sessions, Transcripts}
 use Rattle.ga_debug.specs.declared.row.Shape.{Shape}
 use Rattle.ga_debug.specs.declared.row.Shape.TheVariants.{Node, Address, Side, Count, CountIf}
-use Rattle.ga_debug.specs.declared.commands.Verb.{Verb}
 use Rattle.ga_debug.specs.Pieces.{pieces}
 use Rattle.ga_debug.specs.Commands.{verb_named, verb_row}
 use Rattle.ga_debug.specs.Word.{address_of, count_of, side_of}
@@ -22,7 +21,7 @@ use Rattle.ga_debug.specs.Word.{address_of, count_of, side_of}
 abbrev pub Words : Type 0
 Words = List (List ℕ)
 
--- the words of a line: one space stands between two
+-- the words of a line, with one space between two
 abbrev pub words_of : List ℕ → Words
 words_of line = pieces 32 line
 
@@ -94,11 +93,8 @@ abbrev pub whole : {A : Type 0} → A → Words → Result A DebugError
 whole value [] = Ok value
 whole value (word ∷ rest) = Err BadCommand
 
--- A line is one of a transcript, whose head has these images, or else of a session.
-abbrev pub Line : Type 0
-Line = Option Images
-
--- the command that a line is, or its first fault
-unfoldable pub command_in : Line → List ℕ → Result Command DebugError
+-- The command that a line is, or its first fault. With images, those of its head, the line is one
+-- of a transcript, else of a session.
+unfoldable pub command_in : Option Images → List ℕ → Result Command DebugError
 command_in None line = then_with (command_first Sessions [] (words_of line)) whole
 command_in (Some images) line = then_with (command_first Transcripts images (words_of line)) whole

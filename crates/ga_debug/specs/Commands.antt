@@ -5,7 +5,6 @@ use Rattle.std.specs.Option.{option_and_then, option_map_or, option_or}
 use Rattle.std.specs.Str.{bytes_eq}
 use Rattle.ga_place.specs.declared.side.Side.TheVariants.{Right}
 use Rattle.ga_node.specs.Line.{line_of}
-use Rattle.ga_chip.specs.declared.error.ChipError.{ChipError}
 use Rattle.ga_chip.specs.Chip.{Chip, state_of, tried, unless_held}
 use Rattle.ga_chip.specs.Run.{ClearBreak, PassBreak, SetBreak, happened, moves, ran, turns_of}
 use Rattle.ga_dump.specs.Ledger.{ledger_dump}
@@ -30,7 +29,7 @@ use Rattle.ga_debug.specs.declared.row.Shape.TheVariants as shape
 use Rattle.ga_debug.specs.declared.row.States.TheVariants.{Nothing, Outcome, Steps}
 use Rattle.ga_debug.specs.Breaks.{break_note, breaks_text}
 use Rattle.ga_debug.specs.Row.{Row, is_seen_by, row}
-use Rattle.ga_debug.specs.Until.{after_until, until_reached}
+use Rattle.ga_debug.specs.Until.{until_done}
 use Rattle.ga_debug.specs.Word.{outcome_text}
 
 -- ---- the rows
@@ -81,7 +80,7 @@ abbrev pub did : Action → Arguments → Chip → Result Answer DebugError × C
 did Break given chip = (Ok Done, happened chip (SetBreak given.node given.address))
 did Clear given chip = (Ok Done, happened chip (ClearBreak given.node given.address))
 did Pass given chip =
-    -- it is refused where a try wouldn't be held
+    -- it is refused if a try wouldn't be held
     (
       option_map_or (λ fault. Err NotHeld) (unless_held (tried chip given.node Right).0) (Ok Done),
       happened chip (PassBreak given.node),
@@ -90,10 +89,8 @@ did Try given chip =
     (Ok (Tried (tried chip given.node given.side).0), (tried chip given.node given.side).1)
 did Turn given chip =
     (Ok (Moved (length (moves chip (turns_of given.count)))), ran chip (turns_of given.count))
-did Until given chip = (
-  Ok (Reached (until_reached given.node given.address given.count chip)),
-  after_until given.node given.address given.count chip,
-)
+did Until given chip =
+    let end = until_done given.node given.address given.count chip in (Ok (Reached end.0), end.1)
 
 -- an answer as text
 abbrev pub answer_text : Answer → List ℕ
@@ -104,7 +101,7 @@ answer_text (Reached (Some reached)) =
     codes "turns " ++ decimal reached.turns ++ codes " moved " ++ decimal reached.moved
 answer_text (Reached None) = codes "not reached"
 
--- what stands behind the answer of an action
+-- the note behind the answer of an action
 abbrev pub note_of : Images → Action → Arguments → List ℕ
 note_of images Break given = break_note images given.node given.address
 note_of images action given = []

@@ -1,4 +1,4 @@
--- What stands in front of the commands of a replay text.
+-- The head of a replay text: all that comes before its commands.
 use Rattle.std.specs.Prelude.{ℕ, ◌+◌, List, [], ◌∷◌, ◌++◌, codes, Option, Some, None, option_map, Result, Ok, Err, if◌then◌else◌}
 use Rattle.std.specs.Str.{bytes_eq}
 use Rattle.ga_pack.specs.Model.Text.{lines_of}
@@ -9,7 +9,7 @@ use Rattle.ga_debug.specs.declared.profile.Profile.{Profile}
 use Rattle.ga_debug.specs.Command.{words_of}
 use Rattle.ga_debug.specs.Profile.{profile_line}
 
--- how the chip is loaded: None where each image is placed, or the nodes of each route along which a
+-- how the chip is loaded: None if each image is placed, or the nodes of each route along which a
 -- stream goes
 abbrev pub Loading : Type 0
 Loading = Option (List (List ℕ))
@@ -21,9 +21,6 @@ loading_by (word ∷ []) = if bytes_eq word (codes "place") then Some None else 
 loading_by (word ∷ names ∷ []) =
     if bytes_eq word (codes "route") then option_map Some (routes_in names) else None
 loading_by words = None
-
-abbrev pub loading_in : List ℕ → Option Loading
-loading_in line = loading_by (words_of line)
 
 pub record Head : Type 0 where
   pub loading : Loading
@@ -52,7 +49,7 @@ loaded_by (Some loading) lines = up_to_go loading 3 lines
 
 abbrev pub behind_profile : List (List ℕ) → Result Head ReplayError
 behind_profile [] = Err BadRoute
-behind_profile (line ∷ lines) = loaded_by (loading_in line) lines
+behind_profile (line ∷ lines) = loaded_by (loading_by (words_of line)) lines
 
 abbrev pub head_by : Profile → List (List ℕ) → Result Head ReplayError
 head_by profile [] = Err BadProfile

@@ -13,4 +13,3 @@ pub mod Head
 pub mod Beginning
 pub mod Replaying
 pub mod inner
-pub mod Laws

@@ -2,6 +2,6 @@
 use Rattle.std.specs.Prelude.{ℕ, ◌==◌, List}
 use Rattle.std.specs.List.{slice_split}
 
--- what stands before, between and behind such bytes
+-- the parts before, between and behind such bytes
 abbrev pub pieces : ℕ → List ℕ → List (List ℕ)
 pieces separator text = slice_split (λ c. c == separator) text

@@ -1,5 +1,5 @@
--- The profiles of replay texts. Profile 2 is the chip as it is. Profile 1 is the chip without
--- extended mode: a node that is about to fetch with bit 9 of P set counts as stopped.
+-- The profiles of replay texts. Profile 2 is the chip. Profile 1 is the chip without extended mode:
+-- a node that is about to fetch with bit 9 of P set counts as stopped.
 use Rattle.std.specs.Prelude.{ℕ, zero, suc, ◌+◌, Bool, false, ◌&&◌, List, [], codes, get_or, Result, Ok, Err, if◌then◌else◌}
 use Rattle.std.specs.Option.{option_map_or}
 use Rattle.std.specs.Str.{bytes_eq}
@@ -32,7 +32,7 @@ abbrev pub profile_line : Profile → List ℕ
 profile_line One = codes "profile 1"
 profile_line Two = codes "profile 2"
 
--- the profile of a text: 1 where its first line says so, and else 2
+-- the profile of a text: 1 if its first line is `profile 1`, else 2
 unfoldable pub profile_in : List ℕ → Profile
 profile_in text = if bytes_eq (get_or (lines_of text) 0 []) (profile_line One) then One else Two
 
@@ -49,8 +49,8 @@ abbrev pub tried_in_profile_1 : Chip → ℕ → Side → Outcome × Chip
 tried_in_profile_1 chip name side =
     if is_left_out chip name then (outcome.Stopped, chip) else tried chip name side
 
--- tries of so many nodes in order of name, from an index on, behind so many steps: the steps and
--- the chip
+-- tries of a number of nodes in order of name, from an index on, added to a number of steps: the
+-- steps and the chip
 unfoldable pub tries_in_profile_1 : ℕ → ℕ → Side → ℕ → Chip → ℕ × Chip
 tries_in_profile_1 zero index side moved chip = (moved, chip)
 tries_in_profile_1 (suc left) index side moved chip =
@@ -61,7 +61,7 @@ tries_in_profile_1 (suc left) index side moved chip =
 abbrev pub turn_in_profile_1 : Side → Chip → ℕ × Chip
 turn_in_profile_1 side chip = tries_in_profile_1 144 0 side 0 chip
 
--- turns, so many, of which the first has a number, behind so many steps
+-- a number of turns, of which the first has a number, added to a number of steps
 abbrev pub turns_in_profile_1 : ℕ → ℕ → ℕ → Chip → ℕ × Chip
 turns_in_profile_1 zero turn moved chip = (moved, chip)
 turns_in_profile_1 (suc left) turn moved chip =

@@ -1,12 +1,12 @@
 -- Which commands of a replay text hold.
-use Rattle.std.specs.Prelude.{◌≡◌, ◌⊎◌, ◌==◌, ℕ, ◌+◌, Bool, true, false, List, [], ◌∷◌, codes, Option, Some, None, ok_or, option_map, Result, Ok, Err, if◌then◌else◌}
+use Rattle.std.specs.Prelude.{◌≡◌, ◌⊎◌, ◌==◌, ℕ, ◌+◌, Bool, true, false, List, [], ◌∷◌, codes, ok_or, option_map, Result, Ok, Err, if◌then◌else◌}
+use Rattle.std.specs.Result.{result_map_both}
 use Rattle.std.specs.Str.{bytes_eq}
 use Rattle.ga_chip.specs.declared.outcome.Outcome as tried
 use Rattle.ga_chip.specs.declared.outcome.Outcome.TheVariants as outcome
 use Rattle.ga_chip.specs.Chip.{Chip}
 use Rattle.ga_debug.specs.declared.commands.Answer.{Answer}
 use Rattle.ga_debug.specs.declared.commands.Answer.TheVariants.{Done, Tried, Moved, Reached}
-use Rattle.ga_debug.specs.declared.command.Arguments.{Arguments}
 use Rattle.ga_debug.specs.declared.error.DebugError.{DebugError}
 use Rattle.ga_debug.specs.declared.error.DebugError.TheVariants.{BadCommand}
 use Rattle.ga_debug.specs.declared.profile.Profile.{Profile}
@@ -15,11 +15,9 @@ use Rattle.ga_debug.specs.declared.replay_error.ReplayError.TheVariants as text
 use Rattle.ga_debug.specs.declared.replaying.LineError.{LineError}
 use Rattle.ga_debug.specs.declared.replaying.LineError.TheVariants.{Bad, Differs}
 use Rattle.ga_debug.specs.declared.replaying.Statement.{Statement}
-use Rattle.ga_debug.specs.declared.commands.Action.{Action}
 use Rattle.ga_debug.specs.declared.row.Scope.TheVariants.{Replays}
 use Rattle.ga_debug.specs.declared.row.States.{States}
 use Rattle.ga_debug.specs.declared.row.States.TheVariants.{Nothing, Outcome, Steps}
-use Rattle.ga_debug.specs.declared.commands.Verb.{Verb}
 use Rattle.ga_debug.specs.declared.commands.Verb.TheVariants.{Act, Show}
 use Rattle.ga_debug.specs.Beginning.{IsBegun}
 use Rattle.ga_debug.specs.Command.{Words, command_first, then_with, whole, words_of}
@@ -84,8 +82,8 @@ comparisons (Tried outcome) = 1
 comparisons (Moved steps) = 1
 comparisons (Reached reached) = 0
 
--- One line, with its number: how many outcomes were compared, and the chip afterwards; or what is
--- wrong. A line without any character is skipped.
+-- One line, with its number: how many outcomes were compared, and the chip afterwards; or the
+-- fault. A line without any character is skipped.
 unfoldable pub line_on : Profile → ℕ → Chip → List ℕ → Result (ℕ × Chip) LineError
 line_on profile line chip [] = Ok (0, chip)
 line_on profile line chip (c ∷ text) =
@@ -100,7 +98,7 @@ line_on profile line chip (c ∷ text) =
           ]
     ]
 
--- lines from a number on, behind so many outcomes that were compared
+-- lines from a number on, behind a number of outcomes that were compared
 abbrev pub lines_on : Profile → ℕ → ℕ → Chip → List (List ℕ) → Result ℕ LineError
 lines_on profile line count chip [] = Ok count
 lines_on profile line count chip (text ∷ lines) =
@@ -109,22 +107,19 @@ lines_on profile line count chip (text ∷ lines) =
       | Err fault ↦ Err fault
     ]
 
-abbrev pub replay_result : Result ℕ LineError → Result ℕ ReplayError
-replay_result (Ok count) = Ok count
-replay_result (Err error) = Err (fault_of_line error)
-
--- what comes of the lines behind a head, in a profile
+-- the result of the lines behind a head, in a profile
 abbrev pub IsReplayedFrom : Profile → List ℕ → Result ℕ ReplayError → Type 0
 IsReplayedFrom profile text answer =
     (chip : Chip) × (head : Head) × IsBegun profile text (Ok (chip, head))
-    × (replay_result (lines_on profile (head.line + 1) 0 chip head.commands) ≡ answer)
+    × (result_map_both (λ count. count) fault_of_line
+    (lines_on profile (head.line + 1) 0 chip head.commands) ≡ answer)
 
 abbrev pub IsReplayedAs : Profile → List ℕ → Result ℕ ReplayError → Type 0
 IsReplayedAs profile text (Ok count) = IsReplayedFrom profile text (Ok count)
 IsReplayedAs profile text (Err fault) =
     IsBegun profile text (Err fault) ⊎ IsReplayedFrom profile text (Err fault)
 
--- How many stated outcomes of a text were compared, where all hold in the text's profile; or the
+-- How many stated outcomes of a text were compared, if all are right in the text's profile; or the
 -- first fault: of its head, or else of its commands.
 abbrev pub IsReplayed : List ℕ → Result ℕ ReplayError → Type 0
 IsReplayed text answer = IsReplayedAs (profile_in text) text answer

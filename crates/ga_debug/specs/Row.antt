@@ -1,4 +1,4 @@
--- What the row of a command says.
+-- The row of a command.
 use Rattle.std.specs.Prelude.{ℕ, Bool, true, false, List}
 use Rattle.ga_debug.specs.declared.row.Scope.{Scope}
 use Rattle.ga_debug.specs.declared.row.Scope.TheVariants.{Replays, Sessions, Transcripts}

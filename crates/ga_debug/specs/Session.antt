@@ -1,13 +1,11 @@
 -- What is replied to a line, and the chip afterwards.
-use Rattle.std.specs.Prelude.{ℕ, ◌-◌, ◌==◌, List, [], ◌++◌, codes, get_or, length, take, unwrap_or, Result, Ok, Err, if◌then◌else◌}
+use Rattle.std.specs.Prelude.{Option, ℕ, ◌-◌, ◌==◌, List, [], ◌++◌, codes, get_or, length, take, unwrap_or, Result, Ok, Err, if◌then◌else◌}
 use Rattle.ga_chip.specs.Chip.{Chip}
 use Rattle.ga_path.specs.Stream.{Images}
-use Rattle.ga_debug.specs.declared.command.Arguments.{Arguments}
 use Rattle.ga_debug.specs.declared.error.DebugError.{DebugError}
-use Rattle.ga_debug.specs.declared.commands.Verb.{Verb}
 use Rattle.ga_debug.specs.declared.commands.Verb.TheVariants.{Act, Show}
 use Rattle.ga_debug.specs.Commands.{answer_text, did, note_of, shown}
-use Rattle.ga_debug.specs.Command.{Line, command_in}
+use Rattle.ga_debug.specs.Command.{command_in}
 use Rattle.ga_debug.specs.Error.{fault_name}
 
 -- a text without the LF at its end
@@ -15,25 +13,26 @@ abbrev pub without_line_end : List ℕ → List ℕ
 without_line_end text =
     if get_or text (length text - 1) 0 == 10 then take (length text - 1) text else text
 
--- The reply to a line of a transcript or of a session, without an LF at its end, or why it is
--- refused; and the chip afterwards. A command that is refused changes nothing.
-abbrev pub verb_replied : Images → Verb → Arguments → Chip → Result (List ℕ) DebugError × Chip
-verb_replied images (Act action) given chip =
-    let done = did action given chip in (
-      elim done.0 [
-        | Ok answer ↦ Ok (answer_text answer ++ note_of images action given)
-        | Err fault ↦ Err fault
-      ],
-      done.1,
-    )
-verb_replied images (Show view) given chip =
-    (Ok (without_line_end (shown images view given chip)), chip)
-
-abbrev pub replied : Line → List ℕ → Chip → Result (List ℕ) DebugError × Chip
+-- The reply to a line, without an LF at its end, or why it is refused; and the chip afterwards. A
+-- command that is refused changes nothing. With images, those of its head, the line is one of a
+-- transcript, else of a session.
+abbrev pub replied : Option Images → List ℕ → Chip → Result (List ℕ) DebugError × Chip
 replied of line chip =
+    let images = unwrap_or of [] in
     elim (command_in of line) [
-      | Ok command ↦ verb_replied (unwrap_or of []) command.verb command.given chip
       | Err fault ↦ (Err fault, chip)
+      | Ok command ↦
+          elim command.verb [
+            | Show view ↦ (Ok (without_line_end (shown images view command.given chip)), chip)
+            | Act action ↦
+                let done = did action command.given chip in (
+                  elim done.0 [
+                    | Ok answer ↦ Ok (answer_text answer ++ note_of images action command.given)
+                    | Err fault ↦ Err fault
+                  ],
+                  done.1,
+                )
+          ]
     ]
 
 -- a refusal as text

@@ -15,16 +15,9 @@ until_from (suc left) turn moved node at chip =
     else until_from left (suc turn) (moved + length (moves chip (turn_of (side_of_turn turn)))) node
     at (ran chip (turn_of (side_of_turn turn)))
 
-abbrev pub reached_by : ℕ → ℕ → ℕ → Chip → Option Reached × Chip
-reached_by node at count chip = until_from count 0 0 node at (happened chip (SetBreak node at))
-
 -- How many turns it took and how often they moved nodes, if the node was held there; and the chip
--- afterwards.
-unfoldable pub until_reached : ℕ → ℕ → ℕ → Chip → Option Reached
-until_reached node at count chip = (reached_by node at count chip).0
-
--- the address is a breakpoint for that time, and behind it where it was one
-unfoldable pub after_until : ℕ → ℕ → ℕ → Chip → Chip
-after_until node at count chip =
-    let next = (reached_by node at count chip).1 in
-    if has_break chip node at then next else happened next (ClearBreak node at)
+-- afterwards. The address is a breakpoint for that time, and afterwards if it was one before.
+unfoldable pub until_done : ℕ → ℕ → ℕ → Chip → Option Reached × Chip
+until_done node at count chip =
+    let end = until_from count 0 0 node at (happened chip (SetBreak node at)) in
+    (end.0, if has_break chip node at then end.1 else happened end.1 (ClearBreak node at))

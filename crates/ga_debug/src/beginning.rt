@@ -1,8 +1,9 @@
-ghost use Rattle.std.specs.Prelude.{◌≡◌, ◌++◌, ◌+◌, ◌<◌, ◌^◌, ℕ, IfErr, IfOk, None, Some, length, option_map};
+ghost use Rattle.std.specs.Prelude.{◌≡◌, ◌++◌, ◌+◌, ◌<◌, ◌^◌, IfErr, IfOk, None, Some, length, option_map};
 ghost use Rattle.ga_asm.specs.Text.{AtMostOne};
 ghost use Rattle.ga_path.specs.Names.{lists_in};
 ghost use Rattle.ga_path.specs.Stream.{IsBootFault, unreached};
-ghost use Rattle.ga_debug.specs.Beginning.{IsBeginning, IsChipOf, IsLoaded, booted_tree, chip_of, start_view, stream_chip};
+ghost use Rattle.ga_chip.specs.Chip.{reset_chip, stream_refusal, streamed, unless_refused};
+ghost use Rattle.ga_debug.specs.Beginning.{IsBeginning, IsChipOf, IsLoaded, booted_tree, chip_of, start_view};
 ghost use Rattle.ga_path.specs.declared.error.BootError.TheVariants.{Memory};
 ghost use Rattle.ga_debug.specs.ReplayError.{Answers};
 ghost use Rattle.ga_debug.specs.inner.ReplayError.{Gives};
@@ -19,7 +20,7 @@ use ga_path::{Boot, BootError, Tree, boot_tree, routes_along};
 use ga_place::Node;
 use std::alloc::Global;
 
-/// What the head of a replay text leads to.
+/// The chip, the images and the lines of a replay text.
 #[derive(Drop)]
 pub struct Loaded<'a> {
     /// The chip, into which the images are loaded.
@@ -32,15 +33,15 @@ pub struct Loaded<'a> {
     pub lines: Pieces<'a>,
 }
 
-/// What the head of a replay text of profile 2 leads to, or the first fault. What stands behind the
-/// line `go` isn't looked at. It fails as [`ReplayError::Memory`] only where memory is refused.
-/// (The texts are this project's own: profile.)
+/// The chip and the images of the head of a replay text of profile 2, or the first fault. The lines
+/// behind `go` aren't read. Fails with [`ReplayError::Memory`] only when out of memory. (The texts
+/// are this project's own: profile.)
 #[tactic(auto, using(crate::proofs::OneReplay::one_loaded))]
 pub fn load<'a>(alloc: Global, text: &'a str) -> Result<Loaded<'a>, ReplayError>
     ensures loaded { Answers start_view (IsLoaded text.now) result }
     // the lines of a text can be counted
     ensures room { IfOk result (λ loaded. loaded.line + 1 + length loaded.lines < 2 ^ 64) }
-    // a text leads to one chip, or to one first fault
+    // a text has one chip, or one first fault
     ensures only { AtMostOne (IsLoaded text.now) }
 {
     let head = head_of(alloc, Profile::Two, text)?;
@@ -54,11 +55,9 @@ pub fn load<'a>(alloc: Global, text: &'a str) -> Result<Loaded<'a>, ReplayError>
     })
 }
 
-/// A session over the chip that the head of a replay text of profile 2 leads to, and the number of
-/// its line `go`, counted from 1; or the first fault. What stands behind the line `go` isn't looked
-/// at. It fails as
-/// [`ReplayError::Memory`] only where memory is refused. (The texts are this project's own:
-/// profile.)
+/// A session over the chip of the head of a replay text of profile 2, and the number of its line
+/// `go`, counted from 1; or the first fault. The lines behind `go` aren't read. Fails with
+/// [`ReplayError::Memory`] only when out of memory. (The texts are this project's own: profile.)
 #[tactic(auto, using(crate::proofs::OneReplay::one_beginning))]
 pub fn begin(alloc: Global, text: &str) -> Result<(Session, u64), ReplayError>
     ensures begun { Answers (λ begun. begun) (IsBeginning text.now) result }
@@ -70,7 +69,7 @@ pub fn begin(alloc: Global, text: &str) -> Result<(Session, u64), ReplayError>
     Ok((Session::new(chip), head.line))
 }
 
-/// The chip that a head leads to.
+/// The chip of a head.
 pub(crate) fn chip_after(alloc: Global, head: &Head<'_>) -> Result<Chip, ReplayError>
     ensures { Answers (λ chip. chip) (IsChipOf (head_view head.now)) result }
 {
@@ -116,8 +115,8 @@ fn routed_chip(alloc: Global, lists: &[Vec<Node>], images: &Images) -> Result<Ch
 
 /// A chip after reset that boots a tree: its root was given both parts of the boot stream, load and
 /// start, as one stream. A node that has an image and isn't in the tree is refused as
-/// [`BootError::Unreached`], the first in the images' order. It fails as [`BootError::Memory`] only
-/// where memory is refused.
+/// [`BootError::Unreached`], the first in the images' order. Fails with [`BootError::Memory`] only
+/// when out of memory.
 pub fn booted_tree(alloc: Global, tree: &Tree, images: &Images) -> Result<Chip, BootError>
     ensures chip { IfOk result (λ chip. chip ≡ booted_tree images.now tree.now) }
     ensures reached { IfOk result (λ _. unreached images.now tree.now.nodes ≡ None) }
@@ -127,11 +126,12 @@ pub fn booted_tree(alloc: Global, tree: &Tree, images: &Images) -> Result<Chip, 
     streamed_chip(alloc, tree.root(), parts)
 }
 
-/// A chip after reset where a node was given both parts of a boot stream, load and start, as one
+/// A chip after reset, with both parts of a boot stream, load and start, given to a node as one
 /// stream.
 fn streamed_chip(alloc: Global, root: Node, parts: Boot) -> Result<Chip, BootError>
     ensures chip { IfOk result (λ chip. chip
-        ≡ stream_chip root (parts.load.items ++ parts.start.items)) }
+        ≡ unless_refused (stream_refusal reset_chip root)
+        (streamed reset_chip root (parts.load.items ++ parts.start.items)) reset_chip) }
     ensures memory { IfErr result (λ error. error ≡ Memory) }
 {
     let mut stream = parts.load;

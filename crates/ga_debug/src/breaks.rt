@@ -1,6 +1,7 @@
-ghost use Rattle.std.specs.Prelude.{◌≡◌, ◌<◌, ◌++◌, ◌^◌, IfOk, OnOk, option_map, string_bytes};
+ghost use Rattle.std.specs.Prelude.{◌≡◌, ◌<◌, ◌++◌, ◌^◌, ◌∷◌, [], IfOk, OnOk, option_map, string_bytes};
+ghost use Rattle.std.specs.Option.{option_map_or};
 ghost use Rattle.ga_waits.specs.Label.{images_in};
-ghost use Rattle.ga_debug.specs.Breaks.{begins_no_instruction, behind_space, break_at, break_line, break_note, breaks_text, is_held_at, label_of, node_breaks};
+ghost use Rattle.ga_debug.specs.Breaks.{begins_no_instruction, break_at, break_line, break_note, breaks_text, is_held_at, label_of, node_breaks};
 
 use crate::address::Address;
 use ga_asm::{Images, label_at};
@@ -45,7 +46,7 @@ fn push_node_breaks(
     Ok(())
 }
 
-/// Adds the line of an address, where it is a breakpoint.
+/// Adds the line of an address, if it is a breakpoint.
 #[tactic(auto, unfolding(crate::specs::Breaks::break_line))]
 fn push_break_at(
     text: &mut String,
@@ -74,7 +75,7 @@ fn push_break_at(
 /// Adds a label behind a space.
 fn push_label(text: &mut String, label: Option<&str>) -> Result<(), AllocError>
     ensures { OnOk result (string_bytes text.new
-        ≡ string_bytes text.old ++ behind_space (option_map (λ label. label.now) label.entry)) }
+        ≡ string_bytes text.old ++ option_map_or (λ label. 32 ∷ label.now) label.entry []) }
 {
     if let Some(label) = label {
         write!(text, " {label}")?;
@@ -98,7 +99,7 @@ pub(crate) fn is_held_at(chip: &Chip, node: Node, address: u16) -> bool
     chip.is_held(node) && chip.state(node).p() % 512 == address
 }
 
-/// What stands behind the reply to `break`: whether an instruction begins at the address.
+/// The note behind the reply to `break`: whether an instruction begins at the address.
 pub(crate) fn break_note(
     alloc: Global,
     images: Option<&Images>,

@@ -13,7 +13,7 @@ use crate::word::{address_of, count_of, side_of};
 use ga_asm::Images;
 use ga_place::{Node, Side};
 
-/// What stands behind the name of a command. What no word gives is as in [`nothing`].
+/// The arguments of a command. An argument that no word gives is as in [`nothing`].
 #[derive(Clone, Copy)]
 pub(crate) struct Arguments {
     pub(crate) node: Node,

@@ -60,7 +60,7 @@ pub(crate) enum Verb {
     Show(View),
 }
 
-/// The command of this name, `None` where texts of this scope have none.
+/// The command of this name, `None` if texts of this scope have none.
 pub(crate) fn verb_named(scope: Scope, word: &[u8]) -> Option<Verb>
     ensures { result ≡ verb_named scope word.now }
 {
@@ -171,7 +171,7 @@ impl View {
     }
 }
 
-/// What an action answers.
+/// The answer of an action.
 #[derive(Clone, Copy)]
 pub(crate) enum Answer {
     /// It was done.
@@ -180,14 +180,14 @@ pub(crate) enum Answer {
     Tried(Outcome),
     /// How many steps turns made.
     Moved(u64),
-    /// What it took until a node was held, if it was.
+    /// The turns and moves until a node was held, if it was.
     Reached(Option<Reached>),
 }
 
 /// Room for every answer as text, with a note behind it.
 pub(crate) const ANSWER_LENGTH: usize = 60 + 34;
 
-/// Does an action. One that is refused leaves the chip as it was.
+/// Runs an action. A refused one leaves the chip as it was.
 pub(crate) fn perform(
     chip: &mut Chip,
     action: Action,
@@ -266,7 +266,7 @@ fn outcome_name(outcome: Outcome) -> &'static str
     }
 }
 
-/// What stands behind the answer of an action.
+/// The note behind the answer of an action.
 pub(crate) fn note_of(
     alloc: Global,
     images: Option<&Images>,

@@ -32,7 +32,7 @@ pub enum DebugError {
 }
 
 impl DebugError {
-    /// Its name, as replies tell it.
+    /// Its name, as replies show it.
     pub fn name(self) -> &'static str
         ensures { result.now ≡ fault_name self }
     {

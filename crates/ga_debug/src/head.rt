@@ -1,7 +1,8 @@
-ghost use Rattle.std.specs.Prelude.{◌≡◌, ◌+◌, ◌<◌, ◌^◌, IfOk, length, ok_or, option_map};
+ghost use Rattle.std.specs.Prelude.{◌+◌, ◌<◌, ◌^◌, IfOk, length, ok_or, option_map};
 ghost use Rattle.ga_path.specs.Names.{lists_in};
 ghost use Rattle.ga_debug.specs.inner.ReplayError.{Gives};
-ghost use Rattle.ga_debug.specs.Head.{Loading, head_in, loading_in, up_to_go};
+ghost use Rattle.ga_debug.specs.Head.{Loading, head_in, loading_by, up_to_go};
+ghost use Rattle.ga_debug.specs.Command.{words_of};
 ghost use Rattle.ga_debug.specs.inner.HeadView.{head_view, head_with};
 ghost use Rattle.ga_debug.specs.declared.replay_error.ReplayError.TheVariants.{BadRoute};
 
@@ -12,10 +13,10 @@ use ga_path::read_routes;
 use ga_place::Node;
 use std::alloc::Global;
 
-/// What stands in front of the commands of a replay text.
+/// The head of a replay text: all that comes before its commands.
 #[derive(Drop)]
 pub(crate) struct Head<'a> {
-    /// The nodes of each route along which the chip boots, or `None` where each image is placed.
+    /// The nodes of each route along which the chip boots, or `None` if each image is placed.
     pub(crate) routes: Option<Vec<Vec<Node>>>,
     /// The source lines, each ended by LF.
     pub(crate) source: String,
@@ -35,7 +36,7 @@ pub(crate) fn head_of<'a>(
     ensures head { Gives head_view result (head_in profile text.now) }
     ensures room { IfOk result (λ head. head.line + 1 + length head.lines < 2 ^ 64) }
 {
-    // From the text's length the proof has that its lines can be counted.
+    // From the text's length the proof gets that its lines can be counted.
     let _length = text.len();
     let mut lines = Pieces::new(text, '\n');
     let Some(first) = lines.next() else {
@@ -57,7 +58,7 @@ pub(crate) fn head_of<'a>(
     })
 }
 
-/// The source lines up to the line `go`, and its number, where the first line has the number 3.
+/// The source lines up to the line `go`, and its number; the first line has the number 3.
 fn source_of(alloc: Global, lines: &mut Pieces<'_>) -> Result<(String, u64), ReplayError>
     requires { 4 + length lines.old < 2 ^ 64 }
     ensures head { (loading : Loading)
@@ -81,7 +82,7 @@ fn source_of(alloc: Global, lines: &mut Pieces<'_>) -> Result<(String, u64), Rep
 /// How the chip is loaded, by the words of the second line.
 fn loading_of(alloc: Global, line: &str) -> Result<Option<Vec<Vec<Node>>>, ReplayError>
     ensures { Gives (λ routes. option_map (λ list. lists_in list.items) routes) result
-        (ok_or (loading_in line.now) BadRoute) }
+        (ok_or (loading_by (words_of line.now)) BadRoute) }
 {
     let mut words = Pieces::new(line, ' ');
     match (words.next(), words.next(), words.next()) {

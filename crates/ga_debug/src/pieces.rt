@@ -1,8 +1,8 @@
 use std::marker::Model;
 
-/// What stands between a separator in a text, from the front: the words of a line, or the lines of
-/// a text. Two separators side by side have an empty piece between them, and a separator at an end
-/// of the text has one there. A contract sees the pieces that are left.
+/// The parts of a text between separators, from the front: the words of a line, or the lines of a
+/// text. Two separators side by side have an empty piece between them, and a separator at an end of
+/// the text has one there. A contract sees the pieces that are left.
 #[derive(Drop)]
 pub struct Pieces<'a> {
     rest: Option<&'a str>,
@@ -55,6 +55,8 @@ impl<'a> Iterator for Pieces<'a> {
 
     ghost remaining = { item_count (λ left. left) };
 
+    // each line of a replay takes some five pieces
+    #[inline(always)]
     fn next(&mut self) -> Option<&'a str> {
         let text = self.rest?;
         match text.split_once(self.separator) {

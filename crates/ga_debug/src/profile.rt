@@ -18,7 +18,7 @@ pub(crate) enum Profile {
     /// The chip without extended mode: a node that is about to fetch with bit 9 of P set counts as
     /// stopped.
     One,
-    /// The chip as it is.
+    /// The chip itself.
     Two,
 }
 
@@ -34,7 +34,7 @@ impl Profile {
     }
 }
 
-/// The profile of a text: the first where its first line says so, and else the second.
+/// The profile of a text: the first if its first line is `profile 1`, else the second.
 #[tactic(auto, unfolding(crate::specs::Profile::profile_in))]
 pub(crate) fn profile_of(text: &str) -> Profile
     ensures { result ≡ profile_in text.now }
@@ -46,7 +46,7 @@ pub(crate) fn profile_of(text: &str) -> Profile
     }
 }
 
-/// Does an action as a profile means it. One that is refused leaves the chip as it was.
+/// Runs an action by the rules of a profile. A refused one leaves the chip as it was.
 pub(crate) fn perform_as(
     chip: &mut Chip,
     profile: Profile,
@@ -88,13 +88,13 @@ fn try_in_profile_1(chip: &mut Chip, node: Node, side: Side) -> Outcome
     chip.attempt(Try { node, side })
 }
 
-/// Turns in the first profile, so many. Answers how many steps they made. Turns that would change
+/// `count` turns in the first profile. Answers how many steps they made. Turns that would change
 /// nothing, since the last ones with each side have not, are left out.
 fn turns_in_profile_1(chip: &mut Chip, count: u32) -> u64
     ensures { (result, chip.new) ≡ turns_in_profile_1 count 0 0 chip.old }
 {
     let mut moved = 0;
-    // How many turns before this one made no step, one after another.
+    // How many turns directly before this one made no step.
     let mut idle: u8 = 0;
     for turn in 0..count {
         let steps = turn_in_profile_1(chip, side_of_turn(u64::from(turn)));

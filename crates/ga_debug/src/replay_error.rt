@@ -1,6 +1,8 @@
 ghost use Rattle.std.specs.Prelude.{◌≡◌};
-ghost use Rattle.ga_debug.specs.ReplayError.{fault_of_boot, fault_of_names, fault_of_route, fault_of_text, fault_of_tree};
-ghost use Rattle.ga_debug.specs.declared.replay_error.ReplayError.TheVariants.{Memory};
+ghost use Rattle.ga_path.specs.declared.error.BootError.TheVariants as boot;
+ghost use Rattle.ga_path.specs.declared.error.NamesError.TheVariants as names;
+ghost use Rattle.ga_debug.specs.ReplayError.{fault_of_route, fault_of_text, fault_of_tree};
+ghost use Rattle.ga_debug.specs.declared.replay_error.ReplayError.TheVariants.{BadRoute, Boot, Memory};
 
 use crate::error::DebugError;
 use ga_asm::{AsmError, TextError};
@@ -40,7 +42,7 @@ pub enum ReplayError {
     /// The command of this line is refused.
     #[error("line {0} {1}")]
     Bad(u64, DebugError),
-    /// What this line states doesn't hold.
+    /// The result isn't the one that this line states.
     #[error("differs {0}")]
     Differs(u64),
     /// Memory ran out.
@@ -61,7 +63,8 @@ impl From<TextError> for ReplayError {
 }
 
 impl From<NamesError> for ReplayError {
-    ghost from_gives = { λ error fault. fault ≡ fault_of_names error };
+    ghost from_gives = { λ error fault. fault
+        ≡ elim error [ names.BadNames ↦ BadRoute | names.Memory ↦ Memory ] };
 
     fn from(error: NamesError) -> ReplayError {
         match error {
@@ -94,7 +97,11 @@ impl From<TreeError> for ReplayError {
 }
 
 impl From<BootError> for ReplayError {
-    ghost from_gives = { λ error fault. fault ≡ fault_of_boot error };
+    ghost from_gives = { λ error fault. fault
+        ≡ elim error [
+          | boot.Memory ↦ Memory
+          | boot.Unreached node ↦ Boot (boot.Unreached node)
+        ] };
 
     fn from(error: BootError) -> ReplayError {
         match error {

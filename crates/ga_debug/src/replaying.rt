@@ -16,12 +16,12 @@ use crate::word::{decimal_of, outcome_of};
 use ga_chip::{Chip, Outcome};
 use std::alloc::Global;
 
-/// What is wrong with a line of commands, with its number.
+/// The fault of a line of commands, with its number.
 #[derive(Clone, Copy)]
 pub(crate) enum LineError {
     /// The command is refused.
     Bad(u64, DebugError),
-    /// What the line states doesn't hold.
+    /// The result isn't the one that the line states.
     Differs(u64),
 }
 
@@ -44,13 +44,13 @@ pub(crate) struct Statement {
     stated: Answer,
 }
 
-/// Does the commands of a replay text on the chip that its head leads to, and compares what comes
-/// of each with what its line states. Answers how many stated outcomes were compared, or the first
-/// fault: of the head, or line by line [`ReplayError::Bad`] where the command is refused and
-/// [`ReplayError::Differs`] where something else came of it. It fails as [`ReplayError::Memory`]
-/// only where memory is refused, and takes time in proportion to the text, the tries and the turns.
+/// Runs the commands of a replay text on the chip of its head, and compares the result of each with
+/// the one that its line states. Answers how many stated outcomes were compared, or the first
+/// fault: of the head, or line by line [`ReplayError::Bad`] if the command is refused and
+/// [`ReplayError::Differs`] if its result is another. Fails with [`ReplayError::Memory`] only when
+/// out of memory, and takes time in proportion to the text, the tries and the turns.
 ///
-/// A text whose first line is `profile 1` speaks of the chip without extended mode: a node that is
+/// A text whose first line is `profile 1` is for the chip without extended mode: a node that is
 /// about to fetch with bit 9 of P set counts as stopped. Each other text is one of profile 2. (The
 /// texts are this project's own: profile.)
 #[tactic(auto, using(crate::proofs::OneReplay::one_replayed))]

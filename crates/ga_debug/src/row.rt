@@ -1,4 +1,4 @@
-//! What the row of a command says.
+//! The row of a command.
 ghost use Rattle.std.specs.Prelude.{◌≡◌};
 ghost use Rattle.ga_debug.specs.Row.{is_seen_by};
 
@@ -36,7 +36,7 @@ pub(crate) enum States {
 }
 
 /// The row of a command: which words follow its name, which texts have it, and what a replay states
-/// of it. The names themselves stand in `action_named` and `view_named`.
+/// of it. The names themselves are in `action_named` and `view_named`.
 #[derive(Clone, Copy)]
 pub(crate) struct Row {
     pub(crate) shapes: &'static [Shape],

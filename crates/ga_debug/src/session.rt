@@ -11,7 +11,7 @@ use std::alloc::{AllocError, Global};
 use std::fmt::Write;
 use std::marker::Model;
 
-/// A chip that is looked into, stopped and gone on with by commands. A contract sees the chip.
+/// A chip that commands inspect, stop and run. A contract sees the chip.
 #[derive(Drop)]
 pub struct Session {
     chip: Chip,
@@ -29,7 +29,7 @@ impl Model for Session {
 }
 
 impl Session {
-    /// A session over a chip. It takes no memory.
+    /// A session over a chip. It allocates nothing.
     pub fn new(chip: Chip) -> Self
         ensures { result ≡ chip }
     {
@@ -50,10 +50,9 @@ impl Session {
     }
 }
 
-/// Puts the reply of a chip to a command, without an LF at its end, in the place of a text. With
-/// images the command is one of a transcript, whose head they are of; without, one of a session. It
-/// fails as [`DebugError::Memory`] only where memory is refused; where it fails, chip and text are
-/// as they were.
+/// Replaces a text by the reply of a chip to a command, without an LF at its end. With images the
+/// command is one of a transcript, whose head they are of; without, one of a session. Fails with
+/// [`DebugError::Memory`] only when out of memory; then chip and text are as they were.
 pub fn reply_into(
     alloc: Global,
     text: &mut String,
@@ -86,8 +85,8 @@ pub fn reply_into(
     Ok(())
 }
 
-/// Puts the reply to a command in the place of a text, as [`reply_into`], and a refusal as
-/// `refused` and its name. It fails only where memory is refused, and the chip is then as it was.
+/// Replaces a text by the reply to a command, as [`reply_into`], and by `refused` and the fault's
+/// name if it is refused. Fails only when out of memory, and the chip is then as it was.
 pub fn reply_or_refusal(
     alloc: Global,
     text: &mut String,
@@ -108,7 +107,7 @@ pub fn reply_or_refusal(
     }
 }
 
-/// Puts a refusal in the place of a text.
+/// Replaces a text by a refusal.
 fn refusal(text: &mut String, fault: DebugError) -> Result<(), AllocError>
     ensures { OnOk result (string_bytes text.new ≡ text_or_refusal (Err fault)) }
 {

@@ -1,26 +1,25 @@
-ghost use Rattle.std.specs.Prelude.{◌≡◌, ◌<◌, ◌^◌};
-ghost use Rattle.ga_debug.specs.Until.{after_until, until_from, until_reached};
+ghost use Rattle.std.specs.Prelude.{◌≡◌, ◌<◌};
+ghost use Rattle.ga_debug.specs.Until.{until_done, until_from};
 
 use crate::address::Address;
 use crate::breaks::is_held_at;
 use ga_chip::{Chip, side_of_turn};
 use ga_place::Node;
 
-/// What it took until a node was held at an address.
+/// The turns and moves until a node was held at an address.
 #[derive(Clone, Copy)]
 pub(crate) struct Reached {
     /// How many turns.
     pub(crate) turns: u32,
-    /// How often they moved nodes.
+    /// How many steps they made.
     pub(crate) moved: u64,
 }
 
 /// Makes turns, `count` at most, until a node is held at an address, which is a breakpoint for that
 /// time.
-#[tactic(auto, unfolding(crate::specs::Until::until_reached, crate::specs::Until::after_until))]
+#[tactic(auto, unfolding(crate::specs::Until::until_done))]
 pub(crate) fn until(chip: &mut Chip, node: Node, address: Address, count: u32) -> Option<Reached>
-    ensures reached { result ≡ until_reached node address count chip.old }
-    ensures chip { chip.new ≡ after_until node address count chip.old }
+    ensures { (result, chip.new) ≡ until_done node address count chip.old }
 {
     let address = address.get();
     let was_break = chip.has_break(node, address);

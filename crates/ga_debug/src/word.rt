@@ -42,7 +42,7 @@ pub(crate) fn side_of(word: &[u8]) -> Option<Side>
     Some(side)
 }
 
-/// The number that a word is, in one to so many decimal digits.
+/// The number that a word is, in one to `most` decimal digits.
 #[tactic(auto, unfolding(crate::specs::Word::decimal_of))]
 pub(crate) fn decimal_of(word: &[u8], most: usize) -> Option<u32>
     requires { most < 10 }
@@ -73,7 +73,7 @@ pub(crate) fn count_of(word: &[u8]) -> Option<u32>
     }
 }
 
-/// What came of a try, as a word says it.
+/// The outcome of a try that a word names.
 pub(crate) fn outcome_of(word: &[u8]) -> Option<Outcome>
     ensures { result ≡ outcome_of word.now }
 {

@@ -37,8 +37,7 @@ fn start_posted(alloc: Global, stream: &[u32]) -> Result<Chip, Fail> {
     Ok(chip)
 }
 
-/// Whether 708 has no more than so many words left, and 709 has taken its twelve words of the load
-/// part.
+/// Whether 708 has at most `left` words left, and 709 has taken its twelve words of the load part.
 fn is_posted(chip: &Chip, left: usize) -> Result<bool, Fail> {
     let node_708 = node(708)?;
     Ok(chip.stream_left(node_708) <= left && chip.ledger(node_708, Side::Right).read == 12)
@@ -47,9 +46,9 @@ fn is_posted(chip: &Chip, left: usize) -> Result<bool, Fail> {
 /// A program of 709 that stores 10000 at 004.
 const PROGRAM: [u32; 5] = [0x04A12, 0x00004, 0x10000, 0x0A9B2, 0x10141];
 
-// 709 gets the words 04A12 00004 10000 0A9B2 10141, a program that stores 10000 at 004. Where it is
-// sent its start word in the place of `. . . .`, it runs before the start part begins, and doesn't
-// hold its image any more.
+// 709 gets the words 04A12 00004 10000 0A9B2 10141, a program that stores 10000 at 004. If it is
+// sent its start word in place of `. . . .`, it runs before the start part begins, and doesn't hold
+// its image any more.
 #[test]
 fn boot_starts_each_node_at_once(rt: HostRuntime) -> Result<(), Fail> {
     let node_709 = node(709)?;
@@ -66,7 +65,7 @@ fn boot_starts_each_node_at_once(rt: HostRuntime) -> Result<(), Fail> {
     Ok(())
 }
 
-/// A chip after tries of 709 until it has taken so many words, the last of its load, and of 708
+/// A chip after tries of 709 until it has taken `sent` words, the last of its load, and of 708
 /// until it has taken the load part.
 fn load_taken(mut chip: Chip, sent: u64) -> Result<Chip, Fail> {
     let [writer, reader] = [right(708)?, right(709)?];
@@ -87,8 +86,7 @@ fn right(name: u16) -> Result<Try, Fail> {
     })
 }
 
-// Where `. . . .` is left out, 708 takes the whole load part while 709 has still to store the last
-// word.
+// Without `. . . .`, 708 takes the whole load part while 709 has still to store the last word.
 #[test]
 fn boot_leaves_out_closes(rt: HostRuntime) -> Result<(), Fail> {
     let [node_708, node_709] = nodes(&[708, 709])?;
@@ -105,7 +103,7 @@ fn boot_leaves_out_closes(rt: HostRuntime) -> Result<(), Fail> {
     Ok(())
 }
 
-/// Tries of 708, 709 and 608 by turns, so many of each: 708 shares its right side with 709, and the
+/// Tries of 708, 709 and 608 by turns, `count` of each: 708 shares its right side with 709, and the
 /// lower one with 608.
 fn tries(alloc: Global, count: u32) -> Result<Vec<Try>, Fail> {
     let [node_708, node_709, node_608] = nodes(&[708, 709, 608])?;

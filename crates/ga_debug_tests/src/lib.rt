@@ -1,8 +1,8 @@
-//! The tests of what takes both images and a chip, and of the examples of laws, in one file for
-//! each subject.
+//! The tests of calls that take both images and a chip, and of the examples of laws, with one file
+//! for each subject.
 //!
 //! A crate that has no test of its own is proved once by the gate, and one with tests twice. So the
-//! tests stand here, and this crate has nothing else.
+//! tests have this crate to themselves.
 #![tactic(auto)]
 
 #[cfg(test)]

@@ -12,7 +12,8 @@ use std::thread::Threads;
 /// The leaves 710 and 609 have the word `. . . .` each.
 const TEXT: &str = "node 710 . node 609 .";
 
-/// The chip where 710 is loaded: 708 and 709 run alone by one worker, and all four nodes by two.
+/// The chip with 710 loaded: first only 708 and 709 run, by one worker, and then all four nodes by
+/// two.
 fn loaded<R: Threads + Sync>(rt: &R, alloc: Global, turns: u64) -> Result<Option<Chip>, Fail> {
     let [node_708, node_709, node_710, node_609] = nodes(&[708, 709, 710, 609])?;
     let one = PlannedRun {

@@ -93,7 +93,7 @@ fn have_alike(alloc: Global, nodes: &[Node; 4], one: &Chip, other: &Chip) -> Res
     Ok(true)
 }
 
-/// Whether the ring by so many workers ends as on another chip.
+/// Whether the ring ends as on another chip, whatever the number of workers.
 fn ends_alike<R: Threads + Sync>(
     rt: &R,
     alloc: Global,
@@ -160,8 +160,8 @@ impl Gate for Meeting {
     }
 }
 
-/// Whether so many workers, who have a node each, run at once: each comes to its first turn while
-/// the others wait in theirs.
+/// Whether all workers, who have a node each, run at once: each comes to its first turn while the
+/// others wait in theirs.
 fn overlap<R: Threads + Sync>(
     rt: &R,
     alloc: Global,

@@ -1,4 +1,4 @@
-//! What the program doesn't show of sessions and replay texts.
+//! Results of sessions and replay texts that the program doesn't show.
 use ga_chip::Chip;
 use ga_debug::{ReplayError, Session, begin, replay};
 use ga_path::{BootError, RouteError, TreeError};
@@ -16,7 +16,7 @@ fn sessions_begin(rt: HostRuntime) -> Result<(), Fail> {
     Ok(())
 }
 
-/// What comes of a replay text that boots 608 by these routes.
+/// The result of a replay text that boots 608 by these routes.
 fn replayed(alloc: Global, routes: &str) -> Result<Result<u64, ReplayError>, Fail> {
     let text = format!(in alloc; "profile 2\nroute {routes}\nnode 608 .\ngo\n")?;
     Ok(replay(alloc, text.as_str()))

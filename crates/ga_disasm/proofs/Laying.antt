@@ -20,7 +20,7 @@ use Rattle.ga_disasm.proofs.SourceItems.{IsBelow, bracketed, source_items}
 
 -- ---- a word in brackets
 
--- the source item of a reading is right, and is owed the word's followers
+-- the source item of a reading is right, and needs the word's followers
 record Bracket (ops : List Op) (dest : Option ℕ) (spare : ℕ) : Type 0 where
   right : is_item (bracketed ops dest spare) ≡ true
   follow : part_after (grammar.Code 0) (bracketed ops dest spare)

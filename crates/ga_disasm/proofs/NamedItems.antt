@@ -75,7 +75,7 @@ ends_snoc [] o h = rw h refl
 ends_snoc (p ∷ ops) o h =
     ap (λ (b : Bool). ends_word p || b) (ends_snoc ops o h) ∙ or-true (ends_word p)
 
--- behind the end of a word no item stands in it
+-- behind the end of a word it has no more items
 none_behind : (labels : Labels) (address : ℕ) (ops : List Op) (is : List Item)
     → list_any ends_word ops ≡ true → stand labels address ops is ≡ true → is ≡ []
 none_behind labels address ops [] ends stands = refl
@@ -110,7 +110,7 @@ shared_followers labels address ops (i ∷ is) right stands =
 
 -- ---- the order of source items
 
--- an item outside brackets stands where nothing is owed
+-- an item outside brackets is allowed only if no follower is missing
 loose_part : (owed : ℕ) (i : Item) (p : Part) → is_loose i ≡ true
     → part_after (source.Code owed) i ≡ Some p → (owed ≡ 0) × (p ≡ source.Code 0)
 unfolding part_after

@@ -1,5 +1,5 @@
--- The items that are printed stand alone, so they are laid as the words that were printed, without
--- a fault.
+-- The printed items share no words, so they are laid as the words that were printed, without a
+-- fault.
 use Rattle.std.proofs.Common.{◌≡◌, ◌∙◌, ◌<◌, ◌≤◌, ◌+◌, ℕ, zero, suc, Bool, true, false, List, [], ◌∷◌, ◌++◌, length, Option, Some, None, refl, sym, ap, subst, arith}
 use Rattle.std.proofs.lemmas.Bool.{and_from, le-ltb}
 use Rattle.std.proofs.lemmas.List.Elements.{All-head, All-tail}

@@ -39,7 +39,7 @@ last [] = Nop
 last (o ∷ []) = o
 last (o ∷ p ∷ ops) = last (p ∷ ops)
 
--- the spare bits are written where they aren't 0
+-- the spare bits are written if they aren't 0
 abbrev pub written : ℕ → Option ℕ
 written zero = None
 written (suc n) = Some (suc n)

@@ -21,14 +21,14 @@ pub data_next : (owed owed' left left' word : ℕ) (words rest : List ℕ) → w
 unfolding items_from
 data_next owed owed' left left' word words rest e same none none' = rw (e, none, none', same) refl
 
--- where followers are owed
+-- if followers are missing
 pub follower_next : (owed owed' left left' word : ℕ) (words rest : List ℕ) → words ≡ word ∷ rest
     → owed ≡ suc owed' → left ≡ suc left'
     → items_from owed left words ≡ Follower word ∷ items_from owed' left' rest
 unfolding items_from
 follower_next owed owed' left left' word words rest e some more = rw (e, some, more) refl
 
--- where none are
+-- if none are
 pub code_next : (owed owed' left left' word : ℕ) (words rest : List ℕ) (reading : Reading)
     → words ≡ word ∷ rest → owed ≡ 0 → left ≡ suc left' → reading_of word ≡ reading
     → owed' ≡ followers reading.ops

@@ -16,7 +16,7 @@ use Rattle.ga_disasm.specs.Printing.{behind_spaces, line}
 abbrev is_mark : List ℕ → Bool
 is_mark text = bytes_eq text (codes "\\")
 
--- a text that is a token where blanks stand round it
+-- a text that is a token between blanks
 abbrev pub is_plain : List ℕ → Bool
 is_plain text = not (is_empty text) && not (is_mark text) && list_all (λ c. not (is_blank c)) text
 

@@ -42,7 +42,7 @@ spare_bits-text : text_of (Code (record { ops = Jump ∷ []; dest = Some 0x3D5; 
 unfolding text_of hex_digits digits
 spare_bits-text = refl
 
--- what stands behind `;` has no follower: `; @p . .`, and then another word of code
+-- an `@p` behind `;` has no follower: `; @p . .`, and then another word of code
 behind_return : items_of 2 (0x15DB2 ∷ 0x2C9B2 ∷ [])
     ≡ Code (record { ops = Return ∷ FetchP ∷ Nop ∷ Nop ∷ []; dest = None; spare = 0 })
     ∷ Code (record { ops = Nop ∷ Nop ∷ Nop ∷ Nop ∷ []; dest = None; spare = 0 }) ∷ []

@@ -45,7 +45,7 @@ pub some_field : (old new : List ℕ) (dest : Option ℕ) (field spare : ℕ) �
     → new ≡ old ++ behind_spaces (field_texts dest spare)
 some_field old new dest field spare some e = rw some e
 
--- the names of opcodes, and what is told of a destination
+-- the names of opcodes, and the text of a destination
 pub word_line : (old begun named fielded new : List ℕ) (ops : List Op) (field : List (List ℕ))
     → begun ≡ old ++ 91 ∷ [] → named ≡ begun ++ behind_spaces (map name_of ops)
     → fielded ≡ named ++ behind_spaces field → new ≡ fielded ++ 32 ∷ 93 ∷ 10 ∷ []

@@ -1,4 +1,4 @@
--- What each word of a node is, as far as words alone tell it.
+-- What each word of a node is, as far as the words alone determine it.
 use Rattle.std.specs.Prelude.{ℕ, zero, suc, List, [], ◌∷◌}
 use Rattle.ga_disasm.specs.declared.item.Item.{Item}
 use Rattle.ga_disasm.specs.declared.item.Item.TheVariants as item
@@ -20,9 +20,9 @@ item_view (item.Code packed) =
 item_view (item.Follower word) = Follower word
 item_view (item.Data word) = Data word
 
--- The items of words, behind a word that is owed so many followers, where so many of the words are
--- code. Each is code, and as many words as it has followers are its followers, as far as the code
--- part reaches. What stands behind the code part is data.
+-- The items of words, of which the first are code, behind a word that lacks a number of followers.
+-- Each is code, followed by as many followers as it has, up to the end of the code part. The words
+-- behind the code part are data.
 unfoldable pub items_from : ℕ → ℕ → List ℕ → List ItemView
 items_from owed left [] = []
 items_from owed zero (word ∷ words) = Data word ∷ items_from owed zero words
@@ -30,6 +30,6 @@ items_from zero (suc left) (word ∷ words) =
     Code (reading_of word) ∷ items_from (followers (reading_of word).ops) left words
 items_from (suc owed) (suc left) (word ∷ words) = Follower word ∷ items_from owed left words
 
--- the items of the words of a node, the first of which, so many, are code
+-- the items of the words of a node, of which the first n are code
 abbrev pub items_of : ℕ → List ℕ → List ItemView
 items_of code_len words = items_from 0 code_len words

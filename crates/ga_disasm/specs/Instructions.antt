@@ -1,4 +1,4 @@
--- The items that a layout names: what stands in each word that a node's source items are laid as.
+-- The items of a layout: what each word holds that a node's source items are laid as.
 use Rattle.std.specs.Prelude.{ℕ, Bool, true, false, List, [], ◌∷◌, ◌++◌, length, map, Option, Some, None, if◌then◌else◌}
 use Rattle.std.specs.Option.{unwrap_or}
 use Rattle.ga_word.specs.declared.op.Op.{Op}
@@ -11,7 +11,7 @@ abbrev pub code : List Op → Option ℕ → ℕ → ItemView
 code ops dest spare = Code (record { ops = with_fillers ops dest; dest = dest; spare = spare })
 
 -- The items of the words of a group, in the code part or behind `data`. A shared word has the
--- opcodes of its source items, and the numbers among them follow it. A number alone, behind `,`, is
+-- opcodes of its source items, and the numbers among them follow it. A plain number, behind `,`, is
 -- a follower in the code part, and data behind it.
 abbrev pub group_items : Labels → Bool → Group → List ItemView
 group_items labels in_data (Shared i is) =
@@ -23,7 +23,7 @@ group_items labels in_data (Alone (source.Plain v)) =
     (if in_data then Data (value_number labels v) else Follower (value_number labels v)) ∷ []
 group_items labels in_data (Alone i) = []
 
--- behind a group, `data` stands before or not
+-- whether `data` comes before the end of a group
 abbrev pub is_behind_data : Bool → Group → Bool
 is_behind_data in_data (Alone source.Data) = true
 is_behind_data in_data group = in_data

@@ -1,4 +1,4 @@
--- The source text of the items of a node: what stands behind the line of its name.
+-- The source text of the items of a node, behind the line of its name.
 use Rattle.std.specs.Prelude.{ℕ, zero, suc, Bool, true, false, List, [], ◌∷◌, ◌++◌, codes, map, Option, Some, None, not, ◌&&◌, ◌||◌, if◌then◌else◌}
 use Rattle.std.specs.Fmt.{decimal}
 use Rattle.ga_word.specs.Hex.{hex_digits}
@@ -18,7 +18,7 @@ line text texts = text ++ behind_spaces texts ++ 10 ∷ []
 abbrev pub number_text : ℕ → List ℕ
 number_text n = codes "$" ++ hex_digits 5 n
 
--- the spare bits, where they aren't 0
+-- the spare bits, if they aren't 0
 abbrev pub spare_texts : ℕ → List (List ℕ)
 spare_texts zero = []
 spare_texts (suc n) = codes "/" ∷ decimal (suc n) ∷ []
@@ -41,7 +41,7 @@ abbrev pub is_data : ItemView → Bool
 is_data (Data word) = true
 is_data item = false
 
--- A line for each item, and the line `data` before the first that is data, where it isn't written
+-- A line for each item, and the line `data` before the first that is data, if it isn't written
 -- already.
 abbrev pub item_lines : Bool → List ItemView → List ℕ
 item_lines in_data [] = []

@@ -7,16 +7,16 @@ use Rattle.ga_pack.specs.Model.Text.{Place}
 use Rattle.ga_pack.specs.declared.error_kind.SourceErrorKind.{SourceErrorKind}
 use Rattle.ga_pack.specs.declared.error_kind.AsmErrorKind.{AsmErrorKind}
 
--- one to 64 words, of which so many are code
+-- one to 64 words, of which the first `code_len` are code
 pub record FitNode (words : List ℕ) (code_len : ℕ) : Type 0 where
   pub some : 0 < length words
   pub most : length words ≤ 64
   pub code_within : code_len ≤ length words
   pub below : All (λ word. word < 2 ^ 18) words
 
--- A text is a source text of these words, of which so many are code: it is a text of the grammar
--- without fault, its only program is one node, 000, and has no fault, and the layout allows for it
--- these words and no others.
+-- A text is a source text of these words, of which the first `code_len` are code: it is a text of
+-- the grammar without fault, its only program is one node, 000, and has no fault, and the layout
+-- allows for it these words and no others.
 pub record IsSourceOf (text words : List ℕ) (code_len : ℕ) : Type 0 where
   pub section : PlacedSection
   pub program_is : IsProgram text (section ∷ [])

@@ -14,8 +14,7 @@ use std::alloc::{AllocError, Global};
 /// From the front each word is [`Item::Code`], and as many words as it has followers are
 /// [`Item::Follower`], as far as the code reaches. All words behind the code are [`Item::Data`]. So
 /// of the words and the length of code that the assembler makes of a node's source items, the items
-/// are these instructions again, with the fillers behind them. It fails only where memory is
-/// refused.
+/// are these instructions again, with the fillers behind them. Fails only when out of memory.
 pub fn items(alloc: Global, words: &[Word18], code_len: usize) -> Result<Vec<Item>, AllocError>
     requires { code_len ≤ length words.now }
     ensures items { IfOk result (λ items. map item_view items.items ≡ items_of code_len words.now) }

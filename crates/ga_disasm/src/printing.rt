@@ -10,15 +10,14 @@ use ga_word::Op;
 use std::alloc::{AllocError, Global};
 use std::fmt::Write;
 
-/// The source text of the items of a node, as it stands behind the line of the node's name: a line
-/// for each item, ended by LF, and the line `data` before the first [`Item::Data`].
+/// The source text of the items of a node, without the line of the node's name: a line for each
+/// item, ended by LF, and the line `data` before the first [`Item::Data`].
 ///
 /// A word of code is `[`, its opcodes, behind one that takes a destination the field as `$` and
-/// five hex digits and, where they are not 0, `/` and the spare bits, and `]`, with one space
-/// between. Any other word is `,`, a space, `$` and five hex digits. It fails only where memory is
-/// refused.
+/// five hex digits and, if they are not 0, `/` and the spare bits, and `]`, with one space between.
+/// Any other word is `,`, a space, `$` and five hex digits. Fails only when out of memory.
 ///
-/// Where the items are what [`items`](crate::items) gives of 1 to 64 words, the text is a source
+/// If the items are what [`items`](crate::items) returns for 1 to 64 words, the text is a source
 /// text of these words: behind the line `node 000` it is a text without fault, and the assembler's
 /// layout allows for it these words and no others, and the same length of code.
 pub fn print(alloc: Global, items: &[Item]) -> Result<String, AllocError>
@@ -66,7 +65,7 @@ fn push_word(text: &mut String, packed: &Packed) -> Result<(), AllocError>
     Ok(())
 }
 
-/// Adds the names of opcodes, each behind a space. It fails only where memory is refused.
+/// Adds the names of opcodes, each behind a space. Fails only when out of memory.
 pub fn push_ops(text: &mut String, ops: &[Op]) -> Result<(), AllocError>
     ensures { OnOk result (string_bytes text.new ≡ string_bytes text.old
         ++ behind_spaces (map name_of ops.now)) }
@@ -77,7 +76,7 @@ pub fn push_ops(text: &mut String, ops: &[Op]) -> Result<(), AllocError>
     Ok(())
 }
 
-/// The field of a destination, and the spare bits where they are not 0, each behind a space.
+/// The field of a destination, and the spare bits if they are not 0, each behind a space.
 fn push_field(text: &mut String, dest: u16, spare: u8) -> Result<(), AllocError>
     ensures { OnOk result (string_bytes text.new ≡ string_bytes text.old
         ++ behind_spaces (field_texts (Some dest) spare)) }

@@ -10,7 +10,7 @@ use ga_place::Node;
 use std::alloc::{AllocError, Global};
 
 /// All nodes as text, in order of name: each with its stacks, its memory and the numbers of the
-/// cells that it writes. It fails only where memory is refused.
+/// cells that it writes. Fails only when out of memory.
 pub fn chip_text(alloc: Global, chip: &Chip) -> Result<String, AllocError>
     ensures { IfOk result (λ text. string_bytes text ≡ chip_dump chip.now) }
 {

@@ -9,7 +9,7 @@ use std::fmt::Write;
 
 /// The numbers of the cells that a node writes as text: for each side at which it has a neighbour,
 /// in the order right, down, left, up, a line of its name, the side, and how many words were
-/// written, were read and are pending there. It fails only where memory is refused.
+/// written, were read and are pending there. Fails only when out of memory.
 #[tactic(auto, unfolding(crate::specs::Ledger::ledger_dump))]
 pub fn ledger_text(alloc: Global, chip: &Chip, node: Node) -> Result<String, AllocError>
     ensures { IfOk result (λ text. string_bytes text ≡ ledger_dump chip.now node) }
@@ -21,7 +21,7 @@ pub fn ledger_text(alloc: Global, chip: &Chip, node: Node) -> Result<String, All
     Ok(text)
 }
 
-/// The line of a side, where the node has a neighbour there.
+/// The line of a side, if the node has a neighbour there.
 #[tactic(auto, unfolding(crate::specs::Ledger::ledger_line, crate::specs::Ledger::side_line))]
 fn push_side(text: &mut String, chip: &Chip, node: Node, side: Side) -> Result<(), AllocError>
     ensures { OnOk result (string_bytes text.new

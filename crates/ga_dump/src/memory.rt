@@ -7,7 +7,7 @@ use ga_word::{Word18, hex5};
 use std::alloc::{AllocError, Global};
 
 /// A node's memory as text: eight lines, each of the address of its first word in three hex digits
-/// and eight words in five, with one space between. It fails only where memory is refused.
+/// and eight words in five, with one space between. Fails only when out of memory.
 #[tactic(auto, unfolding(crate::specs::Memory::memory_dump), using(crate::proofs::Lines::next_line))]
 pub fn memory_text(alloc: Global, state: &NodeState) -> Result<String, AllocError>
     ensures { IfOk result (λ text. string_bytes text ≡ memory_dump state.now) }

@@ -6,9 +6,9 @@ use ga_node::NodeState;
 use std::alloc::{AllocError, Global};
 
 /// A node with its stacks as text: its line, a line of `ds` and the eight words of the data stack
-/// below T and S, and one of `rs` and the eight words of the return stack below R. Of each stack
-/// the first item stands first, and words are five hex digits, with one space between. It fails
-/// only where memory is refused.
+/// below T and S, and one of `rs` and the eight words of the return stack below R. The top of each
+/// stack comes first, and words are five hex digits, with one space between. Fails only when out of
+/// memory.
 #[tactic(auto, unfolding(crate::specs::Node::node_dump))]
 pub fn node_text(alloc: Global, state: &NodeState) -> Result<String, AllocError>
     ensures { IfOk result (λ text. string_bytes text ≡ node_dump state.now) }

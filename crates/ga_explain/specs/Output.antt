@@ -9,11 +9,11 @@ use Rattle.ga_explain.specs.Topic.{Entry}
 abbrev pub entry_in : List Entry → List ℕ → Option Entry
 entry_in list name = find (λ entry. bytes_eq entry.0 name) list
 
--- the meaning of a name in one line, which is empty if the name isn't known
+-- the meaning of a name in one line; that of an unknown name is empty
 unfoldable pub meaning_of : List ℕ → List ℕ
 meaning_of name = option_map_or (λ entry. entry.1) (entry_in entries name) []
 
--- a line of the name of an entry
+-- the line of an entry's name
 abbrev pub name_line : Entry → List ℕ
 name_line entry = entry.0 ++ 10 ∷ []
 

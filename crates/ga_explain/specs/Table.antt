@@ -1,5 +1,5 @@
--- The table: each name with the line that is shown behind a fault of this name, which is empty if
--- nothing is shown, and with its text, which stands in the program alone.
+-- The table: each name with the line that is shown behind a fault of this name (empty if none is),
+-- and with its text. The texts themselves are only in the program.
 use Rattle.std.specs.Prelude.{◌∷◌, ◌++◌, [], List, codes, fold}
 use Rattle.ga_explain.specs.Topic.{Entry}
 use Rattle.ga_explain.specs.declared.source.TheConstants.{BAD_TOKEN, NUMBER_RANGE, BAD_NODE, DUPLICATE_NODE, DUPLICATE_LABEL, RESERVED_LABEL, OPEN_BRACKET, BAD_WORD, NO_NODE, EMPTY}
@@ -7,10 +7,8 @@ use Rattle.ga_explain.specs.declared.layout.TheConstants.{UNDEFINED_LABEL, OUT_O
 use Rattle.ga_explain.specs.declared.routes.TheConstants.{BAD_ROUTE, NOT_EDGE, NOT_NEIGHBOUR, REPEATED, OTHER_ROOT, UNREACHED}
 use Rattle.ga_explain.specs.declared.sessions.TheConstants.{BAD_COMMAND, BAD_ADDRESS, BAD_SIDE, BAD_COUNT, NOT_HELD, BAD_PROFILE, NO_GO, SOURCE, ASM, ROUTE, TREE, BOOT, EARLY_REPLY, DIFFERS}
 use Rattle.ga_explain.specs.declared.input.TheConstants.{READ, NO_FILE, FOLDER, BAD_TEXT, BAD_CODE, WRITE, MEMORY}
-use Rattle.ga_explain.specs.declared.needs.TheConstants.{OWN, TAKE, POST, CHECK, INPUT, STOPPED}
-use Rattle.ga_explain.specs.declared.stops.TheConstants.{COUNTED, IO_READ, ROM, UNMAPPED, MULTI_WRITE}
-use Rattle.ga_explain.specs.declared.carry.TheConstants.{CARRY}
-use Rattle.ga_explain.specs.declared.outcomes.TheConstants.{MOVED, WAITS, HELD}
+use Rattle.ga_explain.specs.declared.needs.TheConstants.{OWN, TAKE, POST, CHECK, INPUT, STOPPED, COUNTED, IO_READ, ROM, UNMAPPED, MULTI_WRITE}
+use Rattle.ga_explain.specs.declared.terms.TheConstants.{CARRY, MOVED, WAITS, HELD, STUCK, RING, TURN, PLACE, STEP, SLOT, FOLLOWER, PROFILE}
 
 -- the faults of source text
 unfoldable pub source_entries : List Entry
@@ -117,7 +115,7 @@ input_entries =
     (codes "memory", [], MEMORY.now) ∷
     []
 
--- the needs of a node
+-- the needs and the stops of a node
 unfoldable pub needs_entries : List Entry
 needs_entries =
     (codes "own", [], OWN.now) ∷
@@ -126,11 +124,6 @@ needs_entries =
     (codes "check", [], CHECK.now) ∷
     (codes "input", [], INPUT.now) ∷
     (codes "stopped", [], STOPPED.now) ∷
-    []
-
--- the stops of a node
-unfoldable pub stops_entries : List Entry
-stops_entries =
     (codes "Counted", [], COUNTED.now) ∷
     (codes "IoRead", [], IO_READ.now) ∷
     (codes "Rom", [], ROM.now) ∷
@@ -138,18 +131,21 @@ stops_entries =
     (codes "MultiWrite", [], MULTI_WRITE.now) ∷
     []
 
--- the carry of a node
-unfoldable pub carry_entries : List Entry
-carry_entries =
+-- the carry, the outcomes of a try, and other words of replies, listings and help
+unfoldable pub terms_entries : List Entry
+terms_entries =
     (codes "carry", [], CARRY.now) ∷
-    []
-
--- the outcomes of a try
-unfoldable pub outcomes_entries : List Entry
-outcomes_entries =
     (codes "moved", [], MOVED.now) ∷
     (codes "waits", [], WAITS.now) ∷
     (codes "held", [], HELD.now) ∷
+    (codes "stuck", [], STUCK.now) ∷
+    (codes "ring", [], RING.now) ∷
+    (codes "turn", [], TURN.now) ∷
+    (codes "place", [], PLACE.now) ∷
+    (codes "step", [], STEP.now) ∷
+    (codes "slot", [], SLOT.now) ∷
+    (codes "follower", [], FOLLOWER.now) ∷
+    (codes "profile", [], PROFILE.now) ∷
     []
 
 -- all of them, in this order
@@ -157,4 +153,4 @@ abbrev pub entries : List Entry
 entries =
     fold (λ all group. all ++ group) []
     (source_entries ∷ layout_entries ∷ routes_entries ∷ sessions_entries ∷ input_entries
-    ∷ needs_entries ∷ stops_entries ∷ carry_entries ∷ outcomes_entries ∷ [])
+    ∷ needs_entries ∷ terms_entries ∷ [])

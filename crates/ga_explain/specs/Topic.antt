@@ -1,4 +1,4 @@
--- A name, and what is said of it.
+-- A name, and what it means.
 use Rattle.std.specs.Prelude.{ℕ, List}
 use Rattle.ga_explain.specs.declared.topic.Topic.{Topic}
 

@@ -21,24 +21,24 @@ pub fn topics() -> [Topic; 7]
 }
 
 const READ: &str = "\
-read: a read of standard input failed, or so many reads, 2,097,152, brought no
-end of it. Nothing is written. So it is where the input is a folder:
+read: a read of standard input failed, or 2,097,152 reads didn't reach its end.
+Nothing is written. For example, the input is a folder:
 
   ga-bench asm < .
   ga-bench: read
 
-Mended, with a file as the input:
+Fixed, with a file as the input:
 
   ga-bench asm < my.source
 ";
 
 const NO_FILE: &str = "\
-NoFile: there is no file of the name that was given. Nothing was read.
+NoFile: no file has this name. Nothing was read.
 
   $ ga-bench list no.source
   ga-bench: input NoFile
 
-Mended, with the text on standard input, which - stands for too:
+Fixed, with the text on standard input (- means the same as no name):
 
   $ echo 'node 709 .' | ga-bench list -
   node 709 entry 000 code 1 words 1
@@ -46,12 +46,12 @@ Mended, with the text on standard input, which - stands for too:
 ";
 
 const FOLDER: &str = "\
-Folder: what has the name that was given is a folder, and no file.
+Folder: the name is that of a folder, not of a file.
 
   $ ga-bench list .
   ga-bench: input Folder
 
-Mended, with the text on standard input, which - stands for too:
+Fixed, with the text on standard input (- means the same as no name):
 
   $ echo 'node 709 .' | ga-bench list -
   node 709 entry 000 code 1 words 1
@@ -59,13 +59,13 @@ Mended, with the text on standard input, which - stands for too:
 ";
 
 const BAD_TEXT: &str = "\
-BadText: the input isn't text in UTF-8. Other encodings have to be changed, as
-'iconv -f latin1 -t utf-8' does; letters beyond ASCII may stand in comments.
+BadText: the input isn't text in UTF-8. Convert other encodings, for example
+with 'iconv -f latin1 -t utf-8'. Comments may have letters beyond ASCII.
 
   $ printf 'node 709 . \\\\ f\\374nf\\n' | ga-bench asm
   ga-bench: input BadText
 
-Mended:
+Fixed:
 
   $ printf 'node 709 . \\\\ f\\303\\274nf\\n' | ga-bench asm
   node 709 entry 000 code 1 words 1
@@ -73,12 +73,12 @@ Mended:
 ";
 
 const BAD_CODE: &str = "\
-BadCode: 'dis --code N' has more words of code than there are words.
+BadCode: in 'dis --code N', N is greater than the number of words.
 
   $ echo 05872 2C9B2 | ga-bench dis --code 3
   ga-bench: words BadCode
 
-Mended: all are code where nothing is said.
+Fixed: without --code all words are code.
 
   $ echo 05872 2C9B2 | ga-bench dis
   node 000
@@ -88,13 +88,13 @@ Mended: all are code where nothing is said.
 
 const WRITE: &str = "\
 write: a write to standard output failed or took no byte, or the output could
-not be flushed. A front of the output may be written. So it is where a disk is
-full: 'ga-bench asm < my.source > /dev/full' says 'ga-bench: write'. Free some
-room, or write elsewhere.
+not be flushed. A prefix of the output may be written. For example, a disk is
+full: 'ga-bench asm < my.source > /dev/full' reports 'ga-bench: write'. Free
+some space, or write elsewhere.
 ";
 
 const MEMORY: &str = "\
-memory: there was no memory, so nothing is written; the status is 3. It comes
-where the system is out of memory, or where a limit is too low for the program,
-as 'ulimit -v' sets one: raise the limit, or give it a smaller input.
+memory: the program ran out of memory. Nothing is written, and the status is 3.
+The system is out of memory, or a limit, such as one set by 'ulimit -v', is too
+low. Raise the limit, or use a smaller input.
 ";

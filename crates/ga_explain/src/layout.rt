@@ -34,13 +34,13 @@ pub fn topics() -> [Topic; 4]
 }
 
 const UNDEFINED_LABEL: &str = "\
-UndefinedLabel: a name that is no label of its node. Upper and lower case
-differ, and labels of other nodes aren't known.
+UndefinedLabel: a name that is no label of its node. Names are case-sensitive,
+and a node doesn't see the labels of others.
 
   $ echo 'node 709 jump lop loop: dup' | ga-bench asm
   ga-bench: asm 709 1:15 UndefinedLabel
 
-Mended:
+Fixed:
 
   $ echo 'node 709 jump loop loop: dup' | ga-bench asm
   node 709 entry 000 code 2 words 2
@@ -57,7 +57,7 @@ the word and for each @p and !p before the slot.
     ga-bench asm
   ga-bench: asm 709 1:58 OutOfReach
 
-Mended, with the jump in slot 1:
+Fixed, with the jump in slot 1:
 
   $ echo 'node 709 x: [ @p @p @p @p ] , 1 , 2 , 3 , 4 [ @p jump x ] , 5' |
     ga-bench asm
@@ -66,14 +66,14 @@ Mended, with the jump in slot 1:
 ";
 
 const UNEXT_ALONE: &str = "\
-UnextAlone: outside brackets, an 'unext' that would begin a word, where it
-repeats nothing but itself. It repeats the word that it stands in, so the loop
-stands in front of it in one word: behind 'align', or in brackets.
+UnextAlone: outside brackets, an 'unext' that would begin a word and so repeat
+only itself. It repeats the word that it is in. So put the loop before it in the
+same word: behind 'align', or in brackets.
 
   $ echo 'node 709 9 push align unext' | ga-bench asm
   ga-bench: asm 709 1:23 UnextAlone
 
-Mended:
+Fixed:
 
   $ echo 'node 709 9 push align . unext' | ga-bench asm
   node 709 entry 000 code 3 words 3
@@ -81,9 +81,9 @@ Mended:
 ";
 
 const TOO_LONG: &str = "\
-TooLong: an item of a node would need its 65th word (asm); there are more than
-64 words (words); the input has more than 1,048,576 bytes (input); or what
-'record' would write has more than 268,435,456 (output).
+TooLong: an item would need the 65th word of its node (asm); there are more than
+64 words (words); the input has more than 1,048,576 bytes (input); or the output
+of 'record' would have more than 268,435,456 bytes (output).
 
   $ printf 'node 711%065d' 0 | sed 's/0/ [ . ]/g' | ga-bench asm
   ga-bench: asm 711 1:394 TooLong
@@ -92,7 +92,7 @@ TooLong: an item of a node would need its 65th word (asm); there are more than
   $ printf '%1048577s' '' | ga-bench one 0
   ga-bench: input TooLong
 
-Mended: a node has 64 words, so a longer program is cut into several nodes.
+Fixed: a node has 64 words, so split a longer program over several nodes.
 
   $ printf '2C9B2 %.0s' $(seq 64) | ga-bench one 0
   node 000 P 000 A 00000 B 15D R 00000 S 00000 T 00000 C 0 io 00000 at fetch

@@ -1,16 +1,14 @@
-//! What the names mean that the program writes: faults, needs, stops, the carry and outcomes.
+//! What the names and terms mean that the program writes: faults, needs, stops, outcomes and more.
 #![tactic(auto)]
 
-mod carry;
 mod input;
 mod layout;
 mod needs;
-mod outcomes;
 mod output;
 mod routes;
 mod sessions;
 mod source;
-mod stops;
+mod terms;
 mod topic;
 
 pub use crate::output::output as explain;

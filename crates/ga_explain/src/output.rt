@@ -6,8 +6,7 @@ ghost use Rattle.ga_explain.specs.Topic.{entry_of};
 use crate::topic::{Topic, topics};
 use std::alloc::{AllocError, Global};
 
-/// The text of a topic; without one a line for the name of each. It fails only where memory is
-/// refused.
+/// The text of a topic; without one a line for the name of each. Fails only when out of memory.
 pub fn output(alloc: Global, topic: Option<Topic>) -> Result<String, AllocError>
     ensures { IfOk result (λ text. string_bytes text ≡ explain_output topic) }
 {
@@ -27,7 +26,7 @@ fn names(alloc: Global) -> Result<String, AllocError>
     Ok(text)
 }
 
-/// Puts a line for the name of each of these topics behind a text.
+/// Appends a line for the name of each of these topics.
 fn push_names(text: &mut String, topics: &[Topic]) -> Result<(), AllocError>
     ensures { OnOk result (string_bytes text.new
         ≡ string_bytes text.old ++ flat_map name_line (map entry_of topics.now)) }

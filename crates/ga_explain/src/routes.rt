@@ -24,10 +24,10 @@ pub fn topics() -> [Topic; 6]
 }
 
 const BAD_ROUTE: &str = "\
-BadRoute: ROUTE isn't names of nodes, three digits each, with commas between
-them and no blanks, or several such routes with a / between them; or the second
-line of a session or of a replay text is missing, or is neither 'place' nor
-'route' and such a text.
+BadRoute: ROUTE isn't a list of node names, three digits each, with commas and
+no blanks between them, nor several such lists with a / between them. Or the
+second line of a session or of a replay text is missing, or is neither 'place'
+nor 'route' and a ROUTE.
 
   $ echo 'node 709 .' | ga-bench boot '708, 709'
   ga-bench: route BadRoute
@@ -36,20 +36,20 @@ line of a session or of a replay text is missing, or is neither 'place' nor
   $ printf 'profile 2\\nroute 708-709\\nnode 709 .\\ngo\\n' | ga-bench replay
   ga-bench: replay BadRoute
 
-Mended:
+Fixed:
 
   $ printf 'profile 2\\nroute 708,709\\nnode 709 .\\ngo\\n' | ga-bench replay
   same 0
 ";
 
 const NOT_EDGE: &str = "\
-NotEdge: the first node of the route doesn't stand at the edge of the chip, so
-it has no boot stream. At the edge are rows 0 and 7 and columns 00 and 17.
+NotEdge: the first node of the route isn't at the edge of the chip, so it has no
+boot stream. Rows 0 and 7 and columns 00 and 17 are at the edge.
 
   $ echo 'node 408 .' | ga-bench boot 408
   ga-bench: route NotEdge
 
-Mended:
+Fixed:
 
   $ echo 'node 708 .' | ga-bench boot 708
   load 4
@@ -60,30 +60,30 @@ Mended:
 
 const NOT_NEIGHBOUR: &str = "\
 NotNeighbour: a node of the route, counted from 0, is no neighbour of the node
-before it. Neighbours stand side by side in one row, as 708 and 709, or in one
-column, as 708 and 608. A node twice in a row, as 708,708, is told so too.
+before it. Neighbours are side by side in one row, as 708 and 709, or in one
+column, as 708 and 608. A node twice in a row, as 708,708, is this fault too.
 
   $ echo 'node 710 .' | ga-bench boot 708,710
   ga-bench: route NotNeighbour 1
 
-Mended, as a replay text with that route and no commands:
+Fixed, as a replay text with that route and no commands:
 
   $ printf 'profile 2\\nroute 708,709,710\\nnode 710 .\\ngo\\n' | ga-bench replay
   same 0
 ";
 
 const REPEATED: &str = "\
-Repeated: a node of the route, counted from 0, stands on the route before. A
-route passes each node once. Of several routes (tree Repeated): this route,
-counted from 0, comes to a node of the tree by another way than the routes
-before it. A tree has one way to each node.
+Repeated: a node of the route, counted from 0, is on the route already. A route
+passes each node once. For several routes (tree Repeated): this route, counted
+from 0, reaches a node of the tree by another way than the routes before it. A
+tree has one way to each node.
 
   $ echo 'node 709 .' | ga-bench boot 708,709,708
   ga-bench: route Repeated 2
   $ echo 'node 609 .' | ga-bench boot 708,709,609/708,608,609
   ga-bench: tree Repeated 1
 
-Mended:
+Fixed:
 
   $ echo 'node 709 .' | ga-bench boot 708,709
   load 14
@@ -97,13 +97,13 @@ Mended:
 ";
 
 const OTHER_ROOT: &str = "\
-OtherRoot: this route of several, counted from 0, doesn't begin at the node at
-which the first one begins. One stream boots a tree, and one node is given it.
+OtherRoot: this route of several, counted from 0, doesn't begin at the first
+node of the first route. One stream boots a tree, through one node.
 
   $ echo 'node 709 .' | ga-bench boot 708,709/000,001
   ga-bench: tree OtherRoot 1
 
-Mended: routes from one node, or a session of its own for the other.
+Fixed: routes from one node, or a session of its own for the other.
 
   $ printf 'profile 2\\nroute 708,709/708,608\\nnode 709 .\\ngo\\n' |
     ga-bench replay
@@ -111,14 +111,14 @@ Mended: routes from one node, or a session of its own for the other.
 ";
 
 const UNREACHED: &str = "\
-Unreached: this node of the text isn't on a route, and is the first such. The
-boot could not bring it its words. Nodes of the route without a section are
-fine: they pass words on.
+Unreached: this node of the text, the first such, isn't on a route, so the boot
+can't load it. Nodes of the route without a section are fine: they pass words
+on.
 
   $ echo 'node 709 .' | ga-bench boot 708,707
   ga-bench: boot Unreached 709
 
-Mended:
+Fixed:
 
   $ echo 'node 709 .' | ga-bench boot 708,709
   load 14

@@ -45,17 +45,18 @@ pub fn topics() -> [Topic; 14]
 
 const BAD_COMMAND: &str = "\
 BadCommand: the first word of a line is no command, in lower case, or words are
-left over: so a blank in front or at the end, and in 'debug' a statement. Two
-blanks in between make an empty word, with the fault of what belongs there. In
-a replay text also 'regs', 'mem', 'ports', and a statement that 'try' or 'turn'
-lacks, that can't be read, or that stands behind another command.
+left over, such as a blank at the line's start or end, or in 'debug' a
+statement. Two blanks make an empty word between them, with the fault of what
+belongs there. In a replay text this is also the fault of 'regs', 'mem' and
+'ports', and of a statement that 'try' or 'turn' lacks, that can't be read, or
+that is behind another command.
 
   $ printf 'profile 2\\nplace\\nnode 000 .\\ngo\\nTry 000 r\\n' | ga-bench debug
   refused BadCommand
   $ printf 'profile 2\\nplace\\nnode 000 .\\ngo\\ntry 000 r\\n' | ga-bench replay
   ga-bench: replay line 5 BadCommand
 
-Mended:
+Fixed:
 
   $ printf 'profile 2\\nplace\\nnode 000 .\\ngo\\ntry 000 r\\n' | ga-bench debug
   moved
@@ -65,26 +66,26 @@ Mended:
 ";
 
 const BAD_ADDRESS: &str = "\
-BadAddress: the address of a breakpoint isn't three hex digits up to 1FF. A $
-isn't written there. In a transcript it isn't a label of the node either.
+BadAddress: the address of a breakpoint isn't three hex digits, without a $, up
+to 1FF. In a transcript it isn't a label of the node either.
 
   $ printf 'profile 2\\nplace\\nnode 000 .\\ngo\\nbreak 000 3\\n' | ga-bench debug
   refused BadAddress
 
-Mended:
+Fixed:
 
   $ printf 'profile 2\\nplace\\nnode 000 .\\ngo\\nbreak 000 003\\n' | ga-bench debug
   ok
 ";
 
 const BAD_SIDE: &str = "\
-BadSide: the side of a try isn't r, d, l or u, for right, down, left and up. It
-counts where the node reads at several ports, and has to stand there always.
+BadSide: the side of a try isn't r, d, l or u, for right, down, left and up.
+Only a multiport read uses it, but it is always required.
 
   $ printf 'profile 2\\nplace\\nnode 000 .\\ngo\\ntry 000 right\\n' | ga-bench debug
   refused BadSide
 
-Mended:
+Fixed:
 
   $ printf 'profile 2\\nplace\\nnode 000 .\\ngo\\ntry 000 r\\n' | ga-bench debug
   moved
@@ -97,20 +98,21 @@ seven digits and without a sign.
   $ printf 'profile 2\\nplace\\nnode 000 .\\ngo\\nturn +1\\n' | ga-bench debug
   refused BadCount
 
-Mended:
+Fixed:
 
   $ printf 'profile 2\\nplace\\nnode 000 .\\ngo\\nturn 1\\n' | ga-bench debug
   moved 1
 ";
 
 const NOT_HELD: &str = "\
-NotHeld: a pass is for a node that is held: one that is about to fetch at a
-breakpoint, hasn't stopped, and has no pass yet. It needn't have been tried.
+NotHeld: the node isn't held, so it can't have a pass. A node is held if it is
+about to fetch at a breakpoint, hasn't stopped, and has no pass yet. No try of
+it is needed.
 
   $ printf 'profile 2\\nplace\\nnode 000 .\\ngo\\npass 000\\n' | ga-bench debug
   refused NotHeld
 
-Mended:
+Fixed:
 
   $ printf 'profile 2\\nplace\\nnode 000 .\\ngo\\nbreak 000 000\\npass 000\\n' |
     ga-bench debug
@@ -119,43 +121,43 @@ Mended:
 ";
 
 const BAD_PROFILE: &str = "\
-BadProfile: the first line of a session or of a replay text isn't 'profile 2',
-to the character: no blank and no CR stands behind it, and no byte order mark in
-front of it. For 'replay' it may also be 'profile 1', of older texts: there a
-node that is about to fetch with bit 9 of P set counts as stopped.
+BadProfile: the first line of a session or of a replay text isn't exactly
+'profile 2', without a blank or CR behind it or a byte order mark in front. For
+'replay' it may also be 'profile 1', for older texts: there a node that is about
+to fetch with bit 9 of P set counts as stopped.
 
   $ printf 'place\\nnode 000 .\\ngo\\nturn 1\\n' | ga-bench debug
   ga-bench: replay BadProfile
 
-Mended:
+Fixed:
 
   $ printf 'profile 2\\nplace\\nnode 000 .\\ngo\\nturn 1\\n' | ga-bench debug
   moved 1
 ";
 
 const NO_GO: &str = "\
-NoGo: no line of a session or of a replay text is 'go' alone. It stands between
-the source text and the commands; a blank or CR behind it makes it source text.
+NoGo: no line of a session or of a replay text is 'go' alone. It goes between
+the source text and the commands. A blank or CR behind it makes it source text.
 
   $ printf 'profile 2\\nplace\\nnode 000 .\\nturn 1\\n' | ga-bench debug
   ga-bench: replay NoGo
 
-Mended:
+Fixed:
 
   $ printf 'profile 2\\nplace\\nnode 000 .\\ngo\\nturn 1\\n' | ga-bench debug
   moved 1
 ";
 
 const SOURCE: &str = "\
-Source: the source text of a session or of a replay text has a fault. 'asm'
-tells which, of the lines from the third one up to 'go'.
+Source: the source text of a session or of a replay text has a fault. Run 'asm'
+with the lines from the third one up to 'go' to see which.
 
   $ printf 'profile 2\\nplace\\nnode 000 xor\\ngo\\n' | ga-bench replay
   ga-bench: replay Source
   $ printf 'node 000 xor\\n' | ga-bench asm
   ga-bench: source 1:10 BadToken
 
-Mended:
+Fixed:
 
   $ printf 'profile 2\\nplace\\nnode 000 or\\ngo\\n' | ga-bench replay
   same 0
@@ -163,14 +165,14 @@ Mended:
 
 const ASM: &str = "\
 Asm: the source text of a session or of a replay text can't be laid as words.
-'asm' tells why, of the lines from the third one up to 'go'.
+Run 'asm' with the lines from the third one up to 'go' to see why.
 
   $ printf 'profile 2\\nplace\\nnode 000 jump x\\ngo\\n' | ga-bench replay
   ga-bench: replay Asm
   $ printf 'node 000 jump x\\n' | ga-bench asm
   ga-bench: asm 000 1:15 UndefinedLabel
 
-Mended:
+Fixed:
 
   $ printf 'profile 2\\nplace\\nnode 000 x: jump x\\ngo\\n' | ga-bench replay
   same 0
@@ -178,14 +180,14 @@ Mended:
 
 const ROUTE: &str = "\
 Route: nodes of the line 'route' of a session or of a replay text are no route.
-'boot' tells why, of the same routes and the source text.
+Run 'boot' with the same routes and the source text to see why.
 
   $ printf 'profile 2\\nroute 408\\nnode 408 .\\ngo\\n' | ga-bench replay
   ga-bench: replay Route
   $ echo 'node 408 .' | ga-bench boot 408
   ga-bench: route NotEdge
 
-Mended: a route from the edge, or 'place' in its stead.
+Fixed: a route from the edge, or 'place' instead.
 
   $ printf 'profile 2\\nplace\\nnode 408 .\\ngo\\n' | ga-bench replay
   same 0
@@ -193,7 +195,7 @@ Mended: a route from the edge, or 'place' in its stead.
 
 const TREE: &str = "\
 Tree: the routes of the line 'route' of a session or of a replay text are no
-tree. 'boot' tells why, of the same routes and the source text.
+tree. Run 'boot' with the same routes and the source text to see why.
 
   $ printf 'profile 2\\nroute 708,709/000,001\\nnode 709 .\\ngo\\n' |
     ga-bench replay
@@ -201,7 +203,7 @@ tree. 'boot' tells why, of the same routes and the source text.
   $ echo 'node 709 .' | ga-bench boot 708,709/000,001
   ga-bench: tree OtherRoot 1
 
-Mended:
+Fixed:
 
   $ printf 'profile 2\\nroute 708,709/708,608\\nnode 709 .\\ngo\\n' |
     ga-bench replay
@@ -210,47 +212,47 @@ Mended:
 
 const BOOT: &str = "\
 Boot: a node of the source text of a session or of a replay text isn't on its
-routes. 'boot' tells which, of the same routes and the source text.
+routes. Run 'boot' with the same routes and the source text to see which.
 
   $ printf 'profile 2\\nroute 708\\nnode 709 .\\ngo\\n' | ga-bench replay
   ga-bench: replay Boot
   $ echo 'node 709 .' | ga-bench boot 708
   ga-bench: boot Unreached 709
 
-Mended:
+Fixed:
 
   $ printf 'profile 2\\nroute 708,709\\nnode 709 .\\ngo\\n' | ga-bench replay
   same 0
 ";
 
 const EARLY_REPLY: &str = "\
-EarlyReply: this line of a transcript, counted from 1, stands behind 'go' and is
-no command, no comment and not empty, so it is one of a reply; and there is no
-command in front of it. A command begins with '> ', a comment with '\\ '.
+EarlyReply: this line of a transcript, counted from 1, is behind 'go' and is no
+command, no comment and not empty. So it is part of a reply, but no command is
+before it. A command begins with '> ', a comment with '\\ '.
 
   $ printf 'profile 2\\nplace\\nnode 000 .\\ngo\\nturn 4\\n' | ga-bench check
   ga-bench: transcript line 5 EarlyReply
     turn 4
   a line that is no command or comment, with no command before it
 
-Mended:
+Fixed:
 
   $ printf 'profile 2\\nplace\\nnode 000 .\\ngo\\n> breaks\\n' | ga-bench check
   same 1
 ";
 
 const DIFFERS: &str = "\
-differs: something else came of the command of this line, counted from 1, than
-the line of the replay text states. 'debug' tells what comes, where the
-statements are left out. Of 'check': the command of this line of a transcript
-has another reply than the lines behind it; 'record' writes the one that came.
+differs: the command of this line of a replay text, counted from 1, has another
+result than the line states. Run 'debug' without the statements to see the
+result. From 'check': the command of this line of a transcript has another reply
+than the lines behind it. 'record' writes the actual one.
 
   $ printf 'profile 2\\nplace\\nnode 000 .\\ngo\\nturn 4 = 5\\n' | ga-bench replay
   ga-bench: replay differs 5
   $ printf 'profile 2\\nplace\\nnode 000 .\\ngo\\nturn 4\\n' | ga-bench debug
   moved 4
 
-Mended, if the program is right and not the statement:
+Fixed, if the program is right and the statement wrong:
 
   $ printf 'profile 2\\nplace\\nnode 000 .\\ngo\\nturn 4 = 4\\n' | ga-bench replay
   same 1

@@ -60,14 +60,14 @@ pub fn topics() -> [Topic; 10]
 }
 
 const BAD_TOKEN: &str = "\
-BadToken: a token that the language doesn't have, or one that may not stand
-there. The line and the column are those of the token, or of the text's end
-where something is missing. Tokens end at blanks.
+BadToken: a token that the language doesn't have, or one that isn't allowed
+there. The line and the column are those of the token, or of the text's end if
+something is missing. Tokens end at blanks.
 
   $ echo 'node 709 0x15' | ga-bench asm
   ga-bench: source 1:10 BadToken
 
-Mended:
+Fixed:
 
   $ echo 'node 709 $15' | ga-bench asm
   node 709 entry 000 code 2 words 2
@@ -80,34 +80,33 @@ Elsewhere                  Here
 xor, inv, nop, ret         or, -, ., ;
 >r, r>, @a, !a             push, pop, @, !
 DUP                        dup: opcodes are in lower case
-@p, !p                     a number is @p with its word; else in brackets
+@p, !p                     only in brackets; a number is @p with its word
 : foo, or foo : apart      foo: is one token
 foo!: or a long name       one to sixteen letters, digits and _, no digit first
-foo, as a call             call foo; where ; follows, jump foo
+foo, as a call             call foo; if ; follows, jump foo
 table, as a number         [ @p . . . ] , table
 ( a note ), \\note          \\ and a blank, up to the line's end
 if .. then, begin .. until labels, and jumps to them
 for .. next                push again: .. next again
 ..                         align
 ] or / outside brackets    only in brackets
-a byte order mark          none: save the text without it, told at 1:1
+a byte order mark          none: save the text without it (reported at 1:1)
 r---, north                right; for a direction the side: docs/CHIP.md
 , 5 between instructions   behind a word in brackets with @p, or behind data
-dup behind data            only labels and , words stand there
+dup behind data            only labels and , words may follow data
 jump, and then nothing     a number or a name behind it, and no opcode's name
 
-docs/COMING-FROM.md shows notations of others, with what the program says.
+docs/COMING-FROM.md shows the notations of other assemblers beside this one.
 ";
 
 const NUMBER_RANGE: &str = "\
-NumberRange: a number over $3FFFF, which 18 bits don't hold, or a destination
-over $3FF outside brackets. Negative numbers are written as the word that they
-are: less 1 is $3FFFF.
+NumberRange: a number over $3FFFF, more than 18 bits, or a destination over $3FF
+outside brackets. Write a negative number as its word: -1 is $3FFFF.
 
   $ echo 'node 709 $FFFFF' | ga-bench asm
   ga-bench: source 1:10 NumberRange
 
-Mended:
+Fixed:
 
   $ echo 'node 709 $3FFFF' | ga-bench asm
   node 709 entry 000 code 2 words 2
@@ -115,16 +114,16 @@ Mended:
 ";
 
 const BAD_NODE: &str = "\
-BadNode: no name of a node stands where one has to. A name is three digits: the
-row, 0 to 7, and the column, 00 to 17. In source text it is told of what stands
-behind 'node', and of commands of a session of the word for the node.
+BadNode: the name of a node is missing or wrong. A name is three digits: the
+row, 0 to 7, and the column, 00 to 17. In source text it comes behind 'node'. In
+a command of a session it is the word for the node.
 
   $ echo 'node 8 dup' | ga-bench asm
   ga-bench: source 1:6 BadNode
   $ printf 'profile 2\\nplace\\nnode 008 .\\ngo\\nregs 8\\n' | ga-bench debug
   refused BadNode
 
-Mended:
+Fixed:
 
   $ echo 'node 008 dup' | ga-bench asm
   node 008 entry 000 code 1 words 1
@@ -132,12 +131,12 @@ Mended:
 ";
 
 const DUPLICATE_NODE: &str = "\
-DuplicateNode: a node has two sections. All that is a node's stands in one.
+DuplicateNode: a node has two sections. Put all of a node's text into one.
 
   $ printf 'node 709 dup\\nnode 709 drop\\n' | ga-bench asm
   ga-bench: source 2:6 DuplicateNode
 
-Mended:
+Fixed:
 
   $ echo 'node 709 dup drop' | ga-bench asm
   node 709 entry 000 code 1 words 1
@@ -145,13 +144,13 @@ Mended:
 ";
 
 const DUPLICATE_LABEL: &str = "\
-DuplicateLabel: a node has two labels with one name. Labels of two nodes may
-have the same name, since a label is known in its node alone.
+DuplicateLabel: a node has two labels with the same name. Labels of two nodes
+may have the same name, since only its own node sees a label.
 
   $ echo 'node 709 x: dup x: drop' | ga-bench asm
   ga-bench: source 1:17 DuplicateLabel
 
-Mended:
+Fixed:
 
   $ echo 'node 709 x: dup y: drop' | ga-bench asm
   node 709 entry 000 code 2 words 2
@@ -160,13 +159,13 @@ Mended:
 
 const RESERVED_LABEL: &str = "\
 ReservedLabel: a label has the name of an opcode, of a port (right, down, left,
-up, rdlu), io or warm, or is node, align or data. In upper case it is another
-name: IF: is a label.
+up, rdlu), io or warm, or is node, align or data. Names are case-sensitive: IF:
+is a label.
 
   $ echo 'node 709 if: dup' | ga-bench asm
   ga-bench: source 1:10 ReservedLabel
 
-Mended:
+Fixed:
 
   $ echo 'node 709 again: dup' | ga-bench asm
   node 709 entry 000 code 1 words 1
@@ -174,13 +173,13 @@ Mended:
 ";
 
 const OPEN_BRACKET: &str = "\
-OpenBracket: a [ has no ] up to the text's end, or another [ stands before it.
-Each pair of brackets is one word.
+OpenBracket: a [ has no ] before the next [ or the text's end. Each pair of
+brackets is one word.
 
   $ echo 'node 709 [ dup drop [ dup ]' | ga-bench asm
   ga-bench: source 1:21 OpenBracket
 
-Mended:
+Fixed:
 
   $ echo 'node 709 [ dup drop ] [ dup ]' | ga-bench asm
   node 709 entry 000 code 2 words 2
@@ -188,22 +187,22 @@ Mended:
 ";
 
 const BAD_WORD: &str = "\
-BadWord: of source text, the first token in brackets that can't stand there: an
+BadWord: in source text, the first token in brackets that isn't allowed: an
 opcode for which the word has no room, a number or name that no opcode takes, a
-number over its field, the ] of [ ]; or an item where the word before lacks a
-follower. Slot 3 has room for ; unext @p !p +* + dup . alone.
+number over its field, the ] of [ ]; or an item while the word before lacks a
+follower. Slot 3 has room only for ; unext @p !p +* + dup .
 
   $ echo 'node 709 [ dup dup dup drop ]' | ga-bench asm
   ga-bench: source 1:24 BadWord
 
-Mended, as two words:
+Fixed, as two words:
 
   $ echo 'node 709 [ dup dup dup ] drop' | ga-bench asm
   node 709 entry 000 code 2 words 2
   24D92 3A9B2
 
-Of words it is the first token, counted from 0, that isn't five hex digits up to
-3FFFF:
+For words it is the first token, counted from 0, that isn't five hex digits up
+to 3FFFF:
 
   $ echo '04A12 5' | ga-bench one 5
   ga-bench: words 1 BadWord
@@ -213,13 +212,13 @@ Of words it is the first token, counted from 0, that isn't five hex digits up to
 ";
 
 const NO_NODE: &str = "\
-NoNode: something stands before the first 'node', or the text has none. Each
-program says first which node it is for.
+NoNode: something comes before the first 'node', or the text has none. A program
+begins with the node that it is for.
 
   $ echo '5 dup' | ga-bench asm
   ga-bench: source 1:1 NoNode
 
-Mended:
+Fixed:
 
   $ echo 'node 709 5 dup' | ga-bench asm
   node 709 entry 000 code 2 words 2
@@ -228,8 +227,8 @@ Mended:
 
 const EMPTY: &str = "\
 Empty: a section of source text makes no word; there are no words for 'one' or
-'dis' (words Empty); or 'run' has more workers than nodes (plan
-Empty, and the number of the first worker without a node, from 0).
+'dis' (words Empty); or 'run' has more workers than nodes (plan Empty, and the
+number of the first worker without a node, from 0).
 
   $ echo 'node 709 main:' | ga-bench asm
   ga-bench: source 2:1 Empty
@@ -238,7 +237,7 @@ Empty, and the number of the first worker without a node, from 0).
   $ echo 'node 709 .' | ga-bench run 708,709 3 200
   ga-bench: plan Empty 2
 
-Mended: a node that does nothing has a '.', and a route of two nodes has one or
+Fixed: a node that does nothing has a '.', and a route of two nodes has one or
 two workers.
 
   $ echo 'node 709 main: .' | ga-bench asm

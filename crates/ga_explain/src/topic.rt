@@ -3,7 +3,7 @@ ghost use Rattle.ga_explain.specs.Output.{entry_in, meaning_of};
 ghost use Rattle.ga_explain.specs.Table.{entries};
 ghost use Rattle.ga_explain.specs.Topic.{entry_of};
 
-use crate::{carry, input, layout, needs, outcomes, routes, sessions, source, stops};
+use crate::{input, layout, needs, routes, sessions, source, terms};
 use std::alloc::{AllocError, Global};
 
 /// A row of the table: a name, its meaning in one line, and its text.
@@ -23,15 +23,14 @@ pub(crate) use topic;
 #[derive(Clone, Copy, Debug, PartialEq, Eq)]
 pub struct Topic {
     pub name: &'static str,
-    /// The line that is shown behind a fault of this name, or nothing.
+    /// The line that is shown behind a fault of this name; empty if none is.
     pub meaning: &'static str,
     /// Lines of at most 80 characters.
     pub text: &'static str,
 }
 
 impl Topic {
-    /// The topic of the table with this name, or `None` where none has it. It fails only where
-    /// memory is refused.
+    /// The topic with this name, or `None` if the table has none. Fails only when out of memory.
     pub fn named(alloc: Global, name: &str) -> Result<Option<Topic>, AllocError>
         ensures entry { IfOk result (λ topic. option_map entry_of topic
             ≡ entry_in entries name.now) }
@@ -42,8 +41,8 @@ impl Topic {
     }
 }
 
-/// What a name means, in one line. A name that isn't known has an empty line. It fails only where
-/// memory is refused.
+/// What a name means, in one line. The line of an unknown name is empty. Fails only when out of
+/// memory.
 #[tactic(auto, unfolding(crate::specs::Output::meaning_of))]
 pub fn meaning(alloc: Global, name: &str) -> Result<&'static str, AllocError>
     ensures { IfOk result (λ line. line.now ≡ meaning_of name.now) }
@@ -65,13 +64,11 @@ pub fn topics(alloc: Global) -> Result<Vec<Topic>, AllocError>
     append(&mut topics, &sessions::topics())?;
     append(&mut topics, &input::topics())?;
     append(&mut topics, &needs::topics())?;
-    append(&mut topics, &stops::topics())?;
-    append(&mut topics, &carry::topics())?;
-    append(&mut topics, &outcomes::topics())?;
+    append(&mut topics, &terms::topics())?;
     Ok(topics)
 }
 
-/// Puts the topics of a group behind others.
+/// Appends the topics of a group.
 fn append(topics: &mut Vec<Topic>, group: &[Topic]) -> Result<(), AllocError>
     ensures { OnOk result (map entry_of topics.new.items
         ≡ map entry_of topics.old.items ++ map entry_of group.now) }

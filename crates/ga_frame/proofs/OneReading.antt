@@ -29,7 +29,7 @@ same_frame f g rest rest' e =
     let parts = same_front f.words g.words rest rest' counts bodies in
     (rw (completions, transfers, parts.0) refl, parts.1)
 
--- the first of some frames, where one that goes on stands in front
+-- the first of some frames, if one that goes on comes first
 first_is : (f : FrameView) (rest : List ℕ) (frames : List FrameView)
     → AreFrames (words_of f ++ rest) frames → GoesOn f
     → (others : List FrameView) × (frames ≡ f ∷ others) × AreFrames rest others
@@ -47,7 +47,7 @@ first_is f rest (g ∷ next ∷ frames) are on =
       subst (λ l. AreFrames l (next ∷ frames)) (sym same.1) are.4,
     )
 
--- and where the last one stands in front
+-- and if the last one comes first
 last_is : (f : FrameView) (rest : List ℕ) (frames : List FrameView)
     → AreFrames (words_of f ++ rest) frames → (f.completion == MORE) ≡ false
     → (frames ≡ f ∷ []) × (rest ≡ [])
@@ -62,7 +62,7 @@ last_is f rest (g ∷ next ∷ frames) are ends =
     ap (λ h. h.completion == MORE) same.0 in
     absurd (false≢true (sym ends ∙ goes_on ∙ are.3))
 
--- behind frames that go on stand the other frames
+-- behind frames that go on come the other frames
 others_are : (front : List FrameView) (rest : List ℕ) (frames : List FrameView) → All GoesOn front
     → AreFrames (flat_map words_of front ++ rest) frames
     → (others : List FrameView) × (frames ≡ front ++ others) × AreFrames rest others
@@ -196,13 +196,13 @@ first_fault_none words (AfterEnd n) is = either_none words (AfterEnd n) is
 
 -- ---- words have one first fault
 
--- a reader stops in front of these words: they begin with a fault, or are the last frame and more
+-- a reader stops before these words: they begin with a fault, or are the last frame and more
 data Stops (rest : List ℕ) : Type 0 where
   at_fault : (at : ℕ) (fault : FrameError) → fault_at at rest ≡ Some fault → Stops rest
   at_end : (last : FrameView) (behind : List ℕ) → rest ≡ words_of last ++ behind → WellFormed last
       → (last.completion == MORE) ≡ false → Stops rest
 
--- it doesn't where a frame begins them that goes on
+-- it doesn't if they begin with a frame that goes on
 goes_past : (f : FrameView) (behind : List ℕ) → GoesOn f → Stops (words_of f ++ behind) → ⊥
 goes_past f behind on (at_fault at fault wrong) =
     some_fault (fault_at at (words_of f ++ behind)) fault wrong (frame_right f behind at on.0)
@@ -258,7 +258,7 @@ one_of_either words fault other (inr a) (inr b) =
     (same_frame b.last a.last (b.word ∷ b.rest) (a.word ∷ a.rest) same.1).0 in
     b.wrong ∙ ap AfterEnd (rw (same.0, last) refl) ∙ sym a.wrong
 
--- the two ways to have a first fault, where that isn't want of memory
+-- the two ways to have a first fault, unless it is out of memory
 either : (words : List ℕ) (fault : FrameError) → (fault ≡ Memory → ⊥) → IsFirstFault words fault
     → IsFrameFault words fault ⊎ IsAfterEnd words fault
 either words Memory some is = absurd (some refl)

@@ -1,5 +1,5 @@
--- A reader that takes frame after frame off the front of words stands behind those that it has
--- read, and finds the first fault of the words and of all that follow them.
+-- A reader that takes frame after frame off the front of words is behind those that it has read,
+-- and finds the first fault of the words and of all that follow them.
 use Rattle.std.proofs.Common.{◌≡◌, ◌∙◌, ◌++◌, ◌+◌, ◌-◌, ◌<◌, ◌⊎◌, ℕ, Bool, true, false, List, [], ◌∷◌, inl, inr, All, length, drop, Some, None, refl, sym, ap, subst, append-nil, append_assoc, arith, length-append}
 use Rattle.std.specs.Prelude.{◌==◌, ◌&&◌, nat_lt, if◌then◌else◌, not}
 use Rattle.std.proofs.lemmas.Bool.{false≢true}
@@ -74,7 +74,7 @@ has_ended words rest behind frames last r (e, right) none ends =
       );
     }
 
--- the reader goes on in words that it had begun
+-- the reader goes on in a stream of which it has read a part
 pub read_on : (words piece rest : List ℕ) (frames more : List FrameView) (feed : FeedView)
     (count : ℕ) (ended : Bool) → HasRead words frames feed → feed.ended ≡ false
     → HasRead (feed.begun ++ piece) more (record { at = count; begun = rest; ended = ended })
@@ -104,7 +104,7 @@ read_on words piece rest frames more feed count ended r going next =
 
 -- ---- faults
 
--- the fault of an address stands in the first three words of a frame, so it stays whatever follows
+-- the fault of an address is in the first three words of a frame, so it stays whatever follows
 bad_address_stays : (at : ℕ) (rest more : List ℕ) → fault_at at rest ≡ Some (BadAddress at)
     → fault_at at (rest ++ more) ≡ Some (BadAddress at)
 bad_address_stays at [] more e = absurd (cc)
@@ -149,7 +149,7 @@ place_of front frames words rest at before r =
       length-append (flat_map words_of front) (flat_map words_of frames),
     )
 
--- the frame at which the reader stands has a bad address
+-- the frame at the reader's place has a bad address
 bad_address : (front frames : List FrameView) (words rest more : List ℕ) (at : ℕ) → All GoesOn front
     → length (flat_map words_of front) ≡ at → ReadSoFar words rest frames
     → fault_at (at + (length words - length rest)) rest
@@ -178,7 +178,7 @@ stops_at words rest frames at fault r (inr (bad, wrong)) =
           inl (bad_address front frames words rest more at on before r (wrong ∙ ap Some bad));
     })
 
--- a word stands behind the last frame
+-- a word comes behind the last frame
 after_end : (front frames : List FrameView) (words rest behind more : List ℕ) (at : ℕ)
     (last : FrameView) → All GoesOn front → length (flat_map words_of front) ≡ at
     → ReadSoFar words rest frames → rest ≡ words_of last ++ behind → WellFormed last

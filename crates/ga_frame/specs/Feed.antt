@@ -1,11 +1,11 @@
 -- Frames of a stream that comes in pieces.
-use Rattle.std.specs.Prelude.{◌≡◌, ℕ, ◌&&◌, nat_lt, Bool, true, false, List, [], ◌∷◌, ◌++◌, All, length, Option, Some, None, if◌then◌else◌}
+use Rattle.std.specs.Prelude.{◌≡◌, ℕ, ◌&&◌, nat_lt, Bool, true, false, List, [], ◌∷◌, ◌++◌, All, length, if◌then◌else◌}
 use Rattle.std.specs.List.{flat_map}
 use Rattle.ga_frame.specs.Frame.{AreFrames, FrameView, GoesOn, has_addresses, words_of}
 use Rattle.ga_frame.specs.declared.error.FrameError.{FrameError}
 use Rattle.ga_frame.specs.declared.error.FrameError.TheVariants.{CutBody, CutHeader}
 
--- Where a reader stands in a stream.
+-- The place of a reader in a stream.
 pub record FeedView : Type 0 where
   -- how many words the frames have that it handed out
   pub at : ℕ
@@ -20,7 +20,7 @@ is_cut (completion ∷ transfer ∷ count ∷ body) =
     has_addresses completion transfer && nat_lt (length body) count
 is_cut words = true
 
--- Of these words a reader has handed out these frames, and stands so.
+-- A reader with this state has handed out these frames of these words.
 pub record HasRead (words : List ℕ) (frames : List FrameView) (feed : FeedView) : Type 0 where
   pub whole : words ≡ flat_map words_of frames ++ feed.begun
   pub place : feed.at ≡ length (flat_map words_of frames)
@@ -29,11 +29,7 @@ pub record HasRead (words : List ℕ) (frames : List FrameView) (feed : FeedView
   -- and then the words are these frames and no more
   pub ends : feed.ended ≡ true → AreFrames words frames × (feed.begun ≡ [])
 
--- what is wrong with a frame that begins at the word with this number, where the stream ends after
--- so many of its words
+-- the fault of a frame that begins at the word with this number, if the stream ends after this many
+-- of its words
 abbrev pub cut_at : ℕ → ℕ → FrameError
 cut_at at count = if nat_lt count 3 then CutHeader at else CutBody at
-
--- what is wrong with a stream that ends where a reader stands
-abbrev pub cut_of : FeedView → Option FrameError
-cut_of feed = if feed.ended then None else Some (cut_at feed.at (length feed.begun))

@@ -57,15 +57,15 @@ AreFrames words (frame ∷ next ∷ frames) =
 abbrev pub GoesOn : FrameView → Type 0
 GoesOn frame = WellFormed frame × ((frame.completion == MORE) ≡ true)
 
--- what is wrong with the frame that some words begin with, the first of them being the word of a
--- stream with this number: fewer than three words, a bad address, or fewer words than it counts
+-- the fault of the frame that some words begin with, whose first word has this number in the
+-- stream: fewer than three words, a bad address, or fewer words than it counts
 abbrev pub fault_at : ℕ → List ℕ → Option FrameError
 fault_at at (completion ∷ transfer ∷ count ∷ body) =
     if not (has_addresses completion transfer) then Some (BadAddress at)
     else if nat_lt (length body) count then Some (CutBody at) else None
 fault_at at words = Some (CutHeader at)
 
--- Behind some frames that go on stands a frame with that fault.
+-- Behind some frames that go on comes a frame with that fault.
 pub record IsFrameFault (words : List ℕ) (fault : FrameError) : Type 0 where
   pub frames : List FrameView
   pub rest : List ℕ
@@ -73,7 +73,7 @@ pub record IsFrameFault (words : List ℕ) (fault : FrameError) : Type 0 where
   pub go_on : All GoesOn frames
   pub wrong : fault_at (length (flat_map words_of frames)) rest ≡ Some fault
 
--- Behind some frames that go on stands the last one, and behind it a word.
+-- Behind some frames that go on comes the last one, and behind it a word.
 pub record IsAfterEnd (words : List ℕ) (fault : FrameError) : Type 0 where
   pub frames : List FrameView
   pub last : FrameView

@@ -10,17 +10,17 @@ pub enum FrameError {
     /// The words of a frame are more than 3FFFF.
     #[error("TooLong")]
     TooLong,
-    /// Fewer than three words stand where a frame begins, at this word.
+    /// A frame that begins at this word has fewer than three words.
     #[error("{0} CutHeader")]
     CutHeader(u64),
     /// The frame that begins at this word has a completion over 3FF, or a transfer address over 1FF
     /// or one that is none of RAM, of io, or of one port.
     #[error("{0} BadAddress")]
     BadAddress(u64),
-    /// The frame that begins at this word has fewer words than its count says.
+    /// The frame that begins at this word has fewer words than its count.
     #[error("{0} CutBody")]
     CutBody(u64),
-    /// Behind the last frame stands this word.
+    /// This word comes behind the last frame.
     #[error("{0} AfterEnd")]
     AfterEnd(u64),
     /// The words of a stream are more than a number of 64 bits counts.

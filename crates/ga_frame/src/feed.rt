@@ -1,7 +1,6 @@
-ghost use Rattle.std.specs.Prelude.{◌≡◌, ◌+◌, ◌++◌, ◌≤◌, ◌^◌, ◌⊎◌, ℕ, List, [], IfErr, IfOk, Ok, Err, drop, false, length, map};
-ghost use Rattle.std.specs.Option.{option_map_or};
+ghost use Rattle.std.specs.Prelude.{◌≡◌, ◌+◌, ◌++◌, ◌≤◌, ◌^◌, ◌⊎◌, ℕ, List, [], IfErr, IfOk, Ok, Err, drop, false, if◌then◌else◌, length, map};
 ghost use Rattle.ga_frame.specs.Frame.{AreFrames, FrameView, HasNoFrames, IsFirstFault, frame_view};
-ghost use Rattle.ga_frame.specs.Feed.{HasRead, cut_of};
+ghost use Rattle.ga_frame.specs.Feed.{HasRead, cut_at};
 ghost use Rattle.ga_frame.specs.declared.error.FrameError.TheVariants.{Counted};
 
 use crate::error::FrameError;
@@ -16,7 +15,7 @@ use std::marker::Model;
 #[derive(Drop)]
 pub struct FrameFeed {
     alloc: Global,
-    // How many words the frames have that were handed out.
+    // The number of words of the frames that were handed out.
     at: u64,
     // The words behind them.
     begun: Vec<Word18>,
@@ -40,7 +39,7 @@ impl Model for FrameFeed {
 }
 
 impl FrameFeed {
-    /// A reader to which no word has come. It takes no memory.
+    /// A reader that has read no word. It allocates nothing.
     pub fn new(alloc: Global) -> Self
         ensures value { result ≡ record { at = 0; begun = []; ended = false } }
         // of no words it has handed out no frame
@@ -54,14 +53,13 @@ impl FrameFeed {
         }
     }
 
-    /// The frames that are whole with this piece and weren't before. A frame is refused as
-    /// [`FrameError::BadAddress`] as soon as its three first words are there, with the number of
-    /// the first of them, and a word behind the last frame at once as [`FrameError::AfterEnd`],
-    /// with its own number; words count from 0 over all pieces. A piece that would bring the number
-    /// of words over 2^64 - 1 is refused as
-    /// [`FrameError::Counted`] before all else, and one for which memory is refused as
-    /// [`FrameError::Memory`]. After a refusal the reader is as before the call. (Frames are this
-    /// project's own: profile.)
+    /// Returns the frames that this piece makes whole. A frame is refused as
+    /// [`FrameError::BadAddress`] as soon as its first three words are there, with the number of
+    /// the first of them. A word behind the last frame is refused at once as
+    /// [`FrameError::AfterEnd`], with its own number. Words count from 0 over all pieces. A piece
+    /// that would bring the number of words over 2^64 - 1 is refused as [`FrameError::Counted`]
+    /// before all else, and one that runs out of memory as [`FrameError::Memory`]. After a refusal
+    /// the reader is as before the call. (Frames are this project's own: profile.)
     pub fn feed(&mut self, piece: &[Word18]) -> Result<Vec<Frame>, FrameError>
         // with the frames handed out before they are the frames of all words up to here
         ensures frames { IfOk result (λ more. (words : List ℕ) (frames : List FrameView)
@@ -103,13 +101,13 @@ impl FrameFeed {
         }
     }
 
-    /// Ends the stream. Where its last frame wasn't handed out, a frame is cut that begins behind
-    /// those that were:
-    /// [`FrameError::CutHeader`] where fewer than three words of it came, else
-    /// [`FrameError::CutBody`], with the number of the word at which it begins. It takes no memory.
-    /// (Frames are this project's own: profile.)
+    /// Ends the stream. If its last frame wasn't handed out, the frame behind those that were is
+    /// cut: [`FrameError::CutHeader`] if fewer than three of its words came, else
+    /// [`FrameError::CutBody`], with the number of its first word. It allocates nothing. (Frames
+    /// are this project's own: profile.)
     pub fn finish(self) -> Result<(), FrameError>
-        ensures exact { result ≡ option_map_or Err (cut_of self) (Ok tt) }
+        ensures exact { result
+            ≡ (if self.ended then Ok tt else Err (cut_at self.at (length self.begun))) }
         // the frames that were handed out are those of the words
         ensures frames { IfOk result (λ done. (words : List ℕ) (frames : List FrameView)
             → HasRead words frames self → AreFrames words frames) }
@@ -133,7 +131,7 @@ impl FrameFeed {
     }
 }
 
-/// Takes so many words off the front.
+/// Removes the first `count` words.
 fn drop_front(words: &mut Vec<Word18>, count: usize)
     requires { count ≤ length words.old.items }
     ensures { words.new.items ≡ drop count words.old.items }

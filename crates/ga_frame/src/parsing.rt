@@ -60,8 +60,8 @@ pub(crate) fn take_frames(alloc: Global, at: u64, words: &[Word18]) -> Result<Ta
     }
 }
 
-/// The frame that some words begin with, and the words behind it; or none, where it isn't whole
-/// yet. The first of the words is the word of a stream with this number.
+/// The frame that some words begin with, and the words behind it; or none, if it isn't whole yet.
+/// The first word has this number in its stream.
 fn first_frame(
     alloc: Global,
     at: u64,

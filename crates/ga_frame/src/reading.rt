@@ -8,9 +8,9 @@ use ga_word::Word18;
 use std::alloc::Global;
 
 /// The frames of a stream, or its first fault: for each frame in order its three first words, its
-/// addresses, its words, and then what stands behind the last one. A word's number in a fault
-/// counts from 0. It fails as [`FrameError::Memory`] only where memory is refused. (Frames are this
-/// project's own: profile.)
+/// addresses, its words, and then the words behind the last one. A word's number in a fault counts
+/// from 0. Fails with [`FrameError::Memory`] only when out of memory. (Frames are this project's
+/// own: profile.)
 pub fn read_frames(alloc: Global, words: &[Word18]) -> Result<Vec<Frame>, FrameError>
     ensures frames { IfOk result (λ frames. AreFrames words.now (map frame_view frames.items)) }
     // they are the only frames of these words

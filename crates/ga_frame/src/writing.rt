@@ -7,8 +7,8 @@ use ga_word::Word18;
 use std::alloc::Global;
 
 /// The words of a frame: its completion, its transfer address, how many words it has, and these.
-/// The first two are not judged. More than 3FFFF words are refused as [`FrameError::TooLong`], and
-/// [`FrameError::Memory`] comes only where memory is refused.
+/// The first two are not checked. More than 3FFFF words are refused as [`FrameError::TooLong`], and
+/// [`FrameError::Memory`] comes only when out of memory.
 pub fn write_frame(
     alloc: Global,
     completion: Word18,

@@ -1,4 +1,4 @@
--- Runs of workers go alike, since they are runs.
+-- Runs of workers agree on their common steps, since they are runs.
 use Rattle.std.proofs.Common.{◌≡◌, ◌∙◌, List, Some, refl, sym, ap}
 use Rattle.ga_chip.specs.declared.outcome.Try.{Try}
 use Rattle.ga_chip.specs.Chip.{Chip, part_of}

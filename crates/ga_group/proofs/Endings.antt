@@ -151,7 +151,7 @@ pub in_front : (front parts : List Part) (nodes : List ℕ) → front ≡ take (
 in_front front parts nodes cut first =
     ap names_of cut ∙ sym (take-map (λ part. part.state.node) (length nodes) parts) ∙ first
 
--- all parts stand in the order of these names
+-- all parts are in the order of these names
 pub order_back : (parts : List Part) (order : List ℕ) → take (length order) (names_of parts) ≡ order
     → length parts ≡ length order → names_of parts ≡ order
 order_back parts order front count =

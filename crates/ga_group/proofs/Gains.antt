@@ -1,5 +1,5 @@
 -- What the tries of nodes leave in a seat, one after another, and what stays of the parts that are
--- lent with it.
+-- borrowed with it.
 use Rattle.std.proofs.Common.{◌≡◌, ◌≢◌, ◌∙◌, ℕ, ◌==◌, ◌+◌, ◌<◌, zero, suc, Bool, true, false, ◌||◌, ◌⊎◌, inl, inr, List, [], ◌∷◌, ◌++◌, set, take, slice_get, Option, Some, None, option_map, refl, sym, ap, subst, arith, append-nil, append_assoc}
 use Rattle.std.proofs.lemmas.Bool.{cases_eq, eqb-true, true≢false}
 use Rattle.std.proofs.lemmas.Cmp.{nat_eq_equiv}
@@ -55,7 +55,7 @@ among_at (other ∷ names) (suc index) name e = by (other == name) (among_at nam
     by true rest = refl
     by false rest = rest
 
--- a name that stands at a place stands nowhere before it
+-- a name at a place is nowhere before it
 pub not_before : (before names : List ℕ) (index name : ℕ) → first_repeated before names ≡ None
     → slice_get names index ≡ Some name → is_among name (before ++ take index names) ≡ false
 not_before before [] index name once e = absurd (none-some name e)
@@ -203,7 +203,7 @@ names_set (one ∷ parts) (suc index) part new there same =
 
 module _ (parts : List Part) (nodes : List (Option Holding)) (index : ℕ) (part : Part) (side : Side)
     (found : Option ℕ) where
-  -- all parts are lent again
+  -- all parts are borrowed again
   pub lent_set : (new : Part) → AreLent parts nodes → first_repeated [] (names_of parts) ≡ None
       → slice_get parts index ≡ Some part → new.state.node ≡ part.state.node
       → new ≡ (after part side found).1 → AreLent (set parts index new)

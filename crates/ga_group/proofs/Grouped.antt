@@ -14,7 +14,7 @@ module _ {A : Type 0} (groups : List (Vec ℕ A)) (nodes : List ℕ) (parts : Li
   nodes_count : length (concat (groups_in groups)) ≡ length nodes
   nodes_count = ap length grouped.nodes_is
 
-  -- the groups in front have few nodes too
+  -- the groups before have few nodes too
   pub front_few : (at : ℕ) (left : List (Vec ℕ A)) → left ≡ take at groups
       → length (concat (groups_in left)) ≤ 144
   front_few at left is =

@@ -1,4 +1,4 @@
--- Where the tries of nodes look, as far as it is known.
+-- The cells at which the tries of nodes look, as far as they are known.
 use Rattle.std.proofs.Common.{◌≡◌, ℕ, zero, suc, ◌⊎◌, inl, inr, List, replicate, set, slice_get, Option, Some, None, sym, ap, ◌∙◌, subst}
 use Rattle.ga_place.specs.declared.side.Side.TheVariants.{Right}
 use Rattle.ga_chip.specs.declared.asks.Asks.TheVariants as call

@@ -1,4 +1,4 @@
--- What a plan without a fault is: no node stands in it twice, and so it has 144 nodes at most.
+-- What a plan without a fault is: no node occurs in it twice, and so it has 144 nodes at most.
 use Rattle.std.proofs.Common.{◌≡◌, ◌∙◌, ℕ, ◌==◌, ◌+◌, ◌≤◌, Bool, true, false, ◌||◌, List, [], ◌∷◌, ◌++◌, length, Option, Some, None, option_map, refl, sym, ap, arith, append_assoc, append-nil, length-append, lit≤, Vec}
 use Rattle.std.specs.Prelude.{if◌then◌else◌}
 use Rattle.std.specs.List.{AllByRecursion, IsDistinct, concat, list_any}
@@ -15,7 +15,7 @@ use Rattle.ga_group.specs.declared.error.PlanError.TheVariants.{Repeated}
 
 -- ---- names of which none stands twice
 
--- the first of the names stands nowhere before, and the others not behind it
+-- the first of the names occurs nowhere before, and the others don't repeat it
 pub record IsNew (before : List ℕ) (name : ℕ) (names : List ℕ) : Type 0 where
   pub here : is_among name before ≡ false
   pub behind : first_repeated (before ++ name ∷ []) names ≡ None
@@ -44,7 +44,7 @@ among_last q before =
     by true = refl
     by false = ap (λ b. b || false) (nat_eq_equiv.refl q)
 
--- what stands before stands nowhere among the names
+-- what comes before is nowhere among the names
 pub nowhere : (q : ℕ) (before names : List ℕ) → first_repeated before names ≡ None
     → is_among q before ≡ true → is_among q names ≡ false
 nowhere q before [] e among = refl
@@ -119,7 +119,7 @@ new_groups worker before (group ∷ groups) e =
     (new_group worker before group both.0)
     ∙ new_groups (worker + 1) (before ++ group) groups both.1
 
--- no node stands twice in a plan
+-- no node occurs twice in a plan
 pub once : (plan : Groups) → plan_fault plan ≡ None → first_repeated [] (concat plan) ≡ None
 once [] e = refl
 once (group ∷ groups) e = new_groups 0 [] (group ∷ groups) e
@@ -149,7 +149,7 @@ pub workers : (plan : Groups) → plan_fault plan ≡ None → length plan ≤ l
 workers [] e = lit≤ tt
 workers (group ∷ groups) e = workers_from 0 [] (group ∷ groups) e
 
--- so many workers are a plan's at most
+-- the largest number of workers of a plan
 pub workers_few : {A : Type 0} (groups : List (Vec ℕ A)) → plan_fault (groups_in groups) ≡ None
     → length (concat (groups_in groups)) ≤ 144 → length groups ≤ 144
 workers_few {A = A} groups faultless most =

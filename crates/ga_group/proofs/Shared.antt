@@ -30,7 +30,7 @@ not_more : (a b : Bool) → (a ≡ true → b ≡ true) → b ≡ false → a �
 not_more true b more none = sym (more refl) ∙ none
 not_more false b more none = refl
 
--- behind fewer names too none of the others stands twice
+-- behind fewer names too none of the others occurs twice
 fewer : (before less names : List ℕ)
     → ((name : ℕ) → is_among name less ≡ true → is_among name before ≡ true)
     → first_repeated before names ≡ None → first_repeated less names ≡ None
@@ -149,7 +149,7 @@ where_is test from (x ∷ rest) (suc index) =
 past_all : (name : ℕ) → 144 ≤ index_of name → index_of name ≡ 144
 past_all name past = grind (arith, common_steps)
 
--- a name is among names of nodes where the node at its place is
+-- a name is among names of nodes if the node at its place is
 module _ (names : List ℕ) (below : AreBelow names) where
   never : (name : ℕ) → 144 ≤ index_of name → (b : Bool) → is_among name names ≡ b → b ≡ false
   never name past true e = let near = below name e in absurd (omega (arith, near, past))

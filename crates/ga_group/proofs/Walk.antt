@@ -10,7 +10,7 @@ use Rattle.ga_group.specs.Plan.{first_repeated, group_fault, groups_fault, group
 use Rattle.ga_group.specs.declared.error.PlanError.{PlanError}
 use Rattle.ga_group.specs.declared.error.PlanError.TheVariants.{Repeated}
 
--- an item in front of those behind it
+-- an item before those behind it
 left : {X : Type 0} (xs : List X) (at : ℕ) (x : X) → at < length xs → x ≡ slice_index_or xs at x
     → drop at xs ≡ x ∷ drop (at + 1) xs
 left xs at x below is =
@@ -49,7 +49,7 @@ module _ {A : Type 0} where
       ap length (groups_done groups at group below is)
       ∙ length-append (concat (groups_in (take at groups))) group.items
 
-  -- groups in front, and those behind them
+  -- the first groups, and those behind them
   pub groups_cut : (groups : List (Vec ℕ A)) (at : ℕ) → concat (groups_in groups)
       ≡ concat (groups_in (take at groups)) ++ concat (groups_in (drop at groups))
   groups_cut groups at =
@@ -64,7 +64,7 @@ module _ {A : Type 0} where
       ∙ length-append (concat (groups_in (take at groups))) (concat (groups_in (drop at groups))) in
       omega (arith, both)
 
-  -- whether a node stands in the groups that are left
+  -- whether a node is in the groups that are left
   pub among_next : (groups : List (Vec ℕ A)) (at : ℕ) (group : Vec ℕ A) (front : List ℕ) (node : ℕ)
       (b : Bool) → at < length groups → group ≡ slice_index_or groups at group
       → is_among node group.items ≡ b → is_among node (concat (groups_in (drop at groups)) ++ front)

@@ -9,8 +9,8 @@ use Rattle.ga_chip.specs.Run.{ran, sides_of, tries_of, words_left}
 use Rattle.ga_group.specs.Plan.{Groups}
 use Rattle.ga_group.specs.Workers.{IsWorkersRun}
 
--- Two runs may be compared: they begin at legal chips that differ in breakpoints and passes at
--- most, and the takes of several sides name the same sides as far as both go.
+-- Two runs may be compared: they begin at legal chips that differ at most in breakpoints and
+-- passes, and their multiport reads name the same sides on their common steps.
 pub record AreAlike (one two : Chip) (tries others : List Try) : Type 0 where
   pub first : IsLegal one
   pub second : IsLegal two
@@ -23,14 +23,14 @@ pub record IsAlike (here there : Part) : Type 0 where
   pub state : here.state ≡ there.state
   pub stream : words_left here.stream ≡ words_left there.stream
 
--- two chips have a node alike, where it has made equally many steps
+-- two chips have a node alike if it has made equally many steps
 abbrev pub LeaveAlike : Chip → Chip → Type 0
 LeaveAlike one two =
     (name : ℕ) (here there : Part) → part_of one name ≡ Some here → part_of two name ≡ Some there
     → here.state.steps ≡ there.state.steps → IsAlike here there
 
--- Two runs of workers that may be compared, by whatever plans and over however many turns, go
--- alike, and leave each node alike where it has made equally many steps.
+-- Two runs of workers that may be compared, by whatever plans and over however many turns, agree on
+-- their common steps, and leave each node alike if it has made equally many steps.
 abbrev pub PlansAgree : Type 0
 PlansAgree =
     (one two next other : Chip) (plan another : Groups) (turns more : ℕ)

@@ -8,11 +8,11 @@ use Rattle.ga_chip.specs.Chip.{Chip}
 use Rattle.ga_chip.specs.Run.{ran, side_of_turn, sides_tried, tries_of}
 use Rattle.ga_group.specs.Plan.{Groups}
 
--- the sides of so many turns
+-- the sides of n turns
 abbrev pub sides_of_turns : ℕ → List Side
 sides_of_turns turns = map side_of_turn (range_with_len 0 turns)
 
--- A run of workers by a plan over so many turns leads from one chip to another: along tries in
+-- A run of workers by a plan over a number of turns leads from one chip to another: along tries in
 -- which each node of the plan is tried once in each turn, with the side of that turn, and no other
 -- node is tried. The order between nodes is free.
 pub record IsWorkersRun (chip : Chip) (plan : Groups) (turns : ℕ) (next : Chip) : Type 0 where
@@ -26,7 +26,7 @@ pub record IsWorkersRun (chip : Chip) (plan : Groups) (turns : ℕ) (next : Chip
 abbrev pub round_of : List ℕ → Side → List Try
 round_of nodes side = map (λ name. record { node = name; side = side }) nodes
 
--- so many rounds, one behind another, with the sides of the turns
+-- n rounds, one after another, with the sides of the turns
 abbrev pub rounds_of : List ℕ → ℕ → List Try
 rounds_of nodes turns =
     flat_map (λ turn. round_of nodes (side_of_turn turn)) (range_with_len 0 turns)

@@ -7,8 +7,8 @@ use crate::gate::Gate;
 use ga_chip::{Chip, Try, side_of_turn};
 use ga_place::{Node, Side};
 
-/// So many rounds of one worker, which tries these nodes of a chip: in each turn it calls the gate,
-/// and then tries each node once, in order.
+/// The rounds of one worker, which tries these nodes of a chip: in each turn it calls the gate, and
+/// then tries each node once, in order.
 pub(crate) fn work_alone<G: Gate>(chip: Chip, gate: &G, nodes: &[Node], turns: u64) -> Chip
     requires few { length nodes.now ≤ 144 }
     requires turns { turns < 2 ^ 40 }
@@ -33,8 +33,7 @@ fn round(chip: &mut Chip, nodes: &[Node], side: Side) -> u64
 {
     let mut moved = 0;
     for node in nodes {
-        let outcome = chip.attempt(Try { node: *node, side });
-        moved += u64::from(outcome.moves());
+        moved += u64::from(chip.attempt_step(Try { node: *node, side }));
     }
     moved
 }

@@ -10,7 +10,7 @@ pub enum PlanError {
     /// This group has no node.
     #[error("Empty {0}")]
     Empty(usize),
-    /// This node stands in the plan before.
+    /// This node occurs in the plan before.
     #[error("Repeated {0}")]
     Repeated(Node),
 }

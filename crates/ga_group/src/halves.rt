@@ -1,5 +1,5 @@
-//! Groups of nodes at once, each worked by a thread of its own: one half of them beside the other,
-//! and so on.
+//! Groups of nodes in parallel, each worked by a thread of its own: the groups are split into
+//! halves, and these again.
 ghost use Rattle.std.specs.Prelude.{◌≡◌, ◌+◌, ◌<◌, ◌≤◌, ◌^◌, ℕ, length};
 ghost use Rattle.std.specs.List.{concat};
 ghost use Rattle.std.specs.Thread.{IsSync};
@@ -15,9 +15,9 @@ use ga_port::{Cells, PortSeat};
 use std::thread::{Threads, join_mut};
 
 /// The turns of some workers, of which the first has this number. Each works its group in a thread
-/// of its own, but where no thread can be started: its group is then worked by the thread that
-/// wanted it. The nodes stand in the order of the groups, and so do the parts, which are lent with
-/// the seat.
+/// of its own. If no thread can be started, the group is worked by the thread that asked for it.
+/// The nodes are in the order of the groups, and so are the parts, which are borrowed with the
+/// seat.
 // long: what all workers share, and what these have of their own
 #[cycle(groups)]
 pub(crate) fn work_groups<R: Threads + Sync, G: Gate>(
@@ -64,8 +64,8 @@ pub(crate) fn work_groups<R: Threads + Sync, G: Gate>(
     cells.gather(seat, other);
 }
 
-/// Both halves of some workers at once. Those of the left half have the numbers from the first on,
-/// and those of the right half the numbers behind them.
+/// Both halves of some workers in parallel. Those of the left half have the numbers from the first
+/// on, and those of the right half the numbers behind them.
 // long: what all workers share, and what each half has of its own
 #[cycle(groups)]
 fn both_halves<R: Threads + Sync, G: Gate>(
@@ -131,7 +131,6 @@ fn both_halves<R: Threads + Sync, G: Gate>(
     join_mut(rt, &mut front, &mut back);
 }
 
-/// How many nodes there are in groups.
 fn nodes_in(groups: &[Vec<Node>]) -> usize
     requires { length (concat (groups_in groups.now)) ≤ 144 }
     ensures { result ≡ length (concat (groups_in groups.now)) }

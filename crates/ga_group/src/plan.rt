@@ -28,9 +28,9 @@ impl Model for Plan {
 }
 
 impl Plan {
-    /// The plan by which worker i tries the nodes of group i, in their order. Refused is what is
-    /// wrong first: there is no group; then, group by group, it has no node, or a node of it stands
-    /// in the plan before. The groups come back then. It takes no memory. (Plans are this project's
+    /// The plan by which worker i tries the nodes of group i, in their order. The first fault is
+    /// reported: there is no group; then, group by group, it has no node, or a node of it occurs in
+    /// the plan before. The groups then come back. It allocates nothing. (Plans are this project's
     /// own: profile.)
     pub fn new(groups: Vec<Vec<Node>>) -> Result<Self, (PlanError, Vec<Vec<Node>>)>
         ensures { result ≡ planned (plan_fault (groups_of groups)) (groups_of groups) groups }
@@ -50,7 +50,7 @@ impl Plan {
         &self.groups
     }
 
-    /// The groups that the plan was made of. It takes no memory.
+    /// The groups that the plan was made of. It allocates nothing.
     pub fn into_groups(self) -> Vec<Vec<Node>>
         ensures { groups_of result ≡ self }
     {
@@ -58,7 +58,7 @@ impl Plan {
     }
 }
 
-/// What is wrong with groups as a plan, if something is.
+/// The fault of groups as a plan, if there is one.
 fn fault_of(groups: &[Vec<Node>]) -> Option<PlanError>
     ensures fault { result ≡ plan_fault (groups_in groups.now) }
     ensures most { result ≡ None → length (concat (groups_in groups.now)) ≤ 144 }
@@ -78,14 +78,14 @@ fn fault_of(groups: &[Vec<Node>]) -> Option<PlanError>
     None
 }
 
-/// The first node of a group that stands in groups before it, or in front of itself.
+/// The first node of a group that occurs in groups before it, or earlier in its own.
 fn first_repeated(before: &[Vec<Node>], group: &[Node]) -> Option<Node>
     ensures node { result ≡ first_repeated (concat (groups_in before.now)) group.now }
     ensures named { result ≡ None → AllByRecursion IsNodeName group.now }
 {
     for at in 0..group.len() {
         let node = group[at];
-        // Its name lies in the grid: from this the proof has that a plan has 144 nodes at most.
+        // Its name is in the grid. From this the proof gets that a plan has at most 144 nodes.
         let _name = node.name();
         if stands_in(before, &group[..at], node) {
             return Some(node);
@@ -94,7 +94,7 @@ fn first_repeated(before: &[Vec<Node>], group: &[Node]) -> Option<Node>
     None
 }
 
-/// Whether a node stands in one of the groups, or in the front of the next.
+/// Whether a node is in one of the groups, or in the first part of the next.
 fn stands_in(groups: &[Vec<Node>], front: &[Node], node: Node) -> bool
     ensures { result ≡ is_among node (concat (groups_in groups.now) ++ front.now) }
 {

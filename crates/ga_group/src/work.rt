@@ -1,8 +1,8 @@
 //! The work of one worker: tries of its nodes, turn after turn.
 //!
-//! A node that waits is tried in each turn too, and such tries come often. So of a node that waits
-//! for a word, is held or is stopped, a worker keeps where its tries look: then a try is one look
-//! there, as long as nothing is there.
+//! A node that waits is tried in each turn too, and such tries come often. So for a node that waits
+//! for a word, is held or is stopped, a worker keeps the cells at which its tries look: then a try
+//! is one look at a cell, as long as nothing is there.
 ghost use Rattle.std.specs.Prelude.{◌≡◌, ◌+◌, ◌≤◌, ◌<◌, ◌^◌, [], ◌∷◌, None, Some, false, length, true};
 ghost use Rattle.ga_chip.specs.Asks.{asked_of};
 ghost use Rattle.ga_port.specs.Seat.{tried_in};
@@ -15,8 +15,8 @@ use ga_chip::{Asks, Looks, NodePart, Outcome, Try, side_of_turn};
 use ga_place::{CellId, Side};
 use ga_port::{Cells, PortSeat};
 
-/// The tries of a worker over so many turns: in each it calls the gate, and then tries each of its
-/// nodes once, in order.
+/// The tries of a worker over a number of turns: in each it calls the gate, and then tries each of
+/// its nodes once, in order.
 pub(crate) fn work_turns<G: Gate>(
     cells: &Cells,
     gate: &G,
@@ -26,6 +26,7 @@ pub(crate) fn work_turns<G: Gate>(
     parts: &mut [NodePart],
 )
     requires ready { IsReady cells.now.table seat.old parts.old }
+    // `looks` has room for 144 nodes, and 2^40 turns of them make less than 2^64 moves
     requires few { length parts.old ≤ 144 }
     requires turns { turns < 2 ^ 40 }
     ensures { HasWorked seat.old seat.new parts.old parts.new (sides_of_turns turns) }
@@ -93,8 +94,8 @@ fn try_node(
     try_other(cells, seat, part, looks, side)
 }
 
-/// The same of a node that does no work of its own. (It is apart, and cold, so that the code of a
-/// node's own work is one piece, behind which the next node's comes without a jump.)
+/// The same for a node that does no work of its own. (It is a cold function of its own, so that the
+/// code of a node's own work is one piece, and the next node's follows without a jump.)
 #[cold]
 #[inline(never)]
 fn try_other(
@@ -123,8 +124,8 @@ fn try_other(
     try_far(cells, seat, part, looks, Try { node, side })
 }
 
-/// One try of a node by all that it may ask for. Afterwards it is known where the tries of the node
-/// look, if it waits for a word, is held or is stopped.
+/// One try of a node by all that it may ask for. Afterwards the cells at which the node's tries
+/// look are known, if it waits for a word, is held or is stopped.
 #[inline(never)]
 fn try_far(
     cells: &Cells,
@@ -146,8 +147,8 @@ fn try_far(
     is_moved
 }
 
-/// A look of a try at this cell, or at none. Where it finds nothing, this was the try, and the
-/// answer is true; else no try was made.
+/// A look of a try at this cell, or at none. If it finds nothing, this was the try, and the answer
+/// is true; else no try was made.
 #[inline(always)]
 fn finds_nothing(cells: &Cells, seat: &mut PortSeat, what: Try, look: Option<CellId>) -> bool
     requires own { seat.old.table ≡ cells.now.table }
@@ -197,8 +198,8 @@ fn try_asked(cells: &Cells, seat: &mut PortSeat, part: &mut NodePart, what: Try)
     }
 }
 
-/// One try of a node that asks to take the word of a cell. Where none is there, it only looks, so
-/// that it doesn't hold up the node that is to post it.
+/// One try of a node that asks to take the word of a cell. If none is there, it only looks, so that
+/// it doesn't hold up the node that is to post it.
 #[inline(always)]
 fn take_word(
     cells: &Cells,

@@ -23,17 +23,17 @@ use ga_port::{Cells, PortSeat};
 use std::alloc::{AllocError, Global};
 use std::thread::Threads;
 
-/// So many turns are refused, and more.
+/// Runs of this many turns or more are refused.
 const TOO_MANY_TURNS: u64 = 1 << 40;
 
-/// Runs a chip by a plan over so many turns, counted from 0, and hands it back. In each turn each
+/// Runs a chip by a plan over `turns` turns, counted from 0, and hands it back. In each turn each
 /// worker calls the gate and then tries each node of its group once, in the group's order, with the
-/// side of the turn: right, down, left, up, and again. Each worker runs in a thread of its own, of
-/// which one is the caller's; where no thread can be started, another one works its group. In which
-/// order the tries of nodes of two workers come is free; a single worker makes its tries in the
-/// caller's thread, one round behind another. From 2^40 turns up it is refused as `TooManyTurns`,
-/// and where memory runs out as `Memory`, which is before any try; the chip comes back as it was
-/// then. (Runs of workers are this project's own: profile.)
+/// side of the turn: right, down, left, up, and again. Each worker runs in a thread of its own, one
+/// of them in the caller's. If no thread can be started, another one works its group. The order of
+/// the tries of two workers' nodes is free; a single worker makes its tries in the caller's thread,
+/// one round after another. 2^40 turns or more are refused as `TooManyTurns`, and running out of
+/// memory as `Memory`, both before any try; the chip then comes back as it was. (Runs of workers
+/// are this project's own: profile.)
 pub fn run_workers<R: Threads + Sync, G: Gate>(
     rt: &R,
     alloc: Global,
@@ -70,8 +70,8 @@ pub fn run_workers<R: Threads + Sync, G: Gate>(
     }
 }
 
-/// All that a run takes memory for: the nodes of a plan in order, and the cells of a chip with
-/// their first seat.
+/// All that a run allocates: the nodes of a plan in order, and the cells of a chip with their first
+/// seat.
 fn open(alloc: Global, chip: &Chip, plan: &Plan) -> Result<(Vec<Node>, Cells, PortSeat), AllocError>
     ensures nodes { IfOk result (λ made. made.0.items ≡ concat plan.now) }
     ensures opening { IfOk result (λ made. made.1.opening ≡ chip.now) }
@@ -94,7 +94,7 @@ fn nodes_of(alloc: Global, groups: &[Vec<Node>]) -> Result<Vec<Node>, AllocError
     Ok(nodes)
 }
 
-/// A run at the cells that a chip was opened by. It takes no memory.
+/// A run at the cells that were opened by a chip. It allocates nothing.
 // long: what was opened of a chip, and what its run goes by
 fn run_at<R: Threads + Sync, G: Gate>(
     rt: &R,
@@ -120,9 +120,9 @@ fn run_at<R: Threads + Sync, G: Gate>(
     Chip::from_parts(parts, row)
 }
 
-/// The turns of all workers of a plan. The parts of all nodes are lent with the seat: they are
+/// The turns of all workers of a plan. The parts of all nodes are borrowed with the seat: they are
 /// brought into the order of the plan for it, and then back into their own.
-// long: what all workers share, and what they are lent
+// long: what all workers share, and what they borrow
 fn work_plan<R: Threads + Sync, G: Gate>(
     rt: &R,
     cells: &Cells,

@@ -80,7 +80,7 @@ fit_in : (text : Result (List ℕ) ServeError) (words : List ℕ)
 fit_in (Err fault) words e = absurd (cc)
 fit_in (Ok text) words e = fit_found (words_of_text text) words (λ ws is. words_below 0 _ ws is) e
 
--- the words of an input are those of a node, of which so many are code
+-- the words of an input are those of a node, of which the first `code_len` are code
 fit_node : (input words : List ℕ) (code_len : ℕ) → words_in input ≡ Ok words
     → code_len ≤ length words → FitNode words code_len
 unfolding words_in

@@ -23,7 +23,7 @@ answers view IsRight IsAlso (Ok value) also is = also (Ok (view value)) is
 answers view IsRight IsAlso (Err fault) also is =
     fails IsRight IsAlso fault (λ error. also (Err error)) is
 
--- what comes of the images of an input comes of the input
+-- the result of an input is that of its images
 pub from_images : (Makes : Images → Result (List ℕ) ServeError → Type 0) (images : Images)
     (input : List ℕ) → IsImagesIn input (Ok images) → (answer : Result (List ℕ) ServeError)
     → Makes images answer → IsOfImages Makes input answer

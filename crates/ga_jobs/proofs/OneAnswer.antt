@@ -13,7 +13,7 @@ use Rattle.ga_jobs.specs.declared.fault.ServeError.{ServeError}
 use Rattle.ga_jobs.specs.{IsJobOutput}
 use Rattle.ga_jobs.specs.Answering.{HasOneOutput, IsOutput, is_too_long}
 
--- Answers to one input are alike, where those to one that is not too long are.
+-- Answers to one input are alike, if those to one that is not too long are.
 alike_within : (job : Job) (input : List ℕ) (Alike : Result (List ℕ) ServeError
     → Result (List ℕ) ServeError → Type 0) → ((one other : Result (List ℕ) ServeError)
     → one ≡ Err (Input TooLong) → other ≡ Err (Input TooLong) → Alike one other)

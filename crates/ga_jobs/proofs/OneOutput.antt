@@ -1,10 +1,9 @@
 -- Two outputs of one job for one input are equal.
-use Rattle.std.proofs.Common.{◌≡◌, ◌∙◌, inl, inr, ℕ, Bool, true, false, List, Result, Ok, Err, ap, drop, subst, sym}
+use Rattle.std.proofs.Common.{◌≡◌, ◌∙◌, inl, inr, ℕ, Bool, true, false, List, Result, Ok, Err, ap, subst, sym}
 use Rattle.ga_asm.specs.Text.{AtMostOne, IsImagesOf}
 use Rattle.ga_asm.proofs.OneAnswer.{one_answer}
-use Rattle.ga_chip.specs.Chip.{Chip}
-use Rattle.ga_pack.specs.Model.Text.{lines_of}
 use Rattle.ga_debug.specs.Beginning.{Start}
+use Rattle.ga_debug.specs.Replaying.{IsReplayed}
 use Rattle.ga_debug.proofs.OneReplay.{one_loaded, one_replayed}
 use Rattle.ga_list.proofs.OneListing.{one_labels, one_listing}
 use Rattle.ga_path.specs.Stream.{Images}
@@ -18,8 +17,9 @@ use Rattle.ga_jobs.specs.Source.{IsImagesIn, IsOfImages}
 use Rattle.ga_jobs.specs.Text.{IsInText, IsMade, text_in}
 use Rattle.ga_jobs.specs.Tree.{tree_in}
 use Rattle.ga_jobs.specs.TextFault.{shown_fault}
-use Rattle.ga_jobs.specs.Transcript.{IsAllSame, IsCheckOutput, IsRecordOutput}
+use Rattle.ga_jobs.specs.Transcript.{IsCheckOutput, IsRecordOutput}
 use Rattle.ga_jobs.specs.TranscriptFault.{shown_transcript_fault}
+use Rattle.ga_transcript.specs.Check.{IsChecked}
 use Rattle.ga_transcript.specs.Record.{IsRecorded}
 use Rattle.ga_transcript.proofs.OneTranscript.{one_checked, one_recorded}
 use Rattle.ga_jobs.specs.declared.fault.ServeError.{ServeError}
@@ -29,7 +29,7 @@ one_text : (input text text' : List ℕ) → text_in input ≡ Ok text → text_
     → text ≡ text'
 one_text input text text' p q = cc
 
--- where one thing comes of each text, one thing comes of each input
+-- if each text has one result, each input has one result
 module _ {A E : Type 0} (told : List ℕ → E → ServeError) (Is : List ℕ → Result A E → Type 0)
     (one_of : (text : List ℕ) → AtMostOne (Is text)) (input : List ℕ) where
   same : (text text' : List ℕ) (one other : Result A E) → text_in input ≡ Ok text
@@ -76,8 +76,7 @@ one_asm_output input = one_made (IsImagesIn input) images_text (one_images input
 abbrev Answer : Type 0
 Answer = Result (List ℕ) ServeError
 
--- Answers are alike that come of the images of an input, where equal ones are, and those that come
--- of the same images.
+-- Answers from the images of an input are alike, if equal ones are, and those from the same images.
 module _ (Makes : Images → Answer → Type 0) (Alike : Answer → Answer → Type 0)
     (equal : (one other : Answer) → one ≡ other → Alike one other)
     (of : (images : Images) (one other : Answer) → Makes images one → Makes images other
@@ -131,29 +130,24 @@ one_replies text (Err one) (Err other) p q = cc (one_loaded text (Err one) (Err 
 pub one_debug_output : (input : List ℕ) → AtMostOne (IsDebugOutput input)
 one_debug_output input = one_in (λ text. fault_of_replay) IsReplies one_replies input
 
-one_same : (text : List ℕ) → AtMostOne (IsSame text)
-one_same text (Ok one) (Ok other) (count, p, is) (count', q, is') =
-    cc (one_replayed text (Ok count) (Ok count') p q)
-one_same text (Ok one) (Err other) (count, p, is) q =
-    absurd (cc (one_replayed text (Ok count) (Err other) p q))
-one_same text (Err one) (Ok other) p (count, q, is) =
-    absurd (cc (one_replayed text (Err one) (Ok count) p q))
-one_same text (Err one) (Err other) p q = cc (one_replayed text (Err one) (Err other) p q)
+one_same : {E : Type 0} → (Is : Result ℕ E → Type 0) → AtMostOne Is → AtMostOne (IsSame Is)
+one_same Is one_of (Ok one) (Ok other) (count, p, is) (count', q, is') =
+    cc (one_of (Ok count) (Ok count') p q)
+one_same Is one_of (Ok one) (Err other) (count, p, is) q =
+    absurd (cc (one_of (Ok count) (Err other) p q))
+one_same Is one_of (Err one) (Ok other) p (count, q, is) =
+    absurd (cc (one_of (Err one) (Ok count) p q))
+one_same Is one_of (Err one) (Err other) p q = cc (one_of (Err one) (Err other) p q)
 
 pub one_replay_output : (input : List ℕ) → AtMostOne (IsReplayOutput input)
-one_replay_output input = one_in (λ text. fault_of_replay) IsSame one_same input
-
-one_all_same : (text : List ℕ) → AtMostOne (IsAllSame text)
-one_all_same text (Ok one) (Ok other) (count, p, is) (count', q, is') =
-    cc (one_checked text (Ok count) (Ok count') p q)
-one_all_same text (Ok one) (Err other) (count, p, is) q =
-    absurd (cc (one_checked text (Ok count) (Err other) p q))
-one_all_same text (Err one) (Ok other) p (count, q, is) =
-    absurd (cc (one_checked text (Err one) (Ok count) p q))
-one_all_same text (Err one) (Err other) p q = cc (one_checked text (Err one) (Err other) p q)
+one_replay_output input =
+    one_in (λ text. fault_of_replay) (λ text. IsSame (IsReplayed text))
+    (λ text. one_same (IsReplayed text) (one_replayed text)) input
 
 pub one_check_output : (input : List ℕ) → AtMostOne (IsCheckOutput input)
-one_check_output input = one_in shown_transcript_fault IsAllSame one_all_same input
+one_check_output input =
+    one_in shown_transcript_fault (λ text. IsSame (IsChecked text))
+    (λ text. one_same (IsChecked text) (one_checked text)) input
 
 pub one_record_output : (input : List ℕ) → AtMostOne (IsRecordOutput input)
 one_record_output input = one_in shown_transcript_fault IsRecorded one_recorded input

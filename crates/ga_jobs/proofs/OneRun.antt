@@ -33,7 +33,7 @@ same_refusal : (groups : Groups) (one other : ServeError) → plan_by groups ≡
 same_refusal groups one other p q = let same : one ≡ other = cc (sym p ∙ q) in ap refusal same
 
 module _ (workers turns : ℕ) where
-  -- a relation of answers that holds of equal ones and of those to one chip holds of all to one
+  -- a relation of answers that holds for equal ones and for those to one chip holds for all to one
   -- input
   module _ (Alike : Answer → Answer → Type 0)
       (equal : (one other : Answer) → one ≡ other → Alike one other)

@@ -71,7 +71,7 @@ bad_code : dis_output (Some 4) (codes "05872 2C9B2 00001") ≡ Err (Words words.
 unfolding words_in is_word_text tokens is_utf8 chars lib.Utf8.encode
 bad_code = refl
 
--- a bad word is told before the length of code
+-- a bad word is reported before the length of code
 bad_word_first : dis_output (Some 4) (codes "05872 5") ≡ Err (Words (words.BadWord 1))
 unfolding words_in is_word_text tokens is_utf8 chars lib.Utf8.encode
 bad_word_first = refl
@@ -109,7 +109,7 @@ not_reached : text_by ((710, one_word) ∷ []) (tree_in (codes "708,709"))
     ≡ Err (Boot (Unreached 710))
 not_reached = refl
 
--- two images, one with its entry and the code in front of its data
+-- two images, one with its entry and the code before its data
 images_of_two : images_text ((708, one_word) ∷ (
   709,
   record {
@@ -140,7 +140,7 @@ replies_to_three = refl
 
 -- ---- what is shown of a text
 
--- a control character is a blank, but for the tab, and so is one that isn't drawn
+-- a control character other than the tab is a blank, and so is one that isn't drawn
 shown_alike : map shown_char
     (27 ∷ 9 ∷ 0x7F ∷ 0x200A ∷ 0x200B ∷ 0x200F ∷ 0x2010 ∷ 0x202E ∷ 0x202F ∷ 0x2066 ∷ 0x206A ∷ [])
     ≡ 32 ∷ 9 ∷ 32 ∷ 0x200A ∷ 32 ∷ 32 ∷ 0x2010 ∷ 32 ∷ 0x202F ∷ 32 ∷ 0x206A ∷ []

@@ -22,8 +22,8 @@ abbrev pub IsOutput : Job → List ℕ → Result (List ℕ) ServeError → Type
 IsOutput job input answer =
     MatchBool (is_too_long job input) (answer ≡ Err (Input TooLong)) (IsJobOutput job input answer)
 
--- Two answers of a job to one input are equal, but for the job `run`, where the order of tries is
--- free: two answers of that are both texts or equal, and those of a single worker are equal.
+-- Two answers of a job to one input are equal, except for the job `run`, since the order of its
+-- tries is free: two answers of it are both texts or equal, and those of a single worker are equal.
 abbrev pub HasOneOutput : Job → List ℕ → Type 0
 HasOneOutput (Run route workers turns) input =
     HasRuns workers (IsOutput (Run route workers turns) input)

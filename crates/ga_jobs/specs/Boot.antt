@@ -16,7 +16,7 @@ use Rattle.ga_jobs.specs.Tree.{tree_in}
 unfoldable pub part_text : List ℕ → List ℕ → List ℕ
 part_text name words = name ++ codes " " ++ decimal (length words) ++ 10 ∷ text_of_words words
 
--- both parts, where there is a tree and each node with an image is in it
+-- both parts, if there is a tree and each node with an image is in it
 abbrev pub text_by : Images → Result TreeView ServeError → Result (List ℕ) ServeError
 text_by images tree =
     and_then

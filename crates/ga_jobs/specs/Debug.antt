@@ -16,8 +16,7 @@ replies_to chip ((c ∷ line) ∷ lines) =
     let next = replied None (c ∷ line) chip in
     (text_or_refusal next.0 ++ 10 ∷ []) ++ replies_to next.1 lines
 
--- the replies to the commands of a text, which stand behind its head, or the first fault of the
--- head
+-- the replies to the commands of a text, which follow its head, or the first fault of the head
 abbrev pub IsReplies : List ℕ → Result (List ℕ) ReplayError → Type 0
 IsReplies text (Ok replies) =
     (start : Start) × IsLoaded text (Ok start) × (replies ≡ replies_to start.chip start.commands)

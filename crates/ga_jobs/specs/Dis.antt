@@ -9,20 +9,19 @@ use Rattle.ga_jobs.specs.declared.fault.ServeError.TheVariants.{Words}
 use Rattle.ga_jobs.specs.declared.fault.WordsFault.TheVariants.{BadCode}
 use Rattle.ga_jobs.specs.Text.{and_then, words_in}
 
--- the source text of words, of which so many are code
+-- the source text of words, of which the first n are code
 unfoldable pub dis_text : ℕ → List ℕ → List ℕ
 dis_text code_len words = node_line ++ text_of (items_of code_len words)
 
--- What `dis` writes for an input, or its first fault. Where no number is asked for, all words are
--- code.
+-- What `dis` writes for an input, or its first fault. Without a number, all words are code.
 abbrev pub dis_output : Option ℕ → List ℕ → Result (List ℕ) ServeError
 dis_output code input =
     and_then (λ words. let code_len = unwrap_or code (length words) in
     if nat_lt (length words) code_len then Err (Words BadCode) else Ok (dis_text code_len words))
     (words_in input)
 
--- the image of words, of which so many are code, without labels; what groups of items it was made
--- of isn't written
+-- the image of words, of which the first `code_len` are code, without labels; the groups of items
+-- that it was made of aren't written
 abbrev pub plain_image : List ℕ → ℕ → ImageView
 plain_image words code_len =
     record { words = words; code_len = code_len; entry = 0; labels = []; item_counts = [] }

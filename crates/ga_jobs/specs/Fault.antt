@@ -1,28 +1,16 @@
 -- The faults of a job.
 use Rattle.std.specs.Prelude.{◌≡◌, Result, Ok, Err}
-use Rattle.ga_word.specs.declared.text.WordsError.{WordsError}
-use Rattle.ga_word.specs.declared.text.WordsError.TheVariants as words
 use Rattle.ga_asm.specs.declared.text.TextError.{TextError}
 use Rattle.ga_asm.specs.declared.text.TextError.TheVariants as text
 use Rattle.ga_debug.specs.declared.replay_error.ReplayError.{ReplayError}
 use Rattle.ga_debug.specs.declared.replay_error.ReplayError.TheVariants as replay
-use Rattle.ga_path.specs.declared.error.BootError.{BootError}
-use Rattle.ga_path.specs.declared.error.BootError.TheVariants as boot
-use Rattle.ga_path.specs.declared.error.NamesError.{NamesError}
-use Rattle.ga_path.specs.declared.error.NamesError.TheVariants as names
 use Rattle.ga_path.specs.declared.error.RouteError.{RouteError}
 use Rattle.ga_path.specs.declared.error.RouteError.TheVariants as route
 use Rattle.ga_path.specs.declared.error.TreeError.{TreeError}
 use Rattle.ga_path.specs.declared.error.TreeError.TheVariants as tree
 use Rattle.ga_jobs.specs.declared.fault.ServeError.{ServeError}
-use Rattle.ga_jobs.specs.declared.fault.ServeError.TheVariants.{Words, Source, Asm, Route, Tree, Boot, Replay, Read, Write, Memory}
-use Rattle.ga_jobs.specs.declared.fault.RouteFault.TheVariants.{BadRoute, Nodes}
-use Rattle.ga_jobs.specs.declared.fault.WordsFault.TheVariants.{BadWord}
-
--- the fault of a text that is not all words
-abbrev pub fault_of_words : WordsError → ServeError
-fault_of_words (words.BadWord index) = Words (BadWord index)
-fault_of_words words.Memory = Memory
+use Rattle.ga_jobs.specs.declared.fault.ServeError.TheVariants.{Source, Asm, Route, Tree, Replay, Read, Write, Memory}
+use Rattle.ga_jobs.specs.declared.fault.RouteFault.TheVariants.{Nodes}
 
 -- the fault of a source text, or of its program
 abbrev pub fault_of_text : TextError → ServeError
@@ -30,12 +18,7 @@ fault_of_text (text.Source error) = Source error
 fault_of_text (text.Asm error) = Asm error
 fault_of_text text.Memory = Memory
 
--- the fault of a text that doesn't name nodes, of nodes that are no route, of routes that are no
--- tree, and of a node that isn't in the tree
-abbrev pub fault_of_names : NamesError → ServeError
-fault_of_names names.BadNames = Route BadRoute
-fault_of_names names.Memory = Memory
-
+-- the fault of nodes that are no route, and of routes that are no tree
 abbrev pub fault_of_route : RouteError → ServeError
 fault_of_route route.Memory = Memory
 fault_of_route error = Route (Nodes error)
@@ -43,10 +26,6 @@ fault_of_route error = Route (Nodes error)
 abbrev pub fault_of_tree : TreeError → ServeError
 fault_of_tree tree.Memory = Memory
 fault_of_tree error = Tree error
-
-abbrev pub fault_of_boot : BootError → ServeError
-fault_of_boot boot.Memory = Memory
-fault_of_boot error = Boot error
 
 -- the fault of a replay text
 abbrev pub fault_of_replay : ReplayError → ServeError
@@ -66,6 +45,6 @@ abbrev pub Answers : {A B : Type 0} → (A → B) → (Result B ServeError → T
 Answers view IsRight (Ok value) = IsRight (Ok (view value))
 Answers view IsRight (Err fault) = FailsRightly IsRight fault
 
--- the same, where one answer is right
+-- the same, if one answer is right
 abbrev pub Gives : {A B : Type 0} → (A → B) → Result A ServeError → Result B ServeError → Type 0
 Gives view answer expected = Answers view (λ right. expected ≡ right) answer

@@ -33,7 +33,6 @@ pub mod Replay
 pub mod Debug
 pub mod Answering
 pub mod Reading
-pub mod Writing
 pub mod Engine
 
 -- what a job may answer to an input that is not too long
@@ -51,12 +50,12 @@ IsJobOutput (job.Check file) input answer = IsCheckOutput input answer
 IsJobOutput (job.Record file) input answer = IsRecordOutput input answer
 IsJobOutput (job.Explain topic) input answer = answer ≡ Ok (explain_output topic)
 
--- a job reads an input, but for `explain`
+-- each job except `explain` reads an input
 abbrev pub reads_input : Job → Bool
 reads_input (job.Explain topic) = false
 reads_input job = true
 
--- `-` stands for standard input
+-- `-` means standard input
 abbrev pub named_file : {A : Type 0} → String A → Option (List ℕ)
 named_file file =
     if bytes_eq (string_bytes file) (codes "-") then None else Some (string_bytes file)

@@ -7,7 +7,7 @@ use Rattle.ga_jobs.specs.TextFault.{shown_fault}
 use Rattle.ga_list.specs.Labels.{AreLabelsOf}
 use Rattle.ga_list.specs.Listing.{IsListingOf}
 
--- what is listed of a text, its labels alone or its listing, or its first fault
+-- the output of `list` for a text, only its labels or its listing, or its first fault
 abbrev pub IsListed : Bool → List ℕ → Result (List ℕ) TextError → Type 0
 IsListed true text answer = AreLabelsOf text answer
 IsListed false text answer = IsListingOf text answer

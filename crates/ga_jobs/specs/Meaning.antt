@@ -1,24 +1,19 @@
 -- What the faults of the head of a transcript mean, in one line.
-use Rattle.std.specs.Prelude.{◌==◌, ℕ, ◌-◌, Bool, List, [], ◌∷◌, codes, length, nat_eq, slice_index, if◌then◌else◌}
+use Rattle.std.specs.Prelude.{◌==◌, ℕ, ◌-◌, List, [], ◌∷◌, codes, length, nat_eq, slice_index, if◌then◌else◌}
 use Rattle.std.specs.List.{starts_with}
 use Rattle.ga_debug.specs.declared.replay_error.ReplayError.{ReplayError}
 use Rattle.ga_debug.specs.declared.replay_error.ReplayError.TheVariants as replay
 use Rattle.ga_explain.specs.Output.{meaning_of}
 use Rattle.ga_jobs.specs.Shown.{whole_line}
 
--- a byte order mark, U+FEFF, at the front of a text
-abbrev pub begins_by_mark : List ℕ → Bool
-begins_by_mark text = starts_with nat_eq text (0xEF ∷ 0xBB ∷ 0xBF ∷ [])
-
-abbrev pub ends_by_cr : List ℕ → Bool
-ends_by_cr line = slice_index line (length line - 1) == 13
-
--- of a first line that isn't the one of the profile; a mark or a CR can't be seen where it is shown
+-- of a first line that isn't the one of the profile; the bytes of U+FEFF in front of it, or a CR at
+-- its end, can't be seen where it is shown
 unfoldable pub profile_meaning : List ℕ → List ℕ
 profile_meaning text =
-    if begins_by_mark text then
+    let line = whole_line text 1 in
+    if starts_with nat_eq text (0xEF ∷ 0xBB ∷ 0xBF ∷ []) then
     codes "the first line isn't 'profile 2': a byte order mark stands in front of it"
-    else if ends_by_cr (whole_line text 1) then
+    else if slice_index line (length line - 1) == 13 then
     codes "the first line isn't 'profile 2': a CR stands at its end"
     else codes "the first line isn't 'profile 2'"
 

@@ -6,7 +6,7 @@ use Rattle.ga_node.specs.Line.{line_of}
 use Rattle.ga_jobs.specs.declared.fault.ServeError.{ServeError}
 use Rattle.ga_jobs.specs.Text.{and_then, words_in}
 
--- the line of node 000 with words in its memory and P 000, after so many tries
+-- the line of node 000 with words in its memory and P 000, after n tries
 unfoldable pub one_text : ℕ → List ℕ → List ℕ
 one_text tries words = line_of (after_tries tries (loaded_state 0 words 0))
 

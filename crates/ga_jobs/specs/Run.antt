@@ -18,7 +18,7 @@ use Rattle.ga_jobs.specs.declared.fault.ServeError.TheVariants.{Boot, Plan}
 use Rattle.ga_jobs.specs.Source.{IsOfImages}
 use Rattle.ga_jobs.specs.Tree.{tree_in}
 
--- the nodes of a worker, of so many: the i-th node goes to worker i modulo their number; the first
+-- the nodes of one of some workers: the i-th node goes to worker i modulo their number; the first
 -- node here is the one with this i
 abbrev pub nodes_for : ℕ → ℕ → ℕ → List ℕ → List ℕ
 nodes_for workers worker at [] = []
@@ -26,11 +26,11 @@ nodes_for workers worker at (name ∷ names) =
     if at % workers == worker then name ∷ nodes_for workers worker (at + 1) names
     else nodes_for workers worker (at + 1) names
 
--- the nodes of each of so many workers
+-- the nodes of each of n workers
 abbrev pub dealt : ℕ → List ℕ → Groups
 dealt workers nodes = map (λ worker. nodes_for workers worker 0 nodes) (range_with_len 0 workers)
 
--- a plan of groups, or what is wrong with them
+-- a plan of groups, or their fault
 abbrev pub plan_by : Groups → Result Groups ServeError
 plan_by groups = option_map_or (λ fault. Err (Plan fault)) (plan_fault groups) (Ok groups)
 
@@ -40,8 +40,8 @@ node_reports chip names =
     flat_map (λ name. option_map_or node_dump (state_of chip name) [] ++ ledger_dump chip name)
     names
 
--- The text tells nodes at the end of a run of a chip, in which so many workers share the nodes and
--- make so many turns. A single worker tries all nodes in their order, one round behind another.
+-- The text has the nodes at the end of a run of a chip, in which `workers` workers share the nodes
+-- and make `turns` turns. A single worker tries all nodes in their order, one round after another.
 pub record IsRunText (chip : Chip) (nodes : List ℕ) (workers turns : ℕ)
     (text : List ℕ) : Type 0 where
   pub next : Chip
@@ -49,14 +49,14 @@ pub record IsRunText (chip : Chip) (nodes : List ℕ) (workers turns : ℕ)
   pub alone : workers ≡ 1 → next ≡ run.ran chip (run.tries_of (rounds_of nodes turns))
   pub text_is : text ≡ node_reports next nodes
 
--- what comes of a chip and nodes, or what is wrong with these as a plan
+-- the result of a chip and nodes, or the fault of these as a plan
 abbrev pub IsRunFrom : Chip → List ℕ → ℕ → ℕ → Result (List ℕ) ServeError → Type 0
 IsRunFrom chip nodes workers turns (Ok text) =
     (plan_fault (dealt workers nodes) ≡ None) × IsRunText chip nodes workers turns text
 IsRunFrom chip nodes workers turns (Err fault) = plan_by (dealt workers nodes) ≡ Err fault
 
--- what comes of images and a tree, or of what is wrong with the routes: the chip boots the tree,
--- where each node with an image is in it
+-- the result of images and a tree, or of a fault of the routes: the chip boots the tree, if each
+-- node with an image is in it
 abbrev pub IsRunOf : Images → ℕ → ℕ → Result TreeView ServeError → Result (List ℕ) ServeError
     → Type 0
 IsRunOf images workers turns (Ok tree) answer =
@@ -76,7 +76,7 @@ abbrev pub AreTextsOrEqual : Result (List ℕ) ServeError → Result (List ℕ) 
 AreTextsOrEqual (Ok text) (Ok other) = Unit {0}
 AreTextsOrEqual answer other = answer ≡ other
 
--- What is said of two answers of so many workers to one input: both are texts, or they are equal.
+-- Two answers to one input, with the same number of workers: both are texts, or they are equal.
 -- Those of a single worker are equal.
 pub record HasRuns (workers : ℕ) (Is : Result (List ℕ) ServeError → Type 0) : Type 0 where
   pub texts : (answer other : Result (List ℕ) ServeError) → Is answer → Is other

@@ -10,11 +10,11 @@ use Rattle.ga_pack.specs.Model.Text.{lines_of}
 abbrev pub numbered_line : List ℕ → ℕ → List ℕ
 numbered_line text line = slice_index_or (lines text) (line - 1) []
 
--- The same line up to the LF alone, so that a CR at its end is part of it.
+-- The same line up to the LF, so that a CR at its end is part of it.
 abbrev pub whole_line : List ℕ → ℕ → List ℕ
 whole_line text line = slice_index_or (lines_of text) (line - 1) []
 
--- Where the column is past 80, all but 40 of the characters in front of it are left out.
+-- If the column is past 80, only 40 of the characters before it are shown.
 abbrev pub left_out : ℕ → ℕ
 left_out column = if nat_le column 80 then 0 else column - 41
 
@@ -25,22 +25,21 @@ is_undrawn c =
     (nat_le 0x200B c && nat_le c 0x200F)
     || ((nat_le 0x202A c && nat_le c 0x202E) || (nat_le 0x2066 c && nat_le c 0x2069))
 
--- a control character is shown as a blank, but for the tab, and so is a character that isn't drawn
+-- a control character other than the tab is shown as a blank, and so is a character that isn't
+-- drawn
 abbrev pub shown_char : ℕ → ℕ
 shown_char c = if (is_control c && not (c == 9)) || is_undrawn c then 32 else c
 
--- what stands under a character in front of the caret: a tab under a tab, else a blank
-abbrev pub char_under : ℕ → ℕ
-char_under c = if c == 9 then 9 else 32
-
--- at most 100 characters of a line, behind so many of them
+-- at most 100 characters of a line, from an index on
 abbrev pub shown_line : List ℕ → ℕ → List ℕ
 shown_line line skipped = encode_utf8_all (map shown_char (take 100 (drop skipped (chars line))))
 
--- what stands in front of a caret under a column, or behind the line where it has fewer characters
+-- the text before a caret under a column, or behind the line if it has fewer characters: a tab
+-- under a tab, else a blank
 abbrev pub line_under : List ℕ → ℕ → ℕ → List ℕ
 line_under line skipped column =
-    encode_utf8_all (map char_under (take (column - 1 - skipped) (drop skipped (chars line))))
+    encode_utf8_all (map (λ c. if c == 9 then 9 else 32)
+    (take (column - 1 - skipped) (drop skipped (chars line))))
 
 -- The line of a place in a text, a caret under its column, and what is meant. Without a column
 -- there is no caret.

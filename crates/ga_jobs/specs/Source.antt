@@ -11,7 +11,7 @@ use Rattle.ga_jobs.specs.Text.{IsInText}
 abbrev pub IsImagesIn : List ℕ → Result (List (ℕ × ImageView)) ServeError → Type 0
 IsImagesIn input answer = IsInText (λ text. fault_of_text) IsImagesOf input answer
 
--- what comes of the images of an input, or their first fault
+-- the result of the images of an input, or their first fault
 abbrev pub IsOfImages : (List (ℕ × ImageView) → Result (List ℕ) ServeError → Type 0) → List ℕ
     → Result (List ℕ) ServeError → Type 0
 IsOfImages Makes input (Ok text) =

@@ -7,12 +7,12 @@ use Rattle.ga_jobs.specs.declared.fault.ServeError.TheVariants.{Input, Words}
 use Rattle.ga_jobs.specs.declared.fault.InputFault.TheVariants.{BadText}
 use Rattle.ga_jobs.specs.declared.fault.WordsFault.TheVariants as words
 
--- an input as text: itself where it is UTF-8
+-- an input as text: itself if it is UTF-8
 abbrev pub text_in : List ℕ → Result (List ℕ) ServeError
 text_in input = if is_utf8 input then Ok input else Err (Input BadText)
 
--- What comes of an input that is to be a text: what comes of the text, its faults as the program
--- tells them of this text; or the fault of an input that is no text.
+-- The result of an input that must be a text: the result of the text, with its faults as the
+-- program reports them; or the fault of an input that is no text.
 abbrev pub IsInText : {A E : Type 0} → (List ℕ → E → ServeError) → (List ℕ → Result A E → Type 0)
     → List ℕ → Result A ServeError → Type 0
 IsInText told Is input (Ok found) = (text : List ℕ) × (text_in input ≡ Ok text) × Is text (Ok found)
@@ -30,7 +30,7 @@ unfoldable pub IsMade : {A B E : Type 0} → (Result A E → Type 0) → (A → 
 IsMade {A = A} Is make (Ok made) = (found : A) × Is (Ok found) × (made ≡ make found)
 IsMade Is make (Err fault) = Is (Err fault)
 
--- one to 64 words, where all tokens are words
+-- one to 64 words, if all tokens are words
 abbrev pub words_found : Result (List ℕ) ℕ → Result (List ℕ) ServeError
 words_found (Ok found) =
     if is_empty found then Err (Words words.Empty)

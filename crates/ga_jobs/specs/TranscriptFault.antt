@@ -17,12 +17,12 @@ use Rattle.ga_jobs.specs.Meaning.{head_meaning}
 use Rattle.ga_jobs.specs.Shown.{numbered_line, shown_lines, shown_text, whole_line}
 use Rattle.ga_jobs.specs.TextFault.{shown_fault}
 
--- the number of a source line in the whole text, where two lines stand in front; a number that has
--- none stays
+-- the number of a source line in the whole text, which has two lines before it; a number that is
+-- too large stays
 abbrev pub behind_head : ℕ → ℕ
 behind_head line = if nat_lt line (2 ^ 64 - 2) then line + 2 else line
 
--- the line where a fault of the head is seen: where no line is `go`, the last one
+-- the line at which a fault of the head is shown: if no line is `go`, the last one
 abbrev pub head_line : List ℕ → ReplayError → ℕ
 head_line text replay.BadProfile = 1
 head_line text replay.NoGo = length (lines text)
@@ -46,7 +46,7 @@ reported_at text error line =
     record error { line = line - 1; column = end_column (numbered_line text (line - 1)) }
     else record error { line = line }
 
--- a fault of source lines is told as that of a source text, at its line of the whole text
+-- a fault of source lines is reported as that of a source text, at its line of the whole text
 abbrev pub shown_head_fault : List ℕ → ReplayError → ServeError
 shown_head_fault text (replay.Source error) =
     shown_fault text (text_error.Source (reported_at text error (behind_head error.line)))
@@ -56,7 +56,7 @@ shown_head_fault text error =
     let shown = shown_text text (head_line text error) None (head_meaning text error) in
     Shown (Replay error) shown
 
--- the fault of a transcript; of a difference the wanted lines and those that came are shown
+-- the fault of a transcript; for a difference the expected and the actual lines are shown
 abbrev pub shown_transcript_fault : List ℕ → Fault → ServeError
 shown_transcript_fault text (transcript.Head error) = shown_head_fault text error
 shown_transcript_fault text (transcript.EarlyReply line) =

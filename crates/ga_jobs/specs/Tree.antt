@@ -10,14 +10,11 @@ use Rattle.ga_jobs.specs.declared.fault.ServeError.TheVariants.{Route}
 use Rattle.ga_jobs.specs.declared.fault.RouteFault.TheVariants.{BadRoute}
 use Rattle.ga_jobs.specs.Fault.{fault_of_route, fault_of_tree}
 
--- the tree of nodes as routes, or what is wrong with them: the nodes of one are no route, or the
--- routes are no tree
-abbrev pub routed_tree : List (List ℕ) → Result TreeView ServeError
-routed_tree lists =
-    option_map_or (λ fault. Err (fault_of_route fault)) (routes_fault lists)
-    (result_map_both (λ tree. tree) fault_of_tree (tree_of lists))
-
 -- The tree of the routes that a text names. Else the first fault: it isn't routes with `/` between
--- them, of each the names of its nodes with commas between them; or what is wrong with the routes.
+-- them, each the names of its nodes with commas between them; or the nodes of one are no route, or
+-- the routes are no tree.
 abbrev pub tree_in : List ℕ → Result TreeView ServeError
-tree_in text = option_map_or routed_tree (routes_in text) (Err (Route BadRoute))
+tree_in text =
+    option_map_or (λ lists. option_map_or (λ fault. Err (fault_of_route fault)) (routes_fault lists)
+    (result_map_both (λ tree. tree) fault_of_tree (tree_of lists)))
+    (routes_in text) (Err (Route BadRoute))

@@ -14,9 +14,9 @@ use std::thread::Threads;
 pub const INPUT_LIMIT: usize = 1_048_576;
 
 /// What a job answers to bytes in memory: its output, or the first fault of the input. An input of
-/// more than 1,048,576 bytes is refused as `Input(TooLong)`; `explain` looks at none. It reads
-/// nothing and writes nothing, so it fails neither as `Read` nor as `Write`, and as `Memory` only
-/// where memory is refused. (The jobs are this project's own: profile.)
+/// more than 1,048,576 bytes is refused as `Input(TooLong)`; `explain` ignores its input. It reads
+/// nothing and writes nothing, so it never fails with `Read` or `Write`, and with `Memory` only
+/// when out of memory. (The jobs are this project's own: profile.)
 #[tactic(auto, using(crate::proofs::OneAnswer::one_output))]
 pub fn answer<Rt: AllocGlobal + Threads + Sync>(
     rt: &Rt,
@@ -43,8 +43,8 @@ pub fn answer<Rt: AllocGlobal + Threads + Sync>(
     }
 }
 
-/// What [`answer`] answers, by a call that is handed no means to start threads, and so waits for
-/// none: `None` for the job `run` alone, which needs them.
+/// The answer of [`answer`], by a call that can't start threads, and so waits for none: `None` only
+/// for the job `run`, which needs them.
 #[tactic(auto, using(crate::proofs::OneAnswer::one_output))]
 pub fn answer_alone(alloc: Global, job: &Job, input: &[u8]) -> Option<Result<String, ServeError>>
     ensures answer { IfSome result (Answers string_bytes (IsOutput job.now input.now)) }

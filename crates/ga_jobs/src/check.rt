@@ -10,8 +10,8 @@ use ga_transcript::check;
 use std::alloc::Global;
 use std::fmt::Write;
 
-/// How many commands of the input, which is a transcript, have the reply that stands behind them,
-/// as text. A fault of the transcript comes with what is shown of it.
+/// How many commands of the input, which is a transcript, have the reply that is behind them, as
+/// text. A fault of the transcript comes with the lines that are shown of it.
 #[tactic(auto, using(crate::proofs::OneOutput::one_check_output))]
 pub fn output(alloc: Global, input: &[u8]) -> Result<String, ServeError>
     ensures output { Answers string_bytes (IsCheckOutput input.now) result }

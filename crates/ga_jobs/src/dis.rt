@@ -8,11 +8,10 @@ use crate::text::words_of;
 use ga_disasm::{items, print};
 use std::alloc::Global;
 
-/// The words of the input as source text of node 000. So many of them are code, or all.
+/// The words of the input as source text of node 000. The first ones, or all, are code.
 pub fn output(alloc: Global, code: Option<u32>, input: &[u8]) -> Result<String, ServeError>
     ensures output { Gives string_bytes result (dis_output code input.now) }
-    // of this text `asm` makes the words of the input again, with this length of code, and nothing
-    // else
+    // `asm` makes the words of the input from this text, with this length of code, and nothing else
     ensures again { (words : List ℕ) → words_in input.now ≡ Ok words
         → IfOk result (λ text. AssemblesTo (string_bytes text) words
         (unwrap_or code (length words))) }

@@ -1,8 +1,8 @@
-ghost use Rattle.std.specs.Prelude.{◌≡◌, ◌≢◌, ℕ, ◌+◌, false, List, IfErr, IfSome};
-ghost use Rattle.std.specs.Io.KnownBytes.{Keeps};
+ghost use Rattle.std.specs.Prelude.{◌≡◌, ◌≢◌, ◌≤◌, ℕ, ◌+◌, false, List, IfErr, IfSome, MatchBool, length};
+ghost use Rattle.std.specs.Io.KnownBytes.{Consumes, Keeps};
 ghost use Rattle.ga_jobs.specs.{reads_input};
 ghost use Rattle.ga_jobs.specs.Answering.{HasOneOutput, INPUT_LIMIT};
-ghost use Rattle.ga_jobs.specs.Reading.{ConsumesUpTo, ReadsFirst};
+ghost use Rattle.ga_jobs.specs.Reading.{ReadsToEnd};
 ghost use Rattle.ga_jobs.specs.Engine.{Serves, status_of};
 
 use crate::Job;
@@ -19,8 +19,8 @@ use std::thread::Threads;
 /// For `explain` nothing is read.
 ///
 /// The first fault is answered. `Read` and `Input(TooLong)` come while the input is read, the
-/// faults of the input in the order of the job's output, and `Write` last; a front of the output
-/// may then have been written. `Memory` comes where memory was refused, before anything is written.
+/// faults of the input in the order of the job's output, and `Write` last; a prefix of the output
+/// may then have been written. `Memory` comes when out of memory, before anything is written.
 #[tactic(auto, using(crate::proofs::OneAnswer::one_output))]
 pub fn serve<Rt: AllocGlobal + Threads + Sync, R: Read, W: Write>(
     rt: &Rt,
@@ -28,14 +28,16 @@ pub fn serve<Rt: AllocGlobal + Threads + Sync, R: Read, W: Write>(
     writer: &mut W,
     job: &Job,
 ) -> Result<(), ServeError>
-    // Where the reader and the writer tell their bytes, what is written is an output for what is
-    // read.
+    // If the bytes of the reader and the writer are known, what is written is an output for the
+    // input, or after a fault its prefix or nothing.
     ensures served { IfSome (R.remaining reader.old) (λ input.
         Serves job.now input (W.contents writer.old) (W.contents writer.new) result) }
-    ensures read_first { ReadsFirst job.now result
-        (R.remaining reader.old) (R.remaining reader.new) }
-    ensures read_no_more { ConsumesUpTo (INPUT_LIMIT + 1) (R.remaining reader.old)
-        (R.remaining reader.new) }
+    // a job that reads no input leaves the reader as it was
+    ensures read_first { MatchBool (reads_input job.now)
+        (ReadsToEnd result (R.remaining reader.new))
+        (Keeps (R.remaining reader.old) (R.remaining reader.new)) }
+    ensures read_no_more { (taken : List ℕ) × Consumes (R.remaining reader.old)
+        (R.remaining reader.new) taken × (length taken ≤ INPUT_LIMIT + 1) }
 
     // At any reader.
     ensures unread { reads_input job.now ≡ false → reader.new ≡ reader.old }

@@ -1,6 +1,11 @@
 ghost use Rattle.std.specs.Prelude.{◌≡◌};
-ghost use Rattle.ga_jobs.specs.Fault.{fault_of_boot, fault_of_names, fault_of_replay, fault_of_route, fault_of_text, fault_of_tree, fault_of_words};
-ghost use Rattle.ga_jobs.specs.declared.fault.ServeError.TheVariants.{Memory, Plan};
+ghost use Rattle.ga_word.specs.declared.text.WordsError.TheVariants as words;
+ghost use Rattle.ga_path.specs.declared.error.BootError.TheVariants as boot;
+ghost use Rattle.ga_path.specs.declared.error.NamesError.TheVariants as names;
+ghost use Rattle.ga_jobs.specs.Fault.{fault_of_replay, fault_of_route, fault_of_text, fault_of_tree};
+ghost use Rattle.ga_jobs.specs.declared.fault.RouteFault.TheVariants.{BadRoute};
+ghost use Rattle.ga_jobs.specs.declared.fault.ServeError.TheVariants.{Boot, Memory, Plan, Route, Words};
+ghost use Rattle.ga_jobs.specs.declared.fault.WordsFault.TheVariants.{BadWord};
 
 use crate::shown::ShownText;
 use ga_asm::{AsmError, TextError};
@@ -22,10 +27,10 @@ pub enum InputFault {
     /// It is not UTF-8.
     #[error("BadText")]
     BadText,
-    /// There is no file of the name that was given.
+    /// No file has this name.
     #[error("NoFile")]
     NoFile,
-    /// What has the name that was given is a folder.
+    /// The name is that of a folder.
     #[error("Folder")]
     Folder,
 }
@@ -50,7 +55,7 @@ pub enum WordsFault {
     /// There are more words than a node's memory holds.
     #[error("TooLong")]
     TooLong,
-    /// More words are said to be code than there are.
+    /// The number of words of code is greater than that of the words.
     #[error("BadCode")]
     BadCode,
 }
@@ -58,8 +63,7 @@ pub enum WordsFault {
 /// Why a ROUTE was refused.
 #[derive(Debug, PartialEq, Eq, Drop, Error)]
 pub enum RouteFault {
-    /// It isn't routes with `/` between them, of each the names of its nodes with commas between
-    /// them.
+    /// It isn't routes with `/` between them, each the names of its nodes with commas between them.
     #[error("BadRoute")]
     BadRoute,
     /// The nodes are no route.
@@ -67,8 +71,8 @@ pub enum RouteFault {
     Nodes(RouteError),
 }
 
-/// The first fault of a text of which something is shown. Lines of a transcript are counted from
-/// its first one.
+/// The first fault of a text that is shown with a part of the text. Lines of a transcript are
+/// counted from its first one.
 #[derive(Debug, PartialEq, Eq, Drop, Error)]
 pub enum TextFault {
     #[error("source {0}")]
@@ -77,7 +81,7 @@ pub enum TextFault {
     Asm(AsmError),
     #[error("replay {0}")]
     Replay(ReplayError),
-    /// A line of a reply stands in front of all commands of a transcript.
+    /// A line of a reply comes before all commands of a transcript.
     #[error("transcript line {0} EarlyReply")]
     EarlyReply(u64),
     /// The command of this line of a transcript has another reply than the lines behind it.
@@ -106,7 +110,7 @@ pub enum ServeError {
     Plan(PlanError),
     #[error("replay {0}")]
     Replay(ReplayError),
-    /// The fault of a text together with what is shown of the text, behind it.
+    /// The fault of a text, and behind it the lines that are shown of the text.
     #[error("{fault}\n{shown}")]
     Shown { fault: TextFault, shown: ShownText },
     #[error("output {0}")]
@@ -122,7 +126,8 @@ pub enum ServeError {
 }
 
 impl From<WordsError> for ServeError {
-    ghost from_gives = { λ error fault. fault ≡ fault_of_words error };
+    ghost from_gives = { λ error fault. fault
+        ≡ elim error [ words.BadWord index ↦ Words (BadWord index) | words.Memory ↦ Memory ] };
 
     fn from(error: WordsError) -> ServeError {
         match error {
@@ -145,7 +150,8 @@ impl From<TextError> for ServeError {
 }
 
 impl From<NamesError> for ServeError {
-    ghost from_gives = { λ error fault. fault ≡ fault_of_names error };
+    ghost from_gives = { λ error fault. fault
+        ≡ elim error [ names.BadNames ↦ Route BadRoute | names.Memory ↦ Memory ] };
 
     fn from(error: NamesError) -> ServeError {
         match error {
@@ -178,7 +184,11 @@ impl From<TreeError> for ServeError {
 }
 
 impl From<BootError> for ServeError {
-    ghost from_gives = { λ error fault. fault ≡ fault_of_boot error };
+    ghost from_gives = { λ error fault. fault
+        ≡ elim error [
+          | boot.Memory ↦ Memory
+          | boot.Unreached node ↦ Boot (boot.Unreached node)
+        ] };
 
     fn from(error: BootError) -> ServeError {
         match error {

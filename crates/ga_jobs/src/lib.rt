@@ -1,6 +1,6 @@
 //! The jobs of the bench, and the engine that serves them: it reads an input, makes the text of a
-//! job, and writes it. What a job makes of the bytes of an input stands in a module of its name;
-//! this file lists the jobs.
+//! job, and writes it. What a job makes of the bytes of an input is in a module of its name; this
+//! file lists the jobs.
 #![tactic(auto)]
 
 ghost use Rattle.std.specs.Prelude.{◌≡◌, IfSome, is_some, not, option_map, string_bytes};
@@ -50,7 +50,7 @@ pub enum Job {
     },
     /// The words of the nodes of a source text.
     Asm,
-    /// The source text of the words of the input, of which so many are code, or all.
+    /// The source text of the words of the input, of which the first ones, or all, are code.
     Dis {
         code: Option<u32>,
     },
@@ -58,8 +58,7 @@ pub enum Job {
     Boot {
         route: String,
     },
-    /// The nodes of one route or more after so many turns of so many workers, booted from a source
-    /// text.
+    /// The nodes of one route or more after a run of workers, booted from a source text.
     Run {
         route: String,
         workers: u32,
@@ -69,14 +68,14 @@ pub enum Job {
     Debug,
     /// How many stated outcomes of a replay text hold.
     Replay,
-    /// The words of a source text with what they read as, or its labels alone. The text stands in
-    /// the file, or comes from standard input where there is none.
+    /// The words of a source text with their instructions, or only its labels. The text is in the
+    /// file, or comes from standard input if there is none.
     List {
         labels: bool,
         file: Option<String>,
     },
-    /// How many commands of a transcript have the replies that come, if all have. The transcript
-    /// stands in the file, or comes from standard input where there is none.
+    /// How many commands a transcript has, if each has the expected reply. The transcript is in the
+    /// file, or comes from standard input if there is none.
     Check {
         file: Option<String>,
     },
@@ -98,8 +97,8 @@ impl Job {
         !matches!(self, Job::Explain { .. })
     }
 
-    /// The name of the file that the job reads in place of standard input, where it names one: `-`
-    /// stands for standard input too.
+    /// The name of the file that the job reads in place of standard input, if it names one; `-` is
+    /// standard input too.
     pub fn file(&self) -> Option<&str>
         ensures { option_map (λ name. name.now) result ≡ file_of self.now }
     {
@@ -116,7 +115,7 @@ impl Job {
     }
 }
 
-/// What a job writes for an input that is not too long: `None` for the job `run` alone.
+/// What a job writes for an input that is not too long: `None` only for the job `run`.
 #[tactic(auto, unfolding(crate::specs::IsJobOutput))]
 fn output(alloc: Global, job: &Job, input: &[u8]) -> Option<Result<String, ServeError>>
     ensures answer { IfSome result (Answers string_bytes (IsJobOutput job.now input.now)) }

@@ -11,8 +11,8 @@ use ga_asm::TextError;
 use ga_list::{list, list_labels};
 use std::alloc::Global;
 
-/// The listing of the input, which is source text, or its labels alone. A fault of the text comes
-/// with what is shown of it.
+/// The listing of the input, which is source text, or only its labels. A fault of the text comes
+/// with the lines that are shown of it.
 #[tactic(auto, using(crate::proofs::OneOutput::one_list_output))]
 pub fn output(alloc: Global, labels: bool, input: &[u8]) -> Result<String, ServeError>
     ensures output { Answers string_bytes (IsListOutput labels input.now) result }
@@ -26,7 +26,7 @@ pub fn output(alloc: Global, labels: bool, input: &[u8]) -> Result<String, Serve
     }
 }
 
-/// The listing of a text, or its labels alone.
+/// The listing of a text, or only its labels.
 fn listed(alloc: Global, labels: bool, text: &str) -> Result<String, TextError>
     ensures listed { IfOk result (λ listing. IsListed labels text.now (Ok (string_bytes listing))) }
     ensures fault { IfErr result (λ error. error ≢ Memory → IsListed labels text.now (Err error)) }

@@ -1,13 +1,13 @@
-ghost use Rattle.std.specs.Prelude.{◌≡◌, IfOk};
-ghost use Rattle.ga_jobs.specs.Meaning.{ends_by_cr, head_meaning, profile_meaning};
+ghost use Rattle.std.specs.Prelude.{◌≡◌, ◌==◌, ◌-◌, IfOk, length, slice_index};
+ghost use Rattle.ga_jobs.specs.Meaning.{head_meaning, profile_meaning};
 
 use crate::shown::whole_line;
 use ga_debug::ReplayError;
 use ga_explain::meaning;
 use std::alloc::{AllocError, Global};
 
-/// What a fault of the head of a transcript, which is this text, means, in one line. It fails only
-/// where memory is refused.
+/// What a fault of the head of a transcript, which is this text, means, in one line. Fails only
+/// when out of memory.
 #[tactic(auto, unfolding(crate::specs::Meaning::head_meaning))]
 pub fn head_meaning(
     alloc: Global,
@@ -27,8 +27,8 @@ pub fn head_meaning(
     }
 }
 
-/// What it means that the first line isn't the one of the profile, also if what is beside it can't
-/// be seen.
+/// The meaning of a first line that isn't the one of the profile, also if the difference can't be
+/// seen.
 #[tactic(auto, unfolding(crate::specs::Meaning::profile_meaning))]
 fn profile_meaning(text: &str) -> &'static str
     ensures { result.now ≡ profile_meaning text.now }
@@ -43,7 +43,7 @@ fn profile_meaning(text: &str) -> &'static str
 }
 
 fn ends_by_cr(line: &str) -> bool
-    ensures { result ≡ ends_by_cr line.now }
+    ensures { result ≡ (slice_index line.now (length line.now - 1) == 13) }
 {
     line.as_bytes().last() == Some(&b'\r')
 }

@@ -9,7 +9,7 @@ use ga_node::NodeState;
 use ga_place::Node;
 use std::alloc::Global;
 
-/// Node 000 with the words of the input in its memory and P 000, after so many tries, as a line.
+/// Node 000 with the words of the input in its memory and P 000, after `tries` tries, as a line.
 #[tactic(auto, unfolding(crate::specs::One::one_text))]
 pub fn output(alloc: Global, tries: u32, input: &[u8]) -> Result<String, ServeError>
     ensures { Gives string_bytes result (one_output tries input.now) }
@@ -21,7 +21,7 @@ pub fn output(alloc: Global, tries: u32, input: &[u8]) -> Result<String, ServeEr
     Ok(line)
 }
 
-/// The node after so many tries. Each is a step where the node needs nothing from outside.
+/// The node after `tries` tries. Each is a step if the node needs nothing from outside.
 ///
 /// It stays a function of its own in the built program, since its loop is faster with all registers
 /// to itself.

@@ -24,7 +24,7 @@ impl Reads {
         self.calls
     }
 
-    /// Whether a call failed for another reason than that it was interrupted.
+    /// Whether a call failed for another reason than an interruption.
     pub fn has_failed(&self) -> bool
         ensures { result ≡ has_failed self.now }
     {
@@ -54,8 +54,8 @@ impl Reads {
     }
 }
 
-/// What follows a read that failed: one that was interrupted is tried again, and every other ends
-/// the input as `Read`.
+/// What follows a failed read: an interrupted one is tried again, and any other ends the input with
+/// `Read`.
 pub(crate) fn tried_again(error: &io::Error) -> Result<(), ServeError>
     ensures interrupted { error_kind error.now ≡ ErrorKind.Interrupted → result ≡ Ok tt }
     ensures other { error_kind error.now ≢ ErrorKind.Interrupted

@@ -9,8 +9,8 @@ use crate::transcript_fault::shown_transcript_fault;
 use ga_transcript::record;
 use std::alloc::Global;
 
-/// The input, which is a transcript, with the replies that come. A fault of the transcript comes
-/// with what is shown of it.
+/// The input, which is a transcript, with the actual replies. A fault of the transcript comes with
+/// the lines that are shown of it.
 #[tactic(auto, using(crate::proofs::OneOutput::one_record_output))]
 pub fn output(alloc: Global, input: &[u8]) -> Result<String, ServeError>
     ensures output { Answers string_bytes (IsRecordOutput input.now) result }

@@ -20,7 +20,7 @@ use std::alloc::{AllocError, Global};
 use std::thread::Threads;
 
 /// The nodes of a tree of routes after a run, as text: they boot from the input, which is source
-/// text, and so many workers make so many turns.
+/// text, and `workers` workers make `turns` turns.
 pub fn output<Rt: AllocGlobal + Threads + Sync>(
     rt: &Rt,
     routes: &str,
@@ -29,7 +29,7 @@ pub fn output<Rt: AllocGlobal + Threads + Sync>(
     input: &[u8],
 ) -> Result<String, ServeError>
     ensures output { Answers string_bytes (IsRunOutput routes.now workers turns input.now) result }
-    // the order of tries is free, but for a single worker
+    // the order of tries is free, except for a single worker
     ensures only { HasRuns workers (IsRunOutput routes.now workers turns input.now) }
 {
     let images = images_of(rt.alloc(), input)?;
@@ -52,7 +52,7 @@ fn run_text<Rt: AllocGlobal + Threads + Sync>(
     run_chip(rt, chip, tree.nodes(), workers, turns)
 }
 
-/// Nodes of a chip as text, after so many workers, who share them, have made so many turns.
+/// Nodes of a chip as text, after workers, who share them, have made `turns` turns.
 fn run_chip<Rt: AllocGlobal + Threads + Sync>(
     rt: &Rt,
     chip: Chip,
@@ -68,7 +68,7 @@ fn run_chip<Rt: AllocGlobal + Threads + Sync>(
     Ok(text)
 }
 
-/// The plan by which so many workers share nodes.
+/// The plan by which `workers` workers share nodes.
 fn plan_of(alloc: Global, nodes: &[Node], workers: u32) -> Result<Plan, ServeError>
     ensures { Gives (λ plan. plan) result (plan_by (dealt workers nodes.now)) }
 {
@@ -77,7 +77,7 @@ fn plan_of(alloc: Global, nodes: &[Node], workers: u32) -> Result<Plan, ServeErr
     Ok(plan)
 }
 
-/// The nodes of each of so many workers.
+/// The nodes of each of `workers` workers.
 fn dealt(alloc: Global, nodes: &[Node], workers: usize) -> Result<Vec<Vec<Node>>, AllocError>
     ensures { IfOk result (λ groups. groups_of groups ≡ dealt workers nodes.now) }
 {
@@ -88,7 +88,7 @@ fn dealt(alloc: Global, nodes: &[Node], workers: usize) -> Result<Vec<Vec<Node>>
     Ok(groups)
 }
 
-/// The nodes of one of so many workers: the i-th node goes to worker i modulo their number.
+/// The nodes of one worker: the i-th node goes to worker i modulo the number of workers.
 fn nodes_for(
     alloc: Global,
     nodes: &[Node],
@@ -107,7 +107,7 @@ fn nodes_for(
     Ok(group)
 }
 
-/// The chip after so many turns of workers.
+/// The chip after `turns` turns of workers.
 fn after_run<Rt: AllocGlobal + Threads + Sync>(
     rt: &Rt,
     chip: Chip,

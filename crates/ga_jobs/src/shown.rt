@@ -1,7 +1,7 @@
 ghost use Rattle.std.specs.Prelude.{◌≡◌, ℕ, IfOk, List, Some, bytes_eq, string_bytes};
 ghost use Rattle.std.proofs.Common.{rules};
 ghost use Rattle.std.specs.Cmp.Rules.{comparing};
-ghost use Rattle.ga_jobs.specs.Shown.{char_under, is_undrawn, left_out, numbered_line, line_under, shown_char, shown_line, shown_lines, shown_text, whole_line};
+ghost use Rattle.ga_jobs.specs.Shown.{is_undrawn, left_out, numbered_line, line_under, shown_char, shown_line, shown_lines, shown_text, whole_line};
 
 use std::alloc::{AllocError, Global};
 use std::fmt;
@@ -13,12 +13,12 @@ const WIDTH: usize = 100;
 /// The last column up to which a line is shown from its first character on.
 const LAST_COLUMN: usize = 80;
 
-/// How many characters are shown in front of a column behind that one.
+/// How many characters are shown before a column past that one.
 const IN_FRONT: usize = 40;
 
 /// What is shown of a text behind the line that names its fault: the line of the fault's place, a
-/// caret under its column, and what is meant, with LF between them and none at the end. A contract
-/// sees it as its bytes.
+/// caret under its column, and the fault's meaning, with LF between them and none at the end. A
+/// contract sees it as its bytes.
 #[derive(Debug, Drop)]
 pub struct ShownText {
     text: String,
@@ -33,7 +33,7 @@ impl Model for ShownText {
 }
 
 impl ShownText {
-    /// Lines of another kind, with LF between them. It fails only where memory is refused.
+    /// Lines of another kind, with LF between them. Fails only when out of memory.
     pub fn of_lines(alloc: Global, lines: &str) -> Result<ShownText, AllocError>
         ensures { IfOk result (λ shown. shown ≡ shown_lines lines.now) }
     {
@@ -42,7 +42,7 @@ impl ShownText {
     }
 
     /// What is shown at a line of a text, from 1, and at a column of it, from 1, which counts
-    /// characters. Without a column there is no caret. It fails only where memory is refused.
+    /// characters. Without a column there is no caret. Fails only when out of memory.
     #[tactic(auto, unfolding(crate::specs::Shown::shown_text))]
     pub fn new(
         alloc: Global,
@@ -94,7 +94,7 @@ impl Eq for ShownText {
     ghost laws = { Prim.search (comparing, rules) };
 }
 
-/// The line of a text with this number, from 1; an empty one where the text has none.
+/// The line of a text with this number, from 1; an empty one if the text has none.
 pub fn numbered_line(text: &str, line: usize) -> &str
     ensures { result.now ≡ numbered_line text.now line }
 {
@@ -104,7 +104,7 @@ pub fn numbered_line(text: &str, line: usize) -> &str
     }
 }
 
-/// The same line up to the LF alone: a CR in front of that is part of it.
+/// The same line up to the LF: a CR before it is part of the line.
 pub fn whole_line(text: &str, line: usize) -> &str
     ensures { result.now ≡ whole_line text.now line }
 {
@@ -114,7 +114,7 @@ pub fn whole_line(text: &str, line: usize) -> &str
     }
 }
 
-/// How many characters in front of the line are left out, so that the column is shown.
+/// How many characters at the line's start are left out, so that the column is shown.
 fn left_out(column: usize) -> usize
     ensures { result ≡ left_out column }
 {
@@ -125,7 +125,7 @@ fn left_out(column: usize) -> usize
     }
 }
 
-/// A character as it is shown: as a blank where a terminal would obey it, or draw nothing.
+/// A character as it is shown: as a blank if a terminal would obey it, or draw nothing.
 fn shown_char(c: char) -> char
     ensures { result ≡ shown_char c }
 {
@@ -143,7 +143,7 @@ fn is_undrawn(c: char) -> bool
     matches!(c, '\u{200B}'..='\u{200F}' | '\u{202A}'..='\u{202E}' | '\u{2066}'..='\u{2069}')
 }
 
-/// The characters of a line that are shown, behind so many of them.
+/// The characters of a line that are shown, without the first `skipped` ones.
 fn shown_line(alloc: Global, line: &str, skipped: usize) -> Result<String, AllocError>
     ensures { IfOk result (λ shown. string_bytes shown ≡ shown_line line.now skipped) }
 {
@@ -165,7 +165,7 @@ fn shown_lines(alloc: Global, lines: &str) -> Result<String, AllocError>
         .collect(alloc)
 }
 
-/// What stands under these characters in front of the caret.
+/// The blanks and tabs under these characters before the caret.
 fn line_under(
     alloc: Global,
     line: &str,

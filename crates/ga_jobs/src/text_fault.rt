@@ -7,8 +7,7 @@ use ga_asm::TextError;
 use ga_explain::meaning;
 use std::alloc::{AllocError, Global};
 
-/// The fault of a text, with what is shown of the text at its place. It fails only where memory is
-/// refused.
+/// The fault of a text, with the lines that are shown at its place. Fails only when out of memory.
 pub fn shown_fault(alloc: Global, text: &str, error: TextError) -> Result<ServeError, AllocError>
     ensures { IfOk result (λ fault. fault ≡ shown_fault text.now error) }
 {

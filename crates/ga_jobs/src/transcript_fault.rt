@@ -14,7 +14,7 @@ use ga_source::SourceError;
 use ga_transcript::TranscriptError;
 use std::alloc::{AllocError, Global};
 
-/// The fault of a transcript, with what is shown of it. It fails only where memory is refused.
+/// The fault of a transcript, with the lines that are shown of it. Fails only when out of memory.
 pub fn shown_transcript_fault(
     alloc: Global,
     text: &str,
@@ -40,7 +40,7 @@ pub fn shown_transcript_fault(
     }
 }
 
-/// The fault of a head, with what is shown of the text.
+/// The fault of a head, with the lines that are shown of the text.
 fn shown_head_fault(alloc: Global, text: &str, error: ReplayError) -> Result<ServeError, AllocError>
     ensures { IfOk result (λ fault. fault ≡ shown_head_fault text.now error) }
 {
@@ -87,7 +87,7 @@ fn source_behind_head(text: &str, error: &SourceError) -> SourceError
 }
 
 /// Whether a place is the end of the source lines: the line `go` begins there, and there is a
-/// source line in front of it.
+/// source line before it.
 fn is_source_end(text: &str, line: usize, column: usize) -> bool
     ensures { result ≡ spec.is_source_end text.now line column }
 {
@@ -106,7 +106,7 @@ fn asm_behind_head(error: &AsmError) -> AsmError
     }
 }
 
-/// The number of a source line in the whole text, where two lines stand in front.
+/// The number of a source line in the whole text, which has two lines before it.
 fn behind_head(line: usize) -> usize
     ensures { result ≡ spec.behind_head line }
 {
@@ -117,7 +117,7 @@ fn behind_head(line: usize) -> usize
     }
 }
 
-/// The line where a fault of the head is seen.
+/// The line at which a fault of the head is shown.
 fn head_line(text: &str, error: &ReplayError) -> usize
     ensures { result ≡ spec.head_line text.now error.now }
 {

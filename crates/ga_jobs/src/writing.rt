@@ -1,18 +1,17 @@
-ghost use Rattle.std.specs.Prelude.{◌≡◌, OnOk, OnErr, IfErr};
+ghost use Rattle.std.specs.Prelude.{◌≡◌, ℕ, OnOk, OnErr, IfErr, take};
 ghost use Rattle.std.specs.Io.KnownBytes.{Appends};
-ghost use Rattle.ga_jobs.specs.Writing.{AppendsPart};
 
 use crate::fault::ServeError;
 use std::io::{ErrorKind, Write};
 
-/// Writes all of a text and flushes the writer. A write that was interrupted is tried again.
+/// Writes all of a text and flushes the writer. An interrupted write is tried again.
 ///
-/// Where it fails, a front of the text was written and nothing else.
+/// If it fails, a prefix of the text was written and nothing else.
 pub fn write_output<W: Write>(writer: &mut W, text: &[u8]) -> Result<(), ServeError>
     ensures written { OnOk result
         (Appends (W.contents writer.old) (W.contents writer.new) text.now) }
-    ensures part { OnErr result
-        (AppendsPart (W.contents writer.old) (W.contents writer.new) text.now) }
+    ensures part { OnErr result ((count : ℕ)
+        × Appends (W.contents writer.old) (W.contents writer.new) (take count text.now)) }
     ensures fault { IfErr result (λ fault. fault ≡ ServeError.Write) }
 {
     let mut rest = text;

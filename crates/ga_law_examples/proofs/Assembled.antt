@@ -1,5 +1,5 @@
--- The text of the firmware has the image that was worked out by hand, and what the law asks of a
--- boot holds for it.
+-- The text of the firmware has the image that was worked out by hand, and the law's conditions of a
+-- boot hold for it.
 use Rattle.std.proofs.Common.{◌≡◌, ℕ, List, [], ◌∷◌, None, Ok, refl}
 use Rattle.std.specs.List.{IsDistinct}
 use Rattle.std.specs.Prelude.{codes}

@@ -1,4 +1,4 @@
--- Tries that all name one side: their takes of several sides name it alone.
+-- Tries that all name one side: their multiport reads name only this side.
 use Rattle.std.proofs.Common.{◌≡◌, ◌∙◌, ℕ, ◌+◌, ◌-◌, ◌==◌, ◌<◌, ◌≤◌, ◌⊎◌, inl, inr, All, Bool, true, false, List, [], ◌∷◌, ◌++◌, flat_map, replicate, Option, Some, None, refl, sym, ap, ap₂, subst, arith}
 use Rattle.std.specs.Prelude.{if◌then◌else◌}
 use Rattle.std.proofs.lemmas.Bool.{cases_lt}
@@ -18,7 +18,7 @@ use Rattle.ga_chip.specs.Chip.{Chip, found_by, part_of}
 use Rattle.ga_chip.specs.Laws.{AgreesWith, IsPrefix}
 use Rattle.ga_chip.specs.Run.{Event, Move, Try, happened, if_moved, move_at, move_in, moves, moves_of, sides_of, tries_of}
 
--- so many times one side, and nothing else
+-- one side, any number of times, and no other
 abbrev pub IsOnly : Side → List Side → Type 0
 IsOnly side sides = (n : ℕ) × (sides ≡ replicate n side)
 

@@ -23,7 +23,7 @@ StandsBefore state =
 
 pub record Spins (state : State) : Type 0 where
   pub unposted : state.posted ≡ None
-  -- the jump stands at address 000
+  -- the jump is at address 000
   pub jump : slice_index state.ram 0 ≡ JUMP_000
   pub stands : StandsBefore state
 

@@ -1,4 +1,4 @@
--- What the law of stuck nodes says of a node's state.
+-- What the law of stuck nodes promises for a node's state.
 use Rattle.std.proofs.Common.{◌≡◌, ◌∙◌, ap, ℕ, Bool, false, true, List, Option, Some, None}
 use Rattle.std.proofs.Common.{refl, sym}
 use Rattle.std.specs.Prelude.{option_map}

@@ -1,5 +1,5 @@
 -- The firmware of the example.
-use Rattle.std.specs.Prelude.{ℕ, List, [], ◌∷◌, replicate}
+use Rattle.std.specs.Prelude.{[], ◌∷◌}
 use Rattle.ga_asm.specs.Image.{ImageView}
 use Rattle.ga_path.specs.Stream.{Images}
 use Rattle.ga_path.specs.Tree.{NoMore, Subtree, TreeView}
@@ -19,7 +19,3 @@ fork = record {
   subtrees = Subtree 709 NoMore (Subtree 608 NoMore NoMore);
   nodes = 708 ∷ 709 ∷ 608 ∷ [];
 }
-
--- the memory of 608 when it is loaded
-abbrev pub memory : List ℕ
-memory = 0x2C9B2 ∷ replicate 63 0

@@ -10,7 +10,7 @@ use Rattle.ga_chip.specs.Run.{Event, ran, words_fed}
 use Rattle.ga_boot.specs.Boot.{Holds}
 
 -- The chip at the end of a run that feeds a node's stream these words. The run begins at a chip
--- after reset, but for breakpoints, of which that stream was opened.
+-- after reset, apart from breakpoints, on which that stream was opened.
 pub record IsFed (chip : Chip) (name : ℕ) (words : List ℕ) : Type 0 where
   pub first : Chip
   pub legal : IsLegal first

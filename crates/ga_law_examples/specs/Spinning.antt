@@ -13,7 +13,7 @@ JUMP_000 = 0x1_0000
 abbrev pub spinning_part : ℕ → Part
 spinning_part name = given (JUMP_000 ∷ []) 0 (reset_part name)
 
--- The chip where all nodes do, and nothing is pending.
+-- The chip in which all nodes do, and nothing is pending.
 unfoldable pub spinning_chip : Chip
 spinning_chip = record {
   parts = map (λ index. spinning_part (name_at index)) (range_with_len 0 144);

@@ -1,4 +1,4 @@
-ghost use Rattle.std.specs.Prelude.{◌≡◌, IfSome, Some};
+ghost use Rattle.std.specs.Prelude.{◌≡◌, ◌∷◌, IfSome, Some, replicate};
 ghost use Rattle.ga_path.specs.Stream.{grove, image_of};
 ghost use Rattle.ga_chip.specs.Chip.{part_of};
 ghost use Rattle.ga_chip.specs.Part as model;
@@ -17,8 +17,7 @@ use ga_path::{Route, Tree};
 use ga_place::Node;
 use std::alloc::Global;
 
-/// The firmware: nodes 708, 709 and 608 have the word `. . . .`. There is none only if memory is
-/// refused.
+/// The firmware: nodes 708, 709 and 608 have the word `. . . .`. `None` only when out of memory.
 pub fn assemble_firmware(alloc: Global) -> Option<Images>
     ensures { IfSome result (λ images. images ≡ the.firmware) }
 {
@@ -28,7 +27,7 @@ pub fn assemble_firmware(alloc: Global) -> Option<Images>
     Some(images)
 }
 
-/// The routes 708, 709 and 708, 608 as a tree. There is none only if memory is refused.
+/// The routes 708, 709 and 708, 608 as a tree. `None` only when out of memory.
 fn fork(alloc: Global) -> Option<Tree>
     ensures { IfSome result (λ tree. tree ≡ the.fork) }
 {
@@ -45,7 +44,7 @@ fn fork(alloc: Global) -> Option<Tree>
     Some(tree)
 }
 
-/// A chip that boots the firmware by the tree of [`fork`]. There is none only if memory is refused.
+/// A chip that boots the firmware by the tree of [`fork`]. `None` only when out of memory.
 pub fn boot_firmware(alloc: Global) -> Option<Chip>
     ensures { IfSome result (λ chip. chip ≡ begun.booted_tree the.firmware the.fork) }
 {
@@ -58,8 +57,8 @@ pub fn boot_firmware(alloc: Global) -> Option<Chip>
 }
 
 /// Makes tries of a chip that boots the firmware: of whichever nodes, in whatever order. If 708 has
-/// taken the whole load part then, and 608 hasn't begun, the memory of 608 is its image, and zeros
-/// behind it.
+/// taken the whole load part then, and 608 hasn't started, the memory of 608 is its image, and
+/// zeros behind it.
 pub fn run_firmware(chip: &mut Chip, tries: &[Try])
     requires booted { chip.old ≡ begun.booted_tree the.firmware the.fork }
     ensures chip { chip.new ≡ ran chip.old (tries_of tries.now) }
@@ -67,7 +66,7 @@ pub fn run_firmware(chip: &mut Chip, tries: &[Try])
         → LoadTaken chip.old 708 (image_of the.firmware 708)
         (grove the.firmware 708 the.fork.subtrees) (tries_of tries.now)
         → (HasBegun chip.old the.firmware the.fork (tries_of tries.now) 608 → ⊥)
-        → now.state.ram ≡ the.memory }
+        → now.state.ram ≡ 0x2C9B2 ∷ replicate 63 0 }
 {
     headline();
     boot_any_schedule();

@@ -9,9 +9,9 @@ ghost use Rattle.ga_group.specs.Laws.{LeaveAlike};
 use ga_chip::laws::{confluence, runs};
 use ga_chip::{Chip, Try};
 
-/// Makes tries of two chips that differ in breakpoints at most, of each in an order of its own.
-/// Takes of several sides are to name the same sides, as far as both go. Then a node that has
-/// made equally many steps ends alike, and each cell passes the same words, as far as both go.
+/// Makes tries of two chips that differ at most in breakpoints, of each in an order of its own. The
+/// multiport reads must name the same sides on the common steps. Then a node that has made equally
+/// many steps ends alike, and each cell passes the same words on the common steps.
 pub fn two_orders(one: &mut Chip, two: &mut Chip, order: &[Try], another: &[Try])
     requires chips { DifferInBreaks one.old two.old }
     requires sides { (name : ℕ)
@@ -35,7 +35,7 @@ pub fn two_orders(one: &mut Chip, two: &mut Chip, order: &[Try], another: &[Try]
     two.run(another);
 }
 
-/// The same, where all tries name one side: then nothing has to be known of takes of several sides.
+/// The same if all tries name one side: then nothing has to be known about multiport reads.
 pub fn one_side(one: &mut Chip, two: &mut Chip, order: &[Try], another: &[Try])
     requires chips { DifferInBreaks one.old two.old }
     requires named { (side : Side) × All (λ what. what.side ≡ side) order.now
@@ -47,8 +47,8 @@ pub fn one_side(one: &mut Chip, two: &mut Chip, order: &[Try], another: &[Try])
     two_orders(one, two, order, another);
 }
 
-/// The same as `two_orders`, where the first chip is run in two parts: runs one behind the other
-/// are one run along the tries of both.
+/// The same as `two_orders`, with the first chip run in two parts: runs one after the other are one
+/// run along the tries of both.
 pub fn two_parts(one: &mut Chip, two: &mut Chip, front: &[Try], rest: &[Try], order: &[Try])
     requires chips { DifferInBreaks one.old two.old }
     requires sides { (name : ℕ)

@@ -111,7 +111,7 @@ pub fn in_pieces<R: Threads + Sync, G: Gate>(
     worked(rt, alloc, chip, one, gate)
 }
 
-/// The routes 708, 709, 710 and 708, 709, 609 as a tree. There is none only if memory is refused.
+/// The routes 708, 709, 710 and 708, 709, 609 as a tree. `None` only when out of memory.
 fn far_fork(alloc: Global) -> Option<Tree>
     ensures tree { IfSome result (λ tree. tree ≡ far_fork) }
     ensures sound { IfSome result (λ tree. IsSound tree) }
@@ -131,8 +131,8 @@ fn far_fork(alloc: Global) -> Option<Tree>
 }
 
 /// Boots the images of a text in pieces, by the routes 708, 709, 710 and 708, 709, 609. It answers
-/// the chip if 708 has taken the load part in the end and 710 hasn't begun: then 710 has its image
-/// in memory. There is no chip either if the text has no image of 710, or one of the calls is
+/// the chip if 708 has taken the load part in the end and 710 hasn't started: then 710 has its
+/// image in memory. There is no chip either if the text has no image of 710, or one of the calls is
 /// refused.
 pub fn leaf_is_loaded<R: Threads + Sync, G: Gate>(
     rt: &R,

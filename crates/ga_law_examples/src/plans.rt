@@ -15,10 +15,10 @@ use ga_group::{Gate, Plan, RunError, run_workers};
 use std::alloc::Global;
 use std::thread::Threads;
 
-/// Runs two chips that differ in breakpoints at most over so many turns, each by a plan of its
-/// own. Takes of several sides are to name the same sides, as far as both go, whatever the order
-/// of the tries of two nodes. Then a node that has made equally many steps ends alike. A refusal
-/// is that of `run_workers`.
+/// Runs two chips that differ at most in breakpoints, each by a plan of its own. The multiport
+/// reads must name the same sides on the common steps, whatever the order of the tries of two
+/// nodes. Then a node that has made equally many steps ends alike. A refusal is that of
+/// `run_workers`.
 // long: all that two runs are made of
 pub fn two_plans<R: Threads + Sync, G: Gate>(
     rt: &R,
@@ -46,10 +46,9 @@ pub fn two_plans<R: Threads + Sync, G: Gate>(
     Ok((first, second))
 }
 
-/// Runs a chip by a plan, and makes tries of another, which differs in breakpoints at most, in
-/// one thread. Takes of several sides are to name the same sides, as far as both go. Then a node
-/// that has made equally many steps ends alike. A refusal is that of `run_workers`, and no try is
-/// made then.
+/// Runs a chip by a plan, and makes tries of another, which differs at most in breakpoints, in one
+/// thread. The multiport reads must name the same sides on the common steps. Then a node that has
+/// made equally many steps ends alike. A refusal is that of `run_workers`, and no try is made then.
 // long: all that two runs are made of
 pub fn plan_beside_tries<R: Threads + Sync, G: Gate>(
     rt: &R,
@@ -78,8 +77,8 @@ pub fn plan_beside_tries<R: Threads + Sync, G: Gate>(
     Ok(next)
 }
 
-/// The same, where the first chip is run by one plan and then by another, over so many turns
-/// each: runs of workers, one behind the other, are one run along the tries of both.
+/// The same, with the first chip run by one plan and then by another: runs of workers, one after
+/// the other, are one run along the tries of both.
 // long: all that two runs are made of
 pub fn plan_behind_plan<R: Threads + Sync, G: Gate>(
     rt: &R,

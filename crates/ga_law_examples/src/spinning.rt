@@ -15,8 +15,8 @@ use std::alloc::{AllocError, Global};
 use std::thread::Threads;
 
 /// The chip in which each node spins: it runs an endless loop in its own memory. All is as after
-/// reset, but each node has the word `jump 000` at address 000, and P there. An error if memory
-/// runs out.
+/// reset, but each node has the word `jump 000` at address 000, and P there. Fails only when out of
+/// memory.
 pub fn spinning_chip(alloc: Global) -> Result<Chip, AllocError>
     ensures { IfOk result (λ chip. chip ≡ model.spinning_chip) }
 {
@@ -35,10 +35,9 @@ fn jump_000() -> Word18
     Word18::new(0x1_0000).unwrap()
 }
 
-/// Builds two chips whose nodes spin, and runs each over so many turns by a plan of its own. Then a
-/// node that has made equally many steps ends alike. There is no condition on the sides that takes
-/// of several sides name, since no node makes such a take. A refusal is that of `run_workers`; it
-/// is `Memory` too if there is no memory for the chips.
+/// Builds two chips whose nodes spin, and runs each by a plan of its own. Then a node that has made
+/// equally many steps ends alike. There is no condition on multiport reads, since no node makes
+/// one. A refusal is that of `run_workers`; it is `Memory` too if there is no memory for the chips.
 pub fn spinning_plans<R: Threads + Sync, G: Gate>(
     rt: &R,
     alloc: Global,

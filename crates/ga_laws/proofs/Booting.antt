@@ -1,4 +1,4 @@
--- A node with an image stands in the tree, and holds its image.
+-- A node with an image is in the tree, and holds its image.
 use Rattle.std.proofs.Common.{◌++◌, ◌≡◌, ◌∙◌, ◌==◌, ℕ, Bool, true, false, List, [], ◌∷◌, Option, Some, None, not, refl, sym, ap, subst}
 use Rattle.std.specs.Prelude.{if◌then◌else◌}
 use Rattle.std.specs.List.{find}
@@ -22,7 +22,7 @@ use Rattle.ga_boot.proofs.Places.{found_there}
 use Rattle.ga_boot.proofs.Routes.{image_is, routes_are_tree, stands_there}
 use Rattle.ga_laws.specs.Laws.{BootsHold, begun_by}
 
--- where no image is unreached, a node that has one stands in the tree
+-- if no image is unreached, a node that has one is in the tree
 among_nodes : (images : Images) (nodes : List ℕ) (name : ℕ) (image : ImageView)
     → unreached images nodes ≡ None → image_of images name ≡ Some image → is_among name nodes ≡ true
 among_nodes [] nodes name image e f = absurd (none-some image f)

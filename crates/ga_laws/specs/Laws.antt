@@ -42,8 +42,8 @@ abbrev pub StepsAreRows : Type 0
 StepsAreRows = (chip : Chip) (events : List Event) (name : ℕ) (side : Side) → IsLegal chip
     → (tried (ran chip events) name side).0 ≡ Moved → MakesRow (ran chip events) name side
 
--- What the words of each image read as is what the layout of its section's items names, with
--- fillers alone added.
+-- The instructions of each image's words are those that the layout of its section's items names,
+-- with only fillers added.
 abbrev pub GiveBack : List PlacedSection → Images → Type 0
 GiveBack [] [] = Unit {0}
 GiveBack [] (image ∷ images) = ⊥
@@ -58,7 +58,7 @@ abbrev pub WordsGiveBack : Type 0
 WordsGiveBack = (text : List ℕ) (images : Images) (assembled : HasImages text images)
     → GiveBack assembled.program images
 
--- a node of a tree has begun: the root, or another by its place in the tree
+-- a node of a tree has started: the root, or another by its place in the tree
 abbrev pub begun_by : Option Place → Chip → Images → TreeView → List Event → Type 0
 begun_by (Some p) chip images tree events = Begun chip p events
 begun_by None chip images tree events =

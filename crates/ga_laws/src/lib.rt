@@ -1,4 +1,4 @@
-//! What the bench promises of every source, every boot and every schedule, as one law.
+//! The bench's promises for every source, every boot and every schedule, as one law.
 #![tactic(auto)]
 
 pub mod laws;

@@ -5,12 +5,12 @@ use Rattle.std.proofs.lemmas.List.{length-map}
 use Rattle.std.proofs.lemmas.List.Folds.{list_all-append}
 use Rattle.std.specs.Prelude.{◌==◌, ◌||◌, not, nat_lt, if◌then◌else◌}
 use Rattle.std.specs.List.{list_all, list_any, slice_get}
-use Rattle.std.specs.Option.{unwrap_or}
+use Rattle.std.specs.Option.{option_map_or, unwrap_or}
 use Rattle.std.specs.Str.{bytes_eq}
 use Rattle.ga_word.specs.declared.op.Op.{Op}
 use Rattle.ga_word.specs.Op.{ends_word}
 use Rattle.ga_pack.specs.Followers.{is_followed}
-use Rattle.ga_pack.specs.Model.Layout.{Labels, Group, Alone, Shared, Arrangement, address_after, address_of, all_in_reach, dest_in, fits, group_in_reach, is_defined, is_loose, is_near, items_of, joins, labels_after, labels_behind, last_dest, literals, may_reach, names_in, op_of, ops_of, p_behind, reaches, size, stand}
+use Rattle.ga_pack.specs.Model.Layout.{Labels, Group, Alone, Shared, Arrangement, address_after, address_of, all_in_reach, dest_in, fits, group_in_reach, is_defined, is_loose, items_of, joins, labels_after, labels_behind, last_dest, literals, may_reach, names_in, op_of, ops_of, p_behind, reaches, size, stand}
 use Rattle.ga_pack.specs.Model.Source.{Item, Label, Instruction, Transfer, Literal, Here, WordTo, is_among, is_item}
 use Rattle.ga_pack.proofs.OneLayout.{joins_loose}
 use Rattle.ga_pack.proofs.ByCases.{on_test}
@@ -125,7 +125,7 @@ pub record Goes (names : List (List ℕ)) (labels : Labels) (address : ℕ) (s :
   pub reach : (at : ℕ) → at ≤ 64 → address_of labels s ≡ Some at
       → reaches (length ops) (p_behind address ops) at ≡ true
 
--- what may stand in a slot is in reach, once it is defined
+-- what is allowed in a slot is in reach, once it is defined
 may_then : (before labels : Labels) (slot p : ℕ) (s : List ℕ)
     → ((at : ℕ) → address_of before s ≡ Some at → address_of labels s ≡ Some at)
     → may_reach slot p (address_of before s) ≡ true → (at : ℕ) → at ≤ 64
@@ -261,7 +261,9 @@ group_named names before labels address s in_data
         reach =
             λ at few there.
             let found : address_of labels t ≡ Some at = ap (address_of labels) same ∙ there in
-            sym (ap (is_near (length ops) (p_behind address ops)) found) ∙ near;
+            let reach : Option ℕ → Bool =
+            λ at. option_map_or (reaches (length ops) (p_behind address ops)) at true in
+            sym (ap reach found) ∙ near;
       };
       item_is = refl;
     }
@@ -304,7 +306,7 @@ unfolding Arrangement
 behind_group before address (Shared i is) back arranged = arranged.2
 behind_group before address (Alone i) back arranged = arranged.1
 
--- what holds of all items holds of those behind a group
+-- if all items have a property, so have those behind a group
 all_behind : (p : Item → Bool) (group : Group) (back : List Group)
     → list_all p (items_of (group ∷ back)) ≡ true → list_all p (items_of back) ≡ true
 all_behind p (Shared i is) back h =

@@ -18,7 +18,7 @@ by_number labels target dest old new digits none is e =
     e ∙ ap (λ t. old ++ 32 ∷ 36 ∷ t) (is ∙ sym (append-nil (hex_digits 5 dest)))
     ∙ ap (λ o. old ++ 32 ∷ (option_map_or (λ name. name) o (number_text dest) ++ [])) none
 
--- what is told of a destination, where there is one
+-- the text of a destination, if there is one
 pub no_dest : (labels : Labels) (address : ℕ) (ops : List Op) (dest : Option ℕ) (spare : ℕ)
     (old new : List ℕ) → dest ≡ None → new ≡ old
     → new ≡ old ++ behind_spaces (dest_texts labels address ops dest spare)

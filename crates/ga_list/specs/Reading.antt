@@ -26,8 +26,8 @@ dest_texts labels address ops None spare = []
 dest_texts labels address ops (Some dest) spare =
     dest_text labels (target address ops dest) dest ∷ spare_texts spare
 
--- The line of the word at an address: as the disassembler writes it, but for a destination that
--- means the address of a label, which is told by the label.
+-- The line of the word at an address: as the disassembler writes it, except that a destination that
+-- means the address of a label is shown as the label.
 abbrev pub reading_line : Labels → ℕ → ItemView → List ℕ
 reading_line labels address (Code reading) =
     line (codes "[") (map name_of reading.ops

@@ -9,10 +9,10 @@ use ga_word::Hex3;
 use std::alloc::{AllocError, Global};
 use std::fmt::Write;
 
-/// The labels of a source text, or its first fault, as `assemble_text` tells it: for each label a
+/// The labels of a source text, or its first fault, as `assemble_text` reports it: for each label a
 /// line of the name of its node, its own name and its address in three hex digits, with one space
-/// between, in the text's order. (The text is this project's own: profile.) It fails as `Memory`
-/// only where memory is refused.
+/// between, in the text's order. (The text is this project's own: profile.) Fails with `Memory`
+/// only when out of memory.
 #[tactic(auto, using(crate::proofs::OneListing::one_labels))]
 pub fn list_labels(alloc: Global, text: &str) -> Result<String, TextError>
     ensures labels { IfOk result (λ labels. HasLabels text.now (string_bytes labels)) }
@@ -27,7 +27,6 @@ pub fn list_labels(alloc: Global, text: &str) -> Result<String, TextError>
     }
 }
 
-/// The labels of images, node by node.
 fn text_of_labels(alloc: Global, images: &Images) -> Result<String, AllocError>
     ensures { IfOk result (λ text. string_bytes text ≡ labels_of_images images.now) }
 {

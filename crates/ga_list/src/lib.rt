@@ -1,5 +1,5 @@
-//! The listing of a source text: each word of its nodes with what it reads as and where it comes
-//! from.
+//! The listing of a source text: each word of its nodes with its instructions and its place in the
+//! text.
 #![tactic(auto)]
 
 mod labels;

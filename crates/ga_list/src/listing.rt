@@ -11,14 +11,14 @@ use ga_place::Node;
 use ga_source::{ItemPlace, Place, Program, parse};
 use std::alloc::{AllocError, Global};
 
-/// The listing of a source text, or its first fault, as `assemble_text` tells it.
+/// The listing of a source text, or its first fault, as `assemble_text` reports it.
 ///
 /// For each node it has the line that `asm` writes for the node, and then a line for each of its
 /// words: the address in three hex digits, the word in five, `code`, `follower` or `data`, the line
-/// of the text in which its first item stands, and what the word reads as, in source text. A
-/// destination that means the address of a label is written as the first such label. Each label
-/// stands on a line of its own in front of its word. (The text is this project's own: profile.) It
-/// fails as `Memory` only where memory is refused.
+/// of the text in which its first item is, and the word's instructions, in source text. A
+/// destination that means the address of a label is written as the first such label. Each label has
+/// a line of its own before its word. (The text is this project's own: profile.) Fails with
+/// `Memory` only when out of memory.
 #[tactic(auto, using(crate::proofs::OneListing::one_listing))]
 pub fn list(alloc: Global, text: &str) -> Result<String, TextError>
     ensures listing { IfOk result (λ listing. HasListing text.now (string_bytes listing)) }

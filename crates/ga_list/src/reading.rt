@@ -1,4 +1,4 @@
-//! What a word reads as, with labels for destinations.
+//! The instructions of a word, with labels for destinations.
 ghost use Rattle.std.specs.Prelude.{◌≡◌, ◌<◌, ◌++◌, ◌∷◌, [], OnOk, string_bytes};
 ghost use Rattle.ga_asm.specs.Image.{labels_of};
 ghost use Rattle.ga_disasm.specs.Disassembling.{item_view};
@@ -13,7 +13,7 @@ use indexmap::IndexMap;
 use std::alloc::AllocError;
 use std::fmt::Write;
 
-/// Adds what the word at an address reads as, and the line's end.
+/// Adds the instructions of the word at an address, and the line's end.
 pub fn push_reading(
     text: &mut String,
     labels: &IndexMap<String, u8>,
@@ -70,7 +70,7 @@ fn push_dest(
     Ok(())
 }
 
-/// Adds the spare bits where they are not 0, each text behind a space.
+/// Adds the spare bits if they are not 0, each text behind a space.
 fn push_spare(text: &mut String, spare: u8) -> Result<(), AllocError>
     ensures { OnOk result (string_bytes text.new ≡ string_bytes text.old
         ++ behind_spaces (spare_texts spare)) }

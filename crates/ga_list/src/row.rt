@@ -97,7 +97,7 @@ fn mark(item: &Item) -> &'static str
     }
 }
 
-/// The blanks in front of a line's number, where it has less than five digits.
+/// The blanks before a line's number, if it has fewer than five digits.
 fn blanks_before(line: usize) -> &'static str
     ensures { result.now ≡ spec.blanks_before line }
 {

@@ -1,5 +1,5 @@
 -- A node as one line of text.
-use Rattle.std.specs.Prelude.{ℕ, Bool, true, false, List, [], ◌∷◌, ◌++◌, codes}
+use Rattle.std.specs.Prelude.{ℕ, List, [], ◌∷◌, ◌++◌, codes, if◌then◌else◌}
 use Rattle.std.specs.List.{concat}
 use Rattle.std.specs.Fmt.{decimal}
 use Rattle.ga_word.specs.Hex.{hex_digits}
@@ -39,10 +39,6 @@ need_text (Check side) = codes "check"
 need_text Input = codes "input"
 need_text (Stopped stop) = codes "stopped " ++ stop_text stop
 
-abbrev pub carry_text : Bool → List ℕ
-carry_text false = codes "0"
-carry_text true = codes "1"
-
 -- the registers, the place, the steps and the need of a node, ended by LF
 unfoldable pub line_of : State → List ℕ
 line_of state =
@@ -53,7 +49,7 @@ line_of state =
     ∷ codes " R " ∷ hex_digits 5 state.r
     ∷ codes " S " ∷ hex_digits 5 state.s
     ∷ codes " T " ∷ hex_digits 5 state.t
-    ∷ codes " C " ∷ carry_text state.carry
+    ∷ codes " C " ∷ (if state.carry then codes "1" else codes "0")
     ∷ codes " io " ∷ hex_digits 5 state.io
     ∷ codes " at " ∷ place_text state.place
     ∷ codes " steps " ∷ decimal state.steps

@@ -9,8 +9,8 @@ impl NodeState {
     ghost use Rattle.ga_node.specs.Line.{line_of};
 
     /// The node as one line of text, ended by LF: its name, its registers in hex digits, its place,
-    /// how many steps it has made, and what it needs for the next one. It fails only where memory
-    /// is refused.
+    /// how many steps it has made, and what it needs for the next one. Fails only when out of
+    /// memory.
     #[tactic(auto, unfolding(crate::specs::Line::line_of))]
     pub fn line(&self, alloc: Global) -> Result<String, AllocError>
         ensures { IfOk result (λ text. string_bytes text ≡ line_of self.now) }

@@ -12,7 +12,7 @@ use crate::state::NodeState;
 use ga_place::{Side, Where, advance, locate};
 use ga_word::Word18;
 
-/// The completion which says that another frame follows.
+/// The completion that announces another frame.
 const MORE: u32 = 0xAE;
 
 /// What the loader of a booting node keeps of the frame that comes in: its completion, the address
@@ -90,7 +90,7 @@ impl NodeState {
         self.loader.held = None;
     }
 
-    /// A word of the frame is dealt with. After the last one the frame ends.
+    /// Ends a word of the frame. After the last one the frame ends.
     pub(crate) fn end_word(&mut self)
         requires { self.old.posted ≡ None }
         ensures { self.new ≡ word_done self.old }

@@ -14,13 +14,13 @@ use std::fmt;
 /// Why a node stops. A stop is a fact of the state: nothing changes from then on.
 #[derive(Clone, Copy, Debug, PartialEq, Eq)]
 pub enum Stop {
-    /// A write to the ports of several sides at once (profile).
+    /// A write to several ports (profile).
     MultiWrite,
     /// A read or a fetch at io (profile).
     IoRead,
-    /// A read, a fetch or a write where nothing is mapped (profile).
+    /// A read, a fetch or a write at an address at which nothing is mapped (profile).
     Unmapped,
-    /// A read or a fetch in ROM but at the warm word, or a write to ROM (profile).
+    /// A read or a fetch in ROM except at the warm word, or a write to ROM (profile).
     Rom,
     /// The steps have reached the largest number that is counted, 2^64 - 1 (profile).
     Counted,
@@ -112,7 +112,7 @@ impl NodeState {
         }
     }
 
-    /// What the loader needs: the next word of the stream, but in the body of a frame.
+    /// What the loader needs outside the body of a frame: the next word of the stream.
     fn load_need(&self) -> Need
         ensures { result ≡ load_need self.now.place self.now }
     {
@@ -123,7 +123,7 @@ impl NodeState {
     }
 
     /// What the loader needs in the body of a frame: the check of a post, the post of the word that
-    /// it holds, or the next word of its stream, where that may be written.
+    /// it holds, or the next word of its stream, if that may be written.
     fn body_need(&self) -> Need
         ensures { result ≡ body_need self.now.posted self.now.loader.held self.now.loader.transfer }
     {
@@ -180,8 +180,8 @@ fn held_need(at: Where, word: Word18) -> Need
     }
 }
 
-/// What the loader needs to take a word, by what its address reaches: a word of the stream, or it
-/// stops where a write stops.
+/// What the loader needs to take a word, by what its address reaches: a word of the stream, or a
+/// stop if a write stops.
 fn input_need(at: Where) -> Need
     ensures { result ≡ input_need (write_need at 0) }
 {

@@ -4,7 +4,7 @@ ghost use Rattle.ga_node.specs.inner.Work.{number_of};
 
 use std::fmt;
 
-/// Where a node stands between two steps: before a slot of the word in execution or before a fetch;
+/// The place of a node between two steps: before a slot of the word in execution or before a fetch;
 /// or, while it loads itself, before a word of a frame's header or in its body.
 // In this order each slot and then the fetch follows the one before, so that going on is an
 // addition.

@@ -31,7 +31,7 @@ impl Stack {
         }
     }
 
-    /// Puts a word in front. The last one is lost.
+    /// Puts a word at the front. The last one is lost.
     #[inline(always)]
     pub fn push(&mut self, word: Word18)
         ensures { self.new ≡ word ∷ take 7 self.old }

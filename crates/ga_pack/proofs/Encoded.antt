@@ -1,4 +1,4 @@
--- What follows where a word has a reading: it is the reading of the word's number, and it has no
+-- What follows if a word has a reading: it is the reading of the word's number, and it has no
 -- fault.
 use Rattle.std.proofs.Common.{◌≡◌, ℕ, ◌/◌, ◌%◌, ◌*◌, ◌^◌, ◌<◌, ◌≤◌, true, false, inl, inr, List, [], ◌∷◌, length, Option, Some, None, Ok, Err, Result, IfOk, IfErr, refl, eq-eqb, sym, ap, ◌∙◌, arith, lit<}
 use Rattle.std.specs.Prelude.{bit_xor}
@@ -9,7 +9,7 @@ use Rattle.ga_word.specs.Op.{code_of, fits_slot3, op_with, takes_dest}
 use Rattle.ga_word.specs.Word.{bits}
 use Rattle.ga_word.specs.declared.op.Op.{Op}
 use Rattle.ga_word.specs.declared.op.Op.TheVariants.{Jump}
-use Rattle.ga_pack.specs.Decoded.{Reading, reading_of, op_in_slot0, op_in_slot1, op_in_slot2, op_in_slot3}
+use Rattle.ga_pack.specs.Decoded.{Reading, reading_of}
 use Rattle.ga_pack.specs.Encoding.{pack_fault}
 use Rattle.ga_pack.specs.Reading.{Reads, dest_after_slot0, dest_after_slot1, dest_after_slot2, no_dest, stored, stored_upper}
 use Rattle.ga_pack.specs.declared.encoding.PackError.{PackError}
@@ -48,6 +48,19 @@ pub shapeless_many : (ops : List Op) (dest : Option ℕ) (spare : ℕ) → 5 ≤
 unfolding pack_fault
 shapeless_many ops (Some dest) spare many = grind (arith, common_steps)
 shapeless_many ops None spare many = grind (arith, common_steps)
+
+-- the opcode in each slot
+abbrev op_in_slot0 : ℕ → Op
+op_in_slot0 word = op_with (bit_xor (word / 2 ^ 13) 0x0A)
+
+abbrev op_in_slot1 : ℕ → Op
+op_in_slot1 word = op_with (bit_xor (word / 2 ^ 8 % 2 ^ 5) 0x15)
+
+abbrev op_in_slot2 : ℕ → Op
+op_in_slot2 word = op_with (bit_xor (word / 2 ^ 3 % 2 ^ 5) 0x0A)
+
+abbrev op_in_slot3 : ℕ → Op
+op_in_slot3 word = op_with (bit_xor (word % 2 ^ 3) 0x05 * 4)
 
 in_slot0 : (n : ℕ) → n < 2 ^ 18 → stored 0 (op_in_slot0 n) ≡ bits 5 (n / 2 ^ 13)
 in_slot0 n fits =

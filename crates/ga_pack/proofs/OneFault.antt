@@ -1,4 +1,4 @@
--- The items of a node have one first fault at most, and none where they are laid and have passed.
+-- The items of a node have one first fault at most, and none if they are laid and have passed.
 use Rattle.std.proofs.Common.{◌≡◌, inl, inr, ℕ, ◌+◌, true, false, List, [], ◌∷◌, ◌++◌, length, Option, Some, None, refl, sym, ap, ◌∙◌, subst, append_assoc, append-nil, length-append, arith}
 use Rattle.std.proofs.lemmas.Bool.{and_parts, both_ways}
 use Rattle.ga_pack.specs.Model.Layout.{Labels, Group, Alone, Laid, address_after, all_in_reach, group_in_reach, is_in_reach, items_of, labels_after, names_in, size}
@@ -9,7 +9,7 @@ use Rattle.ga_pack.specs.Model.Text.{Place}
 use Rattle.ga_pack.proofs.OneLayout.{one_standing}
 use Rattle.ga_pack.specs.declared.error_kind.AsmErrorKind.{AsmErrorKind}
 
--- one list cut at two items: at one place, or the one cut lies in front of the other
+-- one list cut at two items: at the same item, or one item is before the other
 pub data Cuts {X : Type 0} (front : List X) (x : X) (front' : List X) (x' : X) : Type 0 where
   here : front ≡ front' → x ≡ x' → Cuts front x front' x'
   nearer : (mid : List X) → front' ≡ front ++ x ∷ mid → Cuts front x front' x'
@@ -42,7 +42,7 @@ one_judgement {names = names} {item = item} p q =
     ∙ ap (λ groups. fault_behind names groups item) (one_standing p.stand_in q.stand_in)
     ∙ q.fault_is
 
--- where items have passed, each of them has no fault
+-- if items have passed, each of them has no fault
 passed_at : (names : List (List ℕ)) (behind mid : List Item) (item : Item) (rest : List Item)
     → AllPass names behind (mid ++ item ∷ rest) → Judgement names (behind ++ mid) item None
 unfolding AllPass
@@ -79,7 +79,7 @@ no_second : {items : List Item} {at : ℕ} {kind : AsmErrorKind} → AllPass (na
 no_second {items = items} passed p =
     passed_none p.rest (subst (λ t. AllPass (names_in items) [] t) p.split passed) p.judged
 
--- where all names of groups are in reach, each of them is
+-- if all names of groups are in reach, each of them is
 near_at : (labels : Labels) (address : ℕ) (front : List Group) (item : Item) (back : List Group)
     → all_in_reach labels address (front ++ Alone item ∷ back) ≡ true
     → is_in_reach labels (address_after address front) item ≡ true
@@ -191,7 +191,7 @@ one_program_fault p q =
     one_program_by p q
     (cuts p.before p.section p.rest q.before q.section q.rest (sym p.split ∙ q.split))
 
--- and none where all its nodes are right
+-- and none if all its nodes are right
 pub right_program : {program : List PlacedSection} {node : ℕ} {place : Place} {kind : AsmErrorKind}
     → AllRight program → ProgramFault program node place kind → ⊥
 right_program all p =

@@ -1,4 +1,4 @@
--- The items of a node stand in one way, and are laid as one list of words.
+-- The items of a node have one layout, and are laid as one list of words.
 use Rattle.std.proofs.Common.{◌≡◌, ℕ, ◌+◌, true, false, List, [], ◌∷◌, ◌++◌, length, Option, refl, sym, ap, ◌∙◌, subst, append_assoc, append-nil}
 use Rattle.std.proofs.lemmas.Bool.{and_parts, both_ways}
 use Rattle.std.specs.Prelude.{not}
@@ -9,7 +9,7 @@ use Rattle.ga_pack.specs.Model.Layout.{Labels, Group, Shared, Alone, Arrangement
 use Rattle.ga_pack.specs.Model.Source.{Item, Instruction, Word, WordTo}
 use Rattle.ga_pack.proofs.OneReading.{one_number}
 
--- what fits a slot stands outside brackets
+-- what fits a slot is an item outside brackets
 fits_loose : (labels : Labels) (address : ℕ) (ops : List Op) (i : Item)
     → fits labels address ops i ≡ true → is_loose i ≡ true
 unfolding fits
@@ -22,7 +22,7 @@ joins_loose labels address ops i h =
     fits_loose labels address ops i
     (and_parts (not (list_any ends_word ops)) (fits labels address ops i) h).1
 
--- of two runs of items that stand in a word, neither goes on where the other one ends
+-- of two runs of items that share a word, neither is longer than the other
 same_word : (labels : Labels) (address : ℕ) (ops : List Op) (is js r s : List Item)
     → stand labels address ops is ≡ true → stand labels address ops js ≡ true
     → more_join labels address (ops ++ ops_of is) r ≡ false

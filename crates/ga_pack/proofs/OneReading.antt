@@ -3,7 +3,7 @@ use Rattle.std.proofs.Common.{◌≡◌, ℕ, ◌^◌, ◌<◌, true, false, Lis
 use Rattle.ga_word.specs.Op.{takes_dest}
 use Rattle.ga_word.specs.Word.{bits}
 use Rattle.ga_word.specs.declared.op.Op.{Op}
-use Rattle.ga_pack.specs.Reading.{IsOnly, Reads, dest_after_slot0, dest_after_slot1, dest_after_slot2, no_dest, stored, stored_upper}
+use Rattle.ga_pack.specs.Reading.{Reads, dest_after_slot0, dest_after_slot1, dest_after_slot2, no_dest, stored, stored_upper}
 use Rattle.ga_pack.proofs.BitLists.{append_same, bits-injective, length-bits}
 use Rattle.ga_pack.proofs.StoredOpcodes.{key0, key1, key2, stored-front, stored_upper-injective}
 
@@ -115,7 +115,8 @@ same_reading (no_dest a b c d na nb nc fd) (no_dest a' b' c' d' na' nb' nc' fd')
 
 -- a reading of a word is the only one
 pub only_reading : {word : List ℕ} {ops : List Op} {dest : Option ℕ} {spare : ℕ}
-    → Reads word ops dest spare → IsOnly word ops dest spare
+    → Reads word ops dest spare → (ops' : List Op) (dest' : Option ℕ) (spare' : ℕ)
+    → Reads word ops' dest' spare' → (ops' ≡ ops) × (dest' ≡ dest) × (spare' ≡ spare)
 only_reading reading ops' dest' spare' other = same_reading other reading refl
 
 -- two words with one reading are the same

@@ -29,7 +29,7 @@ one_word (o ∷ ops) (p ∷ ops') rest rest' e =
     let more = one_word ops ops' rest rest' (cc) in
     (ap (λ (t : List Op). o ∷ t) more.0 ∙ ap (λ (t : Op). t ∷ ops') same, more.1)
 
--- opcodes in front of one that takes a destination
+-- opcodes before one that takes a destination
 one_front : (slot : ℕ) (ops ops' : List Op) (o o' : Op) (rest rest' : List Token)
     → stand_from slot ops ≡ true → stand_from slot ops' ≡ true → takes_dest o ≡ true
     → takes_dest o' ≡ true → op_tokens ops (op o ∷ rest) ≡ op_tokens ops' (op o' ∷ rest')

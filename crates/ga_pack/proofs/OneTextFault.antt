@@ -10,9 +10,9 @@ use Rattle.ga_pack.proofs.OneFault.{Cuts, here, nearer, farther, cuts}
 use Rattle.ga_pack.proofs.RightTexts.{cut_tokens, no_cut}
 use Rattle.ga_pack.specs.declared.error_kind.SourceErrorKind.{SourceErrorKind}
 
--- ---- a front of a text's tokens may go on as its longer front does
+-- ---- a prefix of a text's tokens may go on as its longer prefix does
 
--- whether what stands behind these tokens stands behind `node`, where their own front does or not
+-- whether the token behind these is behind `node`, if their own start is or not
 abbrev behind : Bool → List Token → Bool
 behind b [] = b
 behind b (t ∷ ts) = ends_in_node (t ∷ ts)
@@ -62,8 +62,7 @@ from_mid texts front t mid x rest us p e source =
     ∙ sym (append_assoc front (t ∷ []) (meanings b vs.0)) in
     inl (inr (vs.0, p, subst (λ (l : List Token). Source l p) same source))
 
--- a list with this last token, cut at a token: that is the last one, or the last one stands behind
--- it
+-- a list with this last token, cut at a token: that is the last one, or the last one is behind it
 abbrev EndsBy : List Token → Token → List Token → Token → List Token → Type 0
 EndsBy a last front t mid =
     (mid ≡ []) ⊎ ((mid' : List Token) × (mid ≡ mid' ++ last ∷ []) × (a ≡ front ++ t ∷ mid'))
@@ -111,7 +110,7 @@ ends (s ∷ ss) =
           (sym (items_more s.items more.0 (end ∷ [])) ∙ ap (items_tokens s.items) more.1),
     )
 
--- these tokens stand in a text in front of another
+-- these tokens come before another in a text
 module _ (texts : List (List ℕ)) (front : List Token) (t : Token) (mid : List Token) (x : Token)
     (rest : List Token)
     (e : mid ++ x ∷ rest ≡ meanings (ends_in_node (front ++ t ∷ [])) texts) where
@@ -148,7 +147,7 @@ module _ (texts : List (List ℕ)) (front : List Token) (t : Token) (mid : List 
 
 -- ---- one fault
 
--- a fault doesn't stand in front of another
+-- a fault doesn't come before another
 no_nearer : (text : List ℕ) (front mid rest : List Token) (t x : Token)
     → tokens_of text ≡ (front ++ t ∷ mid) ++ x ∷ rest → GoesOn (front ++ t ∷ mid)
     → GoesOn (front ++ t ∷ [])

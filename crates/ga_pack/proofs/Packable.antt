@@ -1,4 +1,4 @@
--- What stands in the slots of a word is a word: it has no fault for packing.
+-- The items in the slots of a word are a word: it has no fault for packing.
 use Rattle.std.proofs.Common.{◌≡◌, ◌||◌, inl, inr, ℕ, suc, ◌%◌, ◌^◌, ◌<◌, true, false, List, [], ◌∷◌, ◌++◌, length, Option, Some, None, refl, sym, ◌∙◌, subst, append_assoc, append-nil, arith, lit<}
 use Rattle.std.proofs.Math.Nat.{mod-lt}
 use Rattle.std.proofs.lemmas.Bool.{and_parts, both_ways, cases_Bool, not-true}
@@ -27,8 +27,8 @@ no_end o h =
     elim (cases_Bool (takes_dest o))
     [ inl takes ↦ absurd (both_ways (ends_word o) h (takes_ends o takes)) | inr none ↦ none ]
 
--- The last item of a word, in a slot: it takes a destination and stands in slot 0, 1 or 2, or it
--- takes none and has room.
+-- The last item of a word, in a slot: it takes a destination and is in slot 0, 1 or 2, or it takes
+-- none and has room.
 data Last (labels : Labels) (slot : ℕ) (x : Item) : Type 0 where
   with_dest : takes_dest (op_of x) ≡ true → slot < 3 → (n : ℕ)
       → last_dest labels slot (x ∷ []) ≡ Some (n % dest_bound slot) → Last labels slot x
@@ -135,7 +135,7 @@ no_fifth : {labels : Labels} {slot : ℕ} {x : Item} → 3 < slot → Last label
 no_fifth far (with_dest takes slot n e) = absurd (omega arith)
 no_fifth far (without none room e) = grind (arith, common_steps)
 
--- an item among others that stand in a word joins it behind those before it
+-- an item among others that share a word joins it behind those before it
 stand_at : (before : Labels) (address : ℕ) (ops : List Op) (front : List Item) (x : Item)
     (back : List Item) → stand before address ops (front ++ x ∷ back) ≡ true
     → joins before address (ops ++ ops_of front) x ≡ true
@@ -162,7 +162,7 @@ last_at before labels address front x back right stands =
     last_joins before labels address (ops_of front) x (right_at front x back right)
     (stand_at before address [] front x back stands)
 
--- Right items that stand in the slots of a word are a word, with whatever labels the node has.
+-- Right items in the slots of a word are a word, with whatever labels the node has.
 pub packable : (before labels : Labels) (address : ℕ) (is : List Item) → list_all is_item is ≡ true
     → 0 < length is → stand before address [] is ≡ true → IsPackable labels is
 packable before labels address [] right some stands = absurd (omega arith)

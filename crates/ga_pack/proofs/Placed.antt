@@ -1,5 +1,5 @@
--- Items that are placed in order, each in the next free slot where it fits, stand as they have to.
--- So each list of items stands in words, or has a fault.
+-- Items that are placed in order, each in the next free slot if it fits there, are in the right
+-- places. So each list of items fills words, or has a fault.
 use Rattle.std.proofs.Common.{◌≡◌, ◌⊎◌, inl, inr, ℕ, ◌+◌, Bool, true, false, List, [], ◌∷◌, ◌++◌, length, Option, Some, None, refl, sym, ap, ◌∙◌, subst, append_assoc, append-nil, arith}
 use Rattle.std.proofs.lemmas.Bool.{and_parts, and_from}
 use Rattle.std.proofs.lemmas.Grind.{common_steps}
@@ -73,7 +73,7 @@ fresh_arranged labels address x h =
     (and_from (joins labels address [] x) true (begins labels address x loose h) refl, refl, tt))
     (λ alone. (alone, tt))
 
--- whether a word takes more depends on the next item alone
+-- whether a word takes more depends only on the next item
 more_join-fresh : (labels : Labels) (address : ℕ) (ops : List Op) (x : Item)
     → more_join labels address ops (items_of (fresh x ∷ [])) ≡ joins labels address ops x
 more_join-fresh labels address ops x = ap (more_join labels address ops) (fresh_items x)
@@ -145,7 +145,7 @@ add_items labels address (Alone i ∷ group ∷ groups) x =
     ap (λ t. i ∷ t) (add_items (labels_behind labels address (Alone i)) (address + size (Alone i))
     (group ∷ groups) x)
 
--- an item without a fault is no `unext` alone
+-- an item without a fault is no `unext` in a word of its own
 no_lone_unext : (names : List (List ℕ)) (groups : List Group) (x : Item)
     → fault_behind names groups x ≡ None → is_lone_unext (joins_last [] 0 groups x) x ≡ false
 unfolding fault_behind
@@ -174,7 +174,7 @@ passed_more names front (i ∷ items) x passed judged = (
       (subst (λ t. Judgement names t x None) (sym (append_assoc front (i ∷ []) items)) judged),
 )
 
--- items that stand in words and have passed, with each name in brackets in reach
+-- items that fill words and have passed, with each name in brackets in reach
 pub record Standing (items : List Item) : Type 0 where
   pub groups : List Group
   pub stand_in : StandIn items groups
@@ -276,7 +276,7 @@ first_pass items before groups (x ∷ rest) e stands passed =
       }),
     ))
 
--- each list of items stands in words, or has a first fault
+-- each list of items fills words, or has a first fault
 pub standing_or_fault : (items : List Item) → Standing items ⊎ SomeFault items
 unfolding Arrangement AllPass
 standing_or_fault items =

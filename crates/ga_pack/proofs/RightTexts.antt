@@ -16,7 +16,7 @@ pub no_cut : (front : List Token) (t : Token) (rest : List Token) → [] ≡ fro
 no_cut [] t rest e = cc
 no_cut (u ∷ front) t rest e = cc
 
--- what stands behind some tokens of a text is the text's end, or what further tokens are written as
+-- behind some tokens of a text is the text's end, or what further tokens are written as
 abbrev pub GoesOnBy : List Token → Token → List Token → Type 0
 GoesOnBy front t rest =
     (rest ≡ [])

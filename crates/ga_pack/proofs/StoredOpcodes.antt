@@ -69,7 +69,7 @@ pub stored-masked : (slot key : ℕ) → HasKey slot key → (op : Op) (n : ℕ)
 stored-masked slot key has op n is =
     stored-field slot key has op (bit_and n (2 ^ 5 - 1)) is ∙ bits-masked 5 n
 
--- what is stored in front of two lists tells the opcode, and the rest is the same
+-- equal stored prefixes of two lists have the same opcode and the same rest
 pub stored-front : (slot key : ℕ) → HasKey slot key → (a b : Op) (r s : List ℕ)
     → stored slot a ++ r ≡ stored slot b ++ s → (a ≡ b) × (r ≡ s)
 stored-front slot key has a b r s e =
@@ -117,7 +117,7 @@ stored_upper-masked op n is =
 upper_below : (op : Op) → code_of op / 2 ^ 2 < 2 ^ 3
 upper_below op = let below = code_of-below op in omega arith
 
--- slot 3 tells an opcode whose lower two bits are 0
+-- slot 3 determines an opcode whose lower two bits are 0
 pub stored_upper-injective : (a b : Op) → fits_slot3 a ≡ true → fits_slot3 b ≡ true
     → stored_upper a ≡ stored_upper b → a ≡ b
 stored_upper-injective a b fits_a fits_b e =

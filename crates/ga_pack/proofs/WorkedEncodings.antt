@@ -35,7 +35,7 @@ dests : (pack_fault (Jump ∷ []) (Some 0x400) 0 ≡ Some Dest)
 unfolding pack_fault
 dests = (refl, refl, refl, refl)
 
--- spare bits of four bits, and any where slot 0 takes no destination
+-- spare bits of four bits, and any if slot 0 takes no destination
 spares : (pack_fault (Jump ∷ []) (Some 0) 8 ≡ Some Spare)
     × (pack_fault (Dup ∷ Jump ∷ []) (Some 0) 1 ≡ Some Spare)
     × (pack_fault (Dup ∷ Dup ∷ Dup ∷ Dup ∷ []) None 1 ≡ Some Spare)

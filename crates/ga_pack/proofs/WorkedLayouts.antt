@@ -11,7 +11,7 @@ use Rattle.ga_pack.specs.Model.Layout.{Labels, Group, Shared, Alone, Arrangement
 use Rattle.ga_pack.specs.Model.Source.{Item, Number, Label, Instruction, Transfer, Literal, Here, Word, Plain, Data}
 use Rattle.ga_pack.proofs.OneLayout.{one_laid}
 
--- items are laid in these groups, where all but how they stand and the words is computed
+-- items are laid in these groups, with all computed except their places and the words
 laid_in : {items : List Item} {words : List ℕ} {labels : Labels} {code_len : ℕ}
     (groups : List Group) → (items_of groups ≡ items) × (labels ≡ labels_after [] 0 groups)
     × (list_all (is_defined (names_in items)) items ≡ true) × (all_in_reach labels 0 groups ≡ true)
@@ -240,7 +240,7 @@ dest-far =
 
 -- ---- borders
 
--- `; dup`: no item stands behind `;` in its word
+-- `; dup`: no item follows `;` in its word
 pub behind_return : Laid (Instruction Return ∷ Instruction Dup ∷ []) (0x1_49B2 ∷ 0x2_49B2 ∷ []) [] 2
 unfolding Words GroupWords Arrangement fits bits stored stored_upper slot_key xor_bits
 behind_return =
@@ -330,8 +330,8 @@ data_part =
       refl,
     )
 
--- Two words, `back:`, six words, `dup drop jump back`: back is 002, and the last word would stand
--- at 008, where P is 009, in another page.
+-- Two words, `back:`, six words, `dup drop jump back`: back is 002, and the last word would be at
+-- 008, where P is 009, in another page.
 abbrev back : List ℕ
 back = codes "back"
 

@@ -33,8 +33,7 @@ two_lines-end : end_of two_lines ≡ at 2 13
 unfolding end_of
 two_lines-end = refl
 
--- columns count characters: a byte order mark, and a character of two bytes in front of `dup` and a
--- tab
+-- columns count characters: a byte order mark, and a character of two bytes before `dup` and a tab
 marked-places : places_of (0xEF ∷ 0xBB ∷ 0xBF ∷ codes "node " ++ 0xC3 ∷ 0xA9 ∷ 9 ∷ codes "dup" ++ 13
     ∷ 10 ∷ []) ≡ at 1 1 ∷ at 1 7 ∷ at 1 9 ∷ at 2 1 ∷ []
 unfolding places_of lexemes end_of
@@ -144,7 +143,7 @@ kind_at_last text = kind_of_first (drop 1 (reverse (tokens_of text)))
 kind_at_end : List ℕ → SourceErrorKind
 kind_at_end text = kind_of_first (reverse (tokens_of text))
 
--- Each fault once, and those that a token tells by what stands before it.
+-- Each fault once, and those of a token that depend on the tokens before it.
 kinds-at_last : (kind_at_last (codes "dup") ≡ NoNode)
     × (kind_at_last (codes "]") ≡ NoNode)
     × (kind_at_last (codes "/") ≡ NoNode)

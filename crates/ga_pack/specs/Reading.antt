@@ -49,9 +49,3 @@ pub data Reads : List ℕ → List Op → Option ℕ → ℕ → Type 0 where
   no_dest : (a b c d : Op) → takes_dest a ≡ false → takes_dest b ≡ false → takes_dest c ≡ false
       → fits_slot3 d ≡ true
       → Reads (stored 0 a ++ stored 1 b ++ stored 2 c ++ stored_upper d) (a ∷ b ∷ c ∷ d ∷ []) None 0
-
--- a word has no other reading than this one
-abbrev pub IsOnly : List ℕ → List Op → Option ℕ → ℕ → Type 0
-IsOnly word ops dest spare =
-    (ops' : List Op) (dest' : Option ℕ) (spare' : ℕ) → Reads word ops' dest' spare'
-    → (ops' ≡ ops) × (dest' ≡ dest) × (spare' ≡ spare)

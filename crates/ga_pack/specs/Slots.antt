@@ -3,8 +3,8 @@ use Rattle.std.specs.Prelude.{◌==◌, ◌&&◌, ◌||◌, ℕ, ◌^◌, Bool, 
 use Rattle.ga_word.specs.declared.op.Op.{Op}
 use Rattle.ga_word.specs.Op.{fits_slot3}
 
--- an opcode without destination fits slots 0 to 2, and slot 3 where the lower two bits of its code
--- are 0
+-- an opcode without destination fits slots 0 to 2, and slot 3 if the lower two bits of its code are
+-- 0
 abbrev pub op_fits : ℕ → Op → Bool
 op_fits slot o = nat_lt slot 3 || ((slot == 3) && fits_slot3 o)
 
@@ -12,6 +12,6 @@ op_fits slot o = nat_lt slot 3 || ((slot == 3) && fits_slot3 o)
 abbrev pub dest_bound : ℕ → ℕ
 dest_bound slot = if slot == 0 then 2 ^ 10 else if slot == 1 then 2 ^ 8 else 2 ^ 3
 
--- three bits are spare where slot 0 takes the destination, and else none
+-- three bits are spare if slot 0 takes the destination, else none
 abbrev pub spare_bound : ℕ → ℕ
 spare_bound slot = if slot == 0 then 2 ^ 3 else 1

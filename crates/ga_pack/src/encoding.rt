@@ -22,7 +22,7 @@ pub enum PackError {
     /// The destination has more bits than there are behind the slot of its opcode.
     #[error("Dest")]
     Dest,
-    /// The spare bits are more than three, or set where there are none.
+    /// The spare bits are more than three, or set in a word that has none.
     #[error("Spare")]
     Spare,
 }
@@ -170,14 +170,14 @@ fn pack(ops: &[Op], dest: Option<u16>, spare: u8) -> Result<Word18, PackError>
 }
 
 /// The word that packs these opcodes with this destination and these spare bits, as the F18A
-/// reference, DB001, lays it out: `decode` of the word gives the argument back, and of no other
-/// word. It allocates nothing.
+/// reference, DB001, lays it out: `decode` gives the argument back for this word and for no other.
+/// It allocates nothing.
 ///
 /// A word has a destination and one to three opcodes, of which the last and no other takes it, or
 /// it has no destination and four opcodes, none of which takes one. Anything else is refused as
 /// [`PackError::Shape`], and then the first of these: an opcode in slot 3 whose lower two bits are
 /// not 0 ([`PackError::Slot3`]); a destination over 3FF, FF or 7 (hexadecimal) behind slot 0, 1 or
-/// 2 ([`PackError::Dest`]); spare bits over 7, or other than 0 where slot 0 takes no destination
+/// 2 ([`PackError::Dest`]); spare bits over 7, or other than 0 if slot 0 takes no destination
 /// ([`PackError::Spare`]).
 pub fn encode(packed: &Packed) -> Result<Word18, PackError>
     // the word is spelled by these opcodes, this destination and these spare bits

@@ -7,11 +7,10 @@ ghost use Rattle.ga_pack.specs.declared.error_kind.SourceErrorKind.TheVariants a
 use std::alloc::{AllocError, AllocFailed};
 use std::fmt;
 
-/// What is wrong with a source text, or that memory was refused. (The texts are this project's own:
-/// profile.)
+/// The fault of a source text, or out of memory. (The texts are this project's own: profile.)
 #[derive(Clone, Copy, Debug, PartialEq, Eq)]
 pub enum SourceErrorKind {
-    /// No token of the language, or one that may not stand where it stands.
+    /// No token of the language, or one that isn't allowed there.
     BadToken,
     /// A number over 3FFFF, or a destination outside brackets over 3FF.
     NumberRange,
@@ -25,13 +24,13 @@ pub enum SourceErrorKind {
     ReservedLabel,
     /// A bracketed word that does not end before the next `[` or the text's end.
     OpenBracket,
-    /// A bracketed word that is no word, or an item where a follower of a bracketed word is owed.
+    /// A bracketed word that is no word, or an item in place of a follower of a bracketed word.
     BadWord,
     /// A text that does not begin with `node`.
     NoNode,
     /// A section without a word.
     Empty,
-    /// Memory was refused. No text has this fault by itself.
+    /// Out of memory. No text has this fault by itself.
     Memory,
 }
 
@@ -81,7 +80,7 @@ impl<T: Drop> From<AllocFailed<T>> for SourceErrorKind {
     }
 }
 
-/// Why a program has no images, or that memory was refused. (The limits are this project's own:
+/// Why a program has no images: its fault, or out of memory. (The limits are this project's own:
 /// profile.)
 #[derive(Clone, Copy, Debug, PartialEq, Eq)]
 pub enum AsmErrorKind {
@@ -93,7 +92,7 @@ pub enum AsmErrorKind {
     UnextAlone,
     /// A word or a follower of an item would be the 65th.
     TooLong,
-    /// Memory was refused. No program has this fault by itself.
+    /// Out of memory. No program has this fault by itself.
     Memory,
 }
 

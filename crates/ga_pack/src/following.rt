@@ -12,9 +12,9 @@ pub fn is_followed(op: Op) -> bool
     matches!(op, Op::FetchP | Op::StoreP)
 }
 
-/// How many of the words behind a word are its followers: one for each `@p` and `!p` in front of
-/// the first opcode that ends the word (`;`, `ex` and what takes a destination), where there is
-/// one. It allocates nothing.
+/// How many of the words behind a word are its followers: one for each `@p` and `!p` before the
+/// first opcode that ends the word (`;`, `ex` and what takes a destination), if there is one. It
+/// allocates nothing.
 ///
 /// Behind the end of a word no slot is run (the F18A reference, DB001). That a word that `@p` or
 /// `!p` uses counts as a follower is this project's profile.

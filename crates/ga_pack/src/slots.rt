@@ -23,8 +23,8 @@ pub fn dest_bound(slot: usize) -> u16
     }
 }
 
-/// The number below which the spare bits of a word lie whose destination stands behind a slot, from
-/// 0: three bits are spare behind slot 0, and else none (the F18A reference, DB001).
+/// The exclusive bound of the spare bits of a word with a destination behind this slot, from 0:
+/// three bits are spare behind slot 0, else none (the F18A reference, DB001).
 pub fn spare_bound(slot: usize) -> u8
     ensures { result ≡ spec.spare_bound slot }
 {

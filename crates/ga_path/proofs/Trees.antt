@@ -1,4 +1,4 @@
--- What holds of a tree with one route more.
+-- A tree stays sound when a route is added.
 use Rattle.std.proofs.Common.{◌≡◌, ◌∙◌, ℕ, suc, ◌+◌, ◌<◌, ◌≤◌, ◌==◌, Bool, true, false, ◌||◌, List, [], ◌∷◌, ◌++◌, length, drop, get_or, ◌⊎◌, inl, inr, refl, sym, ap, subst, arith, append_assoc, append-nil, length-append}
 use Rattle.std.proofs.lemmas.List.{drop_all}
 use Rattle.std.proofs.Math.Seq.{drop-cons}
@@ -121,7 +121,7 @@ count_is (Subtree name inner beside) =
 
 -- ---- no name twice
 
--- none of a route's names stands among others or twice
+-- none of a route's names is among others or occurs twice
 record AreApart (before names : List ℕ) : Type 0 where
   once : IsDistinct ◌==◌ names
   new : AllByRecursion (λ name. is_among name before ≡ false) names
@@ -204,7 +204,7 @@ few_in tree sound most =
     let count = count_is tree.subtrees in
     omega (arith, long, most, count)
 
--- no name stands twice in a tree
+-- no name occurs twice in a tree
 pub all_once : (tree : TreeView) → IsSound tree
     → IsDistinct ◌==◌ (tree.root ∷ names_in tree.subtrees)
 all_once tree sound =

@@ -28,7 +28,7 @@ turned nodes at d below =
     ap reverse (take_more nodes at d below)
     ∙ reverse-append (take at nodes) (get_or nodes at d ∷ [])
 
--- a node, the one before it, and what stands before both, turned round
+-- a node, the one before it, and those before both, reversed
 pub record IsAt (nodes : List ℕ) (at last here : ℕ) : Type 0 where
   pub behind_first : 0 < at
   pub within : at < length nodes
@@ -55,8 +55,8 @@ hop_is : (last : ℕ) (before : List ℕ) (here : ℕ) (b : Bool) → is_none (s
     ≡ (if b then Some (Repeated (length (last ∷ before))) else None)
 hop_is last before here b near among = rw near (rw among refl)
 
--- where the node is a neighbour of the one before it, the fault is that it stands among the others,
--- or one behind it
+-- if the node is a neighbour of the one before it, the fault is that it is among the others, or one
+-- behind it
 walk : (nodes : List ℕ) (at last here : ℕ) (b : Bool) → IsAt nodes at last here
     → is_none (side_to last here) ≡ false → list_any (λ other. other == here) (take at nodes) ≡ b
     → hops_fault (reverse (take at nodes)) (drop at nodes) ≡ option_or (if b then Some (Repeated at)

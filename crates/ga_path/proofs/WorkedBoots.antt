@@ -34,7 +34,7 @@ route_names :
     × (routes_in (codes "708/") ≡ None) × (routes_in (codes "") ≡ None)
 route_names = (refl, refl, refl, refl, refl)
 
--- of several routes the first that is none is told, by the node within itself
+-- of several routes the first fault is reported, with the node's index in its own route
 several : routes_fault ((708 ∷ 709 ∷ []) ∷ (708 ∷ 608 ∷ 610 ∷ []) ∷ (101 ∷ []) ∷ [])
     ≡ Some (NotNeighbour 2)
 several = refl

@@ -9,7 +9,7 @@ use Rattle.ga_path.specs.declared.parts.Part.{Part}
 use Rattle.ga_path.specs.declared.parts.Part.TheVariants.{Load, Start}
 
 -- Subtrees in order. Of each there is its root's name, the side that the root shares with its
--- parent (both give the port one name), the root's image, where it has one, and the subtrees of the
+-- parent (both give the port one name), the root's image, if it has one, and the subtrees of the
 -- root; then come the other subtrees.
 pub data Grove : Type 0 where
   Bare : Grove
@@ -52,12 +52,12 @@ abbrev pub load : Option ImageView → List ℕ
 load (Some image) = word_loop 0 STORE image.words
 load None = []
 
--- where a node starts: at its entry, or without an image at its idle address
+-- the address at which a node starts: its entry, or without an image its idle address
 abbrev pub start_address : ℕ → Option ImageView → ℕ
 start_address name (Some image) = image.entry
 start_address name None = idle_address_of name
 
--- What a node is sent at a side, where its subtrees are sent `inner`. To load it: the jump to the
+-- What a node is sent at a side, if its subtrees are sent `inner`. To load it: the jump to the
 -- port, `inner`, its memory, and a word that is taken only behind the last store. To start it:
 -- `inner`, and the jump to its entry.
 abbrev pub sent : Part → ℕ → Side → Option ImageView → List ℕ → List ℕ

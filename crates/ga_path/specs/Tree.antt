@@ -1,4 +1,4 @@
--- Which tree comes of routes, and what is wrong with others.
+-- The tree of routes, and the faults of routes that are none.
 use Rattle.std.specs.Prelude.{◌≡◌, ℕ, ◌+◌, ◌==◌, not, true, List, [], ◌∷◌, ◌++◌, Result, Ok, Err, IsPermutation, IsSome, if◌then◌else◌}
 use Rattle.std.specs.List.{IsDistinct, list_any}
 use Rattle.ga_place.specs.Node.{is_among, is_edge}
@@ -52,8 +52,8 @@ tree_with tree names = record {
   nodes = tree.nodes ++ new_names tree.subtrees names;
 }
 
--- One more route, by its index: it begins at the tree's root, and no node that is new there stands
--- in the tree.
+-- One more route, by its index: it begins at the tree's root, and no node that is new there is in
+-- the tree.
 abbrev pub with_route : ℕ → TreeView → List ℕ → Result TreeView TreeError
 with_route index tree [] = Err (OtherRoot index)
 with_route index tree (first ∷ names) =
@@ -62,7 +62,7 @@ with_route index tree (first ∷ names) =
     then Err (Repeated index)
     else Ok (tree_with tree names)
 
--- what is made of a tree, where there is one
+-- what is made of a tree, if there is one
 abbrev pub and_then : (TreeView → Result TreeView TreeError) → Result TreeView TreeError
     → Result TreeView TreeError
 and_then more (Ok tree) = more tree
@@ -74,7 +74,7 @@ with_routes index tree [] = Ok tree
 with_routes index tree (route ∷ routes) =
     and_then (λ more. with_routes (index + 1) more routes) (with_route index tree route)
 
--- the tree of routes, or what is wrong with them first
+-- the tree of routes, or their first fault
 abbrev pub tree_of : List (List ℕ) → Result TreeView TreeError
 tree_of ((root ∷ names) ∷ routes) = with_routes 0 (lone_tree root) ((root ∷ names) ∷ routes)
 tree_of routes = Err Empty
@@ -95,8 +95,8 @@ AreNear parent NoMore = Unit
 AreNear parent (Subtree name inner beside) =
     IsSome (side_to parent name) × AreNear name inner × AreNear parent beside
 
--- What holds of each tree: its root stands at an edge of the chip, each other node is a neighbour
--- of its parent, no node stands twice, and its nodes are those of its subtrees and the root.
+-- The invariant of a tree: its root is at an edge of the chip, each other node is a neighbour of
+-- its parent, no node occurs twice, and its nodes are the root and those of its subtrees.
 pub record IsSound (tree : TreeView) : Type 0 where
   pub edge : is_edge tree.root ≡ true
   pub near : AreNear tree.root tree.subtrees

@@ -14,13 +14,13 @@ pub enum RouteError {
     /// There is no node.
     #[error("Empty")]
     Empty,
-    /// The first node stands at no edge of the chip.
+    /// The first node isn't at an edge of the chip.
     #[error("NotEdge")]
     NotEdge,
     /// This node is no neighbour of the one before it.
     #[error("NotNeighbour {0}")]
     NotNeighbour(usize),
-    /// This node stands on the route before.
+    /// This node is on the route already.
     #[error("Repeated {0}")]
     Repeated(usize),
     /// Memory ran out.
@@ -37,7 +37,7 @@ pub enum TreeError {
     /// This route begins at another node than the first one.
     #[error("OtherRoot {0}")]
     OtherRoot(usize),
-    /// This route comes to a node that stands elsewhere in the tree.
+    /// This route reaches a node that is elsewhere in the tree.
     #[error("Repeated {0}")]
     Repeated(usize),
     /// Memory ran out.

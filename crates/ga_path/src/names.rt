@@ -9,8 +9,8 @@ use std::alloc::Global;
 
 /// The nodes that a text names: of each the three digits of its name, with commas between them.
 /// (The form is this project's own: profile.) Any other text is refused as
-/// [`NamesError::BadNames`], the empty one too, and one with a name that no node has. It fails as
-/// [`NamesError::Memory`] only where memory is refused.
+/// [`NamesError::BadNames`], the empty one too, and one with a name that no node has. Fails with
+/// [`NamesError::Memory`] only when out of memory.
 pub fn read_nodes(alloc: Global, text: &str) -> Result<Vec<Node>, NamesError>
     ensures nodes { IfOk result (λ nodes. nodes_in text.now ≡ Some nodes.items) }
     ensures bad { IfErr result (λ error. (error ≡ Memory) ⊎ (nodes_in text.now ≡ None)) }
@@ -34,8 +34,8 @@ pub fn read_nodes(alloc: Global, text: &str) -> Result<Vec<Node>, NamesError>
 
 /// The nodes of each route that a text names: a route as [`read_nodes`] reads it, with `/` between
 /// routes. (The form is this project's own: profile.) Any other text is refused as
-/// [`NamesError::BadNames`], and one with nothing before, between or behind a `/`. It fails as
-/// [`NamesError::Memory`] only where memory is refused.
+/// [`NamesError::BadNames`], and one with nothing before, between or behind a `/`. Fails with
+/// [`NamesError::Memory`] only when out of memory.
 pub fn read_routes(alloc: Global, text: &str) -> Result<Vec<Vec<Node>>, NamesError>
     ensures routes { IfOk result (λ routes. routes_in text.now ≡ Some (lists_in routes.items)) }
     ensures bad { IfErr result (λ error. (error ≡ Memory) ⊎ (routes_in text.now ≡ None)) }

@@ -10,7 +10,7 @@ pub struct Boot {
     pub start: Vec<Word18>,
 }
 
-/// The two parts of a boot stream, by which the definitions of its words are told.
+/// The two parts of a boot stream.
 #[derive(Clone, Copy)]
 pub enum Part {
     /// The words that fill each node's memory.

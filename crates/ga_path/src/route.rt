@@ -27,10 +27,10 @@ impl Model for Route {
 }
 
 impl Route {
-    /// A route along these nodes, or what is wrong with them first: there is none, the first stands
-    /// at no edge; then, node by node from the second on, it is no neighbour of the one before it,
-    /// or stands on the route already. (Routes are this project's own: profile.) It fails as
-    /// [`RouteError::Memory`] only where memory is refused.
+    /// A route along these nodes, or their first fault: there is none, the first isn't at an edge;
+    /// then, node by node from the second on, it is no neighbour of the one before it, or is on the
+    /// route already. (Routes are this project's own: profile.) Fails with [`RouteError::Memory`]
+    /// only when out of memory.
     pub fn new(alloc: Global, nodes: &[Node]) -> Result<Self, RouteError>
         ensures route { IfOk result (λ route. route ≡ nodes.now) }
         ensures faultless { IfOk result (λ _. route_fault nodes.now ≡ None) }
@@ -53,9 +53,8 @@ impl Route {
     }
 }
 
-/// A route along each of these lists of nodes, in their order, or what is wrong with the first that
-/// is no route, as
-/// [`Route::new`] tells it. It fails as [`RouteError::Memory`] only where memory is refused.
+/// A route along each of these lists of nodes, in their order, or the first fault, as
+/// [`Route::new`] reports it. Fails with [`RouteError::Memory`] only when out of memory.
 pub fn routes_along(alloc: Global, lists: &[Vec<Node>]) -> Result<Vec<Route>, RouteError>
     ensures routes { IfOk result (λ routes. routes.items ≡ lists_in lists.now) }
     ensures faultless { IfOk result (λ _. routes_fault (lists_in lists.now) ≡ None) }
@@ -68,7 +67,7 @@ pub fn routes_along(alloc: Global, lists: &[Vec<Node>]) -> Result<Vec<Route>, Ro
     Ok(routes)
 }
 
-/// What is wrong with nodes as a route, if something is.
+/// The fault of nodes as a route, if there is one.
 fn fault_of(nodes: &[Node]) -> Option<RouteError>
     ensures fault { result ≡ route_fault nodes.now }
     ensures most { result ≡ None → length nodes.now ≤ 144 }
@@ -76,7 +75,7 @@ fn fault_of(nodes: &[Node]) -> Option<RouteError>
     let Some(first) = nodes.first() else {
         return Some(RouteError::Empty);
     };
-    // Its name lies in the grid: from this the proof has that a route has 144 nodes at most.
+    // Its name is in the grid. From this the proof gets that a route has at most 144 nodes.
     let _name = first.name();
     if !first.is_edge() {
         return Some(RouteError::NotEdge);

@@ -70,7 +70,7 @@ fn add_frames(
     words.extend_from_slice(&[word(MORE), port(side), word(0)])?;
     let start = words.len();
     add_sent(words, part, *node, side, inner, images)?;
-    // how many words the frame has is known behind them
+    // the frame's count is known only behind its words
     words[start - 1] = word((words.len() - start) as u32);
     add_frames(words, part, root, beside, images)?;
     Ok(())
@@ -101,7 +101,7 @@ fn add_pumps(
     words.extend_from_slice(&[word(SET_A), port(side), word(0), word(PUSH), word(SEND)])?;
     let start = words.len();
     add_sent(words, part, *node, side, inner, images)?;
-    // how many words the loop hands on is known behind them
+    // the loop's count is known only behind its words
     words[start - 3] = word((words.len() - start - 1) as u32);
     add_pumps(words, part, parent, beside, images)?;
     Ok(())
@@ -143,7 +143,7 @@ fn add_sent(
     }
 }
 
-/// Adds the words that fill a node's memory, where it has an image.
+/// Adds the words that fill a node's memory, if it has an image.
 fn add_load(words: &mut Vec<Word18>, image: Option<&Image>) -> Result<(), BootError>
     ensures words { OnOk result
         (words.new.items ≡ words.old.items ++ load (option_copied image.entry)) }
@@ -198,7 +198,7 @@ pub fn image_of(images: &Images, node: Node) -> Option<&Image>
     images.images().get(&node)
 }
 
-/// Where a node starts: at its entry, or without an image at its idle address.
+/// The address at which a node starts: its entry, or without an image its idle address.
 fn start_address(node: Node, image: Option<&Image>) -> u16
     ensures value { result ≡ start_address node (option_copied image.entry) }
     ensures bound { result < 0x200 }
@@ -217,14 +217,12 @@ fn jump_to(address: u16) -> Word18
     word(0x1_0000 + u32::from(address))
 }
 
-/// The address of a port, as a word.
 fn port(side: Side) -> Word18
     ensures { result ≡ port_address_of side }
 {
     word(u32::from(port_address(side)))
 }
 
-/// The word with this number.
 fn word(number: u32) -> Word18
     requires { number < 2 ^ 18 }
     ensures { result ≡ number }

@@ -17,7 +17,7 @@ use std::slice;
 /// one without at its idle address. (The words are this project's own: profile.)
 ///
 /// A node that has an image and isn't in the tree is refused as [`BootError::Unreached`], the first
-/// in the images' order. It fails as [`BootError::Memory`] only where memory is refused.
+/// in the images' order. Fails with [`BootError::Memory`] only when out of memory.
 pub fn boot_tree(alloc: Global, tree: &Tree, images: &Images) -> Result<Boot, BootError>
     ensures load { IfOk result (λ boot. boot.load.items ≡ tree_load images.now tree.now) }
     ensures start { IfOk result (λ boot. boot.start.items ≡ tree_start images.now tree.now) }
@@ -37,7 +37,7 @@ pub fn boot_tree(alloc: Global, tree: &Tree, images: &Images) -> Result<Boot, Bo
 /// The boot stream of a route, which is that of the tree of this one route.
 ///
 /// A node that has an image and isn't on the route is refused as [`BootError::Unreached`], the
-/// first in the images' order. It fails as [`BootError::Memory`] only where memory is refused.
+/// first in the images' order. Fails with [`BootError::Memory`] only when out of memory.
 pub fn boot(alloc: Global, route: &Route, images: &Images) -> Result<Boot, BootError>
     ensures load { IfOk result (λ boot.
         boot.load.items ≡ route_words Part.Load images.now route.now) }
@@ -45,7 +45,7 @@ pub fn boot(alloc: Global, route: &Route, images: &Images) -> Result<Boot, BootE
         boot.start.items ≡ route_words Part.Start images.now route.now) }
     ensures reached { IfOk result (λ _. unreached images.now route.now ≡ None) }
     ensures fault { IfErr result (λ error. IsBootFault images.now route.now error) }
-    // what is made of the tree of this one route, whose root is where the route begins and whose
+    // the result for the tree of this one route, whose root is the route's first node and whose
     // nodes are those of the route
     ensures tree { IfOk result (λ boot. (tree : TreeView) × (tree_of (route.now ∷ []) ≡ Ok tree)
         × IsSound tree × ((names : List ℕ) × (route.now ≡ tree.root ∷ names))
@@ -53,7 +53,7 @@ pub fn boot(alloc: Global, route: &Route, images: &Images) -> Result<Boot, BootE
         × (boot.load.items ≡ tree_load images.now tree)
         × (boot.start.items ≡ tree_start images.now tree)) }
 {
-    // the clause of this call tells that the route has no fault
+    // the clause of this call gives the proof that the route has no fault
     let _nodes = route.nodes();
     match Tree::new(alloc, slice::from_ref(route)) {
         Ok(tree) => boot_tree(alloc, &tree, images),

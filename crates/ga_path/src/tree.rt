@@ -13,7 +13,7 @@ use std::alloc::Global;
 use std::marker::Model;
 
 /// A tree of nodes: a root at an edge of the chip, and each other node a neighbour of the one above
-/// it. No node stands twice. A contract sees the root, its subtrees by the names of their nodes,
+/// it. No node occurs twice. A contract sees the root, its subtrees by the names of their nodes,
 /// and the list of all nodes.
 #[derive(Drop)]
 pub struct Tree {
@@ -48,12 +48,12 @@ impl Model for Tree {
 }
 
 impl Tree {
-    /// The tree of these routes, in their order, or what is wrong with them first: there is none;
-    /// then, route by route, it begins at another node than the first one, or comes to a new node
-    /// that stands in the tree. A route goes along the tree as long as its next node is the root of
-    /// a subtree there; each node behind becomes the last subtree of the one before it. So a route
-    /// that the tree has adds nothing. (Trees are this project's own: profile.) It fails as
-    /// [`TreeError::Memory`] only where memory is refused.
+    /// The tree of these routes, in their order, or their first fault: there is none; then, route
+    /// by route, it begins at another node than the first one, or reaches a new node that is in the
+    /// tree. A route goes along the tree as long as its next node is the root of a subtree there;
+    /// each node behind becomes the last subtree of the one before it. So a route that the tree has
+    /// adds nothing. (Trees are this project's own: profile.) Fails with [`TreeError::Memory`] only
+    /// when out of memory.
     pub fn new(alloc: Global, routes: &[Route]) -> Result<Self, TreeError>
         ensures tree { IfOk result (λ tree. tree_of routes.now ≡ Ok tree) }
         ensures sound { IfOk result (λ tree. IsSound tree) }
@@ -69,7 +69,7 @@ impl Tree {
         for (index, route) in routes.iter().enumerate() {
             tree = tree.with_route(alloc, index, route)?;
         }
-        // the clause of this call tells that the tree is sound
+        // the clause of this call gives the proof that the tree is sound
         let _nodes = tree.nodes();
         Ok(tree)
     }
@@ -114,7 +114,7 @@ impl Tree {
         })
     }
 
-    /// The tree with one more route, or what is wrong with that one, by its index.
+    /// The tree with one more route, or the fault of that one, by its index.
     fn with_route(self, alloc: Global, index: usize, route: &Route) -> Result<Self, TreeError>
         ensures tree { IfOk result (λ tree. with_route index self route.now ≡ Ok tree) }
         ensures fault { IfErr result (λ error. (error ≡ Memory)
@@ -125,7 +125,7 @@ impl Tree {
             mut branches,
             mut nodes,
         } = self;
-        // Its name lies in the grid: from this the proof has that a tree has 144 nodes at most.
+        // Its name is in the grid. From this the proof gets that a tree has at most 144 nodes.
         let _name = root.name();
         let Some((first, names)) = route.nodes().split_first() else {
             return Err(TreeError::OtherRoot(index));
@@ -147,7 +147,7 @@ impl Tree {
     }
 }
 
-/// Some of these nodes stand among others.
+/// Some of these nodes are among others.
 fn are_some_among(some: &[Node], others: &[Node]) -> bool
     ensures { result ≡ list_any (λ name. is_among name others.now) some.now }
 {

@@ -36,7 +36,7 @@ advance_of-steps n low = grind arith
 pub io_where-ports : (x : ℕ) → x ≢ 0 → x % 16 ≡ 0 → io_where x ≡ Ports (sides_with x)
 io_where-ports x some sides = grind arith
 
--- no bit at all, or some low bit unless it is that of io alone, reaches nothing
+-- no bit at all, or some low bit unless it is only that of io, reaches nothing
 pub io_where-nothing : (x : ℕ) → x ≢ 8 → (x ≢ 0 → x % 16 ≢ 0) → io_where x ≡ Unmapped
 io_where-nothing x other none = grind arith
 

@@ -62,7 +62,7 @@ writer_there name cell side e =
     option_and_then_some (λ other. cell_of other side) (neighbour_of name side) cell e
     (λ other there is. (other, there, is))
 
--- where a cell is read, its writer's neighbour reads it
+-- a cell that is read is read by its writer's neighbour
 pub reader_there : (name other cell : ℕ) (side : Side) → IsNodeName name
     → cell_of name side ≡ Some cell → neighbour_of name side ≡ Some other
     → read_cell other side ≡ Some cell

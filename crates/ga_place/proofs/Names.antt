@@ -43,7 +43,7 @@ each (name ∷ names) named q e = by (q == name) refl (each names named.1 q) e
         (among_all name named.0)
     by false t behind e = behind e
 
--- a name that doesn't stand among others differs from each of them
+-- a name that isn't among others differs from each of them
 pub apart : (name : ℕ) (names : List ℕ) → is_among name names ≡ false
     → AllByRecursion (λ y. (name == y) ≡ false) names
 apart name [] e = tt

@@ -16,7 +16,7 @@ pub record IsDigit (char digit : ℕ) : Type 0 where
 one_digit : (char digit : ℕ) → IsDigit char digit → is_digit char 10 ≡ true
 one_digit char digit is = lt-ltb (digit_value char) 10 is.below
 
--- where the last is no digit, it is no name
+-- if the last is no digit, it is no name
 pub no_last_digit : (text : List ℕ) (c : ℕ) → length text ≡ 3 → c ≡ get_or text 2 0
     → ¬ (digit_value c < 10) → None ≡ node_named text
 no_last_digit (a ∷ b ∷ d ∷ []) c three at wrong =

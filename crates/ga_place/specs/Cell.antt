@@ -25,7 +25,7 @@ all_cells =
 abbrev pub is_cell : ℕ → Side → ℕ × Side → Bool
 is_cell name side cell = (cell.0 == name) && (side_bit cell.1 == side_bit side)
 
--- the number of the cell that a node writes at a side, its index among all cells, where it has that
+-- the number of the cell that a node writes at a side, its index among all cells, if it has that
 -- side
 unfoldable pub cell_of : ℕ → Side → Option ℕ
 cell_of name side = position (is_cell name side) all_cells

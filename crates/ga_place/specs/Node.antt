@@ -27,7 +27,7 @@ node_named text =
     if (length text == 3) && list_all (λ c. is_digit c 10) text
     && is_node_name (digits_value 10 text) then Some (digits_value 10 text) else None
 
--- whether a node stands in the first or the last row or column
+-- whether a node is in the first or the last row or column
 abbrev pub is_edge : ℕ → Bool
 is_edge name =
     (row_of name == 0) || ((row_of name == 7) || ((column_of name == 0) || (column_of name == 17)))
@@ -36,6 +36,6 @@ is_edge name =
 abbrev pub node_text : ℕ → List ℕ
 node_text name = (48 + name / 100) ∷ (48 + name / 10 % 10) ∷ (48 + name % 10) ∷ []
 
--- a name stands among names
+-- a name is among names
 abbrev pub is_among : ℕ → List ℕ → Bool
 is_among name names = list_any (λ other. other == name) names

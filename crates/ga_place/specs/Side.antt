@@ -1,5 +1,5 @@
 -- The four sides of a node, and where each leads.
-use Rattle.std.specs.Prelude.{◌≡◌, ◌==◌, ℕ, ◌+◌, ◌-◌, ◌/◌, ◌%◌, Bool, false, ◌||◌, nat_lt, List, [], ◌∷◌, codes, Option, Some, None, is_some, if◌then◌else◌}
+use Rattle.std.specs.Prelude.{◌==◌, ℕ, ◌+◌, ◌-◌, ◌/◌, ◌%◌, Bool, false, ◌||◌, nat_lt, List, [], ◌∷◌, Option, Some, None, is_some, if◌then◌else◌}
 use Rattle.std.specs.List.{find}
 use Rattle.std.specs.Option.{option_map_or}
 use Rattle.ga_place.specs.Node.{row_of, column_of}
@@ -42,26 +42,16 @@ abbrev pub side_to : ℕ → ℕ → Option Side
 side_to name other =
     find (λ side. option_map_or (λ there. there == other) (neighbour_of name side) false) SIDES
 
--- a node has a side where it has a neighbour
+-- a node has a side if it has a neighbour there
 abbrev pub has_side : ℕ → Side → Bool
 has_side name side = is_some (neighbour_of name side)
 
--- the node lacks some side
-abbrev pub LacksSide : ℕ → Type 0
-LacksSide name = (side : Side) × (has_side name side ≡ false)
-
--- the bit of a port address that stands for a side
+-- the bit of a side in a port address
 abbrev pub side_bit : Side → ℕ
 side_bit Right = 0x80
 side_bit Down = 0x40
 side_bit Left = 0x20
 side_bit Up = 0x10
-
--- the name and the bit of each side, as a set of sides is printed and read
-abbrev pub side_table : List (List ℕ × ℕ)
-side_table =
-    (codes "RIGHT", side_bit Right) ∷ (codes "DOWN", side_bit Down) ∷ (codes "LEFT", side_bit Left)
-    ∷ (codes "UP", side_bit Up) ∷ []
 
 -- the bits of a set of sides, one for each side in it
 abbrev pub bits_of : Sides → ℕ
@@ -75,7 +65,7 @@ sides_with bits = record { 0 = bits }
 abbrev pub is_among : Side → Sides → Bool
 is_among side sides = bits_of sides / side_bit side % 2 == 1
 
--- the one side in a set, where it has just one
+-- the one side in a set, if it has just one
 abbrev pub one_side : Sides → Option Side
 one_side sides =
     if bits_of sides == 0x80 then Some Right

@@ -5,7 +5,7 @@ ghost use Rattle.ga_place.specs.Side.{bits_of, side_bit, sides_bits, sides_by_ed
 use crate::{Node, Side, Sides};
 use bitflags::Flags;
 
-/// What an address of a node reaches, as `locate` says.
+/// What an address of a node reaches, as `locate` returns it.
 #[derive(Clone, Copy, Debug, PartialEq, Eq)]
 pub enum Where {
     /// A word of RAM, by its index from 0 to 63.
@@ -39,7 +39,7 @@ pub fn port_address(side: Side) -> u16
 }
 
 /// The address at which the node waits when it is idle, nine bits: the ports of all the sides that
-/// it has, as 1A5 where it has all four. Rows 0 and 7 lack up, and columns 0 and 17 lack left (chip
+/// it has, as 1A5 if it has all four. Rows 0 and 7 lack up, and columns 0 and 17 lack left (chip
 /// reference DB002).
 pub fn idle_address(node: Node) -> u16
     ensures value { result ≡ idle_address_of node }

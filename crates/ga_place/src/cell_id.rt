@@ -37,8 +37,8 @@ impl CellId {
     }
 }
 
-/// The cell that a node writes at a side, or `None` where it has no neighbour there. No two cells
-/// have one number.
+/// The cell that a node writes at a side, or `None` if it has no neighbour there. No two cells have
+/// one number.
 #[tactic(auto, using(crate::proofs::CellNumbers::no_cell, crate::proofs::CellNumbers::cell_there))]
 pub fn cell(node: Node, side: Side) -> Option<CellId>
     ensures number { result ≡ cell_of node side }
@@ -71,7 +71,7 @@ fn cells_before(node: Node) -> u16
     in_rows + column * in_each + column.saturating_sub(1)
 }
 
-/// How many cells of the node stand before the one at a side that it has.
+/// How many cells of the node come before the one at a side that it has.
 fn rank(node: Node, side: Side) -> u16
     ensures value { result ≡ rank node side }
 {

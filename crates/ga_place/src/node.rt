@@ -1,4 +1,4 @@
-ghost use Rattle.std.specs.Prelude.{◌≡◌, ◌==◌, ℕ, ◌<◌, ◌↔◌, IsTrue, Some};
+ghost use Rattle.std.specs.Prelude.{◌≡◌, ◌==◌, ℕ, ◌<◌, ◌↔◌, false, IsTrue, Some};
 ghost use Rattle.std.specs.Cmp.{partial_order_from_own_ties};
 ghost use Rattle.std.specs.Cmp.Rules.{comparing, hashing};
 ghost use Rattle.std.specs.Hash as fed;
@@ -8,7 +8,8 @@ ghost use Rattle.std.proofs.Common.{rules};
 ghost use Rattle.ga_place.specs.Cell.{index_of, name_at};
 ghost use Rattle.ga_place.specs.inner.Index.{index_back};
 ghost use Rattle.ga_place.specs.Node.{IsNodeName, column_of, is_edge, node_named, node_text, row_of};
-ghost use Rattle.ga_place.specs.Side.{LacksSide};
+ghost use Rattle.ga_place.specs.Side.{has_side};
+ghost use Rattle.ga_place.specs.declared.side.Side.{Side};
 
 use std::cmp::Ordering;
 use std::fmt;
@@ -38,7 +39,7 @@ impl Model for Node {
 }
 
 impl Node {
-    /// The node with this name, or `None` where no node has it, as at 718, 800 or 820.
+    /// The node with this name, or `None` if no node has it, as at 718, 800 or 820.
     #[inline]
     pub fn new(name: u16) -> Option<Self>
         ensures { SomeIff result (IsNodeName name) name }
@@ -54,7 +55,7 @@ impl Node {
     }
 
     /// The node that a text names: three decimal digits, as 008, which are its name. `None` for
-    /// every other text, and where no node has the name.
+    /// every other text, and if no node has the name.
     pub fn from_digits(text: &[u8]) -> Option<Self>
         ensures { result ≡ node_named text.now }
     {
@@ -113,10 +114,10 @@ impl Node {
         self.index % 18
     }
 
-    /// Whether the node stands in row 0 or 7, or in column 0 or 17, and so lacks a side.
+    /// Whether the node is in row 0 or 7, or in column 0 or 17, and so lacks a side.
     pub fn is_edge(self) -> bool
         ensures value { result ≡ is_edge self }
-        ensures sides { IsTrue result ↔ LacksSide self }
+        ensures sides { IsTrue result ↔ ((side : Side) × (has_side self side ≡ false)) }
     {
         let row = self.row();
         let column = self.column();
@@ -160,7 +161,7 @@ impl Ord for Node {
 
     ghost matches_eq = { Prim.search (comparing, rules) };
 
-    // Indices stand as their names do.
+    // Indices are ordered as their names are.
     #[inline]
     fn cmp(&self, other: &Node) -> Ordering {
         self.index.cmp(&other.index)

@@ -23,7 +23,7 @@ pub enum Side {
 /// The four sides, in the order in which they are named and numbered.
 pub const SIDES: [Side; 4] = [Side::Right, Side::Down, Side::Left, Side::Up];
 
-/// The neighbour of a node at a side, or `None` where the grid ends there (chip reference DB002).
+/// The neighbour of a node at a side, or `None` if the grid ends there (chip reference DB002).
 pub fn neighbour(node: Node, side: Side) -> Option<Node>
     ensures value { result ≡ neighbour_of node side }
     // the neighbour's neighbour at the same side is the node
@@ -81,7 +81,7 @@ fn south(node: Node) -> Option<Node>
     }
 }
 
-/// The side of a node at which another node is its neighbour, or `None` where the two are no
+/// The side of a node at which another node is its neighbour, or `None` if the two are no
 /// neighbours. Seen from the other node the side has the same name.
 pub fn side_to(node: Node, other: Node) -> Option<Side>
     ensures value { result ≡ side_to node other }
@@ -100,8 +100,8 @@ pub fn side_to(node: Node, other: Node) -> Option<Side>
     }
 }
 
-/// A set of sides, by the bits that stand for them in a port address: right 80, down 40, left 20
-/// and up 10. Its operations are those of `bitflags::Flags`.
+/// A set of sides, by their bits in a port address: right 80, down 40, left 20 and up 10. Its
+/// operations are those of `bitflags::Flags`.
 #[derive(Clone, Copy, Debug, PartialEq, Eq)]
 pub struct Sides(u8);
 
@@ -119,9 +119,13 @@ impl Flags for Sides {
 
     ghost exact = { ⊤ };
 
-    ghost use Rattle.ga_place.specs.Side.{bits_of, side_table};
+    ghost use Rattle.std.specs.Prelude.{◌∷◌, [], codes};
+    ghost use Rattle.ga_place.specs.Side.{bits_of, side_bit};
+    ghost use Rattle.ga_place.specs.declared.side.Side.TheVariants.{Right, Down, Left, Up};
 
-    ghost table = { side_table };
+    // the name and the bit of each side
+    ghost table = { (codes "RIGHT", side_bit Right) ∷ (codes "DOWN", side_bit Down)
+        ∷ (codes "LEFT", side_bit Left) ∷ (codes "UP", side_bit Up) ∷ [] };
 
     ghost set_of = { bits_of };
 
@@ -155,7 +159,7 @@ impl Sides {
         self.bits() / bit % 2 == 1
     }
 
-    /// The one side in the set, or `None` where it has none or several.
+    /// The one side in the set, or `None` if it has none or several.
     pub fn only(self) -> Option<Side>
         ensures { result ≡ one_side self }
     {

@@ -1,4 +1,4 @@
--- The rule holds at the start, and at the end it says how the cells stand.
+-- The rule holds at the start, and at the end it gives the state of the cells.
 use Rattle.std.proofs.Common.{◌≡◌, ℕ, zero, suc, ◌+◌, ◌<◌, List, [], ◌∷◌, ◌++◌, map, take, length, replicate, Option, Some, get_or, refl, sym, ap, subst, ◌∙◌, arith}
 use mathlib.Core.Option.{some, some-injective, some-ne-none}
 use lib.ListN.{get_elem?}
@@ -61,7 +61,7 @@ starts chip words legal small e =
 
 -- ---- the end
 
--- what stands at an index
+-- the element at an index
 at_index : (words : List ℕ) (i held : ℕ) → get_elem? words i ≡ some held → held ≡ get_or words i 0
 at_index [] i held e = absurd (some-ne-none held (sym e))
 at_index (word ∷ words) zero held e = sym (some-injective word held e)

@@ -108,7 +108,7 @@ module _ (chip : Chip) (tries : List Try) (owner : ℕ → ℕ) (s : State ℕ (
             has_old = h;
           })
 
-  -- the chip after the try, where its cells become these
+  -- the chip after the try, if its cells become these
   parts_of : (index name : ℕ) (entry : Holding) (cells : List (Option ℕ))
       → IsTouched index name entry ⊎ Other index name entry
       → part_of (record { parts = parts_after chip.parts one what found; cells = cells }) name
@@ -214,14 +214,14 @@ pub record Suits (asked : Asks) (i : ℕ) (f : ℕ → ℕ) (cells : List (Optio
   pub count : length (cells_after asked cells) ≡ 524
   pub small : AreSmall (cells_after asked cells)
 
--- what the step tells, where it enters the try
+-- what the step returns when it enters the try
 abbrev pub Tells : Holding → Try → (ℕ → Me ℕ (List (Option Holding)) → Type 0)
     → Me ℕ (List (Option Holding)) → ℕ → List (Option ℕ) → Type 0
 Tells one what play me i cells =
     play (get_or (row_of cells) i 0)
     (tried_in me.0 what (found_by (asks one.part what.side) cells), me.1)
 
--- what a step owes, at one state of the table
+-- what a step must show, at one state of the table
 abbrev pub Moves : Chip → ℕ → Me ℕ (List (Option Holding)) → ℕ → (ℕ → ℕ)
     → (ℕ → Me ℕ (List (Option Holding)) → Type 0) → State ℕ (List (Option Holding)) → Type 0
 Moves opening id me i f play s =
@@ -317,7 +317,7 @@ post_step opening slots id me what cell place word new nodes asked same there =
 
 -- ---- take, check and poll
 
--- what is told of a cell
+-- what a step returns of a cell
 tells_cell : (what : Try) (me : Me ℕ (List (Option Holding))) (cell : ℕ) (cells : List (Option ℕ))
     (found : Option ℕ) → cell < 524 → length cells ≡ 524 → AreSmall cells
     → found ≡ pending_in cells cell

@@ -1,4 +1,4 @@
--- The cells of a chip: by which chip they were opened, what a try must ask for, and how they stand
+-- The cells of a chip: the chip by which they were opened, what a try must ask for, and their state
 -- at the end.
 use Rattle.std.specs.Prelude.{◌≡◌, ℕ, Bool, true, false, List, [], Option, Some}
 use Rattle.ga_place.specs.Node.{IsNodeName}

@@ -19,7 +19,6 @@ use ga_word::Word18;
 use std::alloc::{AllocError, Global};
 use std::marker::{Brand, Model};
 
-/// How many cells there are.
 const CELLS: usize = 524;
 
 /// The last word of the table, which is no cell: nobody writes it.
@@ -49,14 +48,13 @@ impl Model for Cells {
 
 impl Cells {
     /// The cells of a chip, with the words that are pending there, and a seat that has all nodes of
-    /// the chip, none of them tried yet. An error where memory runs out. No other call takes
-    /// memory.
+    /// the chip, none of them tried yet. Fails only when out of memory. No other call allocates.
     pub fn open(alloc: Global, chip: &Chip) -> Result<(Cells, PortSeat), AllocError>
         ensures opening { IfOk result (λ made. made.0.opening ≡ chip.now) }
         ensures own { IfOk result (λ made. made.1.table ≡ made.0.table) }
         ensures nodes { IfOk result (λ made. made.1.nodes ≡ untried chip.now.parts) }
     {
-        // From this the proof has that there are 524 cells, and 144 nodes in order of name.
+        // From this the proof gets that there are 524 cells, and 144 nodes in order of name.
         chip.legal();
         let room = Vec::with_capacity(alloc, CELLS)?;
         let words = words_of(alloc, chip.cells().words())?;
@@ -77,8 +75,8 @@ impl Cells {
     }
 
     /// Enters a try of a node of the seat that asks to take the word of this cell: answers the word
-    /// that was pending there, if one was, and leaves the cell empty. The try is Moved exactly
-    /// where it answers a word.
+    /// that was pending there, if one was, and leaves the cell empty. The try is Moved exactly if
+    /// it answers a word.
     #[inline]
     pub fn take(&self, seat: &mut PortSeat, what: Try, cell: CellId) -> Option<Word18>
         requires own { seat.old.table ≡ self.now.table }
@@ -90,10 +88,10 @@ impl Cells {
         self.take_as::<Brand>(seat, what, cell)
     }
 
-    /// Looks whether a word is pending in the cell of which a try of a node of the seat asks to
-    /// take it. Where none is, this enters the try, as one that waits; where one is, it enters
-    /// nothing, and `take` follows, which tells whether a word is there: no clause says so here. It
-    /// only reads, so that a reader that waits doesn't hold up the writer.
+    /// Looks whether a word is pending in the cell whose word a try of a node of the seat asks to
+    /// take. If none is, this enters the try, as one that waits. If one is, it enters nothing, and
+    /// `take` follows, which returns whether a word is there; no clause here promises that. It only
+    /// reads, so that a waiting reader doesn't hold up the writer.
     #[inline]
     pub fn poll(&self, seat: &mut PortSeat, what: Try, cell: CellId) -> bool
         requires own { seat.old.table ≡ self.now.table }
@@ -106,7 +104,7 @@ impl Cells {
     }
 
     /// Enters a try of a node of the seat that asks whether the word that it posted in this cell
-    /// was read: true where none is pending there any more. The try is Moved exactly then. It only
+    /// was read: true if none is pending there any more. The try is Moved exactly then. It only
     /// reads.
     #[inline]
     pub fn check(&self, seat: &mut PortSeat, what: Try, cell: CellId) -> bool
@@ -115,7 +113,7 @@ impl Cells {
         ensures own { seat.new.table ≡ seat.old.table }
         ensures read { result ≡ true → seat.new.nodes ≡ tried_in seat.old.nodes what None }
         ensures moved { result ≡ true → IsMoved seat.old.nodes what None }
-        // whichever word is pending, the try makes the same of it
+        // the try has the same result, whichever word is pending
         ensures unread { (word : ℕ) → result ≡ false
             → seat.new.nodes ≡ tried_in seat.old.nodes what (Some word) }
         ensures waits { (word : ℕ) → result ≡ false → ¬ IsMoved seat.old.nodes what (Some word) }
@@ -136,8 +134,8 @@ impl Cells {
         self.own_as::<Brand>(seat, what);
     }
 
-    /// A new seat, which has those of the seat's nodes that are named here. The seat has the others
-    /// then.
+    /// A new seat with those of the seat's nodes that are named here. The old seat keeps the
+    /// others.
     pub fn share(&self, seat: &mut PortSeat, names: &[Node]) -> PortSeat
         requires own { seat.old.table ≡ self.now.table }
         ensures own { (seat.new.table ≡ seat.old.table) × (result.table ≡ seat.old.table) }
@@ -147,7 +145,7 @@ impl Cells {
         self.share_as::<Brand>(seat, names)
     }
 
-    /// The seat has the nodes of another seat too, which is spent.
+    /// The seat gets the nodes of another seat, which is consumed.
     pub fn gather(&self, seat: &mut PortSeat, other: PortSeat)
         requires own { seat.old.table ≡ self.now.table }
         requires other { other.table ≡ self.now.table }
@@ -175,9 +173,9 @@ impl Cells {
         CellRow::new(words)
     }
 
-    // Each call above has a body `..._as`, to which it hands the type `Brand`: it stands for the
-    // try, or the names, that the call was given, since a step on the table is told by a type which
-    // try it enters, and when it runs there is no value of it.
+    // Each call above has a body `..._as` with a type parameter, the type `Brand`. It represents
+    // the try or the names of the call, since a step on the table gets the try that it enters as a
+    // type: when the step runs there is no value of it.
 
     #[inline(always)]
     fn post_as<T: Named>(&self, seat: &mut PortSeat, _what: Try, cell: CellId, word: Word18)
@@ -271,7 +269,7 @@ fn words_of(alloc: Global, cells: &[Option<Word18>]) -> Result<Vec<u64>, AllocEr
     Ok(words)
 }
 
-/// The words that are pending in so many cells at the end, in a list that has room for them.
+/// The words that are pending in `count` cells at the end, in a list that has room for them.
 fn words_back(
     closed: &Closed<u64, Global>,
     mut room: Vec<Option<Word18>>,

@@ -1,20 +1,20 @@
 use std::marker::Brand;
 
-/// Tells a step, which sees a word of the table alone, which try it enters.
+/// Gives a step, which sees only a word of the table, the try that it enters.
 pub(crate) trait Named {
     ghost use Rattle.ga_chip.specs.declared.outcome.Try.{Try};
 
     ghost what: { Try };
 }
 
-// No step has this try: a call says which one its `Brand` stands for.
+// No step has this try: a call gives the one of its `Brand`.
 impl Named for Brand {
     ghost use Rattle.ga_place.specs.declared.side.Side.TheVariants.{Right};
 
     ghost what = { record { node = 0; side = Right } };
 }
 
-/// Tells which nodes go to a new seat.
+/// The nodes that go to a new seat.
 pub(crate) trait Chosen {
     ghost use Rattle.std.specs.Prelude.{ℕ, List};
 

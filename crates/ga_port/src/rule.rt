@@ -38,7 +38,7 @@ impl<T: Named> Play<u64, Nodes> for Finds<T> {
     ghost then = { λ step old held new. EntersFound T.what held old new };
 }
 
-/// A step that enters a try which waits, where it finds the cell empty.
+/// A step that enters a waiting try if it finds the cell empty.
 pub(crate) struct Polls<T> {
     named: PhantomData<T>,
 }
@@ -62,7 +62,7 @@ impl<T: Chosen> Split<Nodes> for Shares<T> {
     ghost right = { λ nodes. only T.names nodes };
 }
 
-/// The nodes of two seats, of which the second is spent.
+/// The nodes of two seats, of which the second is consumed.
 pub(crate) struct Gathers;
 
 impl Join<Nodes> for Gathers {

@@ -4,7 +4,7 @@ use ga_place::Side;
 use std::collections::LinkedList;
 use std::marker::Model;
 
-/// What a seat has of one of its nodes, for contracts alone: the node's part of the chip, and the
+/// What a seat has of one of its nodes, only for contracts: the node's part of the chip, and the
 /// sides that its tries have named so far. No value of it is made.
 pub struct Holding {
     pub part: NodePart,
@@ -15,8 +15,8 @@ pub struct Holding {
 pub(crate) type Nodes = LinkedList<Option<Holding>>;
 
 /// A seat at the cells, with the nodes that may be tried by it. Each node is at one seat. It has no
-/// bytes, and it is let go only by `Cells::gather` and `Cells::close`. A contract sees which cells
-/// it is of, and what it has of its nodes.
+/// bytes, and only `Cells::gather` and `Cells::close` consume it. A contract sees the cells that it
+/// belongs to, and what it has of its nodes.
 pub struct PortSeat {
     pub(crate) seat: Seat<u64, Nodes>,
 }

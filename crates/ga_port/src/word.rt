@@ -4,13 +4,13 @@ ghost use Rattle.ga_port.specs.inner.Entering.{IsCellWord, pending_of};
 
 use ga_word::Word18;
 
-/// What a cell holds where no word is pending in it.
+/// The value of a cell in which no word is pending.
 pub(crate) const EMPTY: u64 = 0;
 
 /// What a full cell holds beside its word.
 const FULL: u64 = 1 << 18;
 
-/// What a cell holds where this word is pending in it.
+/// The value of a cell in which this word is pending.
 #[inline]
 pub(crate) fn full(word: Word18) -> u64
     ensures value { result ≡ word_of (Some word) }
@@ -19,7 +19,7 @@ pub(crate) fn full(word: Word18) -> u64
     FULL + u64::from(word.get())
 }
 
-/// What a cell holds where this word is pending in it, or none.
+/// The value of a cell in which this word, or none, is pending.
 pub(crate) fn held_by(pending: Option<Word18>) -> u64
     ensures value { result ≡ word_of pending }
     ensures bound { IfSome pending (λ word. word < 2 ^ 18) }

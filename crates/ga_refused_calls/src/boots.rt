@@ -5,7 +5,7 @@ use ga_path::{Route, boot};
 use ga_place::Node;
 use std::alloc::{AllocError, Global};
 
-/// The boot stream of a route: its nodes and the images are lent.
+/// The boot stream of a route: its nodes and the images are borrowed.
 pub fn boot_told(alloc: Global) -> Result<Told, AllocError> {
     let nodes = [Node::new(708).unwrap(), Node::new(709).unwrap()];
     let (Ok(route), Ok(images)) = (

@@ -1,4 +1,4 @@
-//! Chips on which a ring of four nodes has begun.
+//! Chips on which a ring of four nodes has started.
 use ga_chip::Chip;
 use ga_place::Node;
 use ga_word::Word18;

@@ -21,7 +21,7 @@ fn stream(alloc: Global) -> Result<Vec<Word18>, AllocError> {
     Ok(words)
 }
 
-/// The words of a frame whose words are lent.
+/// The words of a frame whose words are borrowed.
 pub fn write_frame_told(alloc: Global) -> Result<Told, AllocError> {
     let words = stream(alloc)?;
     let same = stream(alloc)?;
@@ -29,7 +29,7 @@ pub fn write_frame_told(alloc: Global) -> Result<Told, AllocError> {
     Ok(told_of(came.err(), words == same))
 }
 
-/// The frames of words that are lent.
+/// The frames of borrowed words.
 pub fn read_frames_told(alloc: Global) -> Result<Told, AllocError> {
     let words = stream(alloc)?;
     let same = stream(alloc)?;

@@ -1,8 +1,8 @@
-//! Makes one call between two looks at what it is lent, so that a test can refuse memory to it.
+//! Makes one call between two looks at its borrowed values, so that a test can refuse memory to it.
 //!
-//! The arguments are the name of the call, and what it is to be given, where that is left open. It
-//! writes one line, as `Told` has it. The status is 3, and nothing is written, where memory runs
-//! out outside the call, and 2 where there is no call of this name.
+//! The arguments are the name of the call, and its input if it takes one. It writes one line, as
+//! `Told` has it. The status is 3, and nothing is written, if memory runs out outside the call, and
+//! 2 if there is no call of this name.
 #![tactic(auto)]
 
 mod boots;
@@ -39,7 +39,7 @@ fn main(rt: HostRuntime) -> ExitCode {
     }
 }
 
-/// What comes of the call that the arguments name.
+/// The result of the call that the arguments name.
 fn told_of_arguments<Rt: Env + AllocGlobal + Threads + Sync, R: Read>(
     rt: &Rt,
     reader: &mut R,
@@ -58,7 +58,7 @@ fn told_of_arguments<Rt: Env + AllocGlobal + Threads + Sync, R: Read>(
     told_of(rt, reader, texts.get(1..).unwrap_or_default())
 }
 
-/// What comes of a call, which has a name and maybe words behind it.
+/// The result of a call, which has a name and may have words behind it.
 fn told_of<Rt: AllocGlobal + Threads + Sync, R: Read>(
     rt: &Rt,
     reader: &mut R,

@@ -1,4 +1,4 @@
-//! Calls that are lent a chip, or handed one, on which a ring of four nodes has begun.
+//! Calls that borrow or take a chip on which a ring of four nodes has started.
 use crate::chips::{ring, ring_nodes};
 use crate::told::Told;
 use ga_chip::Chip;
@@ -10,7 +10,7 @@ use std::thread::Threads;
 /// How many turns the run has.
 const TURNS: u64 = 16;
 
-/// A run of four workers over a chip, which comes back where it is refused.
+/// A run of four workers over a chip, which comes back if it is refused.
 pub fn run_workers_told<R: Threads + Sync>(rt: &R, alloc: Global) -> Result<Told, AllocError> {
     let plan = plan(alloc)?;
     match run_workers(rt, alloc, ring(alloc)?, &plan, TURNS, &Open) {
@@ -22,7 +22,7 @@ pub fn run_workers_told<R: Threads + Sync>(rt: &R, alloc: Global) -> Result<Told
     }
 }
 
-/// The text of a chip that is lent.
+/// The text of a borrowed chip.
 pub fn chip_text_told(alloc: Global) -> Result<Told, AllocError> {
     let chip = ring(alloc)?;
     let is_answered = chip_text(alloc, &chip).is_ok();

@@ -1,4 +1,4 @@
-//! Commands of a session over a chip on which a ring of four nodes has begun.
+//! Commands of a session over a chip on which a ring of four nodes has started.
 use crate::chips::ring;
 use crate::told::Told;
 use ga_debug::{DebugError, Session, begin, reply_into};
@@ -31,7 +31,7 @@ pub fn command_told(alloc: Global, line: &str) -> Result<Told, AllocError> {
     }
 }
 
-/// What the text has that is lent to a reply.
+/// The borrowed text before a reply replaces it.
 const KEPT: &str = "kept";
 
 /// The beginning of a replay text.
@@ -40,8 +40,8 @@ pub fn begin_told(alloc: Global) -> Told {
     Told::answered(came.is_ok(), true)
 }
 
-/// A reply in the place of a text. After a refusal the text must be as it was, and the chip show
-/// what one shows on which as much was done.
+/// A reply that replaces a text. After a refusal the text must be as it was, and the chip must show
+/// the same as one on which as much was done.
 pub fn reply_into_told(alloc: Global, line: &str) -> Result<Told, AllocError> {
     let mut chip = ring(alloc)?;
     let mut text = String::from_str(alloc, KEPT)?;

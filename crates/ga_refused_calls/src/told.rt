@@ -1,18 +1,18 @@
 use std::fmt;
 
-/// What came of a call, and whether what it was lent is as it was before.
+/// The result of a call, and whether its borrowed values are as they were before.
 #[derive(Clone, Copy)]
 pub enum Told {
-    /// The call gave its result, and may have changed what it was lent to change.
+    /// The call gave its result, and may have changed what it borrowed mutably.
     Answered,
-    /// Memory was refused to it.
+    /// It ran out of memory.
     Refused { is_alike: bool },
     /// It answered another fault.
     Fault { is_alike: bool },
 }
 
 impl Told {
-    /// What came of a call that fails only when out of memory.
+    /// The result of a call that fails only when out of memory.
     pub fn answered(is_answered: bool, is_alike: bool) -> Told {
         if is_answered {
             Told::Answered
@@ -21,7 +21,7 @@ impl Told {
         }
     }
 
-    /// What came of a call that fails, when out of memory or otherwise.
+    /// The result of a call that fails, when out of memory or otherwise.
     pub fn failed(is_memory: bool, is_alike: bool) -> Told {
         if is_memory {
             Told::Refused { is_alike }

@@ -15,7 +15,7 @@ fn some_words(alloc: Global) -> Result<Vec<Word18>, AllocError> {
     Ok(words)
 }
 
-/// The text of words that are lent.
+/// The text of borrowed words.
 pub fn words_text_told(alloc: Global) -> Result<Told, AllocError> {
     let words = some_words(alloc)?;
     let same = some_words(alloc)?;
@@ -31,7 +31,7 @@ pub fn push_words_told(alloc: Global) -> Result<Told, AllocError> {
     Ok(Told::answered(is_answered, text.as_str() == TEXT))
 }
 
-/// The tokens of a text that is lent.
+/// The tokens of a borrowed text.
 pub fn tokens_told(alloc: Global) -> Result<Told, AllocError> {
     let text = String::from_str(alloc, TEXT)?;
     let is_answered = tokens(alloc, &text).is_ok();

@@ -7,8 +7,8 @@ use ga_jobs::{Job, ServeError, answer, answer_alone, serve, status};
 use std::test::Fail;
 use std::thread::Threads;
 
-/// Serves a job over bytes in memory. What its clause says is the composition: the bytes written
-/// are an output of the job for the bytes read.
+/// Serves a job over bytes in memory. Its clause is the composition: the bytes written are an
+/// output of the job for the bytes read.
 fn served(
     rt: &(impl AllocGlobal + Threads + Sync),
     job: &Job,

@@ -14,7 +14,7 @@ const SOURCE: &str = "node 709 main: $5 $7 + @b";
 const SESSION: &str =
     "profile 2\nplace\nnode 000 . align . x: jump x\ngo\nbreak 000 001\nturn 9\nregs 000\n";
 
-/// Steps of the same node, and what comes of them.
+/// Steps of the same node, and their results.
 const STEPS: &str =
     "profile 2\nplace\nnode 000 . align . x: jump x\ngo\nbreak 000 001\nturn 9 = 5\n";
 
@@ -50,8 +50,8 @@ fn jobs(alloc: Global) -> Result<Vec<(Job, &'static str)>, Fail> {
     Ok(jobs)
 }
 
-/// What a job writes for an input, by reads and writes of so many bytes, and how many reads and
-/// calls of the writer that takes.
+/// What a job writes for an input, by reads and writes of at most this many bytes, and how many
+/// reads and calls of the writer that takes.
 fn served(
     rt: &(impl AllocGlobal + Threads + Sync),
     job: &Job,
@@ -66,7 +66,7 @@ fn served(
     Some((writer.taken, reader.calls, writer.calls))
 }
 
-/// What comes of a job where one read fails, and whether nothing was written.
+/// The result of a job if one read fails, and whether nothing was written.
 fn read_fails(
     rt: &(impl AllocGlobal + Threads + Sync),
     job: &Job,
@@ -80,7 +80,7 @@ fn read_fails(
     (outcome, writer.calls == 0)
 }
 
-/// What comes of a job where one write fails, or the flush, and what was written.
+/// The result of a job if one write fails, or the flush, and what was written.
 fn write_fails(
     rt: &(impl AllocGlobal + Threads + Sync),
     job: &Job,

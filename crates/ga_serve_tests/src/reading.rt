@@ -6,14 +6,15 @@ use std::io::ErrorKind;
 use std::test::Fail;
 use std::thread::Threads;
 
-/// The four words and spaces behind them, so many bytes in all.
+/// The four words, filled with spaces to `len` bytes.
 fn padded(alloc: Global, len: usize) -> Result<Vec<u8>, AllocError> {
     let mut input = WORDS.as_bytes().to_vec(alloc)?;
     input.resize(len, b' ')?;
     Ok(input)
 }
 
-/// Whether `one 5` writes the line of the four words for an input, by reads of so many bytes.
+/// Whether `one 5` writes the line of the four words for an input, by reads of at most `most`
+/// bytes.
 fn is_served(rt: &(impl AllocGlobal + Threads + Sync), input: &[u8], most: usize) -> bool {
     let mut reader = source_of(input, most);
     let mut writer = sink_of(rt.alloc(), 8192);

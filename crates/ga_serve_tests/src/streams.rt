@@ -1,11 +1,11 @@
-//! Readers and writers in memory, which fail where a test says it, and jobs of routes.
+//! Readers and writers in memory, which fail as a test asks, and jobs of routes.
 use ga_jobs::Job;
 use std::alloc::Global;
 use std::io;
 use std::io::{ErrorKind, Read, Write};
 use std::test::Fail;
 
-/// Gives its bytes, at most so many at a call, and fails at one call, counted from 0.
+/// Gives its bytes, at most a number of them at a call, and fails at one call, counted from 0.
 #[derive(Drop)]
 pub struct Source<'a> {
     pub bytes: &'a [u8],
@@ -41,7 +41,7 @@ pub fn source_of(bytes: &[u8], most: usize) -> Source<'_> {
     }
 }
 
-/// A reader of which so many reads are interrupted, before it is at its end.
+/// A reader whose first reads are interrupted, before it is at its end.
 #[derive(Drop)]
 pub struct Restless {
     pub interruptions: u32,
@@ -58,7 +58,7 @@ impl Read for Restless {
     }
 }
 
-/// Takes at most so many bytes at a call, and fails at one call, a write or a flush.
+/// Takes at most a number of bytes at a call, and fails at one call, a write or a flush.
 #[derive(Drop)]
 pub struct Sink {
     pub taken: Vec<u8>,
@@ -116,7 +116,7 @@ pub fn boot_of(alloc: Global, route: &str) -> Result<Job, Fail> {
     Ok(Job::Boot { route })
 }
 
-/// The run of a route by so many workers, of so many turns.
+/// The run of a route by these numbers of workers and turns.
 pub fn run_of(alloc: Global, route: &str, workers: u32, turns: u32) -> Result<Job, Fail> {
     let route = String::from_str(alloc, route)?;
     Ok(Job::Run {

@@ -21,13 +21,13 @@ with_item c i q = record {
   before = after c.before i q;
 }
 
--- the item may stand next, and these tokens follow it
+-- the item is allowed next, and these tokens follow it
 abbrev pub Adds : Inside → Item → List Token → List Section → Type 0
 Adds c i ts p =
     (q : Part) × (is_item i ≡ true) × (is_new i c.before.labels ≡ true)
     × (part_after c.before.part i ≡ Some q) × Follows (with_item c i q) ts p
 
--- the rest of an item that is begun, and which item it then is
+-- the rest of an item that has started, and which item it then is
 abbrev pub Rest : At → List Token → List Token → Item → Type 0
 Rest between ts more i = ⊥
 Rest (behind_op o) ts more i = (v : Value) × (ts ≡ value_token v ∷ more) × (i ≡ Transfer o v)
@@ -57,7 +57,7 @@ Completes (inside c at) ts p =
     (i : Item) × (more : List Token) × Rest at ts more i × Adds c i more p
 Completes (finished q) ts p = (ts ≡ []) × (p ≡ q)
 
--- ---- the first token of what follows tells what it is
+-- ---- the first token of what follows determines what it is
 
 abbrev pub Leads : Inside → List Section → List Token → Type 0
 Leads c p [] = ⊥

@@ -21,7 +21,7 @@ use Rattle.ga_pack.specs.declared.error_kind.SourceErrorKind.TheVariants.{Empty}
 
 -- ---- each state but `naming` has a completion
 
--- some texts complete it, wherever they stand
+-- some texts complete it, at any place
 abbrev Alive : State → Type 0
 Alive s =
     (texts : List (List ℕ)) × (p : List Section) × ((b : Bool) → Completes s (meanings b texts) p)
@@ -33,7 +33,7 @@ unfolding meanings
 first_is b t ts u e n =
     ap (λ x. meaning_at b t ∷ meanings x ts) (ap is_node e ∙ n) ∙ ap (λ x. x ∷ meanings false ts) e
 
--- what these texts are, wherever they stand
+-- what these texts are, at any place
 record Spellings (b : Bool) : Type 0 where
   zero_is : meaning_at b (codes "0") ≡ number 0
   close_is : meaning_at b (codes "]") ≡ close_mark
@@ -116,7 +116,7 @@ between_alive c = (
   ),
 )
 
--- an item that ends the one that is begun
+-- an item that ends the one that has started
 item_alive : (c : Inside) (at : At) (i : Item) (q : Part) → is_item i ≡ true
     → is_new i c.before.labels ≡ true → part_after c.before.part i ≡ Some q → ((ys : List (List ℕ))
     → (ts : List (List ℕ)) × ((b : Bool) → Rest at (meanings b ts) (meanings false ys) i))
@@ -257,7 +257,7 @@ alive (finished q) g = inl (q, refl)
 
 -- ---- where `node` is refused the end is refused
 
--- what stands in front of the name of a section: nothing, or a whole text
+-- what comes before the name of a section: nothing, or a whole text
 node_led : (s s' : State) → Good s → take s node ≡ Ok s'
     → ((s ≡ nothing) × (s' ≡ naming [] [])) ⊎ ((p : List Section) × Completes s (end ∷ []) p)
 node_led nothing s' g e = inl (refl, (cc))
@@ -269,7 +269,7 @@ node_led (inside c between) s' g e =
     (λ none h. absurd (cc)) e)
 node_led _ s' g e = absurd (cc)
 
--- where `node` is refused no text ends
+-- if `node` is refused no text ends
 node_refused : (s : State) (k : SourceErrorKind) → Good s → take s node ≡ Err k → (p : List Section)
     → Completes s (end ∷ []) p → ⊥
 node_refused nothing k g e p h = absurd (cc)
@@ -281,7 +281,7 @@ node_refused s k g e p h = take_right s end g [] p h
 
 -- ---- the parser behind the front of a text
 
--- A state stands for the tokens that were read: they go on, and what completes the state is what
+-- A state represents the tokens that were read: they can be completed, and what completes the state
 -- completes them to a text.
 pub record Stands (front : List Token) (s : State) : Type 0 where
   pub good : Good s
@@ -344,7 +344,7 @@ whole_goes : (ts : List Token) (p : List Section) → Source ts p → GoesOn ts
 unfolding GoesOn
 whole_goes ts p h = inl (inl (p, h))
 
--- The tokens are those that the state's shape tells: so only `node` leads to a name.
+-- The tokens fit the state's shape: so only `node` leads to a name.
 module _ (front back : List Token) (s s' : State) (t : Token) (st : Stands front s)
     (shape : Shape s' (t ∷ back)) (e : take s t ≡ Ok s') where
   right : Right s t (Ok s')
@@ -388,7 +388,7 @@ last_same (a ∷ []) [] x y e = absurd (cc)
 last_same (a ∷ b ∷ xs) [] x y e = absurd (cc)
 last_same (a ∷ xs) (b ∷ ys) x y e = let h = last_same xs ys x y (cc) in let h0 = h.0 in ((cc), h.1)
 
--- where the parser refuses a token, no text goes on with it
+-- if the parser refuses a token, no text goes on with it
 pub refused : (front : List Token) (s : State) (t : Token) (k : SourceErrorKind) → Stands front s
     → take s t ≡ Err k → GoesOn (front ++ t ∷ []) → ⊥
 unfolding GoesOn

@@ -50,7 +50,7 @@ abbrev pub HasShape : State → List Token → Token → Result State SourceErro
 HasShape s back t (Ok s') = Shape s' (t ∷ back)
 HasShape s back t (Err k) = is_finished s ≡ false → k ≡ kind_at back t
 
--- the kind, where the last token is u
+-- the kind, if the last token is u
 kind_bracket : (u t : Token) (back : List Token) → is_node u ≡ false → in_brackets (u ∷ back) ≡ true
     → kind_at (u ∷ back) t ≡ bracket_fault t
 unfolding kind_at
@@ -85,7 +85,7 @@ code_part : (c : Inside) (d : Bool) → d ≡ is_behind c.before.part → c.befo
     → d ≡ false
 code_part c d e f = e ∙ ap is_behind f
 
--- a fault where a value is wanted, and in brackets
+-- a fault at a place for a value, and in brackets
 value_kind : (c : Inside) (at : At) (u t : Token) (r : List Token) → Read c at u r
     → is_bracketed at ≡ false → wants_value u ≡ true → value_fault t ≡ kind_at (u ∷ r) t
 value_kind c at u t r rd b w = sym (kind_value u t r rd.no_node (rd.brackets ∙ b) w)

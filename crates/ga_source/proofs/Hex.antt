@@ -3,9 +3,9 @@ use Rattle.std.proofs.Common.{◌≡◌, ◌∙◌, ℕ, Bool, true, false, List
 use Rattle.std.specs.Prelude.{◌==◌, ◌&&◌, nat_le}
 use Rattle.std.specs.Option.{option_map}
 use Rattle.std.proofs.lemmas.Bool.{eqb-true}
-use Rattle.ga_pack.specs.Model.Token.{as_decimal, as_hex, meaning_of, numeral, ranged}
+use Rattle.ga_pack.specs.Model.Token.{as_hex, meaning_of, numeral, ranged}
 
-no_decimal : (rest : List ℕ) → as_decimal (36 ∷ rest) ≡ None
+no_decimal : (rest : List ℕ) → option_map ranged (numeral 10 (36 ∷ rest)) ≡ None
 no_decimal rest =
     rw (and_false (nat_le 1 (length (36 ∷ rest)) && nat_le (length (36 ∷ rest)) 8)) refl
   where

@@ -1,4 +1,4 @@
--- Where the items of a program stand, found along its tokens.
+-- The places of the items of a program, found along its tokens.
 use Rattle.std.proofs.Common.{◌≡◌, ℕ, suc, ◌+◌, ◌<◌, ◌≤◌, List, [], ◌∷◌, ◌++◌, append-nil, append_assoc, length, drop, get_or, map, Option, Some, None, refl, sym, ap, ◌∙◌, arith}
 use Rattle.std.proofs.lemmas.List.{drop_all, drop-drop, drop-map, drop_more, map-append}
 use Rattle.ga_word.specs.declared.op.Op.{Op}

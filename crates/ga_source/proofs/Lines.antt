@@ -90,7 +90,7 @@ placed_run line offset bytes run = record {
   text = run.text;
 }
 
--- the tokens of parts of a line, the first of which begins behind so many bytes
+-- the tokens of parts of a line, the first of which begins at this byte
 abbrev pub of_parts : ℕ → ℕ → List ℕ → ℕ → List (List ℕ) → List Lexeme
 of_parts line offset bytes at parts =
     map (placed_run line offset bytes)
@@ -108,7 +108,7 @@ of_run : (line offset : ℕ) (bytes : List ℕ) (at : ℕ) (run : List ℕ) (par
 of_run line offset bytes at [] parts e some = absurd (omega (arith, some))
 of_run line offset bytes at (x ∷ xs) parts e some = rw e refl
 
--- Where the parts that are left begin in a line: behind so many bytes, and at a column.
+-- The byte and the column of a line at which the remaining parts begin.
 pub record Stands (bytes : List ℕ) (at column : ℕ) (left : List (List ℕ)) : Type 0 where
   pub front : List ℕ
   pub rest : List ℕ

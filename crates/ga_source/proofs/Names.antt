@@ -1,4 +1,4 @@
--- Names, names in front of `:`, and names of nodes.
+-- Names, names before `:`, and names of nodes.
 use Rattle.std.proofs.Common.{◌≡◌, ◌∙◌, ◌++◌, ◌<◌, ◌≤◌, ℕ, zero, suc, Bool, true, false, List, [], ◌∷◌, Option, Some, None, length, refl, sym, ap, arith, append_assoc, lit<, eq-eqb}
 use Rattle.std.specs.Char.{is_digit}
 use Rattle.std.specs.Option.{option_map, unwrap_or}
@@ -69,7 +69,7 @@ module _ {N : Type 0} (bytes : N → List ℕ) where
   same_name false front None e = refl
   same_name false front (Some t) e = absurd (cc)
 
-  -- the label that a name in front of `:` is
+  -- the label that a name before `:` is
   pub label_read : (text front : List ℕ) (last : ℕ) (read : Option N) → text ≡ front ++ last ∷ []
       → last ≡ 58 → option_map (λ t. name (bytes t)) read ≡ as_name front
       → option_map (λ t. label (bytes t)) read ≡ as_label text
@@ -97,7 +97,7 @@ node_read text =
     by true v = refl
     by false v = refl
 
--- and one that stands elsewhere, or names none
+-- and one that is elsewhere, or names none
 pub no_node_read : (is_behind : Bool) (text : List ℕ) → (is_behind ≡ true → node_named text ≡ None)
     → meaning_at is_behind text ≡ meaning_of text
 unfolding meaning_at

@@ -10,7 +10,7 @@ use Rattle.std.proofs.lemmas.List.{drop_all}
 use Rattle.std.proofs.lemmas.Bool.{le-leb, ltb-true}
 use Rattle.ga_pack.specs.Model.Token.{numeral}
 
--- so many digits are read, and this is the number that they write
+-- `index` digits are read, and `number` is what they write
 pub record ReadsDigits (radix : ℕ) (digits : List ℕ) (index number : ℕ) : Type 0 where
   pub small : number < 16 ^ index
   pub value : digits_value radix digits ≡ digits_value_after radix number (drop index digits)

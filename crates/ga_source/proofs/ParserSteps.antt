@@ -25,7 +25,7 @@ answered_added c i q (Ok x) s' f ok err =
     ap (λ o. elim o [ None ↦ Err BadToken | Some p ↦ Ok (item_added c i p) ]) f ∙ ap Ok (sym ok)
 answered_added c i q (Err x) s' f ok err = λ other. absurd (other err)
 
--- behind a bracketed word its followers are owed
+-- behind a bracketed word its followers are missing
 pub word_after : (part : Part) (ops : List Op) → part ≡ Code 0
     → part_after part (Word ops) ≡ Some (Code (followers ops))
 unfolding part_after
@@ -36,7 +36,7 @@ pub word_to_after : (part : Part) (ops : List Op) (o : Op) (v : Value) (k : Opti
 unfolding part_after
 word_to_after part ops o v k e = ap (λ x. part_after x (WordTo ops o v k)) e
 
--- one follower less is owed
+-- one follower less is missing
 pub plain_owed : (p p' : standing.Part) (owed : ℕ) (v : Value) → p ≡ part.Code owed
     → p' ≡ part.Code (owed - 1) → 0 < owed
     → part_after (section_part p) (Plain v) ≡ Some (section_part p')
@@ -54,7 +54,7 @@ unfolding part_after
 plain_data p p' v e f =
     ap (λ x. part_after (section_part x) (Plain v)) e ∙ ap (λ x. Some (section_part x)) (sym f)
 
--- where a plain word may stand in the code part, a follower is owed
+-- if a plain word is allowed in the code part, a follower is missing
 pub owed_more : (p : standing.Part)
     → ((q : Part) × ((v : Value) → part_after (section_part p) (Plain v) ≡ Some q)) → (owed : ℕ)
     → p ≡ part.Code owed → 0 < owed
@@ -125,7 +125,7 @@ module _ {V : Type 0} (same : ℕ → ℕ → Bool) (is_same : (x y : ℕ) → s
       by true false e ih = absurd (cc)
       by false true e ih = absurd (cc)
 
--- followers are owed
+-- followers are missing
 pub some_owed : {A : Type 0} (c : Inside) (t : token.Token) (r : Result A SourceErrorKind)
     (s' : State) (p : standing.Part) (owed : ℕ) → p ≡ part.Code owed → (owed ≡ 0 → ⊥)
     → ((n : ℕ) → IsAnswer (take_first (Code (suc n)) c t) r s')

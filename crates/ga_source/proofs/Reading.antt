@@ -23,7 +23,7 @@ use Rattle.ga_source.proofs.Walking.{few_texts}
 use Rattle.ga_source.proofs.FaultKinds.{is_finished}
 use Rattle.ga_source.proofs.Whole.{ReadSoFar, at_end, at_fault, at_first, at_next}
 
--- so many tokens were read, the last of which was `node` or not
+-- i tokens were read, the last of which was `node` or not
 pub record Reading (text : List ℕ) (i : ℕ) (behind : Bool) (s : State) : Type 0 where
   pub front : List Token
   pub cut : tokens_of text ≡ front ++ meanings behind (drop i (texts_of text))
@@ -142,7 +142,7 @@ reading_end text i behind s sections r f e =
 
 -- ---- the tokens that are left
 
--- so many tokens were taken, and these are left; before the first the parser has no section
+-- i tokens were taken, and the others are left; before the first the parser has no section
 pub record Taking (text : List ℕ) (i : ℕ) (behind : Bool) (p : the.Parser)
     (left : List (List ℕ)) : Type 0 where
   pub reading : Reading text i behind (state_of p)

@@ -10,7 +10,7 @@ use Rattle.ga_pack.specs.Model.Text.{Lexeme, Run, before_comment, lexemes, lexem
 use Rattle.ga_source.specs.Token.{token_of}
 use Rattle.ga_source.proofs.Lines.{cut}
 
--- a part of a list, behind so many elements
+-- a part of a list, from an index on
 record IsPart (whole : List ℕ) (at : ℕ) (part : List ℕ) : Type 0 where
   pub front : List ℕ
   pub back : List ℕ

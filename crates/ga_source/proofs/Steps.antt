@@ -159,7 +159,7 @@ stand_end slot (x ∷ ops) o h n r =
     stand_made slot x (ops ++ o ∷ []) a.0 a.1
     (stand_end (suc slot) ops o a.2 n (subst (λ n. op_fits n o ≡ true) e r))
 
--- an opcode in a bracketed word stands in the first free slot
+-- an opcode in a bracketed word is in the first free slot
 next_op : (ops : List Op) (o : Op) (later : List Op) → stand_from 0 (ops ++ o ∷ later) ≡ true
     → (takes_dest o ≡ false) × (op_fits (length ops) o ≡ true)
 next_op ops o later h =

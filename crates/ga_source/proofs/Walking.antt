@@ -125,7 +125,7 @@ skip_blanks p start (c ∷ cs) text blanks =
 
 -- ---- a run in front
 
--- the first line of a run and what stands behind it
+-- the first line of a run and the text behind it
 prefix_lines : (run behind first : List ℕ) (others : List (List ℕ)) → NoEnd run
     → lines_of behind ≡ first ∷ others → lines_of (run ++ behind) ≡ (run ++ first) ∷ others
 prefix_lines [] behind first others none e = e
@@ -342,7 +342,7 @@ found_behind text rest run behind a f = record {
 
 -- ---- a run is found
 
--- a text of blanks alone has no token
+-- a text of only blanks has no token
 pub no_token : (text : List ℕ) → position (λ c. not (is_blank c)) text ≡ None
     → (p : Place) (start : ℕ) → lexemes_at p start text ≡ []
 no_token text e p start =
@@ -465,7 +465,7 @@ texts_none text none =
     texts_at (record { line = 1; column = 1 }) 0 text
     ∙ ap (map (λ l. l.text)) (none (record { line = 1; column = 1 }) 0)
 
--- a blank that stands behind a run changes no text
+-- a blank behind a run changes no text
 pub blank_behind : (behind : List ℕ) (c : ℕ) (rest : List ℕ) → BehindRun behind → behind ≡ c ∷ rest
     → texts_of rest ≡ texts_of behind
 blank_behind behind c rest (inl none) e = absurd (cc)
@@ -515,7 +515,7 @@ few_texts text =
 
 -- ---- the end of a text
 
--- where the last of some lines ends, the first of which has begun before
+-- the end of the last of some lines, the first of which started before
 abbrev end_behind : ℕ → ℕ → List (List ℕ) → Place
 end_behind line past [] = record { line = line; column = 1 }
 end_behind line past (bytes ∷ []) =
@@ -567,7 +567,7 @@ end_walked text = walk_end 1 0 text ∙ end_first 1 (lines_of text)
 
 -- ---- all tokens
 
--- so many bytes were walked over, and these tokens were found there
+-- the text was walked over up to this place, and these tokens were found there
 pub record HasWalked (text : List ℕ) (line column : ℕ) (rest : List ℕ)
     (tokens : List Token) : Type 0 where
   pub front : List ℕ

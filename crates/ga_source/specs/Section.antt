@@ -1,4 +1,4 @@
--- The sections of a program, as the model has them, but for the places of their items.
+-- The sections of a program, as the model has them, without the places of their items.
 use Rattle.std.specs.Prelude.{ℕ, map}
 use Rattle.ga_source.specs.declared.section.Section as written
 use Rattle.ga_source.specs.Item.{item_of}

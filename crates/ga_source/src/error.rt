@@ -5,8 +5,8 @@ use ga_pack::SourceErrorKind;
 use std::error::Error;
 use std::fmt;
 
-/// The first fault of a text, at the place of the token that it is told at, which may be the text's
-/// end; or that memory was refused, at a place that says nothing.
+/// The first fault of a text, at the place of its token, which may be the text's end; or out of
+/// memory, whose place has no meaning.
 #[derive(Clone, Copy, Debug, PartialEq, Eq)]
 pub struct SourceError {
     pub kind: SourceErrorKind,

@@ -6,7 +6,7 @@ use crate::name::Name;
 use arrayvec::ArrayVec;
 use ga_word::{Op, Word18};
 
-/// A number, or the name of a label of the node, which stands for its address.
+/// A number, or the name of a label of the node, which means its address.
 #[derive(Clone, Copy, PartialEq, Eq)]
 pub enum Value {
     /// As a destination below what its slot holds.

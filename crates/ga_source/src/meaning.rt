@@ -18,7 +18,7 @@ pub(crate) enum Meaning<'a> {
     Number(Word18),
     /// A name that is not reserved.
     Name(&'a str),
-    /// A name, reserved or not, that stood in front of `:`.
+    /// A name, reserved or not, that came before `:`.
     Label(&'a str),
     Node,
     /// The name of a node, behind `node`.
@@ -31,8 +31,8 @@ pub(crate) enum Meaning<'a> {
     Slash,
 }
 
-/// What a token means that stands behind the token `node` or not. A token that is none of the
-/// language, or a number over 3FFFF, is a fault wherever it stands.
+/// What a token means that is behind the token `node` or not. A token that is none of the language,
+/// or a number over 3FFFF, is a fault anywhere.
 #[tactic(auto, unfolding(ga_pack::specs::Model::Token::meaning_at))]
 pub(crate) fn meaning_at(is_behind_node: bool, text: &[u8]) -> Result<Meaning<'_>, SourceErrorKind>
     ensures value { token_of result ≡ model.meaning_at is_behind_node text.now }
@@ -56,13 +56,13 @@ pub(crate) fn is_reserved(name: &str) -> bool
     Op::from_bytes(name).is_some() || number_named(name).is_some() || fixed(name).is_some()
 }
 
-/// What a token means, but for the name of a node.
+/// What a token means that is no name of a node.
 #[tactic(auto, unfolding(ga_pack::specs::Model::Token::meaning_of))]
 fn plain_meaning(text: &[u8]) -> Result<Meaning<'_>, SourceErrorKind>
     ensures value { token_of result ≡ model.meaning_of text.now }
     ensures short { IfOk result (λ meaning. IsShort (meaning_of meaning)) }
 {
-    // A comma stands in front of each word of data.
+    // A comma comes before each word of data.
     if text == b",".as_slice() {
         return Ok(Meaning::Comma);
     }
@@ -171,7 +171,7 @@ fn hex_numeral(text: &[u8]) -> Option<u32>
     numeral(16, digits)
 }
 
-/// The name in front of `:`.
+/// The name before `:`.
 fn label_name(text: &[u8]) -> Option<&str>
     ensures value { option_map (λ name. label name.now) result ≡ model.as_label text.now }
     ensures short { IfSome result (λ name. length name.now ≤ 16) }

@@ -42,7 +42,7 @@ impl Model for Name {
 }
 
 impl Name {
-    /// The name with this text, or `None` where it has more than sixteen bytes.
+    /// The name with this text, or `None` if it has more than sixteen bytes.
     pub fn new(text: &str) -> Option<Self>
         ensures variant { IsSome result ↔ (length text.now ≤ 16) }
         ensures some { IfSome result (λ name. name.bytes ≡ text.now) }

@@ -1,4 +1,5 @@
-//! The parser: it takes one token at a time, and refuses the first with which no text goes on.
+//! The parser: it takes one token at a time, and refuses the first that can't continue a right
+//! text.
 ghost use Rattle.std.specs.Prelude.{◌≡◌, ◌≢◌, ◌≤◌, ◌++◌, ◌∷◌, [], length, map, false, not, IfOk, IfErr, Ok, Err, OnOk, List, ℕ};
 ghost use Rattle.ga_pack.specs.Model.Layout.{names_in};
 ghost use Rattle.ga_pack.specs.Model.Source as words;
@@ -28,23 +29,23 @@ use ga_word::Op;
 use indexmap::{IndexMap, IndexSet};
 use std::alloc::Global;
 
-// Which part of a section an item stands in.
+// The part of a section that an item is in.
 #[derive(Clone, Copy)]
 enum Part {
-    // In the code part, where so many followers of a bracketed word are owed.
+    // In the code part, with this many followers of a bracketed word still missing.
     Code(usize),
     // Behind `data`.
     Data,
 }
 
-// Where the parser stands.
+// The parser's place.
 #[derive(Clone, Copy)]
 enum Position {
     // No token was taken.
     Nothing,
     // Behind `node`.
     Naming,
-    // In a section, where an item is whole or the section begins.
+    // In a section, behind a whole item or at the section's begin.
     Between,
     // Behind an opcode that takes a destination, outside brackets.
     BehindOp(Op),
@@ -59,7 +60,7 @@ enum Position {
     BehindSpare(Op, Value, u8),
 }
 
-// The sections that are done, the section that is open, and the item that is begun.
+// The sections that are done, the section that is open, and the item that has started.
 #[derive(Drop)]
 pub(crate) struct Parser {
     alloc: Global,
@@ -70,7 +71,7 @@ pub(crate) struct Parser {
     part: Part,
     has_word: bool,
     position: Position,
-    // The opcodes of a bracketed word, but for one that takes a destination.
+    // The opcodes of a bracketed word, without one that takes a destination.
     ops: ArrayVec<Op, 4>,
 }
 
@@ -93,7 +94,7 @@ impl Parser {
         }
     }
 
-    // The item is whole; the next one stands in this part.
+    // The item is whole; the next one is in this part.
     #[inline(always)]
     fn add(&mut self, item: Item, part: Part) -> Result<(), SourceErrorKind>
         requires no_label { (labels : List (List ℕ)) → labels_with (item_of item) labels ≡ labels }
@@ -124,7 +125,7 @@ impl Parser {
         }
     }
 
-    // A section of this node was begun before.
+    // Whether a section of this node came before.
     fn is_begun(&self, node: Node) -> bool
         ensures { result ≡ words.is_named node (names_of self.now) }
     {
@@ -153,7 +154,7 @@ impl Parser {
         }
     }
 
-    // Where an item is whole.
+    // Behind a whole item.
     fn take_between(&mut self, token: &Meaning<'_>) -> Result<(), SourceErrorKind>
         requires position { self.old.position ≡ at.Between }
         requires consistent { IsConsistent (state_of self.old) }
@@ -191,7 +192,7 @@ impl Parser {
         Ok(())
     }
 
-    // The open section gets a label, and tells whether it had it not.
+    // Adds a label to the open section; answers whether it is new.
     fn add_label(&mut self, name: Name) -> Result<bool, SourceErrorKind>
         ensures new { IfOk result (λ is_new. is_new ≡ not
             (words.is_among name.bytes (labels_of self.old))) }
@@ -203,7 +204,7 @@ impl Parser {
         Ok(self.labels.insert(name)?)
     }
 
-    // A label, which may stand wherever an item may.
+    // A label, which is allowed wherever an item is.
     fn take_label(&mut self, name: &str) -> Result<(), SourceErrorKind>
         requires position { self.old.position ≡ at.Between }
         requires short { length name.now ≤ 16 }
@@ -223,6 +224,7 @@ impl Parser {
 
     /// Takes a token, or refuses it.
     pub(crate) fn take(&mut self, token: &Meaning<'_>) -> Result<(), SourceErrorKind>
+        // what each token that was taken leaves, and a name or label of at most 16 bytes
         requires good { Good (state_of self.old) }
         requires consistent { IsConsistent (state_of self.old) }
         requires empty { self.old.position ≡ at.Nothing → self.old.sections.entries ≡ [] }
@@ -243,8 +245,8 @@ impl Parser {
         }
     }
 
-    /// Takes the text of a token, which stands behind the token `node` or not, or refuses it. It
-    /// tells whether the token is `node`.
+    /// Takes the text of a token, which is behind the token `node` or not, or refuses it. It
+    /// returns whether the token is `node`.
     pub(crate) fn take_text(
         &mut self,
         is_behind_node: bool,
@@ -280,7 +282,7 @@ impl Parser {
         Ok(parser.sections)
     }
 
-    // The text ends where the parser stands.
+    // The text ends at the parser's place.
     fn end_text(&mut self) -> Result<(), SourceErrorKind>
         requires consistent { IsConsistent (state_of self.old) }
         ensures ok { OnOk result (machine.take (state_of self.old) end

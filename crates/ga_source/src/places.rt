@@ -1,5 +1,5 @@
-//! Where the items of a program stand in its text. The parser doesn't keep it, since only faults
-//! are told with places.
+//! The places of the items of a program in its text. The parser doesn't keep them, since only
+//! faults are reported with places.
 ghost use Rattle.std.specs.Prelude.{◌≡◌, IfOk, [], drop, length, map};
 ghost use Rattle.ga_pack.specs.Model.Program as model;
 ghost use Rattle.ga_pack.specs.Model.Program.{placed_items};
@@ -14,19 +14,19 @@ use crate::program::Program;
 use crate::token::{Place, end_place, tokens};
 use std::alloc::{AllocError, Global};
 
-/// Where an item stands in its text.
+/// The place of an item in its text.
 #[derive(Clone, Copy, PartialEq, Eq)]
 pub struct ItemPlace {
     /// The place of its first token.
     pub place: Place,
-    /// The place of the name of a label, where the item uses one as a destination or a word.
+    /// The place of the name of a label, if the item uses one as a destination or a word.
     pub name: Option<Place>,
 }
 
 impl<'a> Program<'a> {
-    /// Where the items of a section stand in the text, in their order. The section is told by its
-    /// number, from 0; a section that there isn't has no items. It fails only where memory is
-    /// refused.
+    /// The places of the items of a section in the text, in their order. The section is given by
+    /// its number, from 0; a section that doesn't exist has no items. Fails only when out of
+    /// memory.
     pub fn places(&self, alloc: Global, section: usize) -> Result<Vec<ItemPlace>, AllocError>
         ensures { IfOk result (λ places. map item_place_of places.items
             ≡ map item_place (items_at self.now section)) }
@@ -36,7 +36,7 @@ impl<'a> Program<'a> {
         let mut before = section;
         for (_, part) in &self.sections {
             let items = part.items.as_slice();
-            // `node` and the name stand in front of them.
+            // `node` and the name come before them.
             let first = behind(rest, 2);
             if before == 0 {
                 return places_from(alloc, first, items);
@@ -47,8 +47,8 @@ impl<'a> Program<'a> {
         Ok(Vec::new(alloc))
     }
 
-    /// Where the items of each section stand in the text: for the sections in the text's order what
-    /// `places` answers, by one pass over the text. It fails only where memory is refused.
+    /// The places of the items of each section, in the text's order, as `places` returns them, in
+    /// one pass over the text. Fails only when out of memory.
     pub fn section_places(&self, alloc: Global) -> Result<Vec<Vec<ItemPlace>>, AllocError>
         ensures { IfOk result (λ found. map (λ places. map item_place_of places.items) found.items
             ≡ map (λ section. map item_place section.items) self.now) }
@@ -58,7 +58,7 @@ impl<'a> Program<'a> {
         let mut found = Vec::new(alloc);
         for (_, part) in &self.sections {
             let items = part.items.as_slice();
-            // `node` and the name stand in front of them.
+            // `node` and the name come before them.
             let first = behind(rest, 2);
             let own = places_from(alloc, first, items)?;
             found.push(own)?;
@@ -92,7 +92,7 @@ fn all_places(alloc: Global, text: &str) -> Result<Vec<Place>, AllocError>
     Ok(places)
 }
 
-// Those behind so many.
+// The places from an index on.
 fn behind(places: &[Place], count: usize) -> &[Place]
     ensures { result.now ≡ drop count places.now }
 {
@@ -110,7 +110,7 @@ fn behind_items<'a>(places: &'a [Place], items: &[Item]) -> &'a [Place]
     rest
 }
 
-// Where items stand whose tokens, and more behind them, have these places.
+// The places of items. `places` has those of their tokens and of tokens behind them.
 fn places_from(
     alloc: Global,
     places: &[Place],
@@ -128,7 +128,7 @@ fn places_from(
     Ok(found)
 }
 
-// Where an item stands whose tokens, and more behind them, have these places.
+// The place of an item. `places` has those of its tokens and of tokens behind them.
 fn item_place(places: &[Place], item: &Item) -> ItemPlace
     ensures { item_place_of result
         ≡ item_place (model.placed (map place_of places.now) (item_of item.now)) }

@@ -51,8 +51,8 @@ impl<'a> Program<'a> {
 /// The program of a text, or the first fault of the text with its place. (The texts are this
 /// project's own: profile.)
 ///
-/// It fails as `Memory` only where memory is refused. Each other kind is that of the first token,
-/// or of the text's end, with which no text goes on that begins as this one does.
+/// Fails with `Memory` only when out of memory. Each other kind is that of the first token, or of
+/// the text's end, that can't continue a right text.
 pub fn parse(alloc: Global, text: &str) -> Result<Program<'_>, SourceError>
     ensures program { IfOk result (λ program. IsProgram text.now program) }
     // it is the only program of the text

@@ -33,8 +33,8 @@ pub struct Token {
 }
 
 /// The tokens of a text, in its order. The token `\` and the rest of its line are a comment, and no
-/// token; nor is the text's end. It fails only where memory is refused. (The texts are this
-/// project's own: profile.)
+/// token; nor is the text's end. Fails only when out of memory. (The texts are this project's own:
+/// profile.)
 pub fn tokens(alloc: Global, text: &str) -> Result<Vec<Token>, AllocError>
     ensures tokens { IfOk result (λ tokens. tokens.items ≡ map token_of (lexemes text.now)) }
     // each is its slice of the text
@@ -90,7 +90,7 @@ impl Place {
         place
     }
 
-    /// The place behind a byte that stands at this one.
+    /// The place behind a byte at this one.
     #[inline(always)]
     fn next(self, byte: u8) -> Place
         requires { (self.line + 1 < 2 ^ 64) × (self.column + 1 < 2 ^ 64) }
@@ -109,7 +109,7 @@ impl Place {
     }
 }
 
-/// The first line of a text, and what stands behind the LF at its end.
+/// The first line of a text, and the text behind the LF at its end.
 #[inline(always)]
 fn first_line(text: &[u8]) -> (&[u8], Option<&[u8]>)
     ensures { FirstLine text.now result.0.now result.1 }
@@ -150,7 +150,7 @@ impl<'a> Iterator for Texts<'a> {
     }
 }
 
-/// The first token of a text, and what stands behind it.
+/// The first token of a text, and the text behind it.
 #[inline(always)]
 fn next_token(text: &[u8]) -> Option<(&[u8], &[u8])>
     ensures some { IfSome result (λ parts. FirstRun text.now parts.0.now parts.1.now) }
@@ -170,7 +170,7 @@ fn next_token(text: &[u8]) -> Option<(&[u8], &[u8])>
     }
 }
 
-/// The first run of bytes that are no blanks, and what stands behind it.
+/// The first run of bytes that are no blanks, and the text behind it.
 fn first_run(text: &[u8]) -> Option<(&[u8], &[u8])>
     ensures some { IfSome result (λ parts. Begins text.now parts.0.now parts.1.now) }
     ensures none { result ≡ None → (p : model.Place) (start : ℕ)
@@ -183,7 +183,7 @@ fn first_run(text: &[u8]) -> Option<(&[u8], &[u8])>
     }
 }
 
-/// What stands behind the blank in front, if anything stands there.
+/// The bytes from the second on, if there are any.
 fn behind_blank(text: &[u8]) -> &[u8]
     requires { BehindRun text.now }
     ensures texts { texts_of result.now ≡ texts_of text.now }

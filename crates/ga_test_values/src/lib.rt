@@ -1,4 +1,4 @@
-//! What the tests of several crates are made of.
+//! Values that the tests of several crates use.
 #![tactic(auto)]
 
 use ga_place::Node;
@@ -24,7 +24,7 @@ pub const TWO_HOPS: [u32; 34] = [
 /// A program that writes 12 to the port on the right.
 pub const WRITE_12_RIGHT: [u32; 4] = [0x05DA2, 0x00012, 0x001D5, 0x089B2];
 
-/// The word with this number; a test fails where it has more than 18 bits.
+/// The word with this number; a test fails if it has more than 18 bits.
 pub fn word(number: u32) -> Result<Word18, Fail> {
     Ok(Word18::new(number).ok_or("more than 18 bits")?)
 }
@@ -47,7 +47,7 @@ pub fn array<const N: usize>(numbers: &[u32]) -> Result<[Word18; N], Fail> {
     Ok(words)
 }
 
-/// The node with this name; a test fails where there is none.
+/// The node with this name; a test fails if there is none.
 pub fn node(name: u16) -> Result<Node, Fail> {
     Ok(Node::new(name).ok_or("no such node")?)
 }

@@ -92,7 +92,7 @@ fn cut_streams(rt: HostRuntime) -> Result<(), Fail> {
     Ok(())
 }
 
-/// Feeds a piece. Answers whether so many frames are whole with it, or it is refused so.
+/// Feeds a piece. Answers whether this many frames are whole with it, or it is refused so.
 fn gives(
     alloc: Global,
     feed: &mut FrameFeed,
@@ -120,7 +120,7 @@ fn frame_in_pieces(rt: HostRuntime) -> Result<(), Fail> {
     Ok(())
 }
 
-/// Whether one frame is whole with this word, its only one, and has 1B5 and 000 in front of it.
+/// Whether one frame is whole with this word, its only one, and has 1B5 and 000 before it.
 fn ends_frame(reader: &mut FrameFeed, only: Word18) -> Result<bool, Fail> {
     let frames = reader.feed(&[only])?;
     let [frame] = frames.as_slice() else {

@@ -1,7 +1,7 @@
-//! The tests of words, of texts and of what is made of them, in one file for each subject.
+//! The tests of words, of texts and of their results, with one file for each subject.
 //!
 //! A crate that has no test of its own is proved once by the gate, and one with tests twice. So the
-//! tests stand here, and this crate has nothing else.
+//! tests have this crate to themselves.
 #![tactic(auto)]
 
 #[cfg(test)]

@@ -1,4 +1,4 @@
-//! What is printed of a word is assembled to this word.
+//! The printed text of a word is assembled to this word.
 use ga_asm::{Images, assemble_text};
 use ga_disasm::{items, print};
 use ga_test_values::{node, word};
@@ -6,7 +6,7 @@ use ga_word::Word18;
 use std::alloc::Global;
 use std::test::Fail;
 
-/// The images of what is printed of a word of code.
+/// The images of the printed text of a word of code.
 fn images_of_printed(alloc: Global, word: Word18) -> Result<Images, Fail> {
     let items = items(alloc, &[word], 1)?;
     let lines = print(alloc, &items)?;
@@ -14,7 +14,7 @@ fn images_of_printed(alloc: Global, word: Word18) -> Result<Images, Fail> {
     Ok(assemble_text(alloc, text.as_str())?)
 }
 
-/// Whether node 000 alone has an image, which is this one word of code.
+/// Whether only node 000 has an image, which is this one word of code.
 fn is_alone(images: &Images, word: Word18) -> Result<bool, Fail> {
     let image = images.images().get(&node(0)?).ok_or("no image")?;
     Ok(images.images().len() == 1 && image.words() == [word].as_slice() && image.code_len() == 1)

@@ -1,4 +1,4 @@
--- A reply is compared with the lines that are wanted, one line at a time, up to the next command.
+-- A reply is compared with the expected lines, one line at a time, up to the next command.
 use Rattle.std.proofs.Common.{◌≡◌, ◌∙◌, ℕ, suc, ◌+◌, true, false, Bool, List, [], ◌∷◌, Option, None, Some, ap, ap₂, arith, refl, sym}
 use Rattle.ga_transcript.specs.Following.{Lines, Step, checked, early_reply, same_lines, wanted}
 use Rattle.ga_transcript.specs.Reply.{reply_lines}
@@ -22,8 +22,8 @@ checked_from_next step number count state (line ∷ lines) =
     checked_from_by step number count state line lines (kind_of line) refl
     (checked_from_next step (suc number) count state lines)
 
--- where a reply is the wanted one, what is checked of the lines behind its command is what is
--- checked from the next one on
+-- if a reply is the expected one, the check of the lines behind its command is the check from the
+-- next one on
 pub checked_on : {S : Type 0} (step : Step S) (number count : ℕ) (state : S) (lines came : Lines)
     (found : Option Next) → same_lines (wanted lines) came ≡ true
     → found ≡ next_command (number + 1) lines
@@ -36,7 +36,7 @@ checked_on step number count state lines came found same is =
     whole ∙ checked_from_next step (suc number) count state lines
     ∙ ap (checked_next step count state) (sym (is ∙ more))
 
--- in front of the first command nothing is wanted, where no reply stands there
+-- nothing is expected before the first command, if no reply is there
 none_wanted_by : (number : ℕ) (line : List ℕ) (lines : Lines) (kind : Kind) → kind_of line ≡ kind
     → (early_reply (suc number) lines ≡ None → wanted lines ≡ [])
     → early_reply number (line ∷ lines) ≡ None → wanted (line ∷ lines) ≡ []
@@ -58,7 +58,7 @@ none_wanted_early number (line ∷ lines) none =
 empty_reply : reply_lines [] ≡ []
 empty_reply = refl
 
--- what is checked behind no reply, where no command was done yet
+-- the check behind no reply, if no command was done yet
 pub checked_first : {S : Type 0} (step : Step S) (number : ℕ) (state : S) (lines : Lines)
     (came : List ℕ) → early_reply (number + 1) lines ≡ None → came ≡ [] → checked_behind step number
     0 state lines (reply_lines came) ≡ checked step (number + 1) 0 state lines

@@ -34,7 +34,7 @@ wanted_by : (line : List ℕ) (lines : Lines) (kind : Kind) → kind_of line ≡
     → wanted (line ∷ lines) ≡ by_kind kind (λ command. []) (wanted lines) (line ∷ wanted lines)
 wanted_by line lines kind e = rw (e) refl
 
--- nothing is wanted in front of what is recorded
+-- nothing is expected before what is recorded
 no_wanted_by : {S : Type 0} (step : Step S) (state : S) (line : List ℕ) (lines : Lines)
     (kind : Kind) → kind_of line ≡ kind → wanted (recorded step state lines) ≡ []
     → wanted (recorded step state (line ∷ lines)) ≡ []
@@ -58,8 +58,7 @@ first_of line lines all = (
   All-tail (λ line. kind_of line ≡ Reply) line lines all,
 )
 
--- such lines in front of others are wanted, are followed by what the others are, and are not
--- recorded
+-- such lines before others are expected, are followed by what the others are, and are not recorded
 wanted_replies : (replies lines : Lines) → AreReplies replies
     → wanted (replies ++ lines) ≡ replies ++ wanted lines
 wanted_replies [] lines h = refl
@@ -154,7 +153,7 @@ recorded_holds step only (line ∷ lines) count state number =
     holds_by step only count state line lines (kind_of line) refl
     (recorded_holds step only lines) number
 
--- What is recorded is recorded again as it is.
+-- Recording a recording doesn't change it.
 again_by : {S : Type 0} (step : Step S) → RepliesOnly step
     → (state : S) (line : List ℕ) (lines : Lines) (kind : Kind) → kind_of line ≡ kind
     → ((state : S) → recorded step state (recorded step state lines) ≡ recorded step state lines)
@@ -182,7 +181,7 @@ recorded_again step only [] state = refl
 recorded_again step only (line ∷ lines) state =
     again_by step only state line lines (kind_of line) refl (recorded_again step only lines)
 
--- No reply stands in front of all commands in what is recorded.
+-- No reply comes before all commands in a recording.
 early_by : (number : ℕ) (line : List ℕ) (lines : Lines) (kind : Kind) → kind_of line ≡ kind
     → early_reply number (line ∷ lines)
     ≡ by_kind kind (λ command. None) (early_reply (suc number) lines) (Some number)

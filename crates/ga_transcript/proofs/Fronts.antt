@@ -1,11 +1,12 @@
--- The lines up to `go`: they lead to the same chip, whatever lines stand behind them.
+-- The lines up to `go`: they lead to the same chip, whatever lines follow.
 use Rattle.std.proofs.Common.{◌≡◌, ◌∙◌, ℕ, ◌+◌, true, false, Bool, List, [], ◌∷◌, ◌++◌, Option, Some, None, Result, Ok, Err, ap, arith, length, refl, sym, subst}
 use Rattle.std.specs.Prelude.{codes, if◌then◌else◌}
 use Rattle.std.specs.Str.{bytes_eq}
 use Rattle.ga_pack.specs.Model.Text.{lines_of}
 use Rattle.ga_debug.specs.declared.replay_error.ReplayError.{ReplayError}
 use Rattle.ga_debug.specs.declared.replay_error.ReplayError.TheVariants.{BadProfile}
-use Rattle.ga_debug.specs.Head.{Head, Loading, behind_profile, head_by, head_in, loaded_by, loading_in, up_to_go, with_line}
+use Rattle.ga_debug.specs.Head.{Head, Loading, behind_profile, head_by, head_in, loaded_by, loading_by, up_to_go, with_line}
+use Rattle.ga_debug.specs.Command.{words_of}
 use Rattle.ga_debug.specs.Profile.{SESSION_PROFILE, profile_line}
 use Rattle.ga_transcript.specs.Following.{Lines}
 
@@ -31,7 +32,7 @@ before_go : (loading : Loading) (number : ℕ) (line : List ℕ) (lines : Lines)
     → up_to_go loading number (line ∷ lines) ≡ with_line line (up_to_go loading (number + 1) lines)
 before_go loading number line lines e = rw (e) refl
 
--- a line in front of others
+-- a line before others
 front_more : (loading : Loading) (number : ℕ) (line : List ℕ) (lines : Lines) (head : Head)
     (found : Result Head ReplayError) → bytes_eq line (codes "go") ≡ false
     → up_to_go loading (number + 1) lines ≡ found → with_line line found ≡ Ok head → ((inner : Head)
@@ -92,8 +93,8 @@ profile_by first lines false e head made =
     absurd (cc (sym (ap (λ b. if b then behind_profile lines else Err BadProfile) e) ∙ made))
 
 loaded_front : (line : List ℕ) (lines : Lines) (head : Head) (loading : Option Loading)
-    → loading_in line ≡ loading → loaded_by loading lines ≡ Ok head
-    → (loading : Loading) × (loading_in line ≡ Some loading) × Front loading 3 lines head
+    → loading_by (words_of line) ≡ loading → loaded_by loading lines ≡ Ok head
+    → (loading : Loading) × (loading_by (words_of line) ≡ Some loading) × Front loading 3 lines head
 loaded_front line lines head None is made = absurd (cc made)
 loaded_front line lines head (Some loading) is made =
     (loading, is, front_of loading 3 lines head made)
@@ -108,7 +109,7 @@ behind_first first [] head made =
 behind_first first (line ∷ lines) head made =
     let p = profile_by first
     (line ∷ lines) (bytes_eq first (profile_line SESSION_PROFILE)) refl head made in
-    let (loading, is, f) = loaded_front line lines head (loading_in line) refl p.1 in (
+    let (loading, is, f) = loaded_front line lines head (loading_by (words_of line)) refl p.1 in (
       line ∷ f.front,
       ap (λ (ls : Lines). line ∷ ls) f.is,
       omega (arith, f.size),

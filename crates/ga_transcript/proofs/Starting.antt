@@ -1,4 +1,4 @@
--- What comes of the lines behind a head is what comes of the text.
+-- The result of the lines behind a head is the result of the text.
 use Rattle.std.proofs.Common.{◌≡◌, ◌∙◌, inr, ℕ, ◌+◌, ◌<◌, List, ◌∷◌, ◌++◌, Some, None, Result, Ok, Err, ap, append_assoc, arith, length, subst, sym, take}
 use Rattle.std.specs.Result.{IsErrAnd}
 use Rattle.std.proofs.lemmas.Grind.{flat_map-append}
@@ -12,7 +12,7 @@ use Rattle.ga_transcript.specs.Reply.{step_of}
 use Rattle.ga_transcript.proofs.Fronts.{head_front}
 use Rattle.ga_transcript.proofs.Recordings.{take_front}
 
--- a reply in front of all commands
+-- a reply before all commands
 pub early_checked : (start : Start) (line : ℕ)
     → early_reply (start.line + 1) start.commands ≡ Some line
     → checked_from start ≡ Err (EarlyReply line)
@@ -89,7 +89,7 @@ recording_made text start front (head, is, images, chip, line, commands) front_i
     ∙ sym (ap (λ (ls : Lines). lines_text ls ++ behind_ends rec) taken)
     ∙ sym (ap (λ t. t ++ behind_ends rec) front_is)
 
--- what comes of the lines behind a head is what comes of the text
+-- the result of the lines behind a head is the result of the text
 recorded_by : (text : List ℕ) (start : Start) (answer : Result (List ℕ) Fault)
     → IsLoaded text (Ok start) → recorded_from text start ≡ answer → IsRecorded text answer
 recorded_by text start (Ok recording) loaded is = (start, loaded, is)

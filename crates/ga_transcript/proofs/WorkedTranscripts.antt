@@ -1,4 +1,4 @@
--- What transcripts come to, worked out by hand.
+-- The results of transcripts, worked out by hand.
 use Rattle.std.proofs.Common.{◌≡◌, ℕ, List, [], ◌∷◌, Result, Ok, Err, refl}
 use Rattle.std.specs.Prelude.{codes}
 use Rattle.ga_place.specs.Cell.{all_cells, cell_of}
@@ -20,7 +20,7 @@ use Rattle.ga_transcript.specs.Reply.{reply_lines}
 
 kinds : (kind_of (codes "> turn 4") ≡ Command (codes "turn 4"))
     × (kind_of (codes "> ") ≡ Command [])
-    -- a sign alone is a line of a reply
+    -- a sign without a space is a line of a reply
     × (kind_of (codes ">") ≡ Reply)
     × (kind_of (codes "\\ a comment") ≡ Note)
     × (kind_of [] ≡ Note)
@@ -28,7 +28,7 @@ kinds : (kind_of (codes "> turn 4") ≡ Command (codes "turn 4"))
 unfolding kind_of
 kinds = (refl, refl, refl, refl, refl, refl)
 
--- a line of a reply that would be read as something else stands behind a sign of its own
+-- a line of a reply that would be read as something else is behind a sign of its own
 quoted : (as_reply (codes "moved 4") ≡ codes "moved 4")
     × (as_reply (codes "> 4") ≡ codes ". > 4")
     × (as_reply (codes "\\ 4") ≡ codes ". \\ 4")
@@ -57,7 +57,7 @@ record_by : List ℕ → Result Head ReplayError → Result (List ℕ) Fault
 record_by text (Ok head) = recorded_from text (start_of head)
 record_by text (Err error) = Err (BadHead error)
 
--- each reply is right, and a comment and an empty line stand in between
+-- each reply is right, with a comment and an empty line in between
 right : check_by (head_in SESSION_PROFILE (codes
     "profile 2\nplace\ngo\n> try 709 r\n\\ it waits\nwaits\n\n> pass 709\nrefused NotHeld\n"))
     ≡ Ok 2
@@ -79,7 +79,7 @@ missing : check_by (head_in SESSION_PROFILE (codes "profile 2\nplace\ngo\n> halt
 unfolding check_by start_of checked_from kind_of command_in command_first head_in reset_chip
 missing = refl
 
--- a reply in front of all commands
+-- a reply before all commands
 early : check_by (head_in SESSION_PROFILE
     (codes "profile 2\nplace\ngo\n\\ a comment\nwaits\n> try 709 r\nwaits")) ≡ Err (EarlyReply 5)
 unfolding check_by start_of checked_from kind_of head_in

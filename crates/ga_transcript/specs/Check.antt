@@ -5,7 +5,6 @@ use Rattle.std.specs.String.{string_bytes}
 use Rattle.ga_debug.specs.Beginning.{IsLoaded, Start}
 use Rattle.ga_debug.specs.Session.{without_line_end}
 use Rattle.ga_debug.specs.declared.replay_error.ReplayError.{ReplayError}
-use Rattle.ga_debug.specs.declared.replay_error.ReplayError.TheVariants as head
 use Rattle.ga_transcript.specs.declared.error.TranscriptError.{TranscriptError}
 use Rattle.ga_transcript.specs.declared.error.TranscriptError.TheVariants as error
 use Rattle.ga_transcript.specs.Following.{Difference, Lines, checked, early_reply}
@@ -15,19 +14,15 @@ use Rattle.ga_transcript.specs.Reply.{step_of}
 pub data Fault : Type 0 where
   -- with its head
   Head : ReplayError → Fault
-  -- a line of a reply stands in front of all commands; this is its number
+  -- a line of a reply comes before all commands; this is its number
   EarlyReply : ℕ → Fault
-  -- a command replies something else: the number of its line, and the wanted lines and those that
-  -- came, as text
+  -- a command replies something else: the number of its line, and the expected and the actual
+  -- lines, as text
   Differs : ℕ → List ℕ → Fault
   -- of what would be recorded: it has more bytes than a recording may have
   TooLong : Fault
   -- out of memory, which no text has by itself
   Memory : Fault
-
-abbrev pub fault_of_head : ReplayError → TranscriptError
-fault_of_head head.Memory = error.Memory
-fault_of_head fault = error.Head fault
 
 abbrev pub fault_of : TranscriptError → Fault
 fault_of (error.Head fault) = Head fault
@@ -40,27 +35,26 @@ fault_of error.Memory = Memory
 abbrev pub signed : ℕ → Lines → List ℕ
 signed sign lines = flat_map (λ line. sign ∷ (line ++ 10 ∷ [])) lines
 
--- the wanted lines behind `-`, and those that came behind `+`, without the last LF
-abbrev pub difference_text : Difference → List ℕ
-difference_text difference =
-    without_line_end (signed 45 difference.wanted ++ signed 43 difference.came)
-
+-- the result; a difference has the expected lines behind `-` and the actual ones behind `+`,
+-- without the last LF
 abbrev pub checked_by : Result ℕ Difference → Result ℕ Fault
 checked_by (Ok count) = Ok count
-checked_by (Err difference) = Err (Differs difference.line (difference_text difference))
+checked_by (Err difference) =
+    Err (Differs difference.line
+    (without_line_end (signed 45 difference.wanted ++ signed 43 difference.came)))
 
 abbrev pub unless_early : {A : Type 0} → Option ℕ → Result A Fault → Result A Fault
 unless_early (Some line) result = Err (EarlyReply line)
 unless_early None result = result
 
--- what comes of the lines behind a head
+-- the result of the lines behind a head
 unfoldable pub checked_from : Start → Result ℕ Fault
 checked_from start =
     let first = start.line + 1 in
     unless_early (early_reply first start.commands)
     (checked_by (checked (step_of start.images) first 0 start.chip start.commands))
 
--- what a head leads to, of which that is made, or the first fault
+-- a value made by `from` of the start that a head gives, or the first fault
 abbrev pub IsBehindHead : {A : Type 0} → List ℕ → (Start → Result A Fault) → Result A Fault → Type 0
 IsBehindHead text from (Ok value) =
     (start : Start) × IsLoaded text (Ok start) × (from start ≡ Ok value)
@@ -68,8 +62,8 @@ IsBehindHead text from (Err fault) =
     ((error : ReplayError) × IsLoaded text (Err error) × (fault ≡ Head error))
     ⊎ ((start : Start) × IsLoaded text (Ok start) × (from start ≡ Err fault))
 
--- How many commands a transcript has, where each replies what stands behind it; or the first fault:
--- of its head, or else a reply in front of all commands, or else the first difference.
+-- How many commands a transcript has, if each has the reply behind it; or the first fault: of its
+-- head, or else a reply before all commands, or else the first difference.
 abbrev pub IsChecked : List ℕ → Result ℕ Fault → Type 0
 IsChecked text answer = IsBehindHead text checked_from answer
 

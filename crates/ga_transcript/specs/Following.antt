@@ -10,14 +10,14 @@ Lines = List (List ℕ)
 abbrev pub Step : Type 0 → Type 0
 Step S = List ℕ → S → Lines × S
 
--- the number of the first line of a reply in front of all commands, where there is one; the first
--- line has this number
+-- the number of the first line of a reply before all commands, if there is one; the first line has
+-- this number
 abbrev pub early_reply : ℕ → Lines → Option ℕ
 early_reply number [] = None
 early_reply number (line ∷ lines) =
     by_kind (kind_of line) (λ command. None) (early_reply (suc number) lines) (Some number)
 
--- the lines of a reply that stand in front of the next command
+-- the lines of a reply before the next command
 abbrev pub wanted : Lines → Lines
 wanted [] = []
 wanted (line ∷ lines) = by_kind (kind_of line) (λ command. []) (wanted lines) (line ∷ wanted lines)
@@ -27,15 +27,15 @@ same_lines [] [] = true
 same_lines (one ∷ ones) (other ∷ others) = bytes_eq one other && same_lines ones others
 same_lines ones others = false
 
--- Where a command has another reply than the one that stands behind it.
+-- A command that has another reply than the one behind it.
 pub record Difference : Type 0 where
   -- the number of the command's line
   pub line : ℕ
   pub wanted : Lines
   pub came : Lines
 
--- How many commands there are, behind so many, where each has the reply that stands behind it; or
--- the first difference.
+-- The number of commands, counted on from a number, if each has the reply that is behind it; or the
+-- first difference.
 abbrev pub checked : {S : Type 0} → Step S → ℕ → ℕ → S → Lines → Result ℕ Difference
 checked step number count state [] = Ok count
 checked step number count state (line ∷ lines) =
@@ -46,8 +46,8 @@ checked step number count state (line ∷ lines) =
     (checked step (suc number) count state lines)
     (checked step (suc number) count state lines)
 
--- The lines with the replies that come: a reply stands behind its command, in the place of the one
--- that stood there.
+-- The lines with the actual replies: each is behind its command, in place of the one that was
+-- there.
 abbrev pub recorded : {S : Type 0} → Step S → S → Lines → Lines
 recorded step state [] = []
 recorded step state (line ∷ lines) =

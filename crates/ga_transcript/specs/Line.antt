@@ -10,7 +10,7 @@ pub data Kind : Type 0 where
   -- a line of a reply
   Reply : Kind
 
--- a command stands behind `> `, and a comment behind `\ `
+-- a command is behind `> `, and a comment behind `\ `
 unfoldable pub kind_of : List ℕ → Kind
 kind_of line =
     if starts_with eqb line (codes "> ") then Command (drop 2 line)
@@ -21,6 +21,6 @@ by_kind (Command text) command note reply = command text
 by_kind Note command note reply = note
 by_kind Reply command note reply = reply
 
--- a line of a reply; one that would be read as something else stands behind `. `
+-- a line of a reply; one that would be read as something else is put behind `. `
 abbrev pub as_reply : List ℕ → List ℕ
 as_reply line = by_kind (kind_of line) (λ command. codes ". " ++ line) (codes ". " ++ line) line

@@ -32,11 +32,11 @@ recorded_from text start =
     let early = early_reply (start.line + 1) start.commands in
     unless_early early (unless_too_long (recording_of text start))
 
--- A transcript with the replies that come, or its first fault: of its head, a reply in front of all
+-- A transcript with the replies that come, or its first fault: of its head, a reply before all
 -- commands, or a recording that would be too long.
 abbrev pub IsRecorded : List ℕ → Result (List ℕ) Fault → Type 0
 IsRecorded text answer = IsBehindHead text (recorded_from text) answer
 
--- each command of a transcript replies what stands behind it
+-- each command of a transcript has the reply behind it
 abbrev pub Holds : List ℕ → Type 0
 Holds text = (count : ℕ) × IsChecked text (Ok count)

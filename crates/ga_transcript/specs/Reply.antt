@@ -11,7 +11,7 @@ use Rattle.ga_transcript.specs.Line.{as_reply}
 abbrev pub lines_in : List ℕ → Lines
 lines_in text = if length text == 0 then [] else pieces 10 text
 
--- all lines of a reply, as they stand in a transcript
+-- all lines of a reply, as a transcript has them
 abbrev pub reply_lines : List ℕ → Lines
 reply_lines text = map as_reply (lines_in text)
 

@@ -1,6 +1,7 @@
-ghost use Rattle.std.specs.Prelude.{◌≡◌, ◌+◌, ◌<◌, ◌++◌, ◌^◌, IfOk, None, OnOk, length, map, string_bytes};
+ghost use Rattle.std.specs.Prelude.{◌≡◌, ◌+◌, ◌<◌, ◌++◌, ◌^◌, IfOk, None, OnOk, length, string_bytes};
 ghost use Rattle.ga_asm.specs.Text.{AtMostOne};
-ghost use Rattle.ga_transcript.specs.Check.{Answers, Differs, IsChecked, checked_by, difference_text, fault_of, signed};
+ghost use Rattle.ga_debug.specs.Session.{without_line_end};
+ghost use Rattle.ga_transcript.specs.Check.{Answers, Differs, IsChecked, checked_by, fault_of, signed};
 ghost use Rattle.ga_transcript.specs.Following.{checked, early_reply, wanted};
 ghost use Rattle.ga_transcript.specs.Reply.{reply_lines, step_of};
 
@@ -14,12 +15,12 @@ use ga_debug::{Pieces, load, reply_or_refusal};
 use std::alloc::{AllocError, Global};
 use std::fmt::Write;
 
-/// Does the commands of a transcript, and compares the reply to each with the lines behind it:
-/// answers how many commands there are, where all replies are those that came. Or the first fault:
-/// of the head, as [`TranscriptError::Head`]; a line of a reply in front of all commands, as
+/// Runs the commands of a transcript, and compares the reply to each with the lines behind it.
+/// Answers how many commands there are, if all replies are right, or the first fault: of the head,
+/// as [`TranscriptError::Head`]; a line of a reply before all commands, as
 /// [`TranscriptError::EarlyReply`]; the first command that has another reply, as
-/// [`TranscriptError::Differs`]. It fails as [`TranscriptError::Memory`] only where memory is
-/// refused. (The texts are this project's own: profile.)
+/// [`TranscriptError::Differs`]. Fails with [`TranscriptError::Memory`] only when out of memory.
+/// (The texts are this project's own: profile.)
 #[tactic(auto, using(crate::proofs::OneTranscript::one_checked))]
 pub fn check(alloc: Global, text: &str) -> Result<u64, TranscriptError>
     ensures checked { Answers (λ count. count) (IsChecked text.now) result }
@@ -37,8 +38,8 @@ pub fn check(alloc: Global, text: &str) -> Result<u64, TranscriptError>
     }
 }
 
-/// Does the commands of lines, and compares the reply to each with the lines behind it. No line of
-/// a reply stands in front of the first one.
+/// Runs the commands of lines, and compares the reply to each with the lines behind it. No line of
+/// a reply comes before the first one.
 fn follow(
     alloc: Global,
     mut chip: Chip,
@@ -65,19 +66,15 @@ fn follow(
     }
 }
 
-/// What is told of a command with another reply than the one that stands behind it, where these
-/// lines are left.
+/// The difference of a command with another reply than the one behind it, with these lines left.
 fn difference(
     alloc: Global,
     behind: LinesLeft<'_>,
     came: &str,
 ) -> Result<TranscriptError, AllocError>
     ensures { IfOk result (λ error. fault_of error ≡ Differs behind.entry.number
-        (difference_text (record {
-          line = behind.entry.number;
-          wanted = wanted behind.entry.lines;
-          came = reply_lines came.now;
-        }))) }
+        (without_line_end (signed 45 (wanted behind.entry.lines)
+        ++ signed 43 (reply_lines came.now)))) }
 {
     let mut lines = String::new(alloc);
     push_wanted(&mut lines, behind.lines)?;
@@ -88,7 +85,7 @@ fn difference(
     Ok(TranscriptError::Differs(behind.number, lines))
 }
 
-/// Adds the lines of a reply in front of the next command, each behind `-` and ended by LF.
+/// Adds the lines of a reply before the next command, each behind `-` and ended by LF.
 fn push_wanted(text: &mut String, lines: Pieces<'_>) -> Result<(), AllocError>
     ensures { OnOk result (string_bytes text.new
         ≡ string_bytes text.old ++ signed 45 (wanted lines.entry)) }

@@ -1,27 +1,26 @@
 ghost use Rattle.std.specs.Prelude.{◌≡◌};
-ghost use Rattle.ga_transcript.specs.Check.{fault_of_head};
-ghost use Rattle.ga_transcript.specs.declared.error.TranscriptError.TheVariants.{Memory};
+ghost use Rattle.ga_debug.specs.declared.replay_error.ReplayError.TheVariants as replay;
+ghost use Rattle.ga_transcript.specs.declared.error.TranscriptError.TheVariants.{Head, Memory};
 
 use ga_debug::ReplayError;
 use std::alloc::AllocError;
 use thiserror::Error;
 
-/// Why a transcript is refused, or doesn't hold. Lines are counted from 1, from the text's first
-/// line; inside `Head` as
-/// [`ReplayError`] counts them. (The texts are this project's own: profile.)
+/// Why a transcript is refused, or fails its check. Lines are counted from 1, from the text's first
+/// line; inside `Head` as [`ReplayError`] counts them. (The texts are this project's own: profile.)
 #[derive(Debug, PartialEq, Eq, Drop, Error)]
 pub enum TranscriptError {
     /// Its head is refused.
     #[error("{0}")]
     Head(ReplayError),
-    /// A line of a reply stands in front of all commands.
+    /// A line of a reply comes before all commands.
     #[error("line {0} EarlyReply")]
     EarlyReply(u64),
-    /// The command of this line has another reply. The text has the lines of the wanted one, each
-    /// behind `-`, and then those of the one that came, each behind `+`.
+    /// The command of this line has another reply. The text has the lines of the expected one, each
+    /// behind `-`, and then those of the actual one, each behind `+`.
     #[error("differs {0}\n{1}")]
     Differs(u64, String),
-    /// What would be recorded has more bytes than a recording may have.
+    /// The recording would have more bytes than it may.
     #[error("TooLong")]
     TooLong,
     /// Memory ran out.
@@ -30,7 +29,8 @@ pub enum TranscriptError {
 }
 
 impl From<ReplayError> for TranscriptError {
-    ghost from_gives = { λ error fault. fault ≡ fault_of_head error };
+    ghost from_gives = { λ error fault. fault
+        ≡ elim error [ replay.Memory ↦ Memory | head ↦ Head head ] };
 
     fn from(error: ReplayError) -> TranscriptError {
         match error {

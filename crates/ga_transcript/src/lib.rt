@@ -1,4 +1,4 @@
-//! Transcripts: commands of a session with the replies that are wanted, checked or recorded.
+//! Transcripts: commands of a session with their expected replies, checked or recorded.
 #![tactic(auto)]
 
 mod checking;

@@ -9,7 +9,7 @@ use crate::line::{Line, line_of};
 use crate::reply::{is_reply_line, lines_in};
 use ga_debug::Pieces;
 
-/// The lines of a transcript that are left, and the number of the line in front of them.
+/// The lines of a transcript that are left, and the number of the line before them.
 #[derive(Drop)]
 pub(crate) struct LinesLeft<'a> {
     pub(crate) number: u64,
@@ -28,11 +28,11 @@ impl<'a> LinesLeft<'a> {
     }
 }
 
-/// The reply to a command isn't the one that is wanted.
+/// The reply to a command isn't the expected one.
 #[derive(Clone, Copy)]
 pub(crate) struct OtherReply;
 
-/// The number of the first line of a reply in front of all commands, where there is one.
+/// The number of the first line of a reply before all commands, if there is one.
 pub(crate) fn early_reply(mut left: LinesLeft<'_>) -> Option<u64>
     requires { left.number + length left.lines < 2 ^ 64 }
     ensures { result ≡ spec.early_reply (left.entry.number + 1) left.entry.lines }
@@ -48,8 +48,8 @@ pub(crate) fn early_reply(mut left: LinesLeft<'_>) -> Option<u64>
     None
 }
 
-/// The next command, or none, where the lines of a reply in front of it are those of the reply that
-/// came. The lines then go on behind it.
+/// The next command, or none, if the lines of a reply before it are those of the actual reply. The
+/// lines then go on behind it.
 pub(crate) fn command_behind<'a>(
     left: &mut LinesLeft<'a>,
     came: &str,
@@ -71,7 +71,7 @@ pub(crate) fn command_behind<'a>(
     }
 }
 
-/// The next command, where each line of a reply in front of it is the next one of this reply.
+/// The next command, if each line of a reply before it is the next one of this reply.
 fn next_command<'a>(
     left: &mut LinesLeft<'a>,
     reply: &mut Pieces<'_>,

@@ -18,13 +18,13 @@ use std::alloc::{AllocError, Global};
 /// The most bytes that a recording may have.
 const RECORDING_LIMIT: usize = 268_435_456;
 
-/// A transcript with the replies that come: each stands behind its command, and the lines of the
-/// one that stood there are left out. All other lines stay as they are. Or the first fault: of the
-/// head, as [`TranscriptError::Head`]; a line of a reply in front of all commands, as
+/// A transcript with the actual replies: each is behind its command, and the lines of the one that
+/// was there are left out. All other lines stay as they are. Or the first fault: of the head, as
+/// [`TranscriptError::Head`]; a line of a reply before all commands, as
 /// [`TranscriptError::EarlyReply`]; a recording of more than 268,435,456 bytes, as
-/// [`TranscriptError::TooLong`], and no command is done behind the one that makes it too long. It
-/// fails as [`TranscriptError::Memory`] only where memory is refused. (The texts are this project's
-/// own: profile.)
+/// [`TranscriptError::TooLong`], and no command is run behind the one that makes it too long. Fails
+/// with [`TranscriptError::Memory`] only when out of memory. (The texts are this project's own:
+/// profile.)
 #[tactic(auto, using(crate::proofs::OneTranscript::one_recorded))]
 pub fn record(alloc: Global, text: &str) -> Result<String, TranscriptError>
     ensures recorded { Answers string_bytes (IsRecorded text.now) result }
@@ -32,7 +32,7 @@ pub fn record(alloc: Global, text: &str) -> Result<String, TranscriptError>
     ensures only { AtMostOne (IsRecorded text.now) }
     // `check` accepts a recording
     ensures holds { IfOk result (λ recording. Holds (string_bytes recording)) }
-    // and it is recorded again as it is
+    // and recording it again doesn't change it
     ensures again { IfOk result (λ recording. IsRecorded (string_bytes recording)
         (Ok (string_bytes recording))) }
 {
@@ -50,7 +50,7 @@ pub fn record(alloc: Global, text: &str) -> Result<String, TranscriptError>
     Ok(recording)
 }
 
-/// Adds what is recorded of lines, each behind an LF, until the text is too long.
+/// Adds the recording of lines, each behind an LF, until the text is too long.
 fn push_recorded(
     alloc: Global,
     text: &mut String,
@@ -79,8 +79,8 @@ fn push_recorded(
     Err(TranscriptError::TooLong)
 }
 
-/// Does a command, puts its reply in the place of what came before, and adds the lines of the
-/// reply, each behind an LF.
+/// Runs a command, replaces the reply before by its own, and adds the lines of the reply, each
+/// behind an LF.
 fn push_came(
     alloc: Global,
     text: &mut String,
@@ -97,7 +97,7 @@ fn push_came(
     push_reply(text, came)
 }
 
-/// The first lines of a text, so many, with an LF between two.
+/// The first `count` lines of a text, with an LF between two.
 fn front(alloc: Global, text: &str, count: u64) -> Result<String, AllocError>
     requires { 0 < count }
     ensures { IfOk result (λ front.

@@ -1,4 +1,4 @@
-//! The replies to the commands of a transcript, as they stand there.
+//! The replies to the commands of a transcript, as it has them.
 ghost use Rattle.std.specs.Prelude.{◌≡◌, ◌++◌, OnOk, string_bytes};
 ghost use Rattle.ga_transcript.specs.Line.{as_reply};
 ghost use Rattle.ga_transcript.specs.Reply.{lines_in};
@@ -19,7 +19,7 @@ pub(crate) fn lines_in(reply: &str) -> Pieces<'_>
     lines
 }
 
-/// Adds a line of a reply. One that would be read as something else in a transcript stands behind
+/// Adds a line of a reply. One that would be read as something else in a transcript is put behind
 /// `. `.
 pub(crate) fn push_as_reply(text: &mut String, line: &str) -> Result<(), AllocError>
     ensures { OnOk result (string_bytes text.new ≡ string_bytes text.old ++ as_reply line.now) }

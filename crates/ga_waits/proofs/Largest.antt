@@ -16,7 +16,7 @@ use Rattle.ga_chip.proofs.Closed.{in_closed}
 use Rattle.ga_chip.proofs.Largest.{IsPart, stuck_more}
 use Rattle.ga_waits.specs.Closed.{left_after, stuck_in}
 
--- What is stuck by a set is stuck by a larger one, where there is a node.
+-- What is stuck by a set is stuck by a larger one, if there is a node.
 stuck_there : (inside larger : ℕ → Bool) (cells : List (Option ℕ)) (part : Option Part)
     → IsPart inside larger → option_map_or (is_stuck inside cells) part false ≡ true
     → option_map_or (is_stuck larger cells) part false ≡ true
@@ -178,7 +178,7 @@ at_first chip =
     at_most : (count : ℕ) → count ≤ 144 → count + 0 ≤ 144
     at_most count most = omega (arith, most)
 
--- so many rounds leave no node to be left out, or left out a node each
+-- after these rounds no node is left out any more, or each of them has left out a node
 settled_or_fewer : (chip : Chip) (rounds : ℕ)
     → IsSettled chip rounds ⊎ (count_left chip rounds + rounds ≤ 144)
 settled_or_fewer chip zero = inr (at_first chip)

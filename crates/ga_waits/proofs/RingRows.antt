@@ -36,7 +36,7 @@ pub record Leads (next : ℕ → Option ℕ) (first from : ℕ) (names : List �
   pub waits : map next (from ∷ names) ≡ map Some (names ++ first ∷ [])
   pub above : AllAbove first names
 
--- one name more in front
+-- one name more at the front
 more : {next : ℕ → Option ℕ} {first from name : ℕ} {names : List ℕ} → next from ≡ Some name
     → first < name → Leads next first name names → Leads next first from (name ∷ names)
 more {next = next} {name = name} {names = names} is above leads = record {
@@ -306,7 +306,7 @@ ring_there next first row =
     (leads_ring next first names (found next first 144 first (next first) refl comes)))
     (λ none among. absurd (no_member row among))
 
--- what stands in one of lists stands in all of them together, and the other way round
+-- what is in one of the lists is in all of them together, and the other way round
 among_all : {A : Type 0} (lists : ℕ → List A) (x : A) (start n i : ℕ) → start ≤ i → i < start + n
     → Contains (lists i) x → Contains (flat_map lists (range_with_len start n)) x
 among_all lists x start zero i low high among = absurd (omega (arith, low, high))
@@ -401,7 +401,7 @@ climbs_from next start (suc n) =
     (λ begins. (omega arith, lower (name_at (start + 1)) (name + 1) (least_names rings) up rest))
     (λ none. lower (name_at (start + 1)) name (least_names rings) (omega (arith, up)) rest)
 
--- the rings stand in the order of their least names
+-- the rings are in the order of their least names
 pub in_order : (next : ℕ → Option ℕ) → IsStrictlyIncreasing (least_names (rings_of next))
 unfolding rings_of
 in_order next = climbs_up 0 (least_names (rings_from next 0 144)) (climbs_from next 0 144)

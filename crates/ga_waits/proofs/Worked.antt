@@ -18,7 +18,7 @@ use Rattle.ga_waits.specs.Line.{op_text}
 use Rattle.ga_waits.specs.Ring.{awaits, begins_ring, ring_line, rings_of, row_behind}
 use Rattle.ga_waits.specs.Sides.{act_text, end_text, told_need}
 
--- after reset no node has begun, and it has where it was given words or a stream
+-- after reset no node has started; it has once it was given words or a stream
 reset_301 : has_begun 301 (reset_state 301) ≡ false
 reset_301 = refl
 
@@ -48,7 +48,7 @@ behind_end : label_text labels 63 ≡ codes " end+58"
 unfolding label_text digits
 behind_end = refl
 
--- the opcode in front of which a node stands: `@p b! @b .` in slot 2
+-- the opcode of a node's slot: `@p b! @b .` in slot 2
 in_slot2 : op_text place.Slot2 0x04B02 ≡ codes " @b"
 unfolding reading_of op_with
 in_slot2 = refl
@@ -68,7 +68,7 @@ takes_two : act_text 0 (need.Take (sides_with 0xC0)) ≡ codes "takes right of 0
 takes_two = refl
 
 -- a take of one side waits for the neighbour there, unless a word is pending; a take of two waits
--- for none alone
+-- for no single one
 one_side_alone : awaits reset_chip.cells 709 (need.Take (sides_with 0x80)) ≡ Some 708
 unfolding reset_chip cell_of all_cells
 one_side_alone = refl

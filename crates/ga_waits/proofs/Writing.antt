@@ -10,7 +10,7 @@ use Rattle.ga_dump.proofs.Lines.{next_line}
 use Rattle.ga_waits.specs.Sides.{joined}
 use Rattle.ga_waits.specs.Waits.{text_of}
 
--- One side more of those that are told: where it is in the set,
+-- One more side of a list of sides: if it is in the set,
 pub side_told : (text : Side → List ℕ) (front between now : List ℕ) (sides : Sides)
     (items : List Side) (i : ℕ) (d : Side) (old mid new whole : List ℕ) → i < length items
     → old ++ joined text front between sides (drop i items) ≡ whole

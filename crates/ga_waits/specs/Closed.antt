@@ -5,7 +5,7 @@ use Rattle.ga_place.specs.Node.{is_node_name}
 use Rattle.ga_chip.specs.Chip.{Chip, part_of}
 use Rattle.ga_chip.specs.Stuck.{is_stuck}
 
--- A node stays in a set where it can't go on as long as no node of the set does.
+-- A node stays in a set if it can't go on as long as no node of the set does.
 abbrev pub stays_in : Chip → (ℕ → Bool) → ℕ → Bool
 stays_in chip inside name =
     inside name && option_map_or (is_stuck inside chip.cells) (part_of chip name) false

@@ -1,4 +1,4 @@
--- Where P is, told by a label of the node's image.
+-- P as an offset from a label of the node's image.
 use Rattle.std.specs.Prelude.{ℕ, ◌-◌, ◌==◌, ◌&&◌, nat_le, nat_lt, List, [], ◌∷◌, ◌++◌, Option, Some, None, if◌then◌else◌}
 use Rattle.std.specs.Borrow.{Bor}
 use Rattle.std.specs.Fmt.{decimal}
@@ -13,8 +13,8 @@ abbrev pub images_in : Option (Bor (List (ℕ × ImageView))) → List (ℕ × I
 images_in None = []
 images_in (Some images) = images.now
 
--- the address found so far, or that of one more label, where that is at or before an index and
--- behind the one found
+-- the address found so far, or that of one more label, if that is at or before an index and behind
+-- the one found
 abbrev pub nearer : ℕ → Option ℕ → ℕ → Option ℕ
 nearer index None at = if nat_le at index then Some at else None
 nearer index (Some found) at = if nat_le at index && nat_lt found at then Some at else Some found
@@ -27,17 +27,14 @@ nearest_from index found (label ∷ labels) = nearest_from index (nearer index f
 abbrev pub nearest : Labels → ℕ → Option ℕ
 nearest labels index = nearest_from index None labels
 
--- how far P is behind a label
-abbrev pub distance_text : ℕ → List ℕ
-distance_text distance = if distance == 0 then [] else 43 ∷ decimal distance
-
 -- the last label at or before an index of RAM, behind a blank, and how far the index is behind it
 unfoldable pub label_text : Labels → ℕ → List ℕ
 label_text labels index =
     elim (nearest labels index) [
       | None ↦ []
       | Some at ↦
-          option_map_or (λ name. 32 ∷ name ++ distance_text (index - at)) (label_at labels at) []
+          option_map_or (λ name. 32 ∷ name ++ (if index - at == 0 then []
+          else 43 ∷ decimal (index - at))) (label_at labels at) []
     ]
 
 -- only an address of RAM of a node that has an image has one

@@ -1,5 +1,5 @@
--- The line of a node that has begun.
-use Rattle.std.specs.Prelude.{ℕ, Bool, List, [], ◌∷◌, codes, Option, Some, None, if◌then◌else◌}
+-- The line of a node that has started.
+use Rattle.std.specs.Prelude.{ℕ, Bool, List, [], ◌∷◌, codes, if◌then◌else◌}
 use Rattle.std.specs.List.{concat}
 use Rattle.std.specs.Option.{option_map_or}
 use Rattle.ga_word.specs.Hex.{hex_digits}
@@ -30,11 +30,7 @@ op_text Transfer word = []
 op_text Count word = []
 op_text Body word = []
 
--- what is told of a node at the end of its line, where it is so
-abbrev pub if_so : Bool → List ℕ → List ℕ
-if_so so text = if so then text else []
-
--- The line of a node in a state: where it stands, what it needs and of whom, whether its tries are
+-- The line of a node in a state: its place, what it needs and from whom, whether its tries are
 -- held, and whether it is stuck. The line's end isn't part of it.
 unfoldable pub wait_line : List (ℕ × ImageView) → Chip → Bool → ℕ → State → List ℕ
 wait_line images chip stuck name state =
@@ -42,9 +38,10 @@ wait_line images chip stuck name state =
     ∷ label_in (image_of images name) (where_is state.p)
     ∷ codes " " ∷ place_text state.place ∷ op_text state.place state.word
     ∷ told_need chip name (need_of state)
-    ∷ if_so (stands_held chip name) (codes ", held") ∷ if_so stuck (codes ", stuck") ∷ [])
+    ∷ (if stands_held chip name then codes ", held" else [])
+    ∷ (if stuck then codes ", stuck" else []) ∷ [])
 
--- only a node that has begun has a line
+-- only a node that has started has a line
 abbrev pub node_lines : List (ℕ × ImageView) → Chip → Bool → ℕ → List (List ℕ)
 node_lines images chip stuck name =
     option_map_or (λ state. if has_begun name state then wait_line images chip stuck name state ∷ []

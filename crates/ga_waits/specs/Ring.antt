@@ -1,10 +1,10 @@
 -- Rings of nodes, each of which waits for the next.
 use Rattle.std.specs.Prelude.{◌≡◌, ◌≢◌, ◌<◌, ◌≤◌, ℕ, zero, suc, ◌==◌, nat_lt, Bool, true, false, List, [], ◌∷◌, ◌++◌, All, AllPairs, codes, drop, length, map, slice_index, take, Option, Some, None, if◌then◌else◌}
 use Rattle.std.specs.List.{flat_map, range_with_len}
+use Rattle.std.specs.Option.{option_and_then}
 use Rattle.ga_place.specs.Cell.{cell_of, name_at, read_cell}
 use Rattle.ga_place.specs.Node.{node_text}
 use Rattle.ga_place.specs.Side.{neighbour_of, one_side}
-use Rattle.ga_place.specs.declared.side.Side.{Side}
 use Rattle.ga_node.specs.Need.{need_of}
 use Rattle.ga_node.specs.State.{State}
 use Rattle.ga_node.specs.declared.need.Need.{Need}
@@ -13,16 +13,12 @@ use Rattle.ga_chip.specs.Chip.{Chip, state_of}
 use Rattle.ga_chip.specs.Run.{stands_held}
 use Rattle.ga_chip.specs.Stuck.{is_full}
 
--- a take of one side waits for the neighbour there as long as no word is pending
-abbrev pub awaits_word : List (Option ℕ) → ℕ → Option Side → Option ℕ
-awaits_word cells name (Some side) =
-    if is_full cells (read_cell name side) then None else neighbour_of name side
-awaits_word cells name None = None
-
--- the one neighbour for which a node waits that isn't held: a check waits as long as its word is
--- pending
+-- the one neighbour for which a node waits that isn't held: a take of one side waits as long as no
+-- word is pending, and a check as long as its word is
 abbrev pub awaits : List (Option ℕ) → ℕ → Need → Option ℕ
-awaits cells name (Take sides) = awaits_word cells name (one_side sides)
+awaits cells name (Take sides) =
+    option_and_then (λ side. if is_full cells (read_cell name side) then None
+    else neighbour_of name side) (one_side sides)
 awaits cells name (Check side) =
     if is_full cells (cell_of name side) then neighbour_of name side else None
 awaits cells name Own = None
@@ -35,11 +31,11 @@ awaits_in true cells name state = None
 awaits_in false cells name (Some state) = awaits cells name (need_of state)
 awaits_in false cells name None = None
 
--- the node for which a node waits, if it waits for one alone; a held node waits for nobody
+-- the node for which a node waits, if it waits for only one; a held node waits for nobody
 unfoldable pub next_of : Chip → ℕ → Option ℕ
 next_of chip name = awaits_in (stands_held chip name) chip.cells name (state_of chip name)
 
--- A ring: a row of nodes, written from its least name on, in which none stands twice, each waits
+-- A ring: a row of nodes, written from its least name on, in which none occurs twice, each waits
 -- for the next, and the last for the first.
 pub record IsRing (next : ℕ → Option ℕ) (row : List ℕ) : Type 0 where
   pub some : 0 < length row
@@ -50,8 +46,7 @@ pub record IsRing (next : ℕ → Option ℕ) (row : List ℕ) : Type 0 where
 
 -- ---- how rings are found: from each node on, by the nodes that each wait for the next
 
--- Whether these come back to the first, with no name on the way that is less, where so many may
--- follow.
+-- Whether these come back to the first, with no lesser name on the way, within `fuel` names.
 abbrev pub comes_back : (ℕ → Option ℕ) → ℕ → ℕ → Option ℕ → Bool
 comes_back next first fuel None = false
 comes_back next first zero (Some name) = false
@@ -73,7 +68,7 @@ begins_ring next first = comes_back next first 144 (next first)
 unfoldable pub row_behind : (ℕ → Option ℕ) → ℕ → List ℕ
 row_behind next first = names_behind next first 144 (next first)
 
--- the ring that begins at a node, where one does
+-- the ring that begins at a node, if one does
 abbrev pub ring_at : (ℕ → Option ℕ) → ℕ → List (List ℕ)
 ring_at next first = if begins_ring next first then (first ∷ row_behind next first) ∷ [] else []
 
@@ -83,9 +78,6 @@ rings_of next = flat_map (λ index. ring_at next (name_at index)) (range_with_le
 
 -- ---- how they are written
 
--- names, each behind a blank
-abbrev pub names_text : List ℕ → List ℕ
-names_text names = flat_map (λ name. 32 ∷ node_text name) names
-
+-- the names of a ring, each behind a blank
 unfoldable pub ring_line : List ℕ → List ℕ
-ring_line row = codes "ring" ++ names_text row
+ring_line row = codes "ring" ++ flat_map (λ name. 32 ∷ node_text name) row

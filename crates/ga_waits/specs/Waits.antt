@@ -18,12 +18,9 @@ all_node_lines images chip =
 unfoldable pub all_ring_lines : Chip → List (List ℕ)
 all_ring_lines chip = map ring_line (rings_of (next_of chip))
 
-unfoldable pub waits_lines : List (ℕ × ImageView) → Chip → List (List ℕ)
-waits_lines images chip = all_node_lines images chip ++ all_ring_lines chip
-
 -- lines as a text, each ended by LF
 abbrev pub text_of : List (List ℕ) → List ℕ
 text_of lines = flat_map (λ line. line ++ 10 ∷ []) lines
 
 unfoldable pub waits_text : List (ℕ × ImageView) → Chip → List ℕ
-waits_text images chip = text_of (waits_lines images chip)
+waits_text images chip = text_of (all_node_lines images chip ++ all_ring_lines chip)

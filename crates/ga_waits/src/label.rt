@@ -1,8 +1,9 @@
-//! Where P is, told by a label.
-ghost use Rattle.std.specs.Prelude.{◌≡◌, ◌++◌, OnOk, string_bytes};
+//! P as an offset from a label.
+ghost use Rattle.std.specs.Prelude.{◌≡◌, ◌==◌, ◌++◌, ◌∷◌, [], OnOk, if◌then◌else◌, string_bytes};
+ghost use Rattle.std.specs.Fmt.{decimal};
 ghost use Rattle.ga_asm.specs.Image.{image_of, labels_of};
 ghost use Rattle.ga_waits.specs.Label as spec;
-ghost use Rattle.ga_waits.specs.Label.{distance_text, images_in, label_in, label_text};
+ghost use Rattle.ga_waits.specs.Label.{images_in, label_in, label_text};
 
 use ga_asm::{Images, label_at};
 use ga_place::{Node, Where};
@@ -10,8 +11,8 @@ use indexmap::IndexMap;
 use std::alloc::AllocError;
 use std::fmt::Write;
 
-/// Adds the last label at or before what an address of a node reaches, where that is in RAM and the
-/// node has an image.
+/// Adds the last label at or before the word that an address of a node reaches, if that is in RAM
+/// and the node has an image.
 pub fn push_label(
     text: &mut String,
     images: Option<&Images>,
@@ -51,10 +52,10 @@ fn push_nearest(
     push_distance(text, index.saturating_sub(at))
 }
 
-/// Adds how far P is behind a label, where it is.
+/// Adds the distance of P from a label, if it isn't 0.
 fn push_distance(text: &mut String, distance: u8) -> Result<(), AllocError>
     ensures { OnOk result (string_bytes text.new
-        ≡ string_bytes text.old ++ distance_text distance) }
+        ≡ string_bytes text.old ++ (if distance == 0 then [] else 43 ∷ decimal distance)) }
 {
     if distance > 0 {
         write!(text, "+{distance}")?;
@@ -73,8 +74,8 @@ fn nearest(labels: &IndexMap<String, u8>, index: u8) -> Option<u8>
     found
 }
 
-/// The address found so far, or that of one more label, where that is at or before an index and
-/// behind the one found.
+/// The address found so far, or that of one more label, if that is at or before an index and behind
+/// the one found.
 fn nearer(index: u8, found: Option<u8>, at: u8) -> Option<u8>
     ensures { result ≡ spec.nearer index found at }
 {

@@ -1,7 +1,7 @@
-ghost use Rattle.std.specs.Prelude.{◌≡◌, ◌++◌, OnOk, string_bytes};
+ghost use Rattle.std.specs.Prelude.{◌≡◌, ◌++◌, [], OnOk, if◌then◌else◌, string_bytes};
 ghost use Rattle.ga_waits.specs.Begun as spec;
 ghost use Rattle.ga_waits.specs.Label.{images_in};
-ghost use Rattle.ga_waits.specs.Line.{if_so, node_lines, wait_line};
+ghost use Rattle.ga_waits.specs.Line.{node_lines, wait_line};
 ghost use Rattle.ga_waits.specs.Waits.{text_of};
 
 use crate::label::push_label;
@@ -15,7 +15,7 @@ use ga_word::Hex3;
 use std::alloc::AllocError;
 use std::fmt::Write;
 
-/// Adds the line of a node, where it has begun.
+/// Adds the line of a node, if it has started.
 pub fn push_line(
     text: &mut String,
     chip: &Chip,
@@ -43,7 +43,7 @@ fn has_begun(node: Node, state: &NodeState) -> bool
     state.steps() != 0 || state.place() != Place::Fetch || state.p() != idle_address(node)
 }
 
-/// Adds the line of a node in a state, but for the line's end.
+/// Adds the line of a node in a state, without the line's end.
 #[tactic(auto, unfolding(crate::specs::Line::wait_line))]
 fn push_state(
     text: &mut String,
@@ -68,9 +68,9 @@ fn push_state(
     Ok(())
 }
 
-/// Adds what is told of a node, where it is so.
 fn push_if(text: &mut String, so: bool, told: &str) -> Result<(), AllocError>
-    ensures { OnOk result (string_bytes text.new ≡ string_bytes text.old ++ if_so so told.now) }
+    ensures { OnOk result (string_bytes text.new
+        ≡ string_bytes text.old ++ (if so then told.now else [])) }
 {
     if so {
         text.push_str(told)?;

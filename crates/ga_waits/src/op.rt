@@ -11,8 +11,7 @@ use ga_word::{Op, Word18};
 use std::alloc::AllocError;
 use std::fmt::Write;
 
-/// Adds the opcode in front of which a node stands, behind a space, where it stands in front of a
-/// slot.
+/// Adds the opcode of a node's slot, behind a space, if its place is a slot.
 pub fn push_op(text: &mut String, place: Place, word: Word18) -> Result<(), AllocError>
     ensures { OnOk result (string_bytes text.new ≡ string_bytes text.old ++ op_text place word) }
 {
@@ -26,7 +25,7 @@ pub fn push_op(text: &mut String, place: Place, word: Word18) -> Result<(), Allo
     Ok(())
 }
 
-/// The opcode of a word in a slot, or `.` where the word has no such slot.
+/// The opcode of a word in a slot, or `.` if the word has no such slot.
 fn op_in(word: Word18, slot: usize) -> Op
     ensures { result ≡ unwrap_or (slice_get (reading_of word).ops slot) Nop }
 {

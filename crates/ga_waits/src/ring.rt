@@ -1,9 +1,11 @@
 //! Rings of nodes, each of which waits for the next.
-ghost use Rattle.std.specs.Prelude.{◌≡◌, ◌++◌, OnOk, Some, length, map, string_bytes};
+ghost use Rattle.std.specs.Prelude.{◌≡◌, ◌++◌, OnOk, None, if◌then◌else◌, length, map, string_bytes};
+ghost use Rattle.ga_place.specs.Cell.{read_cell};
+ghost use Rattle.ga_place.specs.Side.{neighbour_of};
 ghost use Rattle.ga_chip.specs.Stuck as chip_spec;
 ghost use Rattle.ga_waits.specs.inner.Next as inner;
 ghost use Rattle.ga_waits.specs.Ring as spec;
-ghost use Rattle.ga_waits.specs.Ring.{awaits, names_text, ring_at, ring_line, row_behind};
+ghost use Rattle.ga_waits.specs.Ring.{awaits, ring_at, ring_line, row_behind};
 ghost use Rattle.ga_waits.specs.Waits.{text_of};
 
 use ga_chip::Chip;
@@ -12,7 +14,7 @@ use ga_place::{CellId, Node, Side, cell, neighbour};
 use std::alloc::AllocError;
 use std::fmt::Write;
 
-/// The node for which each node waits, in order of name, so that it is worked out once.
+/// The node for which each node waits, in order of name, so that it is computed once.
 pub fn next_nodes(chip: &Chip) -> [Option<Node>; 144]
     ensures { inner.next_in result ≡ spec.next_of chip.now }
 {
@@ -24,9 +26,10 @@ pub fn next_nodes(chip: &Chip) -> [Option<Node>; 144]
     nexts
 }
 
-/// Adds the line of the ring that begins at a node, where one does.
+/// Adds the line of the ring that begins at a node, if one does.
 #[tactic(auto, unfolding(crate::specs::Ring::ring_line))]
 pub fn push_ring(text: &mut String, nexts: &[Option<Node>], first: Node) -> Result<(), AllocError>
+    // an entry for each node
     requires { length nexts.now ≡ 144 }
     ensures { OnOk result (string_bytes text.new
         ≡ string_bytes text.old
@@ -41,8 +44,8 @@ pub fn push_ring(text: &mut String, nexts: &[Option<Node>], first: Node) -> Resu
     Ok(())
 }
 
-/// Whether nodes each wait for the next from a node on, and at last for that node, which has the
-/// least name of them.
+/// Whether from this node on each node waits for the next, and the last for this node, which has
+/// the least name of them.
 fn begins_ring(nexts: &[Option<Node>], first: Node) -> bool
     requires { length nexts.now ≡ 144 }
     ensures { result ≡ spec.begins_ring (inner.next_in nexts.now) first }
@@ -67,7 +70,7 @@ fn begins_ring(nexts: &[Option<Node>], first: Node) -> bool
 fn push_names(text: &mut String, nexts: &[Option<Node>], first: Node) -> Result<(), AllocError>
     requires { length nexts.now ≡ 144 }
     ensures { OnOk result (string_bytes text.new
-        ≡ string_bytes text.old ++ names_text (row_behind (inner.next_in nexts.now) first)) }
+        ≡ string_bytes text.old ++ inner.names_text (row_behind (inner.next_in nexts.now) first)) }
 {
     let mut next = next_in(nexts, first);
     for _walked in 0..144_u8 {
@@ -91,7 +94,7 @@ fn next_in(nexts: &[Option<Node>], node: Node) -> Option<Node>
     nexts[node.index()]
 }
 
-/// The node for which a node waits, if it waits for one alone.
+/// The node for which a node waits, if it waits for only one.
 #[tactic(auto, unfolding(crate::specs::Ring::next_of))]
 fn next_of(chip: &Chip, node: Node) -> Option<Node>
     ensures { result ≡ spec.next_of chip.now node }
@@ -116,9 +119,10 @@ fn awaited(chip: &Chip, node: Node, need: Need) -> Option<Node>
     }
 }
 
-/// The neighbour at a side, where no word of it is pending.
+/// The neighbour at a side, if no word of it is pending.
 fn awaited_writer(chip: &Chip, node: Node, side: Side) -> Option<Node>
-    ensures { result ≡ spec.awaits_word chip.now.cells node (Some side) }
+    ensures { result ≡ (if chip_spec.is_full chip.now.cells (read_cell node side) then None
+        else neighbour_of node side) }
 {
     let other = neighbour(node, side)?;
     if is_full(chip, cell(other, side)) {
@@ -128,7 +132,7 @@ fn awaited_writer(chip: &Chip, node: Node, side: Side) -> Option<Node>
     }
 }
 
-/// The neighbour at a side, where a word for it is pending.
+/// The neighbour at a side, if a word for it is pending.
 fn awaited_reader(chip: &Chip, node: Node, side: Side) -> Option<Node>
     ensures { result ≡ awaits chip.now.cells node (Need.Check side) }
 {

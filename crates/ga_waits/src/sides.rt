@@ -12,8 +12,8 @@ use ga_place::{Node, SIDES, Side, Sides, neighbour};
 use std::alloc::AllocError;
 use std::fmt::Write;
 
-/// Adds what a node needs behind a space; of what it takes, posts or checks its sides, and what the
-/// neighbours there do.
+/// Adds what a node needs behind a space; for a take, a post or a check also its sides, and what
+/// the neighbours there do.
 pub fn push_need(text: &mut String, chip: &Chip, node: Node, need: Need) -> Result<(), AllocError>
     ensures { OnOk result (string_bytes text.new
         ≡ string_bytes text.old ++ told_need chip.now node need) }

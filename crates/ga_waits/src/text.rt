@@ -13,20 +13,20 @@ use ga_chip::{Chip, StuckNodes};
 use ga_place::Node;
 use std::alloc::{AllocError, Global};
 
-/// Who waits for whom, as text: a line for each node that has begun, in order of name, and behind
+/// Who waits for whom, as text: a line for each node that has started, in order of name, and behind
 /// these a line for each ring of nodes in which each waits for the next at one side, in the order
 /// of the least name of each.
 ///
-/// The line of a node tells where it stands, with the label of its image that is at P or the last
-/// before it, if there are images; what it needs, and of whom; and what that neighbour does. A node
-/// whose tries are held is told to be `held`, and one of the largest closed set of nodes, which no
-/// tries in any order move, `stuck`. The call takes memory for its text alone, and fails only where
-/// that is refused. (The text is this project's own: profile.)
-#[tactic(auto, unfolding(crate::specs::Waits::waits_text, crate::specs::Waits::waits_lines), using(crate::proofs::Largest::closed))]
+/// The line of a node has its place, with the label of its image that is at P or the last before
+/// it, if there are images; what it needs, and from whom; and what that neighbour does. It ends
+/// with `held` if the node's tries are held, and with `stuck` if the node is in the largest closed
+/// set, which no tries in any order move. The call allocates only its text, and fails only when out
+/// of memory. (The text is this project's own: profile.)
+#[tactic(auto, unfolding(crate::specs::Waits::waits_text), using(crate::proofs::Largest::closed))]
 pub fn waits(alloc: Global, chip: &Chip, images: Option<&Images>) -> Result<String, AllocError>
     ensures text { IfOk result (λ text. string_bytes text
         ≡ waits_text (images_in images.entry) chip.now) }
-    // the nodes that are told to be stuck are the largest closed set
+    // the nodes with `stuck` are the largest closed set
     ensures closed { IsClosed chip.now (stuck_in chip.now) }
     ensures largest { HoldsEachClosed chip.now (stuck_in chip.now) }
     // each ring has a line, and nothing else has,
@@ -43,7 +43,7 @@ pub fn waits(alloc: Global, chip: &Chip, images: Option<&Images>) -> Result<Stri
     Ok(text)
 }
 
-/// Adds the lines of all nodes that have begun.
+/// Adds the lines of all nodes that have started.
 fn push_nodes(
     text: &mut String,
     chip: &Chip,
@@ -61,7 +61,6 @@ fn push_nodes(
     Ok(())
 }
 
-/// Adds the lines of all rings.
 fn push_rings(text: &mut String, chip: &Chip) -> Result<(), AllocError>
     ensures { OnOk result (string_bytes text.new
         ≡ string_bytes text.old ++ text_of (all_ring_lines chip.now)) }

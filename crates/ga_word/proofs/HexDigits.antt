@@ -12,7 +12,7 @@ use Rattle.std.specs.Fmt.{digit_glyph}
 use Rattle.std.proofs.lemmas.List.Elements.{All-nil, All-push}
 use Rattle.ga_word.specs.Hex.{hex_digits, hex_number, is_word_text, word_of}
 
--- a digit stands for itself
+-- a digit reads as its own value
 pub digit_value-glyph : (d : ℕ) → d < 16 → digit_value (digit_glyph true d) ≡ d
 digit_value-glyph d h = grind (arith, nat_tests)
 
@@ -99,7 +99,7 @@ word_of-other_character text place character within is h =
     rw (← is) (not_below (digit_value character) h) in
     rw (list_all_at (λ c. is_digit c 16) text place 0 within other) (grind (arith, nat_tests))
 
--- five digits write a word where their number is below 2 ^ 18
+-- five digits write a word if their number is below 2 ^ 18
 word_of-digits : (text : List ℕ) (word : Option ℕ) → length text ≡ 5
     → list_all (λ c. is_digit c 16) text ≡ true
     → SomeIff word (hex_number text < 2 ^ 18) (hex_number text) → word ≡ word_of text

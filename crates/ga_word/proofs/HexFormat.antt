@@ -1,4 +1,4 @@
--- What the format `{:0wX}` writes of a number: its low w hex digits, where it has no more.
+-- What the format `{:0wX}` writes of a number: its low w hex digits, if it has no more.
 use Rattle.std.proofs.Common.{◌≡◌, ℕ, zero, suc, ◌+◌, ◌-◌, ◌*◌, ◌/◌, ◌%◌, ◌^◌, ◌<◌, ◌≤◌, ◌==◌, Bool, true, false, List, [], ◌∷◌, ◌++◌, length, refl, arith, sym, ap, ◌∙◌, append_assoc, append-nil, eqb-true}
 use Rattle.std.proofs.Math.Nat.{pow-suc}
 use Rattle.std.specs.Prelude.{replicate}
@@ -15,7 +15,7 @@ hex_digits-zero zero = refl
 hex_digits-zero (suc width) =
     ap (λ ds. ds ++ 48 ∷ []) (hex_digits-zero width) ∙ replicate_push width 48
 
--- the digits in front of others, filled up with zeros
+-- the digits before others, filled up with zeros
 abbrev Fills : ℕ → ℕ → ℕ → List ℕ → Type 0
 Fills room width n rest =
     replicate (width + length rest - length (digits_onto room 16 true n rest)) 48

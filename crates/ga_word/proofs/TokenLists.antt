@@ -10,7 +10,7 @@ use Rattle.ga_word.specs.Text.{is_blank, is_empty, tokens}
 abbrev not_blank : ℕ → Bool
 not_blank c = not (is_blank c)
 
--- cut at its first element that passes, a list's first part is what stands before
+-- cut at its first element that passes, a list's first part is what comes before
 abbrev SplitsAtFirst : {X : Type 0} → (X → Bool) → List X → Type 0
 SplitsAtFirst {X} p xs =
     (parts : List (List X)) × (slice_split p xs ≡ take (position_or_len p xs) xs ∷ parts)
@@ -87,7 +87,7 @@ pub unwrap_or-position : {X : Type 0} (p : X → Bool) (xs : List X)
 unwrap_or-position p xs =
     first_or_all (position_or_len p xs) (length xs) (prefix_len-le-length (λ x. not (p x)) xs)
 
--- where a text has a character that is not blank, its first token begins at the first of these
+-- if a text has a character that is not blank, its first token begins at the first of these
 pub token_at : (text rest : List ℕ) (start : ℕ) → position not_blank text ≡ Some start
     → rest ≡ drop start text → tokens text ≡ take (position_or_len is_blank rest) rest
     ∷ tokens (drop (position_or_len is_blank rest) rest)
@@ -100,7 +100,7 @@ token_at text rest start found is =
     skip_blanks text ∙ ap (λ i. tokens (drop i text)) start_is ∙ ap tokens (sym is)
     ∙ token_first rest (not_blank_first rest longer first)
 
--- where it has none, it has no token
+-- if it has none, it has no token
 pub no_token : (text : List ℕ) → position not_blank text ≡ None → tokens text ≡ []
 unfolding tokens
 no_token text none =

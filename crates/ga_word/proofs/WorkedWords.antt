@@ -35,7 +35,7 @@ carries : (carry_sum 0x3FFFF 0 false ≡ (0x3FFFF, false))
     × (carry_sum 0x3FFFF 0x3FFFF true ≡ (0x3FFFF, true))
 carries = (refl, refl, refl, refl)
 
--- a multiply step keeps the carry where it adds nothing, and else makes it anew
+-- a multiply step keeps the carry if it adds nothing, and else computes a new one
 steps_with_carry : (multiply_step_carry 0x3FFFF 1 1 false ≡ (0, 0, true))
     × (multiply_step_carry 0 0 1 true ≡ (0, 0x20000, false))
     × (multiply_step_carry 5 7 2 true ≡ (2, 0x20001, true))

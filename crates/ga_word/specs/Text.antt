@@ -7,8 +7,8 @@ abbrev pub is_empty : {X : Type 0} → List X → Bool
 is_empty [] = true
 is_empty (x ∷ xs) = false
 
--- The text of words, of which the first stands at a place. LF is behind the last word and behind
--- each eighth one, and a space behind the others.
+-- The text of words, of which the first has this index. LF is behind the last word and behind each
+-- eighth one, and a space behind the others.
 abbrev pub text_from : ℕ → List ℕ → List ℕ
 text_from place [] = []
 text_from place (word ∷ words) =
@@ -23,7 +23,7 @@ text_of_words words = text_from 0 words
 abbrev pub is_blank : ℕ → Bool
 is_blank c = (c == 32) || (c == 9) || (c == 10) || (c == 13)
 
--- the tokens of a text: what stands between blanks, where that is not empty
+-- the tokens of a text: the parts between blanks that aren't empty
 unfoldable pub tokens : List ℕ → List (List ℕ)
 tokens text = filter (λ token. not (is_empty token)) (slice_split is_blank text)
 
@@ -32,7 +32,7 @@ word_onto place None rest = Err place
 word_onto place (Some word) (Ok words) = Ok (word ∷ words)
 word_onto place (Some word) (Err bad) = Err bad
 
--- the words that tokens write, of which the first stands at a place, or the place of the first that
+-- the words that tokens write, of which the first has this index, or the index of the first that
 -- writes none
 abbrev pub words_from : ℕ → List (List ℕ) → Result (List ℕ) ℕ
 words_from place [] = Ok []

@@ -56,8 +56,8 @@ pub fn hex5(word: Word18) -> [u8; 5]
     ]
 }
 
-/// The word that five hex digits of either case write, or `None` where the text is not five hex
-/// digits or writes a number over 3FFFF.
+/// The word that five hex digits of either case write, or `None` if the text is not five hex digits
+/// or writes a number over 3FFFF.
 pub fn read_hex5(text: &[u8]) -> Option<Word18>
     ensures { result ≡ word_of text.now }
 {

@@ -20,9 +20,9 @@ pub enum Op {
     Micronext,
     /// `next` sets P by its destination while R counts down.
     Next,
-    /// `if` sets P by its destination where T is 0.
+    /// `if` sets P by its destination if T is 0.
     If,
-    /// `-if` sets P by its destination where bit 17 of T is 0.
+    /// `-if` sets P by its destination if bit 17 of T is 0.
     MinusIf,
     /// `@p` pushes the word at P, which advances.
     FetchP,
@@ -166,7 +166,7 @@ impl Op {
         }
     }
 
-    /// The opcode with this name, or `None` where no opcode has it.
+    /// The opcode with this name, or `None` if no opcode has it.
     pub fn from_name(name: &str) -> Option<Self>
         ensures found { IfSome result (λ op. name_of op ≡ name.now) }
         ensures all { (op : Op) → name_of op ≡ name.now → result ≡ Some op }
@@ -174,7 +174,7 @@ impl Op {
         Op::from_bytes(name.as_bytes())
     }
 
-    /// The opcode whose name has these bytes, or `None` where no opcode has it.
+    /// The opcode whose name has these bytes, or `None` if no opcode has it.
     pub fn from_bytes(name: &[u8]) -> Option<Self>
         ensures { result ≡ find (λ op. bytes_eq (name_of op) name.now) opcodes }
     {

@@ -30,8 +30,7 @@ impl<T: Drop> From<AllocFailed<T>> for WordsError {
 }
 
 /// The text of words: each as five hex digits in upper case, eight on a line with one space
-/// between, each line ended by LF. No words are the empty text. It fails only where memory is
-/// refused.
+/// between, each line ended by LF. No words are the empty text. Fails only when out of memory.
 pub fn words_text(alloc: Global, words: &[Word18]) -> Result<String, AllocError>
     ensures { IfOk result (λ text. string_bytes text ≡ text_of_words words.now) }
 {
@@ -40,8 +39,8 @@ pub fn words_text(alloc: Global, words: &[Word18]) -> Result<String, AllocError>
     Ok(text)
 }
 
-/// Adds the text of words to a text, as [`words_text`] gives it. It fails only where memory is
-/// refused, and the text is as it was then.
+/// Adds the text of words to a text, as [`words_text`] gives it. Fails only when out of memory, and
+/// then the text is as it was.
 pub fn push_words(text: &mut String, words: &[Word18]) -> Result<(), AllocError>
     ensures text { IfOk result (λ done. string_bytes text.new ≡ string_bytes text.old
         ++ text_of_words words.now) }
@@ -55,8 +54,8 @@ pub fn push_words(text: &mut String, words: &[Word18]) -> Result<(), AllocError>
     Ok(())
 }
 
-/// Adds the digits of a word, and the ASCII byte behind them. It takes no memory where there is
-/// room for six bytes.
+/// Adds the digits of a word, and the ASCII byte behind them. It allocates nothing if there is room
+/// for six bytes.
 fn push_word(text: &mut String, word: Word18, end: u8) -> Result<(), AllocError>
     requires { end < 128 }
     ensures room { string_len text.old + 6 ≤ string_capacity text.old → IsOk result }
@@ -74,7 +73,7 @@ fn push_word(text: &mut String, word: Word18, end: u8) -> Result<(), AllocError>
 /// The words of a text: tokens of five hex digits of either case, between spaces, tabs, CR and LF.
 ///
 /// The first token that writes no word is refused as [`WordsError::BadWord`] with its index, and
-/// [`WordsError::Memory`] comes where memory is refused.
+/// [`WordsError::Memory`] comes when out of memory.
 pub fn read_words(alloc: Global, text: &str) -> Result<Vec<Word18>, WordsError>
     ensures words { IfOk result (λ words. words_of_text text.now ≡ Ok words.items) }
     ensures bad_word { (index : ℕ) → result ≡ Err (BadWord index) → words_of_text text.now

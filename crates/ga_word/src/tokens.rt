@@ -33,14 +33,14 @@ impl<'a> Iterator for Tokens<'a> {
     }
 }
 
-/// Where the first byte of a text stands that is not blank.
+/// The index of a text's first byte that is not blank.
 pub fn first_non_blank(text: &[u8]) -> Option<usize>
     ensures { result ≡ position (λ c. not (is_blank c)) text.now }
 {
     text.iter().position(|byte| !is_blank(*byte))
 }
 
-/// Where the first blank of a text stands: space, tab, LF or CR.
+/// The index of a text's first blank: space, tab, LF or CR.
 pub fn first_blank(text: &[u8]) -> Option<usize>
     ensures { result ≡ position is_blank text.now }
 {

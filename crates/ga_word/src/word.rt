@@ -112,7 +112,7 @@ impl Word18 {
 
     /// One step of a multiplication, the opcode `+*`: T and A after it, from T, S and A.
     ///
-    /// Where bit 0 of A is 1, S is first added to T modulo 2^18. Then the 36 bits of T and A shift
+    /// If bit 0 of A is 1, S is first added to T modulo 2^18. Then the 36 bits of T and A shift
     /// right by one, and bit 17 of T is kept. (The whole step is this project's profile.)
     pub fn mul_step(t: Self, s: Self, a: Self) -> (Self, Self)
         ensures { result ≡ multiply_step t s a }
@@ -127,9 +127,9 @@ impl Word18 {
     /// One step of a multiplication in extended mode: T, A and the carry after it, from T, S, A and
     /// the carry.
     ///
-    /// Where bit 0 of A is 1, S and the carry are first added to T, and the carry is that out of
-    /// bit 17; else it stays. Then T and A shift as in `mul_step`. (The carry is this project's
-    /// profile.)
+    /// If bit 0 of A is 1, S and the carry are first added to T, and the new carry is that out of
+    /// bit 17; otherwise the carry stays. Then T and A shift as in `mul_step`. (The carry is this
+    /// project's profile.)
     pub fn mul_step_carry(t: Self, s: Self, a: Self, carry: bool) -> (Self, Self, bool)
         ensures { result ≡ multiply_step_carry t s a carry }
     {

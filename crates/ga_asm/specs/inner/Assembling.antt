@@ -14,7 +14,7 @@ pub record IsFaultless (items : List Item) (image : ImageView) : Type 0 where
   pub image_is : IsImage items image
   pub passed : AllPass (names_in items) [] items
 
--- the place where a fault of the item behind so many others is reported
+-- the place at which a fault of the item with this index is reported
 pub record IsPlaceOf (items : List PlacedItem) (at : ℕ) (place : Place) : Type 0 where
   pub front : List PlacedItem
   pub item : PlacedItem
@@ -23,7 +23,7 @@ pub record IsPlaceOf (items : List PlacedItem) (at : ℕ) (place : Place) : Type
   pub at_is : at ≡ length front
   pub place_is : place ≡ fault_place item
 
--- a fault of the item behind so many others is reported, unless memory was refused
+-- a fault of the item with this index is reported, unless it is out of memory
 abbrev pub IsReported : List PlacedItem → ℕ → AsmErrorKind → AsmErrorKind → Place → Type 0
 IsReported items at kind reported place =
     reported ≢ Memory → (kind ≡ reported) × IsPlaceOf items at place

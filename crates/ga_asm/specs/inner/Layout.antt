@@ -78,7 +78,7 @@ open_at address (Shared i is ∷ []) = Some (address, ops_of (i ∷ is))
 open_at address (Alone i ∷ []) = None
 open_at address (group ∷ next ∷ groups) = open_at (address + size group) (next ∷ groups)
 
--- how many items each group has, but for a last word that is open
+-- how many items each group has, without a last word that is open
 abbrev pub closed_counts : List Group → List ℕ
 closed_counts [] = []
 closed_counts (Shared i is ∷ []) = []
@@ -116,7 +116,7 @@ pub record IsBlank (l : the.Layout) : Type 0 where
   pub counts : l.counts.items ≡ []
   pub data_start : l.data_start ≡ None
 
--- The items stand in groups without a fault of the first pass, and this is kept of them.
+-- The items are in groups without a fault of the first pass, and this is what the layout keeps.
 pub record Laying (names : List (List ℕ)) (items : List Item) (l : the.Layout) : Type 0 where
   pub groups : List Group
   pub stand_in : StandIn items groups
@@ -130,7 +130,7 @@ pub record Laying (names : List (List ℕ)) (items : List Item) (l : the.Layout)
   pub few : l.address ≤ 64
   pub labels_near : all_near (labels_of l.labels.entries) ≡ true
 
--- The same of all items, where each word is closed.
+-- The same for all items, with each word closed.
 pub record Placing (items : List Item) (l : the.Layout) : Type 0 where
   pub groups : List Group
   pub stand_in : StandIn items groups
@@ -142,8 +142,7 @@ pub record Placing (items : List Item) (l : the.Layout) : Type 0 where
   pub few : l.address ≤ 64
   pub labels_near : all_near (labels_of l.labels.entries) ≡ true
 
--- an item with this fault or none was refused for it, unless memory was, or passed where it has
--- none
+-- an item is refused for this fault, or when out of memory; it passes only if it has none
 abbrev pub Refuses : {A : Type 0} → Option AsmErrorKind → Result A AsmErrorKind → Type 0
 Refuses fault (Ok x) = fault ≡ None
 Refuses fault (Err kind) = kind ≢ Memory → fault ≡ Some kind

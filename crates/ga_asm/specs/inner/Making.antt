@@ -14,7 +14,7 @@ use Rattle.ga_asm.specs.declared.layout.Layout as the
 abbrev pub group_of : Item → List Item → Group
 group_of i is = if is_loose i then Shared i is else Alone i
 
--- the destination of an item behind so many opcodes of its word
+-- the destination of an item behind this many opcodes of its word
 abbrev pub item_dest : Labels → ℕ → Item → Option ℕ
 item_dest labels slot (Transfer o v) = Some (dest_in labels slot v)
 item_dest labels slot i = None

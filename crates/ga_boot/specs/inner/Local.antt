@@ -35,7 +35,7 @@ abbrev pub lived : State → List Local → State
 lived state [] = state
 lived state (move ∷ moves) = lived (moved state (given move)) moves
 
--- a move answers a need; a take looks at its side alone
+-- a move answers a need; a take looks only at its side
 abbrev pub Suits : Local → Need → Type 0
 Suits Own n = n ≡ need.Own
 Suits (Feed word) n = n ≡ need.Input
@@ -54,7 +54,7 @@ Calm state [] = Unit {0}
 Calm state (move ∷ moves) =
     ((moved state (given move)).ram ≡ state.ram) × Calm (moved state (given move)) moves
 
--- a move answers a need where a take may look at several sides
+-- a move answers a need, which may be a multiport read
 abbrev pub Answers : Local → Need → Type 0
 Answers (Take side word) n =
     (sides : Sides) × (n ≡ need.Take sides) × (looked_at (one_side sides) sides side ≡ Some side)

@@ -79,19 +79,19 @@ pub record IsPlan (plan : Plan) (chip : Chip) : Type 0 where
   pub rootless : plan.parent plan.root ≡ None
   pub outside : (name : ℕ) (part : Part) → plan.parent name ≡ None → (name ≡ plan.root → ⊥)
       → part_of chip name ≡ Some part → IsOutside plan name part
-  -- a word is posted in the plan to a child alone
+  -- in the plan a word is posted only to a child
   pub to_children : (name other : ℕ) (side : Side) → neighbour_of name side ≡ Some other
       → (plan.parent other ≡ Some (name, side) → ⊥) → posted side (script plan name) ≡ []
 
--- the words that the root is given in a run, those at the start and the pieces that come, are as
--- planned as far as they go
+-- the words that the root is given in a run, those at the start and the pieces that come, are a
+-- prefix of the planned ones
 abbrev pub IsFed : Plan → Chip → List Event → Type 0
 IsFed plan chip events = (part : Part) → part_of chip plan.root ≡ Some part
     → IsPrefix (words_left part.stream ++ words_fed chip events plan.root)
     (fed (script plan plan.root))
 
--- THE INVARIANT of a run: what each node did and its script agree as far as both go; and where some
--- node went on behind its script, no node of the tree still waits for its first word.
+-- THE INVARIANT of a run: what each node did and its script agree on their common steps; and if
+-- some node went beyond its script, no node of the tree still waits for its first word.
 pub record Booting (plan : Plan) (chip : Chip) (events : List Event) : Type 0 where
   pub agrees : (name : ℕ) → AgreesWith (history chip events name) (script plan name)
   pub quiet : (past : ℕ) (m : Local) (rest : List Local)

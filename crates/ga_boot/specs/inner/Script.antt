@@ -50,7 +50,7 @@ load_script side image inner =
     Take side (jump_to (port_address_of side)) ∷ Own
     ∷ (subtree_moves Load side inner ++ (load_moves side image ++ Take side NOPS ∷ []))
 
--- and from there until it has begun: the jump of its start word is made
+-- and from there until it has started: the jump of its start word is made
 abbrev pub start_script : ℕ → Side → Option ImageView → Grove → List Local
 start_script name side image inner =
     Own ∷ Own ∷ Own ∷ Own

@@ -19,7 +19,7 @@ children parent (Tree name side image inner beside) =
     record { name = name; parent = parent; side = side; image = image; inner = inner }
     ∷ children parent beside
 
--- how deep a node lies in subtrees of which the roots lie so deep, or 0 where it is none of theirs
+-- the depth of a node in subtrees whose roots have this depth, or 0 if it is in none of them
 abbrev pub depth_in : ℕ → ℕ → Grove → ℕ
 depth_in name depth Bare = 0
 depth_in name depth (Tree node side image inner beside) =

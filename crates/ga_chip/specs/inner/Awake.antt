@@ -23,7 +23,7 @@ pub record Knows (chip : Chip) (awake : NodeSet) : Type 0 where
   pub still : (index : ℕ) (side : Side) → index < 144 → is_in index awake ≡ false
       → (tried chip (name_at index) side).0 ≢ Moved
 
--- the side at which a step passes a word: where the node takes or posts one
+-- the side at which a step takes or posts a word
 abbrev pub port_by : Need → Side → Option Side
 port_by (need.Take sides) side = looked_at (one_side sides) sides side
 port_by (need.Post to word) side = Some to

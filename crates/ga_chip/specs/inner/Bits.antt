@@ -7,6 +7,6 @@ use Rattle.std.specs.List.{range_with_len}
 abbrev pub is_bit : ℕ → List ℕ → Bool
 is_bit place words = bit_at (get_or words (place / 64) 0) (place % 64) == 1
 
--- the first so many bits
+-- the first n bits
 unfoldable pub bits_of : ℕ → List ℕ → List Bool
 bits_of count words = map (λ place. is_bit place words) (range_with_len 0 count)

@@ -1,5 +1,5 @@
-//! Tries of a node by hand, over cells that stand elsewhere: what a try asks for, and its change to
-//! the node.
+//! Tries of a node by hand, over cells that are kept elsewhere: what a try asks for, and its change
+//! to the node.
 ghost use Rattle.std.specs.Prelude.{◌≡◌, ◌≢◌, ℕ, false, true, None, Some};
 ghost use Rattle.ga_place.specs.declared.side.Side.{Side};
 ghost use Rattle.ga_node.specs.Need.{need_of};
@@ -19,11 +19,11 @@ use ga_place::{CellId, Side};
 use ga_word::Word18;
 
 impl NodePart {
-    /// What a try of the node that names a side asks for. `Nothing` has what comes of the try, and
-    /// is never `Moved`: a node that makes no step any more is `Stopped`; else one that is about to
-    /// fetch at a breakpoint, without a pass, is `Held`; and one that asks at a side without a
-    /// neighbour, or for a word of its stream where none is left, `Waits`. Such a try changes
-    /// nothing, and needs no further call.
+    /// What a try of the node that names a side asks for. `Nothing` has the outcome of the try,
+    /// which is never `Moved`: `Stopped` if the node makes no step any more; else `Held` if it is
+    /// about to fetch at a breakpoint, without a pass; and `Waits` if it asks at a side without a
+    /// neighbour, or for a word of its stream when none is left. Such a try changes nothing, and
+    /// needs no further call.
     pub fn asks(&self, side: Side) -> Asks
         ensures value { result ≡ asked_of self.now side }
         ensures still { (outcome : Outcome) → result ≡ Asks.Nothing outcome → outcome ≢ Moved }
@@ -35,8 +35,9 @@ impl NodePart {
         self.asked_by(&need, side)
     }
 
-    /// Where the node's tries look, if each of them asks to take a word or for nothing, whatever
-    /// side it names. As long as no try finds a word, the node stays as it is, and so do its looks.
+    /// The cells at which the node's tries look, if each of them asks to take a word or for
+    /// nothing, whatever side it names. As long as no try finds a word, the node stays as it is,
+    /// and so do its looks.
     #[tactic(auto, unfolding(crate::specs::Asks::looks_of))]
     pub fn looks(&self) -> Option<Looks>
         ensures { result ≡ looks_of self.now }
@@ -48,7 +49,7 @@ impl NodePart {
         Some(Looks::new(right, down, left, up))
     }
 
-    /// Where a try looks that names a side, if it asks to take a word or for nothing.
+    /// The cell at which a try looks that names a side, if it asks to take a word or for nothing.
     fn look(&self, side: Side) -> Option<Option<CellId>>
         ensures { result ≡ look_of (asked_of self.now side) }
     {
@@ -87,7 +88,7 @@ impl NodePart {
     }
 
     /// Makes a try that asks for a take at this side, by the word that was found in the cell and
-    /// taken from it: the node waits where there was none.
+    /// taken from it: the node waits if there was none.
     pub fn done_take(&mut self, from: Side, found: Option<Word18>) -> Outcome
         requires { (side : Side) × (cell : ℕ) × (asked_of self.old side ≡ Asks.Take from cell) }
         ensures part { (side : Side) (cell : ℕ) → asked_of self.old side ≡ Asks.Take from cell
@@ -98,7 +99,7 @@ impl NodePart {
     }
 
     /// Makes a try that asks for a check at this side, by whether the cell was found empty, since
-    /// its word was read: the node waits where it wasn't.
+    /// its word was read: the node waits if it wasn't.
     pub fn done_check(&mut self, to: Side, empty: bool) -> Outcome
         requires { (side : Side) × (cell : ℕ) × (asked_of self.old side ≡ Asks.Check to cell) }
         ensures read { (side : Side) (cell : ℕ) → asked_of self.old side ≡ Asks.Check to cell
@@ -110,10 +111,10 @@ impl NodePart {
         self.check(empty)
     }
 
-    /// The quick way of a try that asks for `Own`, as most do: makes its change to the node and
-    /// answers true. Where the try asks for something else it answers false, and it may do so where
-    /// the node takes a word of its stream, or is about to fetch and has a breakpoint or a pass:
-    /// then nothing is changed, and `asks` tells what to do.
+    /// The fast path of a try that asks for `Own`, as most do: makes its change to the node and
+    /// answers true. If the try asks for something else it answers false and changes nothing. It
+    /// may also do so if the node takes a word of its stream, or is about to fetch and has a
+    /// breakpoint or a pass. After false, call `asks`.
     #[inline(always)]
     pub fn done_if_own(&mut self) -> bool
         ensures asks { result ≡ true → (side : Side) → asked_of self.old side ≡ Asks.Own }

@@ -6,7 +6,7 @@ use Rattle.ga_port.specs.declared.seat.Holding.{Holding}
 use Rattle.ga_port.specs.Cells.{CellsView}
 use Rattle.ga_port.specs.Seat.{SeatView, kept}
 
--- the parts stand in order of name, and the seat has each of them
+-- the parts are in order of name, and the seat has each of them
 pub record AreKept (nodes : List (Option Holding)) (parts : List Part) : Type 0 where
   pub count : length parts ≡ 144
   pub placed : (index : ℕ) (part : Part) → slice_get parts index ≡ Some part

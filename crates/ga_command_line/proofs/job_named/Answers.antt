@@ -1,11 +1,18 @@
-use Rattle.std.proofs.Common.{◌≡◌, rules}
-use Rattle.clap.specs.Words.{found_of, rows_of}
+use Rattle.std.proofs.Common.{◌≡◌, ◌∙◌, ◌≤◌, ℕ, List, Result, Ok, Err, IfErr, ap, rules, string_bytes, sym}
+use Rattle.std.specs.Prelude.{codes}
+use Rattle.std.specs.Str.{bytes_eq}
+use Rattle.std.proofs.lemmas.Bool.{false≢true}
+use Rattle.clap.specs.Words.{Row, Text, found_of, rows_of}
+use Rattle.ga_jobs.specs.declared.Job.{Job}
+use Rattle.ga_jobs.specs.declared.Job.TheVariants.{Asm, Run}
+use Rattle.ga_command_line.specs.declared.command_line.LineError.{LineError}
 use Rattle.ga_command_line.specs.declared.command_line.LineError.TheVariants.{Memory}
-use Rattle.ga_jobs.specs.declared.Job.TheVariants.{Asm}
 use Rattle.ga_command_line.specs.CommandLine.{AsksFor, InRange}
+use Rattle.ga_command_line.specs.Number.{IsNumberAt}
+use Rattle.ga_command_line.specs.Route.{IsRouteAt}
 use Rattle.ga_command_line.proofs.job_named.Goals as goal
 
--- where a name is none of a subcommand's, it asks for no job
+-- a name that is none of a subcommand's asks for no job
 pub returns-in_default-clause-right : goal.returns-in_default-clause-right
 returns-in_default-clause-right c =
     λ asked. elim asked as (λ job. AsksFor (c.args.name.now, rows_of (found_of c.args.found.now))
@@ -13,3 +20,24 @@ returns-in_default-clause-right c =
       | Asm ↦ λ asks within. absurd (c.in_default.not-asm asks.0)
       | _ ↦ λ asks within. absurd (search rules)
     ]
+
+-- the name `run` asks for a run alone
+run_right : (name : Text) (rows : List Row) (result : Result Job LineError) → name ≡ codes "run"
+    → IfErr result (λ error. (route : Text) (workers turns : ℕ)
+    → ((1 ≤ workers) × (workers ≤ 144)) × (turns ≤ 1000000)
+    → IsRouteAt rows route × IsNumberAt (codes "WORKERS") rows workers
+    × IsNumberAt (codes "TURNS") rows turns → error ≡ Memory)
+    → IfErr result (λ error. (job : Job) → AsksFor (name, rows) job → InRange job → error ≡ Memory)
+run_right name rows (Ok job) is right = right
+run_right name rows (Err error) is right =
+    λ asked. elim asked as (λ job. AsksFor (name, rows) job → InRange job → error ≡ Memory) [
+      | Run route workers turns ↦
+          λ asks within. right (string_bytes route) workers turns within asks.1
+      | _ ↦ λ asks within. absurd (false≢true
+          (sym (ap (λ (text : Text). bytes_eq text (codes "run")) (sym is ∙ asks.0))))
+    ]
+
+pub returns-in-run-clause-right : goal.returns-in-run-clause-right
+returns-in-run-clause-right c =
+    run_right c.args.name.now (rows_of (found_of c.args.found.now)) c.job_of-in-run.result
+    c.in-run.is c.job_of-in-run.ensures.right

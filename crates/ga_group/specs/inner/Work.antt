@@ -40,8 +40,8 @@ pub record HaveGained (old new : List (Option Holding)) (names : List ℕ)
       → (part : Part) × (kept new name ≡ Some (record { part = part; sides = one.sides ++ sides }))
   pub others : (name : ℕ) → is_among name names ≡ false → kept new name ≡ kept old name
 
--- What becomes of a seat, and of parts that are lent with it: each node of theirs has got tries
--- that name these sides.
+-- A seat, and the parts that are borrowed with it, after a worker's tries: each node of these parts
+-- has got tries that name these sides.
 pub record HasWorked (before after : SeatView) (old new : List Part)
     (sides : List Side) : Type 0 where
   pub table : after.table ≡ before.table

@@ -1,4 +1,4 @@
--- How the items of a node are laid into words: what stands, and not how it is found.
+-- How the items of a node are laid into words: the result, and not the way to it.
 --
 -- An item outside brackets is one opcode, and takes a slot of a word. Items that share a word fill
 -- it from slot 0 on, and what is left of it holds fillers, `.`. A bracketed word, a plain word, a
@@ -6,7 +6,7 @@
 -- the words of the F18A reference, DB001.
 use Rattle.std.specs.Prelude.{◌<◌, ◌≡◌, ◌==◌, ◌&&◌, ◌||◌, ℕ, zero, suc, ◌+◌, ◌%◌, ◌/◌, ◌^◌, Bool, true, false, not, count_by, List, [], ◌∷◌, ◌++◌, length, nat_lt, Option, Some, None, if◌then◌else◌}
 use Rattle.std.specs.List.{list_all, list_any}
-use Rattle.std.specs.Option.{unwrap_or}
+use Rattle.std.specs.Option.{option_map_or, unwrap_or}
 use Rattle.std.specs.Str.{bytes_eq}
 use Rattle.ga_word.specs.declared.op.Op.{Op}
 use Rattle.ga_word.specs.declared.op.Op.TheVariants.{FetchP, Micronext, Nop}
@@ -74,13 +74,13 @@ p_behind address ops = address + 1 + count_by is_followed ops
 
 -- The numbers that a destination in a slot reaches: from slot 0 each, from slot 1 those below 100
 -- (hexadecimal), and from slot 2 those in the page of P, which is eight words: the destination
--- replaces its low three bits alone.
+-- replaces only its low three bits.
 abbrev pub reaches : ℕ → ℕ → ℕ → Bool
 reaches slot p dest =
     (slot == 0) || ((slot == 1) && nat_lt dest (dest_bound 1))
     || ((slot == 2) && (dest / 8 == p / 8))
 
--- a label that is not defined yet may stand in slots 0 and 1, from where each address is in reach
+-- a label that is not defined yet is allowed in slots 0 and 1, which reach each address
 abbrev pub may_reach : ℕ → ℕ → Option ℕ → Bool
 may_reach slot p (Some dest) = reaches slot p dest
 may_reach slot p None = nat_lt slot 2
@@ -90,8 +90,8 @@ is_unext Micronext = true
 is_unext o = false
 
 -- Whether an item outside brackets fits the slot behind these opcodes of the word at an address.
--- The labels are those that are defined before the item. An `unext` runs its own word again, and
--- never stands in slot 0.
+-- The labels are those that are defined before the item. An `unext` runs its own word again, and is
+-- never in slot 0.
 unfoldable pub fits : Labels → ℕ → List Op → Item → Bool
 fits labels address ops (Instruction o) =
     op_fits (length ops) o && (not (is_unext o) || nat_lt 0 (length ops))
@@ -144,11 +144,11 @@ abbrev pub more_join : Labels → ℕ → List Op → List Item → Bool
 more_join labels address ops [] = false
 more_join labels address ops (i ∷ is) = joins labels address ops i
 
--- Groups from an address on, behind these labels. Items that share a word stand in it, and the word
--- is full: the next item would not join it.
+-- Groups from an address on, behind these labels. Items that share a word fit it, and the word is
+-- full: the next item would not join it.
 --
--- So fillers stand only behind a word's last item. One in front of an item would let no item more
--- stand in a word: slot 0 holds an item, and what doesn't fit a slot from 1 on fits none behind it,
+-- So fillers come only behind a word's last item. A filler before an item would never let a word
+-- hold more items: slot 0 holds an item, and what doesn't fit a slot from 1 on fits none behind it,
 -- since slot 3 takes fewer opcodes than slot 2, and the page of P lies below 100 (hexadecimal).
 --
 -- A border closes a word: behind `;`, `ex` and a destination no item joins it, and a label,
@@ -186,11 +186,11 @@ code_end address (group ∷ groups) = code_end (address + size group) groups
 
 -- ---- the words
 
--- The number of a value. For a name that is no label 0 stands here, and no such items are laid.
+-- The number of a value. A name that is no label has 0 here, but no such items are laid.
 abbrev pub value_number : Labels → Value → ℕ
 value_number labels v = unwrap_or (value_of labels v) 0
 
--- these opcodes, and fillers behind them up to so many
+-- these opcodes, filled up to a number of opcodes
 abbrev pub filled : ℕ → List Op → List Op
 filled zero ops = ops
 filled (suc room) [] = Nop ∷ filled room []
@@ -200,13 +200,13 @@ filled (suc room) (o ∷ ops) = o ∷ filled room ops
 abbrev pub dest_in : Labels → ℕ → Value → ℕ
 dest_in labels slot v = value_number labels v % dest_bound slot
 
--- the destination of the last of some items, the first of which stands in a slot
+-- the destination of the last of some items, the first of which is in this slot
 abbrev pub last_dest : Labels → ℕ → List Item → Option ℕ
 last_dest labels slot [] = None
 last_dest labels slot (Transfer o v ∷ []) = Some (dest_in labels slot v)
 last_dest labels slot (i ∷ is) = last_dest labels (suc slot) is
 
--- the opcodes of a word: where no destination stands behind these, fillers do, up to slot 3
+-- the opcodes of a word: without a destination behind these, fillers up to slot 3
 abbrev pub with_fillers : List Op → Option ℕ → List Op
 with_fillers ops (Some dest) = ops
 with_fillers ops None = filled 4 ops
@@ -216,8 +216,8 @@ pub record IsWord (word : ℕ) (ops : List Op) (dest : Option ℕ) (spare : ℕ)
   pub below : word < 2 ^ 18
   pub reads : Reads (bits 18 word) (with_fillers ops dest) dest spare
 
--- The words of a group, with the labels of the whole node. The followers of a shared word stand
--- behind it; those of a bracketed word are plain words, which stand alone.
+-- The words of a group, with the labels of the whole node. The followers of a shared word come
+-- behind it; those of a bracketed word are plain words, in groups of their own.
 unfoldable pub GroupWords : Labels → Group → List ℕ → Type 0
 GroupWords labels (Shared i is) words =
     (word : ℕ) × IsWord word (ops_of (i ∷ is)) (last_dest labels 0 (i ∷ is)) 0
@@ -238,13 +238,9 @@ Words labels (group ∷ groups) words =
 
 -- A name that is the destination of a bracketed word at an address is in reach from its slot. (A
 -- number there is the field itself.) A label that is not among these is not judged.
-abbrev pub is_near : ℕ → ℕ → Option ℕ → Bool
-is_near slot p (Some dest) = reaches slot p dest
-is_near slot p None = true
-
 abbrev pub is_in_reach : Labels → ℕ → Item → Bool
 is_in_reach labels address (WordTo ops o (Label s) spare) =
-    is_near (length ops) (p_behind address ops) (address_of labels s)
+    option_map_or (reaches (length ops) (p_behind address ops)) (address_of labels s) true
 is_in_reach labels address i = true
 
 abbrev pub group_in_reach : Labels → ℕ → Group → Bool
@@ -260,7 +256,7 @@ all_in_reach labels address (group ∷ groups) =
 pub record Laid (items : List Item) (words : List ℕ) (labels : Labels) (code_len : ℕ) : Type 0 where
   pub groups : List Group
   pub stand_in : StandIn items groups
-  -- a label is the address of the next word, or the number of words where none follows
+  -- a label is the address of the next word, or the number of words if none follows
   pub labels_are : labels ≡ labels_after [] 0 groups
   pub all_defined : list_all (is_defined (names_in items)) items ≡ true
   pub in_reach : all_in_reach labels 0 groups ≡ true

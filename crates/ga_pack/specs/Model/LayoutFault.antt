@@ -1,8 +1,8 @@
 -- The first fault of a node's items, and of a program.
 --
--- A node is laid in two passes over its items. The first judges each item behind those that stand
--- before it, where a label is known once it is defined. The second judges the names in brackets by
--- the labels that are defined later.
+-- A node is laid in two passes over its items. The first judges each item after those before it; a
+-- label is known once it is defined. The second judges the names in brackets by the labels that are
+-- defined later.
 use Rattle.std.specs.Prelude.{◌⊎◌, ◌≡◌, ◌&&◌, ℕ, ◌+◌, Bool, true, false, not, List, [], ◌∷◌, ◌++◌, codes, length, map, nat_lt, Option, Some, None, if◌then◌else◌}
 use Rattle.std.specs.Option.{unwrap_or}
 use Rattle.ga_pack.specs.Model.Layout.{Labels, Group, Shared, Alone, Laid, StandIn, address_after, all_in_reach, is_defined, is_in_reach, is_unext, items_of, joins, labels_after, labels_behind, literals, names_in, ops_of, size}
@@ -34,7 +34,7 @@ abbrev pub is_lone_unext : Bool → Item → Bool
 is_lone_unext joined (Instruction o) = not joined && is_unext o
 is_lone_unext joined i = false
 
--- how many words an item adds: one of its own where it joins none, and its follower
+-- how many words an item adds: one of its own if it joins none, and its follower
 abbrev pub words_added : Bool → Item → ℕ
 words_added joined i =
     (if joined then 0 else if makes_word i then 1 else 0) + length (literals (i ∷ []))
@@ -54,7 +54,7 @@ unfoldable pub fault_behind : List (List ℕ) → List Group → Item → Option
 fault_behind names groups i =
     fault_at names (labels_after [] 0 groups) (address_after 0 groups) (joins_last [] 0 groups i) i
 
--- an item behind those before it, which stand in groups, has this fault or none
+-- an item behind those before it, which are in groups, has this fault or none
 pub record Judgement (names : List (List ℕ)) (before : List Item) (item : Item)
     (fault : Option AsmErrorKind) : Type 0 where
   pub groups : List Group
@@ -114,7 +114,8 @@ unfoldable pub AllRight : List PlacedSection → Type 0
 AllRight [] = Unit {0}
 AllRight (section ∷ sections) = IsRight (plain_items section) × AllRight sections
 
--- where the fault of an item is told: at the name that it uses, or else at its first token
+-- the place at which the fault of an item is reported: the name that it uses, or else its first
+-- token
 abbrev pub fault_place : PlacedItem → Place
 fault_place i = unwrap_or i.name_place i.place
 

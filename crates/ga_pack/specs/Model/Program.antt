@@ -30,7 +30,7 @@ name_token (WordTo ops o (Label s) spare) = Some (length ops + 2)
 name_token (Plain (Label s)) = Some 1
 name_token i = None
 
--- an item whose tokens stand at these places, and at more behind them
+-- an item whose tokens have the first of these places
 abbrev pub placed : List Place → Item → PlacedItem
 placed places i = record {
   item = i;
@@ -38,7 +38,7 @@ placed places i = record {
   name_place = option_map (place_at places) (name_token i);
 }
 
--- items, the first token of which stands at the first place
+-- items, the first token of which has the first place
 unfoldable pub placed_items : List Place → List Item → List PlacedItem
 placed_items places [] = []
 placed_items places (i ∷ is) =
@@ -49,8 +49,7 @@ pub record PlacedSection : Type 0 where
   pub name : ℕ
   pub items : List PlacedItem
 
--- Sections, the first token of which, `node`, stands at the first place. Its name is the second
--- token.
+-- Sections, the first token of which, `node`, has the first place. Its name is the second token.
 unfoldable pub placed_sections : List Place → List Section → List PlacedSection
 placed_sections places [] = []
 placed_sections places (s ∷ ss) =

@@ -1,7 +1,7 @@
 -- Which lists of tokens are source texts, and which program each is.
 --
--- A program is spelled token by token (`text_tokens`), and of what can be spelled the right
--- programs are told by their sections and items (`Sections`, `Items`). Nothing here walks a text.
+-- A program is spelled token by token (`text_tokens`). The right programs are those whose sections
+-- and items are right (`Sections`, `Items`). Nothing here walks a text.
 use Rattle.std.specs.Prelude.{◌≡◌, ◌==◌, ◌&&◌, ◌||◌, ℕ, zero, suc, Bool, true, false, not, List, [], ◌∷◌, ◌++◌, length, nat_eq, nat_lt, Option, Some, None}
 use Rattle.std.specs.List.{list_any}
 use Rattle.std.specs.Str.{bytes_eq}
@@ -49,7 +49,7 @@ abbrev pub op_tokens : List Op → List Token → List Token
 op_tokens [] rest = rest
 op_tokens (o ∷ ops) rest = op o ∷ op_tokens ops rest
 
--- the spare bits behind a destination, where they are stated, and the end of the word
+-- the spare bits behind a destination, if they are given, and the end of the word
 abbrev pub spare_tokens : Option ℕ → List Token → List Token
 spare_tokens None rest = close_mark ∷ rest
 spare_tokens (Some spare) rest = slash ∷ number spare ∷ close_mark ∷ rest
@@ -87,7 +87,7 @@ abbrev pub stand_from : ℕ → List Op → Bool
 stand_from slot [] = true
 stand_from slot (o ∷ ops) = not (takes_dest o) && op_fits slot o && stand_from (suc slot) ops
 
--- spare bits are stated behind a destination in slot 0 alone, which leaves some
+-- spare bits are given only behind a destination in slot 0, which leaves some
 abbrev pub is_spare : ℕ → Option ℕ → Bool
 is_spare slot None = true
 is_spare slot (Some spare) = (slot == 0) && nat_lt spare (spare_bound 0)
@@ -107,14 +107,14 @@ is_item Data = true
 
 -- ---- the order of items
 
--- Where an item stands: in the code part, where so many followers of a bracketed word are owed, or
--- behind `data`.
+-- The part of a section that an item is in: the code part, in which a number of followers of a
+-- bracketed word may be missing, or the part behind `data`.
 pub data Part : Type 0 where
   Code : ℕ → Part
   Behind : Part
 
--- Where the next item stands, if this one may stand here. A label may stand anywhere. A bracketed
--- word owes its followers: until they are there only plain words may stand, or `data`.
+-- The part of the next item, if this one is allowed here. A label is allowed anywhere. A bracketed
+-- word needs its followers: until they are there only plain words are allowed, or `data`.
 unfoldable pub part_after : Part → Item → Option Part
 part_after p (Here s) = Some p
 part_after (Code (suc owed)) (Plain v) = Some (Code owed)
@@ -130,8 +130,8 @@ part_after (Code (suc owed)) i = None
 part_after Behind (Plain v) = Some Behind
 part_after Behind i = None
 
--- what stands before an item in its section: the part that it stands in, the labels, and whether
--- there is a word
+-- what comes before an item in its section: the part that it is in, the labels, and whether there
+-- is a word
 pub record Before : Type 0 where
   pub part : Part
   pub labels : List (List ℕ)
@@ -161,8 +161,8 @@ abbrev pub after : Before → Item → Part → Before
 after b i p =
     record { part = p; labels = labels_with i b.labels; has_word = b.has_word || makes_word i }
 
--- The items of a section behind what stands before them: each is right by itself, its label is new
--- in the section, and it may stand there; and the section has a word.
+-- The items of a section behind those before them: each is right by itself, its label is new in the
+-- section, and it is allowed there; and the section has a word.
 unfoldable pub Items : Before → List Item → Type 0
 Items b [] = b.has_word ≡ true
 Items b (i ∷ is) =

@@ -40,15 +40,15 @@ in_data (data_part ∷ back) = true
 in_data (node ∷ back) = false
 in_data (t ∷ back) = in_data back
 
--- behind such a token a number or a name has to stand
+-- such a token needs a number or a name behind it
 abbrev pub wants_value : Token → Bool
 wants_value comma = true
 wants_value (op o) = takes_dest o
 wants_value _ = false
 
--- A malformed token has its own fault wherever it stands.
+-- A malformed token has its own fault anywhere.
 
--- where a node's name is wanted
+-- at a place for a node's name
 abbrev pub name_fault : Token → SourceErrorKind
 name_fault (bad k) = k
 name_fault (node_name n) = DuplicateNode
@@ -61,13 +61,13 @@ bracket_fault open_mark = OpenBracket
 bracket_fault end = OpenBracket
 bracket_fault _ = BadWord
 
--- where a destination or a plain word is wanted
+-- at a place for a destination or a plain word
 abbrev pub value_fault : Token → SourceErrorKind
 value_fault (bad k) = k
 value_fault (number n) = NumberRange
 value_fault _ = BadToken
 
--- where a follower is owed: what begins an item of the code part could stand there, but for that
+-- at a place for a follower: what begins an item of the code part would be allowed there otherwise
 abbrev pub owed_fault : Token → SourceErrorKind
 owed_fault (op o) = if is_followed o then BadToken else BadWord
 owed_fault (number n) = BadWord
@@ -75,8 +75,8 @@ owed_fault align = BadWord
 owed_fault open_mark = BadWord
 owed_fault _ = BadToken
 
--- Where an item is wanted. In the code part the only reason for another fault is a follower that is
--- owed.
+-- The fault at a place for an item. In the code part the only reason for another fault is a missing
+-- follower.
 abbrev pub item_fault : Bool → Token → SourceErrorKind
 item_fault in_data (bad k) = k
 item_fault in_data node = Empty
@@ -94,8 +94,8 @@ kind_at (u ∷ back) t =
     else if wants_value u then value_fault t
     else item_fault (in_data (u ∷ back)) t
 
--- The first fault of a list of tokens: how many stand before it, and its kind. What stands before
--- it goes on, and with it no longer.
+-- The first fault of a list of tokens: how many tokens are before it, and its kind. The tokens
+-- before it are a prefix of a right text, and those up to it are not.
 unfoldable pub SourceFault : List Token → ℕ → SourceErrorKind → Type 0
 SourceFault ts at kind =
     (before : List Token) × (t : Token) × (rest : List Token) × (ts ≡ before ++ t ∷ rest)

@@ -1,4 +1,4 @@
--- The tokens of a source text and where they stand.
+-- The tokens of a source text and their places.
 --
 -- A text is the list of its bytes in UTF-8. Blanks and line ends are bytes below 128, so no
 -- character is cut.
@@ -23,7 +23,7 @@ pub record Run : Type 0 where
   pub offset : ℕ
   pub text : List ℕ
 
--- runs that stand one blank apart, the first at an offset
+-- runs with one blank between them, the first at an offset
 abbrev pub runs_from : ℕ → List (List ℕ) → List Run
 runs_from offset [] = []
 runs_from offset (text ∷ texts) =
@@ -59,7 +59,7 @@ lexemes_from line offset [] = []
 lexemes_from line offset (bytes ∷ lines) =
     line_lexemes line offset bytes ++ lexemes_from (line + 1) (offset + length bytes + 1) lines
 
--- Lines end by LF. What stands behind the last LF is a line too.
+-- Lines end by LF. The text behind the last LF is a line too.
 abbrev pub lines_of : List ℕ → List (List ℕ)
 lines_of text = slice_split (λ byte. byte == 10) text
 

@@ -85,9 +85,6 @@ numeral radix digits =
 abbrev pub ranged : ℕ → Token
 ranged n = if nat_lt n (2 ^ 18) then number n else bad kind.NumberRange
 
-abbrev pub as_decimal : List ℕ → Option Token
-as_decimal text = option_map ranged (numeral 10 text)
-
 -- `$` and hex digits of either case
 abbrev pub as_hex : List ℕ → Option Token
 as_hex [] = None
@@ -108,7 +105,7 @@ is_name (c ∷ cs) = is_letter c && nat_lt (length cs) 16 && list_all is_letter_
 abbrev pub as_name : List ℕ → Option Token
 as_name text = if is_name text then Some (name text) else None
 
--- a name and `:`, where the bytes in front stand before the others
+-- a name and `:`, with the given bytes before the others
 abbrev pub label_from : List ℕ → List ℕ → Option Token
 label_from front [] = None
 label_from front (c ∷ []) = if (c == 58) && is_name front then Some (label front) else None
@@ -121,14 +118,14 @@ as_label text = label_from [] text
 unfoldable pub is_reserved : List ℕ → Bool
 is_reserved text = is_some (as_op text) || is_some (number_named text) || is_some (as_fixed text)
 
--- What a token means, but for the name of a node. Only a name may be written as something else too:
+-- What a token means that is no name of a node. Only a name may be written as something else too:
 -- it is reserved then.
 unfoldable pub meaning_of : List ℕ → Token
 meaning_of text =
     unwrap_or
     (option_or (as_op text) (option_or (option_map number (number_named text))
-    (option_or (as_fixed text) (option_or (as_decimal text) (option_or (as_hex text)
-    (option_or (as_label text) (as_name text)))))))
+    (option_or (as_fixed text) (option_or (option_map ranged (numeral 10 text))
+    (option_or (as_hex text) (option_or (as_label text) (as_name text)))))))
     (bad kind.BadToken)
 
 -- three digits: a row from 0 to 7 and a column from 00 to 17
@@ -138,12 +135,12 @@ as_node text =
     && (nat_lt (digits_value 10 text / 100) 8 && nat_lt (digits_value 10 text % 100) 18)
     then Some (node_name (digits_value 10 text)) else None
 
--- what a token means that stands behind `node` or not
+-- what a token means that is behind `node` or not
 unfoldable pub meaning_at : Bool → List ℕ → Token
 meaning_at true text = unwrap_or (as_node text) (meaning_of text)
 meaning_at false text = meaning_of text
 
--- the tokens of a text, from what they are written as; the first stands behind `node` or not
+-- the tokens of a text, from what they are written as; the first is behind `node` or not
 unfoldable pub meanings : Bool → List (List ℕ) → List Token
 meanings behind [] = end ∷ []
 meanings behind (text ∷ texts) =

@@ -13,14 +13,14 @@ cells_before name =
     (if row_of name == 0 then 0 else 52 + 70 * (row_of name - 1)) + column_of name
     * (if has_side name Up then 3 else 2) + (column_of name - 1)
 
--- how many cells of a node stand before the one at a side that it has
+-- how many cells of a node come before the one at a side that it has
 abbrev pub rank : ℕ → Side → ℕ
 rank name Right = 0
 rank name Down = 1
 rank name Left = 2
 rank name Up = if has_side name Left then 3 else 2
 
--- the number of a cell, where the node has that side
+-- the number of a cell, if the node has that side
 abbrev pub cell_number : ℕ → Side → Option ℕ
 cell_number name side =
     if has_side name side then Some (cells_before name + rank name side) else None

@@ -23,7 +23,7 @@ abbrev pub EntersFound : Try → ℕ → Me ℕ (List (Option Holding)) → Me �
 EntersFound what held old new =
     IsCellWord held × (new ≡ (tried_in old.0 what (pending_of held), old.1))
 
--- a step enters a try that found nothing where the cell was empty, and else none
+-- a step enters a try that found nothing if the cell was empty, else none
 abbrev pub EntersEmpty : Try → ℕ → Me ℕ (List (Option Holding)) → Me ℕ (List (Option Holding))
     → Type 0
 EntersEmpty what held old new =

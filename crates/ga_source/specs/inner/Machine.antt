@@ -11,7 +11,7 @@ use Rattle.ga_pack.specs.Slots.{dest_bound, op_fits, spare_bound}
 use Rattle.ga_pack.specs.declared.error_kind.SourceErrorKind.{SourceErrorKind}
 use Rattle.ga_pack.specs.declared.error_kind.SourceErrorKind.TheVariants.{BadToken, NumberRange, BadNode, DuplicateNode, DuplicateLabel, ReservedLabel, BadWord, NoNode, Empty}
 
--- where the parser stands inside an item: what it has read of it
+-- the parser's place inside an item: what it has read of the item
 pub data At : Type 0 where
   between : At
   behind_op : Op → At
@@ -76,7 +76,7 @@ take_first (Code zero) c align = Ok (item_added c Align (Code 0))
 take_first (Code zero) c open_mark = Ok (inside c (in_word []))
 take_first (Code zero) c _ = Err BadToken
 
--- an item that may have to stand in another part
+-- an item that may have to be in another part
 abbrev pub with_part : Inside → Item → Result State SourceErrorKind
 with_part c i =
     elim (part_after c.before.part i) [ None ↦ Err BadToken | Some p ↦ Ok (item_added c i p) ]
@@ -135,7 +135,7 @@ take (inside c (behind_spare ops o v k)) close_mark = with_part c (WordTo ops o 
 take (inside c (behind_spare ops o v k)) t = Err (bracket_fault t)
 take (finished p) t = Err BadToken
 
--- what the parser has seen to of the item that is begun
+-- what the parser has checked of the item that has started
 abbrev pub Good : State → Type 0
 Good (inside c (behind_op o)) = (takes_dest o ≡ true) × (c.before.part ≡ Code 0)
 Good (inside c behind_comma) =

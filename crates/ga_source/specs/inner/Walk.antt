@@ -6,7 +6,7 @@ use Rattle.std.specs.Str.{bytes_eq}
 use Rattle.ga_word.specs.Text.{is_blank}
 use Rattle.ga_pack.specs.Model.Text.{Lexeme, Place, begins_character, lines_of}
 
--- so many columns on
+-- a number of columns on
 abbrev pub columns_on : Place → ℕ → Place
 columns_on p count = record { line = p.line; column = p.column + count }
 
@@ -45,12 +45,12 @@ left_lexemes p start (bytes ∷ lines) =
 abbrev pub lexemes_at : Place → ℕ → List ℕ → List Lexeme
 lexemes_at p start text = left_lexemes p start (lines_of text)
 
--- what stands behind a run: nothing, or a blank and more
+-- the text behind a run: nothing, or a blank and more
 abbrev pub BehindRun : List ℕ → Type 0
 BehindRun behind =
     (behind ≡ []) ⊎ ((c : ℕ) × (rest : List ℕ) × (behind ≡ c ∷ rest) × (is_blank c ≡ true))
 
--- the first run of a text, behind blanks, and what stands behind it
+-- the first run of a text, behind blanks, and the text behind it
 pub record Begins (text run behind : List ℕ) : Type 0 where
   pub front : List ℕ
   pub blanks : All (λ c. is_blank c ≡ true) front
@@ -59,12 +59,12 @@ pub record Begins (text run behind : List ℕ) : Type 0 where
   pub none : All (λ c. is_blank c ≡ false) run
   pub ends : BehindRun behind
 
--- the first line of a text, and what stands behind the LF at its end
+-- the first line of a text, and the text behind the LF at its end
 abbrev pub FirstLine : List ℕ → List ℕ → Option (Bor (List ℕ)) → Type 0
 FirstLine text line None = (text ≡ line) × All (λ c. (c == 10) ≡ false) line
 FirstLine text line (Some rest) = (text ≡ line ++ 10 ∷ rest.now) × All (λ c. (c == 10) ≡ false) line
 
--- the first token of a text that is in no comment, and what stands behind it
+-- the first token of a text that is in no comment, and the text behind it
 pub record FirstRun (text run behind : List ℕ) : Type 0 where
   pub front : List ℕ
   pub whole : text ≡ front ++ (run ++ behind)

@@ -17,7 +17,7 @@ use ga_word::Op;
 use std::alloc::{AllocError, Global};
 
 impl Parser {
-    /// In brackets, where no opcode with a destination stands yet.
+    /// In brackets, before any opcode with a destination.
     pub(crate) fn take_slot(&mut self, token: &Meaning<'_>) -> Result<(), SourceErrorKind>
         requires position { self.old.position ≡ at.InWord }
         requires code { section_part self.old.part ≡ Code 0 }
@@ -176,7 +176,7 @@ fn word_to(
     Ok(Item::WordTo(Box::new(alloc, word)?))
 }
 
-// The fault of a token that may not stand in brackets.
+// The fault of a token that isn't allowed in brackets.
 fn bracket_fault(token: &Meaning<'_>) -> SourceErrorKind
     ensures { result ≡ faults.bracket_fault (meaning_of token.now) }
 {

@@ -18,7 +18,7 @@ use ga_pack::{SourceErrorKind, dest_bound, is_followed};
 use ga_word::Op;
 
 impl Parser {
-    /// What begins an item, but for a label.
+    /// A token that begins an item and is no label.
     pub(crate) fn take_item(&mut self, token: &Meaning<'_>) -> Result<(), SourceErrorKind>
         requires position { self.old.position ≡ at.Between }
         ensures { IsAnswer (machine.take_first (section_part self.old.part) (inside_of self.old)
@@ -31,7 +31,7 @@ impl Parser {
         }
     }
 
-    // In the code part, where no follower is owed.
+    // In the code part, with no follower missing.
     fn take_code(&mut self, token: &Meaning<'_>) -> Result<(), SourceErrorKind>
         requires position { self.old.position ≡ at.Between }
         ensures { IsAnswer (machine.take_first (Code 0) (inside_of self.old) (meaning_of token.now))
@@ -51,7 +51,7 @@ impl Parser {
         }
     }
 
-    // An opcode outside brackets, where no follower is owed.
+    // An opcode outside brackets, with no follower missing.
     fn take_op(&mut self, op: Op) -> Result<(), SourceErrorKind>
         requires position { self.old.position ≡ at.Between }
         ensures { IsAnswer (machine.take_op (inside_of self.old) op) result (state_of self.new) }
@@ -66,7 +66,7 @@ impl Parser {
         self.add(Item::Instruction(op), Part::Code(0))
     }
 
-    // In the code part, where followers are owed.
+    // In the code part, with followers missing.
     fn take_owed(&mut self, token: &Meaning<'_>) -> Result<(), SourceErrorKind>
         requires position { self.old.position ≡ at.Between }
         ensures { (owed : ℕ)

@@ -1,4 +1,4 @@
--- What a line is, as the code tells it.
+-- The kinds of lines, as the code returns them.
 use Rattle.ga_transcript.specs.declared.line.Line.{Line}
 use Rattle.ga_transcript.specs.declared.line.Line.TheVariants as code
 use Rattle.ga_transcript.specs.Line.{Kind, Command, Note, Reply}

@@ -11,7 +11,7 @@ pub record Next : Type 0 where
   pub command : List ℕ
   pub behind : Lines
 
--- the next command, where the first line has this number
+-- the next command; the first line has this number
 abbrev pub next_command : ℕ → Lines → Option Next
 next_command number [] = None
 next_command number (line ∷ lines) =
@@ -20,13 +20,13 @@ next_command number (line ∷ lines) =
     (next_command (suc number) lines)
     (next_command (suc number) lines)
 
--- what is checked of the lines behind a command of this number, to which these lines came as reply
+-- the check of the lines behind a command of this number, whose actual reply is these lines
 abbrev pub checked_behind : {S : Type 0} → Step S → ℕ → ℕ → S → Lines → Lines → Result ℕ Difference
 checked_behind step number count state lines came =
     if same_lines (wanted lines) came then checked step (suc number) count state lines
     else Err (record { line = number; wanted = wanted lines; came = came })
 
--- what is checked from a command on, behind so many commands
+-- the check from a command on, behind a number of commands
 abbrev pub checked_next : {S : Type 0} → Step S → ℕ → S → Option Next → Result ℕ Difference
 checked_next step count state None = Ok count
 checked_next step count state (Some next) =

@@ -48,7 +48,7 @@ returns-in-Ok-Some-clause-number c =
 abbrev IsSmall : Option ℕ → Type 0
 IsSmall number = IfSome number (λ n. n < 2 ^ 32)
 
--- what such a text writes is read, where only a text is refused that writes no number of 32 bits
+-- what such a text writes is read, if only texts are refused that write no number of 32 bits
 reads_it : {E : Type 0} (text : Option (List ℕ)) (read : Result (Option ℕ) E) (number : Option ℕ)
     (gives : List ℕ → Result ℕ E → Type 0)
     → ((t : List ℕ) (n : ℕ) → gives t (Ok n) → WritesNumber t n)

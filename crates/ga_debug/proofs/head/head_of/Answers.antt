@@ -1,7 +1,8 @@
 use Rattle.std.proofs.Common.{◌≡◌, ◌∙◌, ap, arith, rules, length, option_map, sym}
 use Rattle.std.specs.Prelude.{ok_or}
 use Rattle.ga_path.specs.Names.{lists_in}
-use Rattle.ga_debug.specs.Head.{Loading, head_in, loading_in, up_to_go}
+use Rattle.ga_debug.specs.Head.{Loading, head_in, loading_by, up_to_go}
+use Rattle.ga_debug.specs.Command.{words_of}
 use Rattle.ga_debug.specs.inner.HeadView.{head_view}
 use Rattle.ga_debug.specs.Profile.{profile_line}
 use Rattle.ga_debug.specs.declared.replay_error.ReplayError.TheVariants.{BadRoute}
@@ -28,8 +29,8 @@ returns-in_err-routes-clause-head c =
     c.new-lines.ensures c.in-Some.ensures.steps c.in-Some-next.ensures.steps (search rules) in
     hands_on head_view c.from_residual.result expected c.in_err-routes.field-0.0
     c.from_residual.ensures.1
-    (fails_as (ok_or (loading_in line) BadRoute) expected c.in_err-routes.field-0.0
-    (λ e h. head ∙ bad_loading (loading_in line) rest e h) c.in_err-routes.ensures)
+    (fails_as (ok_or (loading_by (words_of line)) BadRoute) expected c.in_err-routes.field-0.0
+    (λ e h. head ∙ bad_loading (loading_by (words_of line)) rest e h) c.in_err-routes.ensures)
 
 pub returns-in_err-source-clause-head : goal.returns-in_err-source-clause-head
 returns-in_err-source-clause-head c =
@@ -39,7 +40,7 @@ returns-in_err-source-clause-head c =
     let loading : Loading = option_map (λ list. lists_in list.items) c.in_ok-routes.routes in
     let head = behind_two_lines c.args.profile c.args.text.now c.in-Some.first.now line _ _ rest
     c.new-lines.ensures c.in-Some.ensures.steps c.in-Some-next.ensures.steps (search rules)
-    ∙ good_loading (loading_in line) loading rest c.in_ok-routes.ensures in
+    ∙ good_loading (loading_by (words_of line)) loading rest c.in_ok-routes.ensures in
     hands_on head_view c.from_residual-in_err-source.result expected c.in_err-source.field-0.0
     c.from_residual-in_err-source.ensures.1
     (fails_as (up_to_go loading 3 rest) expected c.in_err-source.field-0.0
@@ -52,5 +53,5 @@ returns-clause-head c =
     let loading : Loading = option_map (λ list. lists_in list.items) c.in_ok-routes.routes in
     behind_two_lines c.args.profile c.args.text.now c.in-Some.first.now line _ _ rest
     c.new-lines.ensures c.in-Some.ensures.steps c.in-Some-next.ensures.steps (search rules)
-    ∙ good_loading (loading_in line) loading rest c.in_ok-routes.ensures
+    ∙ good_loading (loading_by (words_of line)) loading rest c.in_ok-routes.ensures
     ∙ c.in_ok-source.ensures.head loading

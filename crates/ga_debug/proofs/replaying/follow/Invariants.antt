@@ -2,7 +2,7 @@ use Rattle.std.proofs.Common.{◌≡◌, ◌+◌, ◌<◌, ◌≤◌, ◌^◌, l
 use Rattle.ga_debug.specs.Replaying.{lines_on}
 use Rattle.ga_debug.proofs.replaying.follow.Given as goal
 
--- what comes of the lines that are left, and room to count them
+-- the result of the lines that are left, and room to count them
 abbrev pub invariant-loop-text : goal.invariant-loop-text
 invariant-loop-text l =
     (lines_on l.profile l.line l.count l.chip l.text-iterator ≡ lines_on l.fn.profile l.fn.first 0

@@ -1,5 +1,7 @@
 use Rattle.std.proofs.Common.{Ok, ap, subst, sym}
-use Rattle.ga_debug.specs.Replaying.{IsReplayedFrom, replay_result}
+use Rattle.std.specs.Prelude.{ℕ}
+use Rattle.std.specs.Result.{result_map_both}
+use Rattle.ga_debug.specs.Replaying.{IsReplayedFrom, fault_of_line}
 use Rattle.ga_debug.specs.declared.profile.Profile.{Profile}
 use Rattle.ga_debug.specs.inner.HeadView.{head_view}
 use Rattle.ga_debug.proofs.replaying.replay.Goals as goal
@@ -11,5 +13,5 @@ returns-clause-replayed c =
       c.in_ok-chip.chip,
       head_view c.in_ok-head.head,
       (c.in_ok-head.ensures.head, c.in_ok-chip.ensures),
-      ap replay_result (sym c.in_ok-count.ensures),
+      ap (result_map_both (λ (count : ℕ). count) fault_of_line) (sym c.in_ok-count.ensures),
     )

@@ -4,7 +4,7 @@ use Rattle.ga_explain.specs.Output.{name_line}
 use Rattle.ga_explain.specs.Topic.{entry_of}
 use Rattle.ga_explain.proofs.output.push_names.Given as goal
 
--- the names so far, and those that are left
+-- the text so far, and the names that are left, make the whole output
 abbrev pub invariant-loop-topic : goal.invariant-loop-topic
 invariant-loop-topic l =
     string_bytes l.text ++ flat_map name_line (map entry_of (drop l.topic-index l.topics))

@@ -3,7 +3,7 @@ use Rattle.ga_chip.specs.Run.{moves, ran, tries_of}
 use Rattle.ga_group.specs.Workers.{round_of}
 use Rattle.ga_group.proofs.alone.round.Given as goal
 
--- the nodes in front have been tried, and the others not yet
+-- the nodes before have been tried, and the others not yet
 abbrev pub invariant-loop-node : goal.invariant-loop-node
 invariant-loop-node l = record {
   runs : ran l.chip (tries_of (round_of (drop l.node-index l.nodes) l.side))

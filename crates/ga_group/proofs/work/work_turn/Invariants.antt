@@ -3,7 +3,7 @@ use Rattle.ga_group.specs.inner.Tried.{steps_in}
 use Rattle.ga_group.specs.inner.Work.{AreKnown, AreLent, HaveGained, names_of}
 use Rattle.ga_group.proofs.work.work_turn.Given as goal
 
--- the nodes in front have been tried, and the others not yet
+-- the nodes before have been tried, and the others not yet
 abbrev pub invariant-loop-index : goal.invariant-loop-index
 invariant-loop-index l = record {
   table : l.seat.table ≡ l.fn.seat.table;

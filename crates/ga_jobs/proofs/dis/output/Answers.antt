@@ -15,7 +15,7 @@ use Rattle.ga_jobs.proofs.Again.{again}
 use Rattle.ga_jobs.proofs.dis.output.Goals as goal
 use Rattle.ga_jobs.proofs.dis.output.Goals.{in-Some, in-None}
 
--- the text of words that are so many at least
+-- the text of words, at least `code_len` of them
 is_text : (code : Option ℕ) (found : Result (List ℕ) ServeError) (words : List ℕ) (code_len : ℕ)
     (text : List ℕ) → found ≡ Ok words → code_len ≡ unwrap_or code (length words)
     → code_len ≤ length words → text ≡ node_line ++ text_of (items_of code_len words)

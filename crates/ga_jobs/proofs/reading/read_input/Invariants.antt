@@ -3,7 +3,7 @@ use Rattle.std.specs.Io.KnownBytes.{Consumes}
 use Rattle.ga_jobs.specs.Answering.{INPUT_LIMIT}
 use Rattle.ga_jobs.proofs.reading.read_input.Given as goal
 
--- what was read stands in `input`, and is within the limit
+-- what was read is in `input`, and is within the limit
 abbrev pub invariant-loop : goal.invariant-loop
 invariant-loop g l = record {
   limit : vec_len l.input ≤ INPUT_LIMIT;

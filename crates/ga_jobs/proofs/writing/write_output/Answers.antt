@@ -7,7 +7,7 @@ use Rattle.std.proofs.lemmas.List.{take_rest}
 use Rattle.ga_jobs.proofs.writing.write_output.Goals as goal
 use Rattle.ga_jobs.proofs.writing.write_output.Goals.{in-Ok-write, in-Err-write}
 
--- a front of what was left is written too
+-- a prefix of what was left is written too
 writes_more : (a b c : Option (List ℕ)) (text rest : List ℕ) (count n : ℕ) → rest ≡ drop count text
     → Appends a b (take count text) → Appends b c (take n rest)
     → (drop n rest ≡ drop (count + n) text) × Appends a c (take (count + n) text)

@@ -3,7 +3,7 @@ use Rattle.ga_pack.specs.Model.Text.{lines_of}
 use Rattle.ga_transcript.specs.Record.{behind_ends, lines_text}
 use Rattle.ga_transcript.proofs.recording.front.Given as goal
 
--- the lines so far, and those that are left of so many
+-- the lines so far, and those that are left
 abbrev pub invariant-loop-left : goal.invariant-loop-left
 invariant-loop-left l =
     string_bytes l.front ++ behind_ends (take l.left l.lines)

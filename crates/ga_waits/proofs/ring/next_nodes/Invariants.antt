@@ -4,7 +4,7 @@ use Rattle.ga_place.specs.Cell.{name_at}
 use Rattle.ga_waits.specs.Ring as spec
 use Rattle.ga_waits.proofs.ring.next_nodes.Given as goal
 
--- the nodes for which as many nodes wait stand in the list
+-- the list has the nodes for which as many nodes wait
 abbrev pub invariant-loop-index : goal.invariant-loop-index
 invariant-loop-index l = record {
   count : length l.nexts ≡ 144;

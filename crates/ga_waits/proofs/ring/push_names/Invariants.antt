@@ -7,6 +7,6 @@ use Rattle.ga_waits.proofs.ring.push_names.Given as goal
 abbrev pub invariant-loop-walked : goal.invariant-loop-walked
 invariant-loop-walked l =
     string_bytes l.text
-    ++ spec.names_text (spec.names_behind (inner.next_in l.nexts) l.first (144 - l._walked) l.next)
+    ++ inner.names_text (spec.names_behind (inner.next_in l.nexts) l.first (144 - l._walked) l.next)
     ≡ string_bytes l.initial.text
-    ++ spec.names_text (spec.row_behind (inner.next_in l.nexts) l.first)
+    ++ inner.names_text (spec.row_behind (inner.next_in l.nexts) l.first)

@@ -1,4 +1,4 @@
--- Where the place is none of the header's, it is the frame's body.
+-- If the place is none of the header's, it is the frame's body.
 use Rattle.std.proofs.Common.{◌∙◌, ap, sym}
 use Rattle.ga_node.proofs.Loading.{awaits, took}
 use Rattle.ga_node.proofs.state.NodeState.load.Goals as goal
