@@ -1,14 +1,13 @@
-# Which build of the program is there, whether it is current, and how it is made so: from the release, or by a
-# build. The commands ga-bench, test and scripts/release read this file, with the repository's absolute path in
-# `root`.
+# The program: whether it is there and current, and how to make it so, from the release or by a build. The commands
+# ga-bench, test and scripts/release read this file, with the repository's absolute path in `root`.
 #
 #   out/ga-bench   the program: unpacked from the release, or a copy of what a proved build left in crates/ga_bench/out
 #   out/stamp      the sum of the sources that it was built from; its time is from before they were read
-#   out/unpacked   there where the program is from the release
-#   out/green      of the last ./test, where it passed: the sums of the sources and of the program, and the toolchain
-#   out/NAME.log   what the last build said of a crate
+#   out/unpacked   there if the program is from the release
+#   out/green      of the last ./test, if it passed: the sums of the sources and of the program, and the toolchain
+#   out/NAME.log   the log of a crate's last build
 #   out/lock       held by whoever makes the program
-#   release/       the program of a green ./test, packed, and a text that says of which sources
+#   release/       the program of a green ./test, packed, and a text with the sum of its sources
 
 out=$root/out
 program=$out/ga-bench
@@ -34,10 +33,10 @@ sum_of() {
     sha256sum | cut -d ' ' -f 1
 }
 
-# Whether the program is that of the sources as they are now. Most often a look at the times is
-# enough: no file and no folder has changed since the stamp. (The time of a file's last change of any
-# kind can't be set back, and a file that is added, moved or removed changes its folder.) Else the texts
-# decide, and where they are the same, as after a git checkout and back, the stamp gets a new time.
+# Whether the program is that of the sources as they are now. In most cases the times are enough: no file and no
+# folder has changed since the stamp. (The time of a file's last change of any kind can't be set back, and a file that
+# is added, moved or removed changes its folder.) Otherwise the texts decide. If they are the same, as after a git
+# checkout and back, the stamp gets a new time.
 is_current() {
     [ -x "$program" ] && [ -f "$stamp" ] || return 1
     [ "${GA_BENCH_BUILD:-}" = 1 ] && [ -f "$out/unpacked" ] && return 1
@@ -69,20 +68,20 @@ unlock() {
     exec 9>&-
 }
 
-# Before the program is made: notes the time and the sources. The caller holds the lock.
+# Before the program is made: records the time and the sources. The caller holds the lock.
 begin() {
     true >"$out/begun" && begun_sum=$(sources_sum) && return 0
-    say 'the sources cannot be read: a command sha256sum on PATH and space for the folder out are needed'
+    say 'the sources cannot be read: this needs the command sha256sum on PATH, and space for the folder out'
     return 1
 }
 
-# Whether no source has changed since it was begun, nor been changed and put back.
+# Whether no source has changed since `begin`, nor been changed and put back.
 is_as_begun() {
     touched=$(cd "$root" && find crates.txt crates \( -name out -o -name must-fail \) -prune \
         -o -type f ! -name '*.md' -cnewer "$out/begun" -print -quit 2>&1) && [ -z "$touched" ] && [ "$(sources_sum)" = "$begun_sum" ]
 }
 
-# Makes a copy of this file the program, or fails where the sources have changed since it was begun.
+# Makes a copy of this file the program, or fails if the sources have changed since `begin`.
 put_in_place() {
     cp "$1" "$out/new.$$" && is_as_begun || return 1
     rm -f "$stamp"
@@ -90,18 +89,18 @@ put_in_place() {
         touch -r "$out/begun" "$out/new.$$" && mv -f "$out/new.$$" "$stamp"
 }
 
-# What is noted of a ./test that passed.
+# The record of a ./test that passed.
 green() {
     printf '%s %s %s\n' "$(sources_sum)" "$(sum_of <"$program")" "$(rt version)"
 }
 
-# What the text of the release says behind a word and a colon.
+# The value behind a word and a colon in the text of the release.
 released() {
     sed -n "s/^$1: //p" "$release.txt"
 }
 
-# Unpacks the release into this file, where it is of the sources with this sum, whole, and starts on this machine.
-# Else `why` says what is wrong with it, and the status is 1.
+# Unpacks the release into this file, if it is of the sources with this sum, undamaged, and starts on this machine.
+# If not, `why` has the reason, and the status is 1.
 unpack() {
     if [ "${GA_BENCH_BUILD:-}" = 1 ]; then
         why='not used, since GA_BENCH_BUILD is 1'
@@ -114,7 +113,7 @@ unpack() {
     elif ! gzip -dc <"$release.gz" 2>/dev/null >"$1" || [ "$(sum_of <"$1")" != "$(released program)" ]; then
         why='damaged'
     elif ! chmod +x "$1" || ! "$1" --version </dev/null >/dev/null 2>&1; then
-        why="not one that starts on this machine (it wants Linux on x86-64 with glibc $(released glibc))"
+        why="not one that starts on this machine (it needs Linux on x86-64 with glibc $(released glibc))"
     else
         return 0
     fi
@@ -122,8 +121,8 @@ unpack() {
     return 1
 }
 
-# Makes the program current: from the release, or else by a build. Statuses: 69 without the toolchain, 70 where
-# the build failed.
+# Makes the program current: from the release, or else by a build. Statuses: 69 without the toolchain, 70 if the
+# build failed.
 make_current() {
     if ! lock; then
         unpack_elsewhere
@@ -140,7 +139,7 @@ make_current() {
         made=$?
         rm -f "$out/unpacking.$$"
         if [ $made = 0 ]; then
-            say 'this is the release of these sources; GA_BENCH_BUILD=1 ./ga-bench proves and builds it anew'
+            say 'this is the release of these sources; to prove and build them, run GA_BENCH_BUILD=1 ./ga-bench'
             unlock
             return 0
         fi
@@ -150,7 +149,7 @@ make_current() {
     build
 }
 
-# Where nothing can be written here: unpacks the release into a temporary folder, which is gone before it starts.
+# If nothing can be written here: unpacks the release into a temporary folder, which is removed before it starts.
 unpack_elsewhere() {
     if folder=$(mktemp -d) && unpack "$folder/ga-bench" "$(sources_sum)"; then
         exec 8<"$folder/ga-bench"
@@ -159,17 +158,17 @@ unpack_elsewhere() {
         return 0
     fi
     rm -rf "$folder"
-    say "cannot write to $out, and the release is ${why:-not unpacked}: copy this folder to where it can be written to"
+    say "cannot write to $out, and the release is ${why:-not unpacked}: copy this folder to a place where it can be written"
     return 70
 }
 
 # Proves and builds the program. The caller holds the lock.
 build() {
     if ! command -v rt >/dev/null 2>&1; then
-        say 'so the program is to be built, and the toolchain is missing: no command rt on PATH'
+        say 'the program must be built, but the toolchain is missing: no command rt on PATH'
         return 69
     fi
-    say 'the program is proved and built first, since it is new or its sources changed: this takes minutes, once'
+    say 'proving and building the program, since it is new or its sources changed: this takes minutes, once'
     while :; do
         begin && python3 "$root/scripts/prove.py" "$root" || return 70
         if put_in_place "$root/crates/ga_bench/out/ga_bench"; then
@@ -177,10 +176,10 @@ build() {
             break
         fi
         if is_as_begun; then
-            say "the built program can't be put into $out"
+            say "cannot put the built program into $out"
             return 70
         fi
-        say 'the sources changed during the build: once more'
+        say 'the sources changed during the build: building again'
     done
     say 'the program is built'
     unlock

@@ -1,14 +1,14 @@
 #!/usr/bin/env python3
-"""Proves the crates of the program and builds it, those side by side that don't stand on each other.
+"""Proves the crates of the program and builds it. Crates that don't use each other are proved in parallel.
 
     prove.py ROOT
 
-Status: 0 where all is proved, 1 where a crate is not; what is said of it goes to standard error, and the whole log
-of each crate to out/NAME.log. A crate's library is left in crates/NAME/out/rlib, and the program in crates/ga_bench/out.
+Status: 0 if all is proved, 1 if a crate is not. Its faults go to standard error, and the whole log of each crate to
+out/NAME.log. A crate's library is left in crates/NAME/out/rlib, and the program in crates/ga_bench/out.
 
-A library is built with what it states and without its proofs, as the gate builds it, so that what stands on it has
-less to load. `rt lib` has no word for that, and lets no two crates be proved side by side that stand on one, so the
-toolchain's own program `rattle` is called here. A build that was broken off goes on with the crates that weren't done.
+A library is built with its contracts and without its proofs, as the gate builds it, so that its users have less to
+load. `rt lib` has no option for that, and doesn't prove two users of one crate in parallel, so this calls the
+toolchain's own program `rattle`. An interrupted build goes on with the crates that weren't done.
 """
 import contextlib
 import hashlib
@@ -22,8 +22,8 @@ from concurrent.futures import FIRST_COMPLETED, ThreadPoolExecutor, wait
 
 BEGAN = time.time()
 PROGRAM = 'ga_bench'
-# What a crate takes before its first function, and for what it stands on, as so many bytes of code; and what it takes
-# beside that where it stands on one of the toolchain's crates that make each of its functions dear.
+# The cost of a crate before its first function, with that of the crates that it uses, in bytes of code; and the cost
+# that some of the toolchain's crates add to each of their users.
 PRICE = 13_000
 PRICES = {'clap': 60_000}
 # Crates whose chain is at least this part of the longest one are proved before all others.
@@ -65,7 +65,7 @@ class Crate:
             return False
 
     def prove(self, jobs, yields=False):
-        """Proves and builds the crate, where that isn't done. Returns whether it is proved."""
+        """Proves and builds the crate, if that isn't done. Returns whether it is proved."""
         calls = [] if self.is_proved() else [self.building(jobs)]
         calls += [self.linking()] if self.name == PROGRAM else []
         if not calls:
@@ -80,7 +80,7 @@ class Crate:
                 call = ['nice', '-n', '5', *call] if yields else call
                 if subprocess.run(call, cwd=self.folder, stdin=subprocess.DEVNULL, stdout=log, stderr=log).returncode:
                     return False
-        # a source that was changed meanwhile, and perhaps put back, was read as nobody knows what
+        # nobody knows what was read of a source that was changed meanwhile, and perhaps put back
         if all(os.stat(file).st_ctime < BEGAN for file in self.sources):
             with open(f'{self.out}/sum', 'w') as it:
                 it.write(self.sum)
@@ -121,11 +121,10 @@ def crates_of(root):
 def prove_all(crates):
     """Proves the crates, each once those below it are proved. Returns the first that is not proved, if one isn't.
 
-    A crate loads alone what it stands on, and then checks some functions at a time, in copies of itself: more of them
-    than processors, where a single crate can be proved, since some always wait for others. Where several can be
-    proved, those whose chain is about the longest get as many jobs as there are processors, and each other crate
-    has one, which yields to these. Where so few can be proved that this would leave processors idle, each gets as
-    many."""
+    A crate loads the crates that it uses in one process, and then checks several functions at a time, in copies of
+    itself. If a single crate can be proved, it gets more jobs than there are processors, since some always wait for
+    others. If several can be proved, those with about the longest chain get as many jobs as there are processors, and
+    each other crate gets one, with a lower priority. If that would leave processors idle, each gets as many."""
     processors = len(os.sched_getaffinity(0))
     left, proved, running, began = sorted(crates, key=lambda it: -it.chain), set(), {}, time.monotonic()
     with ThreadPoolExecutor(len(crates)) as pool:
@@ -157,7 +156,7 @@ def say(text):
 
 
 def show_failure(crate):
-    """Shows of a crate's log what was not proved, without what only waits for that; or how the log ends."""
+    """Shows the functions in a crate's log that were not proved, without those that only wait for them; or the log's end."""
     path = f'{crate.root}/out/{crate.name}.log'
     with open(path, errors='replace') as log:
         lines = log.read().splitlines()

@@ -40,7 +40,7 @@ def module_of(crate, path):
 
 
 def imports(text):
-    """The names that a text brings in, each with what it stands for; and its aliases of modules."""
+    """The names that a text imports, each with its meaning; and its aliases of modules."""
     names, aliases = {}, {}
     for crate, module, listed, alias in USE.findall(text):
         module = module if "." in module else f"{module}.Lib"
@@ -103,7 +103,7 @@ def declarations(crate, path):
 
 
 def reached(roots, names_of):
-    """All that is named from some names on; `names_of` tells what each names."""
+    """All that is named from some names on; `names_of` has what each names."""
     waiting, seen = list(roots), set()
     while waiting:
         name = waiting.pop()

@@ -1,7 +1,7 @@
-"""What a right answer of the program is: `wrong` judges one, for tests/fuzz.py and tests/cut_texts.py. A subcommand is a
-function here, under `@subcommand`; what the other tests do with each of SUBCOMMANDS they do by its recorded cases.
+"""Whether an answer of the program is right: `wrong` judges one, for tests/fuzz.py and tests/cut_texts.py. A subcommand
+is a function here, under `@subcommand`. The other tests use the recorded cases of each of SUBCOMMANDS.
 
-A text has one meaning or one first fault, and so have a command line and a command. This file works them out after
+A text has one meaning or one first fault, and so have a command line and a command. This file computes them after
 docs/FORMATS.md, with tests/assembler.py, outputs.py and sessions.py, which share nothing with the program. So all
 refusals are compared to the byte, and all outputs of `asm`, `list`, `dis` and `boot`. These files have no chip: the
 output of a run must have its form, and must agree with other runs of the program.
@@ -11,12 +11,12 @@ output of a run must have its form, and must agree with other runs of the progra
 | `asm`, `list` | each has the words of the other |
 | `dis` | `asm` makes the same words of its text, with the same length of code |
 | `one` | after as many turns as it made steps, `debug` shows the same node |
-| `run` by one worker | behind the same tries, `record` shows the same nodes |
+| `run` by one worker | after the same tries, `record` shows the same nodes |
 | `debug`, `record` | each has the replies of the other |
 | `record` | `check` accepts its transcript, and `record` writes that again as it is |
 | `check` | it compares with the replies of `record` |
 | `replay` of profile 2 | it compares with the replies of `debug` |
-| `replay` of profile 1 | it accepts the lines in front of one that differs, and refuses the last one changed |
+| `replay` of profile 1 | it accepts the lines before one that differs, and refuses the last one changed |
 """
 import glob
 import itertools
@@ -35,7 +35,7 @@ from sessions import (
 
 ROOT = os.path.dirname(os.path.dirname(os.path.abspath(__file__)))
 LIMIT = 1048576
-# A run is compared with one of at most so many turns, or tries.
+# A run is compared with one of at most this many turns, or tries.
 MOST_TURNS, MOST_TRIES = 2000, 3000
 HELP = {"-h", "--help", "-V", "--version"}
 # The status, the output, and the text on standard error; no status if no answer came in time.
@@ -66,8 +66,8 @@ class Wrong(Exception):
     """What is wrong with an answer."""
 
 
-# What stands behind the name of a subcommand: values, which are numbers of a range, and texts; and options, which have a
-# number of a range, or stand alone. FILE and NAME may be left out. `answer` gives what it has to write.
+# The arguments of a subcommand: values, which are numbers of a range, and texts; and options, which have a number of a
+# range, or no value. FILE and NAME may be left out. `answer` gives the expected output.
 Subcommand = namedtuple("Subcommand", "values options answer")
 SUBCOMMANDS = {}
 
@@ -98,7 +98,7 @@ class Job:
             elif not word.startswith("-") or word == "-":
                 self.values.append(word)
             elif word[:2] != "--" or option in self.options or option not in self.kind.options:
-                raise ValueError("no such option, or it stands twice")
+                raise ValueError("no such option, or it is given twice")
             elif self.kind.options[option]:
                 self.options[option] = number_in(self.kind.options[option], value if equals or not rest else rest.pop(0))
             elif equals:
@@ -166,7 +166,7 @@ def meaning_of(name, text):
 
 
 def reported(job, fault, text):
-    """What stands on standard error: the fault, and behind it what `list`, `check` and `record` show of the text."""
+    """The expected standard error: the fault, and behind it what `list`, `check` and `record` show of the text."""
     shown = fault.behind
     if job.kind.values == ["FILE"] and fault.place:
         line, column = fault.place
@@ -180,9 +180,8 @@ def reported(job, fault, text):
     return f"ga-bench: {fault.text}\n{shown}"
 
 
-# What each subcommand has to write for a text, or the Fault that it has to report. What a chip does is taken from other
-# runs: `ask` gives the output of one, which must be the stated one, or None if its input would be too long. What no
-# other run shows is taken from the answer.
+# The expected output of each subcommand for a text, or its Fault. What a chip does is taken from other runs: `ask` gives
+# the output of one, or None if its input would be too long. What no other run shows is taken from the answer.
 
 
 @subcommand()
@@ -326,8 +325,8 @@ def judge_outcomes(ask, head, steps):
 
 
 def judge_old(ask, text, steps, answer):
-    """Judges a text of profile 1, whose chip `debug` doesn't have. It is believed that a line differs if the lines in
-    front of it hold, and that all lines hold if another outcome of the last one differs."""
+    """Judges a text of profile 1, whose chip `debug` doesn't have. A line counts as different if the lines before it
+    are right, and all lines count as right if another outcome of the last one differs."""
     lines = text.split("\n")
     found = re.fullmatch("ga-bench: replay (differs ([0-9]+)|line ([0-9]+) NotHeld)\n", answer.error)
     for at, it in enumerate(steps if found else []):
@@ -362,7 +361,7 @@ def transcript_of(output):
     except Fault as fault:
         raise Wrong(f"record wrote a text with the fault {fault}") from None
     if not transcript.has_forms():
-        raise Wrong("a reply of record hasn't its form")
+        raise Wrong("a reply of record has a wrong form")
     return transcript
 
 
@@ -373,7 +372,7 @@ def judge(ask, args, data, answer):
         job, text = Job(args), ""
     except ValueError:
         if answer.status != 2 or answer.output or not answer.error:
-            raise Wrong("status 2 is wanted") from None
+            raise Wrong("expected status 2") from None
         return
     try:
         text = job.input_of(data) if job.name != "explain" else ""
@@ -381,7 +380,7 @@ def judge(ask, args, data, answer):
     except Fault as fault:
         wanted = Answer(1, "", reported(job, fault, text))
     if answer != wanted:
-        raise Wrong(f"wanted {shortened(wanted)}")
+        raise Wrong(f"expected {shortened(wanted)}")
 
 
 def shortened(answer):
@@ -396,7 +395,7 @@ def wrong(runner, args, data):
             return None
         other = runner.answer(args, text.encode())
         if other.status != int(error != "") or other.error != error or output not in (None, other.output):
-            raise Wrong(f"{args} with {text[:300]!r} came to {shortened(other)}")
+            raise Wrong(f"{args} with {text[:300]!r} gave {shortened(other)}")
         return other.output
 
     answer = runner.answer(args, data)

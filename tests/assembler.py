@@ -139,7 +139,7 @@ class Parser:
         return Item("label", self.take())
 
     def with_operand(self, item, most):
-        """The item with the number or the name that stands behind it."""
+        """The item with the number or the name behind it."""
         if self.token.kind not in ("number", "name"):
             self.refuse("BadToken")
         if self.token.kind == "number" and self.token.value > most:
@@ -170,7 +170,7 @@ class Parser:
         return item._replace(ops=ops)
 
     def take_inside(self, is_right):
-        """The next token, if it may stand in these brackets."""
+        """The next token, if it is allowed in these brackets."""
         if self.token.kind in ("[", "end"):
             self.refuse("OpenBracket")
         if not is_right(self.token):
@@ -261,7 +261,7 @@ class Layout:
         raise fault_at(f"asm {self.node:03}", item.name or item.token, name)
 
     def destination(self, item):
-        """What a number or a name stands for, or None if the label isn't defined yet."""
+        """The value of a number or a name, or None if the label isn't defined yet."""
         return self.labels.get(item.name.text) if item.name else item.value
 
     def value(self, ops, item):

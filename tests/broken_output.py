@@ -3,9 +3,9 @@
 For each subcommand a recorded case that has output is run
 - with a standard output that is full, as /dev/full is;
 - with a pipe as standard output that nobody reads;
-- with a pipe from which a part is read and which is closed then, where the output is longer than a pipe holds.
-Each ends with `ga-bench: write` and status 1, and what was read is the front of the output. No signal ends the
-program. The last line that is printed is 'output: N passed, M failed', and the exit status is 0 where M is 0.
+- with a pipe from which a part is read and which is closed then, if the output is longer than a pipe holds.
+Each ends with `ga-bench: write` and status 1, and what was read is a prefix of the output. No signal ends the
+program. The last line that is printed is 'output: N passed, M failed', and the exit status is 0 if M is 0.
 """
 import glob
 import json
@@ -16,7 +16,7 @@ import sys
 ROOT = os.path.dirname(os.path.dirname(os.path.abspath(__file__)))
 SECONDS = 60
 FAULT = (1, b"ga-bench: write\n")
-# A pipe holds 65,536 bytes, so this output doesn't fit. Of it so many bytes are read.
+# A pipe holds 65,536 bytes, so this output doesn't fit. These numbers of its bytes are read.
 LONG = (["debug"], b"profile 2\nplace\nnode 000 .\ngo\n" + b"mem 000\n" * 2000)
 PARTS = [1, 100, 5000, 70000]
 
@@ -33,7 +33,7 @@ def cases():
 
 
 def ended(program, args, data, output):
-    """The status of a run and its standard error, where its standard output is this file."""
+    """The status of a run and its standard error, with this file as standard output."""
     ran = subprocess.run([program, *args], input=data, stdout=output, stderr=subprocess.PIPE, timeout=SECONDS)
     return ran.returncode, ran.stderr
 
@@ -51,7 +51,7 @@ def unread(program, args, data):
 
 
 def front(program, args, data, most):
-    """The status, standard error and what was read of an output of which a part is read."""
+    """The status, standard error and the part that was read of an output of which only a part is read."""
     child = subprocess.Popen([program, *args], stdin=subprocess.PIPE, stdout=subprocess.PIPE, stderr=subprocess.PIPE)
     child.stdin.write(data)
     child.stdin.close()

@@ -1,7 +1,7 @@
 #!/usr/bin/env python3
 """Compares the commands of sessions with what names them: tests/commands.py PROGRAM
 
-The rows of crates/ga_debug/specs/Commands.antt say each command's name, the words that follow it and which texts have it.
+The rows of crates/ga_debug/specs/Commands.antt have each command's name, the words that follow it and the texts that have it.
 
 - The help of `debug`, `replay` and `check` shows each command that its texts have, with these words, and no other.
 - docs/FORMATS.md has a row of each, under Sessions or Transcripts, and tests/sessions.py reads these words.

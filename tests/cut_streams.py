@@ -1,8 +1,8 @@
 """Cuts the boot streams of the recorded cases into pieces: python3 tests/cut_streams.py CUTTER FILE..
 
 CUTTER is the program of the crate ga_cut_streams. For each case of a FILE (as tests/run_cases.py has them) that writes a
-boot stream, it must say that each cut leaves the frames and the chip alike. The last line that is printed is
-'cuts: N passed, M failed', a stream each, and the exit status is 0 where M is 0.
+boot stream, it must report that each cut leaves the frames and the chip alike. The last line that is printed is
+'cuts: N passed, M failed', a stream each, and the exit status is 0 if M is 0.
 """
 import json
 import subprocess
@@ -24,13 +24,13 @@ def streams(files):
 
 
 def cut(cutter, stream):
-    """Tells what the program says of a stream, where that isn't what it must say."""
+    """Returns the program's line for a stream, if it isn't the expected one."""
     name, node, words = stream
     try:
         ran = subprocess.run([cutter, node, *words], capture_output=True, timeout=SECONDS, text=True)
     except subprocess.TimeoutExpired:
         return f"{name}: took over {SECONDS} seconds"
-    # behind each word at once, in two behind each word but the last, and eight times by chance
+    # behind each word at once, in two behind each word except the last, and eight times at random
     wanted = [f"alike {len(words) + 8}, {late}\n" for late in ("at rest", "without rest")]
     right = ran.returncode == 0 and ran.stdout in wanted and not ran.stderr
     return None if right else f"{name}: status {ran.returncode}, {ran.stdout!r}, {ran.stderr!r}"

@@ -28,7 +28,7 @@ def texts_of(file):
 
 
 def run_fronts(program, args, data):
-    """How many runs with a front of these bytes were right, and what is wrong with the others."""
+    """How many runs with a prefix of these bytes were right, and the faults of the others."""
     runner = Runner(program)
     told = [(length, answers.wrong(runner, args, data[:length])) for length in range(len(data) + 1)]
     wrong = [f"FAILED {args} with {length} bytes: {what}" for length, what in told if what is not None]

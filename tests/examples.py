@@ -9,10 +9,10 @@ Of each, or of those that are named, `check` accepts the transcript, and `record
 holds; both have the source; and the row of docs/EXAMPLES.md has the program's nodes, words and steps. Each other
 transcript of the folder is checked and recorded too.
 
-Then the program is run with other data, at the limits of its range too, and what comes is compared with
-numbers that this file works out itself, apart from the bench: a product is Python's product.
+Then the program is run with other data, at the limits of its range too, and its results are compared with
+numbers that this file computes itself, without the bench: a product is Python's product.
 
-The last line that is printed is 'N passed, M failed', and the exit status is 0 where M is 0 and N isn't.
+The last line that is printed is 'N passed, M failed', and the exit status is 0 if M is 0 and N isn't.
 """
 import binascii
 import glob
@@ -30,7 +30,7 @@ RING = ["708", "709", "710", "711", "611", "610", "609", "608"]
 TREE = [["708", "709", "710"], ["708", "709", "609"], ["708", "608"], ["708", "707"]]
 WORDS = 1 << 18
 NODES = [f"{row}{column:02}" for row in range(8) for column in range(18)]
-# Programs of which the session has one node more than the source, behind it: one that sends it something.
+# Programs whose session has one node more than the source, behind it, which sends it something.
 MORE = {"echo"}
 EDGES = [0, 1, 2, 3, 0xFFFF, 0x10000, 0x10001, 0x1FFFE, 0x1FFFF]
 EDGES += [0x20000, 0x20001, 0x2FFFF, 0x30000, 0x30001, 0x3FFFE, 0x3FFFF]
@@ -43,7 +43,7 @@ class Bench:
         self.program, self.passed, self.failures = os.path.abspath(program), 0, []
 
     def run(self, arguments, text):
-        """Returns the lines that the program writes, and fails where its status isn't 0."""
+        """Returns the lines that the program writes, and fails if its status isn't 0."""
         ran = subprocess.run([self.program, *arguments.split()], input=text, capture_output=True, text=True, timeout=SECONDS)
         if ran.returncode:
             raise ValueError(f"{arguments}: status {ran.returncode}, {ran.stderr.strip()}")
@@ -53,7 +53,7 @@ class Bench:
         if came == wanted:
             self.passed += 1
         else:
-            self.failures.append(f"{what}: wanted {shown(wanted)}, came {shown(came)}")
+            self.failures.append(f"{what}: expected {shown(wanted)}, got {shown(came)}")
 
     def images(self, source):
         """Returns for each node the number of its words of code, and its words."""
@@ -285,7 +285,7 @@ def side(node, neighbour):
 
 
 def token(bench, source, chance):
-    """All 144 nodes stand on the ring, each at its place, and each counts itself; so from three other first nodes."""
+    """All 144 nodes are on the ring, each at its place, and each counts itself; so from three other first nodes."""
     ring = re.search(r"^route (.*)$", read("token", "transcript"), re.M)[1].split(",")
     bench.same("the nodes of the ring", sorted(ring), NODES)
     head = source[:source.index("\nnode ") + 1]
@@ -304,7 +304,7 @@ def token(bench, source, chance):
 
 
 def delivered(ring, own):
-    """Returns what each node of the ring gets, in order, where each has one word to send, or 0."""
+    """Returns what each node of the ring gets, in order, if each has one word to send, or 0."""
     waiting, got = dict(zip(ring, own)), {node: [] for node in ring}
     frame, still = 0, 0
     at = 0                                  # the first node lets in an empty frame, and the second takes it
@@ -342,7 +342,7 @@ def tree_sum(bench, source, chance):
     """708 has the sum of all lists, whatever their lengths, and each node is sent as many words as the guide counts."""
     head = f"route {'/'.join(','.join(route) for route in TREE)}"
     codes = {node: code for node, (code, _) in bench.images(source).items()}
-    # a list has its count in front of it, and that of 708 the sum behind it
+    # a list has its count before it, and that of 708 has the sum behind it
     room = {node: 63 - code - (node == "708") for node, code in codes.items()}
     cases = [{node: [fill] * length for node in room} for fill in (0, 1, 0x3FFFF) for length in (1, 40)]
     cases += [{node: [0x3FFFF] * most for node, most in room.items()}]
@@ -367,7 +367,7 @@ def tree_sum(bench, source, chance):
 
 
 def registers(bench, head, source, turns, nodes):
-    """Returns the lines of these nodes after so many turns."""
+    """Returns the lines of these nodes after this many turns."""
     return bench.session(head, source, [f"turn {turns}", *(f"regs {node}" for node in nodes)])[1:]
 
 
@@ -393,7 +393,7 @@ def multiply(bench, source, chance):
 
 
 def multiply_range(bench, pairs):
-    """Eighteen multiply steps give the whole product just where docs/CHIP.md says so."""
+    """Eighteen multiply steps give the whole product exactly for the operands that docs/CHIP.md gives."""
     for at in range(0, len(pairs), len(NODES)):
         some = [*zip(NODES, pairs[at:at + len(NODES)])]
         steps = "0 17 push align . +* unext jump warm\n"

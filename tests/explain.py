@@ -1,18 +1,18 @@
 #!/usr/bin/env python3
-"""Compares what `explain` tells with the pages and with the recorded cases: tests/explain.py PROGRAM
+"""Compares the texts of `explain` with the pages and with the recorded cases: tests/explain.py PROGRAM
 
 - Its names are those of the tables of faults, needs, stops, outcomes and the carry in docs/FORMATS.md and docs/CHIP.md,
-  but for rows that say that they come up in the library alone. The pages have no name that it lacks.
+  and the TERMS, which are entries of docs/GLOSSARY.md. No name of the tables is missing.
 - A fault of source text or of layout has a meaning, which a recorded case of `list` shows.
-- A text is 24 lines of 80 columns at most, that of BadToken longer, and begins with its name.
-- A text has an example that shows its name, or what stands for it (SHOWN), and a mended one that doesn't, but for the
-  names of which no example can be recorded (UNRECORDED) and those that need no mending (HARMLESS).
+- A text has at most 24 lines of 80 columns (that of BadToken is longer), and begins with its name.
+- A text has an example that shows its name, or what is SHOWN for it, and a fixed one that doesn't. Exceptions are
+  names without an example (UNRECORDED) and those that aren't faults (HARMLESS).
 - Each example in a text is a recorded case in tests/cases/explain.jsonl, with the same input, arguments and output, and
-  each case but those of `explain` itself is an example. tests/run_cases.py runs the cases.
+  each case is an example, except those of `explain` itself. tests/run_cases.py runs the cases.
 
-An example is a command that begins with '  $ ' and ends in ga-bench and its arguments; it goes on behind a line that
-ends in '|' or a backslash. The lines behind it are what it prints; one that begins with three blanks goes on with the
-line before. The last line that is printed is 'N passed, M failed'.
+An example is a command that begins with '  $ ' and ends in ga-bench and its arguments. It continues on the next line
+if the line ends in '|' or a backslash. The lines behind it are its output; a line that begins with three blanks
+continues the one before. The last line that is printed is 'N passed, M failed'.
 """
 import base64
 import json
@@ -29,21 +29,21 @@ CASES = f"{ROOT}/tests/cases/explain.jsonl"
 SECONDS = 60
 LINES, COLUMNS = 24, 80
 
-# No recorded case can make a read, a write or an allocation fail, or a node step 2^64 times.
-UNRECORDED = {"read", "write", "memory", "Counted"}
-HARMLESS = {"own", "moved"}
+TERMS = {"stuck", "ring", "turn", "place", "step", "slot", "follower", "profile"}
+# No recorded case can make a read, a write or an allocation fail, or a node step 2^64 times. The example of `ring` is
+# that of `stuck`.
+UNRECORDED = {"read", "write", "memory", "Counted", "ring"}
+HARMLESS = {"own", "moved"} | TERMS
 # What an output has in place of a name.
-SHOWN = {"carry": "C 1"}
+SHOWN = {"carry": "C 1", "turn": "moved", "place": "at fetch", "step": "steps", "slot": "slot2"}
 
 
 def rows(page, heading):
-    """Yields the first cell of each row of the tables in one section of a page, but for faults of the library alone."""
+    """Yields the first cell of each row of the tables in one section of a page."""
     with open(f"{ROOT}/docs/{page}", encoding="utf-8") as text:
         sections = re.split(r"^#+ (.*)$", text.read(), flags=re.M)
     body = dict(zip(sections[1::2], sections[2::2]))[heading]
-    for cell, others in re.findall(r"^\| *(.*?) *\|(.*)\|$", body, flags=re.M):
-        if "comes up in the library alone" not in others:
-            yield cell
+    yield from re.findall(r"^\| *(.*?) *\|.*\|$", body, flags=re.M)
 
 
 def names_of_pages():
@@ -63,6 +63,12 @@ def names_of_pages():
             if cell not in heads and not cell.startswith("--"):
                 names.add(re.match(r"\w+", cell)[0] if heading == "Stops" else re.match(r"\w+", cell)[0].lower())
     return names
+
+
+def glossary():
+    """The words of the glossary, without what its entries have in brackets behind them."""
+    with open(f"{ROOT}/docs/GLOSSARY.md", encoding="utf-8") as text:
+        return set(re.findall(r"^- \*\*(.+?)\*\*", text.read(), flags=re.M))
 
 
 def examples(text):
@@ -106,7 +112,7 @@ def explain(program, *names):
 
 
 def faults_of_text(name, text, recorded, shown):
-    """Returns what is wrong with a text. Its examples are added to those that are shown."""
+    """Returns the faults of a text. Its examples are added to those that are shown."""
     wrong = [line for line in text.split("\n") if len(line) > COLUMNS]
     if name != "BadToken" and text.count("\n") > LINES:
         wrong.append(f"more than {LINES} lines")
@@ -126,7 +132,7 @@ def faults_of_text(name, text, recorded, shown):
     if name not in UNRECORDED and True not in has_name:
         wrong.append("no example shows the name")
     if name not in UNRECORDED | HARMLESS and False not in has_name:
-        wrong.append("no example is mended")
+        wrong.append("no example is fixed")
     return wrong
 
 
@@ -135,9 +141,10 @@ def main():
         sys.exit("usage: tests/explain.py PROGRAM")
     program = os.path.abspath(sys.argv[1])
     checks = []
-    names, wanted = explain(program).split(), names_of_pages()
-    checks.append(("names that no page has", sorted(set(names) - wanted)))
-    checks.append(("names of the pages that are missing", sorted(wanted - set(names))))
+    names, expected = explain(program).split(), names_of_pages() | TERMS
+    checks.append(("names that no page has", sorted(set(names) - expected)))
+    checks.append(("names of the pages that are missing", sorted(expected - set(names))))
+    checks.append(("terms that the glossary lacks", sorted(TERMS - glossary())))
     of_texts = {*rows("FORMATS.md", "Faults of source text"), *rows("FORMATS.md", "Faults of layout")}
     of_texts = {cell.strip("`") for cell in of_texts if re.fullmatch(r"`[A-Z]\w+`", cell)}
     checks.append(("faults without a meaning", sorted(name for name in of_texts if not MEANINGS.get(name))))

@@ -1,7 +1,7 @@
-"""Runs a program with inputs that nobody wrote:
+"""Runs a program with random inputs:
 python3 tests/fuzz.py PROGRAM [--runs N | --seconds N] [--seed S] [--first NUMBER] [--workers N]
 
-An input is a recorded case of tests/cases/, changed by chance: words replaced by others of their kind; or cut, doubled,
+An input is a recorded case of tests/cases/, changed at random: words replaced by others of their kind; or cut, doubled,
 with other bytes, with lines swapped or taken from another case, with numbers at their limits. Its command line may be
 changed too. A third of the inputs are for `list`, `check` and `record`: their own cases, texts of `asm` and `boot`, and
 sessions of `debug` and `replay` as transcripts. An answer is right if
@@ -42,7 +42,7 @@ NUMBERS = ["0", "1", "7", "8", "63", "64", "65", "143", "144", "511", "512", "71
 # Texts of ROUTE: a route and trees, routes that are no tree, and what is neither.
 ROUTES = ["708,709", "708,709,710/708,608/708,709,609", "708/708", "708,709/000,001", "708,709,609/708,608,609",
           "708,709/708,710", "708//709", "/", "708,709/"]  # fmt: skip
-# Words of one kind each: in place of one of them another may stand.
+# Words of one kind each, any of which may replace another.
 KINDS = [kind.encode().split() for kind in (
     "@p a! ; ex unext @+ @b @ !p !+ !b ! +* 2* 2/ - + and or drop dup pop over a . push b!", "jump call next if -if",
     "right down left up io rdlu warm", "0 1 2 3 5 10 17 $1D5 $3FFFF", "708 709 710 608 609 017 300", "r d l u",

@@ -77,7 +77,7 @@ def writes_its_input(run, args, data, answer):
 
 
 def finds_all_the_same(run, args, data, answer):
-    """Whatever comes of a session, it is what the lines state."""
+    """Whatever the results of a session, they are those that the lines state."""
     is_judged = answer.status == 0 or re.match("ga-bench: (check|replay) differs ", answer.error)
     mark = b"> " if args[0] == "check" else b" = "
     count = sum(mark in line for line in data.partition(b"\ngo\n")[2].split(b"\n"))

@@ -4,6 +4,7 @@
 - Each link of README.md, docs/*.md and the crates' READMEs that is no address of the web leads to a file or a folder
   that is there, and if it has an anchor, to a heading of that page.
 - No line of README.md outside tables and blocks has over 160 characters.
+- Each line of a call that a crate's README quotes is a line of the crate's src.
 
 The last line that is printed is 'N passed, M failed'.
 """
@@ -39,6 +40,19 @@ def leads_somewhere(page, link):
     return os.path.exists(target) and (not anchor or anchor in anchors(target))
 
 
+def quoted(page):
+    """The lines of the calls that a page quotes with their clauses."""
+    blocks = re.findall(r"^```rust\n(.*?)^```$", "\n".join(lines_of(page)) + "\n", re.M | re.S)
+    return [line.strip() for block in blocks if "ensures" in block for line in block.splitlines() if line.strip()]
+
+
+def misquoted(page):
+    """The lines of quoted calls that no file of the crate's src has."""
+    files = glob.glob(f"{os.path.dirname(page)}/src/**/*.rt", recursive=True)
+    source = {line.strip() for file in files for line in lines_of(file)}
+    return [line for line in quoted(page) if line not in source]
+
+
 def main():
     patterns = ["README.md", "docs/*.md", "crates/*/README.md"]
     pages = sorted(page for pattern in patterns for page in glob.glob(f"{ROOT}/{pattern}"))
@@ -47,8 +61,11 @@ def main():
     failed = [f"{os.path.relpath(page, ROOT)}: {link}" for page, link in links if not leads_somewhere(page, link)]
     long = [line for line in prose(f"{ROOT}/README.md") if len(line) > COLUMNS and not line.startswith("|")]
     failed += [f"README.md: over {COLUMNS} characters: {line}" for line in long]
+    readmes = [page for page in pages if "/crates/" in page]
+    failed += [f"{os.path.relpath(page, ROOT)}: not in src: {line}" for page in readmes for line in misquoted(page)]
+    quotes = sum(len(quoted(page)) for page in readmes)
     print("".join(f"FAILED {it}\n" for it in failed), end="")
-    print(f"links: {len(links) + 1 - len(failed)} passed, {len(failed)} failed")
+    print(f"links: {len(links) + quotes + 1 - len(failed)} passed, {len(failed)} failed")
     return 1 if failed or not links else 0
 
 

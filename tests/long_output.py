@@ -5,7 +5,7 @@ up. This recording is written, to the byte. With one byte more, at its end or in
 and with as many commands as an input may have, it is refused as `output TooLong`, and nothing is written. A fault of the
 head and an early reply are reported before that. Each run has at most 1,200 MiB of memory, and a minute of a processor.
 
-The last line that is printed is 'long output: N passed, M failed', and the exit status is 0 where M is 0.
+The last line that is printed is 'long output: N passed, M failed', and the exit status is 0 if M is 0.
 """
 import os
 import resource
@@ -18,7 +18,7 @@ INPUT_LIMIT = 1_048_576
 MEMORY = 1200 << 20
 SECONDS = 60
 COUNT = 20_000
-# No node is held: 717 has no breakpoint here, and no other node stands at an address below 100.
+# No node is held: 717 has no breakpoint here, and the P of no other node is below 100.
 HEAD = b"profile 2\nplace\nnode 717 .\ngo\n"
 PLACES = [b"%d%02d %03X" % (*divmod(node, 18), address) for node in range(144) for address in range(0x100)][:COUNT]
 BREAKS = b"".join(b"> break %s\n" % place for place in PLACES)
@@ -27,7 +27,7 @@ SHOWN = SHOW + b"".join(b"%s\n" % place for place in PLACES)
 
 
 def transcript(length, comment_first=False):
-    """A transcript whose recording has so many bytes, and this recording in parts."""
+    """A transcript whose recording has this many bytes, and this recording in parts."""
     recorded = BREAKS.replace(b"\n", b"\nok\n")
     times, left = divmod(length - len(HEAD + recorded + b"\\ \n"), len(SHOWN))
     comment = b"\\ " + b"x" * left + b"\n"
@@ -37,7 +37,7 @@ def transcript(length, comment_first=False):
 
 
 def runs():
-    """Each input with its name, the parts of what has to be written, and what has to stand on standard error."""
+    """Each input with its name, the parts of the expected output, and the expected standard error."""
     exact, parts = transcript(LIMIT)
     yield "as many bytes as there may be", exact, parts, ""
     yield "one more at the end", transcript(LIMIT + 1)[0], [], "output TooLong\n"
@@ -58,7 +58,7 @@ def bound():
 
 
 def wrong(program, data, parts, error):
-    """What is wrong with what is recorded of an input, or None."""
+    """The fault of the recording of an input, or None."""
     with tempfile.TemporaryFile() as file:
         file.write(data)
         file.seek(0)

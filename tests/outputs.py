@@ -1,4 +1,4 @@
-"""What the program has to write of words, images and routes, after docs/FORMATS.md and docs/CHIP.md."""
+"""The expected output for words, images and routes, after docs/FORMATS.md and docs/CHIP.md."""
 import re
 
 from assembler import NODE, NUMBERS, SLOTS, Fault, decoded, followers, p_behind

@@ -10,8 +10,8 @@ Blocks without '$ ' are listings, and nothing is done with them.
 The commands of a page are run in order by one bash, in a folder of their own in which ./ga-bench is PROGRAM
 and examples/ is a copy of the repository's. Standard input is empty.
 
-A command that can't be run stands in NOT_RUN below, with the reason. The last line that is printed is
-'N passed, M failed', and the exit status is 0 where M is 0 and N isn't.
+A command that can't be run is in NOT_RUN below, with the reason. The last line that is printed is
+'N passed, M failed', and the exit status is 0 if M is 0 and N isn't.
 """
 import difflib
 import glob
@@ -50,7 +50,7 @@ def blocks(lines):
 
 
 def commands(block):
-    """Yields each command of a block: its line number, its text, what it has to print, and what is wrong."""
+    """Yields each command of a block: its line number, its text, its expected output, and its faults."""
     if not any(text.startswith("$ ") for _, text in block):
         return
     at = 0
@@ -82,7 +82,7 @@ def commands(block):
 
 
 def run(program, texts):
-    """Returns for each command what it printed, or None where the shell didn't come to its end."""
+    """Returns the output of each command, or None if the shell didn't reach its end."""
     with tempfile.TemporaryDirectory() as folder:
         work, printed = f"{folder}/work", f"{folder}/printed"
         os.mkdir(work)
@@ -113,7 +113,7 @@ def run(program, texts):
 
 
 def why_not(page, text):
-    """Returns why this command isn't run, or None where it is."""
+    """Returns why this command isn't run, or None if it is."""
     for tool in TOOLS:
         if re.search(rf"(^|[|;&]\s*){tool}\b", text) and not shutil.which(tool):
             return f"{tool} isn't on PATH"

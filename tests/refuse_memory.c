@@ -1,5 +1,5 @@
 /* Loaded in front of the C library: the allocation with the number in the variable REFUSED, counted from
-   1, is refused. Where the program ends without coming to it, the status is 77. */
+   1, is refused. If the program ends before it, the status is 77. */
 #define _GNU_SOURCE
 #include <dlfcn.h>
 #include <errno.h>
@@ -48,7 +48,7 @@ int posix_memalign(void **out, size_t align, size_t size) {
     return is_refused() ? ENOMEM : next(out, align, size);
 }
 
-/* The program ends by _exit, and not by exit, where it may start threads. */
+/* The program ends by _exit, and not by exit, if it may start threads. */
 void _exit(int status) {
     syscall(SYS_exit_group, calls < refused() ? 77 : status);
     __builtin_unreachable();

@@ -1,11 +1,11 @@
 """Refuses each allocation of the program in turn: python3 tests/refuse_memory.py PROGRAM [CALLER]
 
-With one allocation refused a run must tell `ga-bench: memory`, with status 3 and nothing on standard output, or answer
+With one allocation refused a run must report `ga-bench: memory`, with status 3 and nothing on standard output, or answer
 as it does with ample memory. The runs are those of recorded cases, and SESSIONS. CALLER is the program of the crate
-ga_refused_calls: the call that it makes must answer what it answers with ample memory, or be refused with what it was
-lent as it was before, unless memory runs out outside the call; and at least one is refused. The last line that is
-printed is 'memory: N passed, M failed', a run each, and the exit status is 0 where M is 0. It needs a C compiler, the
-command in the variable CC or else cc.
+ga_refused_calls: its call must answer as it does with ample memory, or be refused and leave its borrowed values as they
+were before, unless memory runs out outside the call; and at least one is refused. The last line that is printed is
+'memory: N passed, M failed', a run each, and the exit status is 0 if M is 0. It needs a C compiler, the command in the
+variable CC or else cc.
 """
 import os
 import re
@@ -64,7 +64,7 @@ LINES = [
     (["one"], b""),
     (["one", "--help"], b""),
 ]
-# What CALLER is asked for: the calls that are lent what they could change, or that no subcommand makes, and the engine.
+# The calls of CALLER: those that borrow values mutably, or that no subcommand makes, and the engine.
 CALLS = [
     (["words_text"], b""),
     (["push_words"], b""),
@@ -95,13 +95,13 @@ def answer(program, words, data, **variables):
 
 
 def refuse_each(program, library, rights_of, run):
-    """Runs a program with each allocation refused in turn. Tells how many runs came out right, and what is wrong with
-    the others. `rights_of` makes of what comes with ample memory all that may come, of which the last has to."""
+    """Runs a program with each allocation refused in turn. Returns how many runs were right, and the faults of the
+    others. `rights_of` makes of the answer with ample memory all right answers, of which the last one must come."""
     words, data = run
     ample = answer(program, words, data)
     rights = rights_of(ample)
     if ample not in rights:
-        return 0, [f"FAILED {words} with ample memory: came {ample}"]
+        return 0, [f"FAILED {words} with ample memory: got {ample}"]
     passed, wrong, seen = 0, [], set()
     for number in range(1, MOST):
         came = answer(program, words, data, LD_PRELOAD=library, REFUSED=str(number))
@@ -111,9 +111,9 @@ def refuse_each(program, library, rights_of, run):
         if came in rights:
             passed += 1
         else:
-            wrong.append(f"FAILED {words} with allocation {number} refused: came {came}")
+            wrong.append(f"FAILED {words} with allocation {number} refused: got {came}")
     if came[0] != 77 or rights[-1] not in seen:
-        wrong.append(f"FAILED {words}: no allocation was refused to it, or they had no end")
+        wrong.append(f"FAILED {words}: no allocation was refused, or there was no end of them")
     return passed, wrong
 
 

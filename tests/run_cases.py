@@ -4,14 +4,14 @@ Each line of a FILE is one case, a JSON object with the keys
   name            of the case
   args            the program's arguments, a list of strings
   stdin           its standard input, as text (in UTF-8); none: empty
-  stdin_base64    its standard input in base64, where it is no text
+  stdin_base64    its standard input in base64, if it is no text
   stdin_file      a file that holds its standard input; its path is from the top of the repository
-  pad_to          a number of bytes: spaces are put behind the input up to there
-  status          the exit status that is wanted
+  pad_to          a number of bytes: the input is filled up with spaces to this length
+  status          the expected exit status
   stdout, stderr  what it must write there, as text, to the byte
   stdout_file     a file that holds what it must write to standard output
 A status or output that a case leaves out is not compared. The program runs with a stack of 128 KiB. The last line that is printed is
-'cases: N passed, M failed', and the exit status is 0 where M is 0.
+'cases: N passed, M failed', and the exit status is 0 if M is 0.
 """
 import base64
 import json
@@ -34,7 +34,7 @@ def shortened(value):
 
 
 def stream(case, name):
-    """Returns the bytes of a stream that the case states: as text, in base64, or as a file."""
+    """Returns the bytes of a stream that the case gives: as text, in base64, or as a file."""
     if f"{name}_file" in case:
         with open(f"{ROOT}/{case[f'{name}_file']}", "rb") as it:
             return it.read()
@@ -44,7 +44,7 @@ def stream(case, name):
 
 
 def differences(program, folder, line):
-    """Returns the name of the case in this line, and what came that was not wanted."""
+    """Returns the name of the case in this line, and its differences."""
     try:
         case = json.loads(line)
         name, command = case["name"], [*WITH_STACK, program, *case["args"]]

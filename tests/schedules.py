@@ -1,11 +1,12 @@
-"""Boots the routes of the recorded cases in orders that nobody chose: python3 tests/schedules.py PROGRAM FILE..
+"""Boots the routes of the recorded cases in random orders: python3 tests/schedules.py PROGRAM FILE..
 
 For each case of a FILE (as tests/run_cases.py has them) that writes a boot stream for at most NODES nodes, a session of
-PROGRAM boots its route, or its tree of routes: tries and turns come by chance, and breakpoints are set, cleared and
-passed. At moments by chance the session is asked how far the nodes are. Where the first node has then taken the whole load
-part, each node with an image that hasn't begun must have it in memory, with zeros behind it. How many words a node has
-taken is told by the steps of the first node and by the ledgers, and how many it is sent by the lengths of the images. The
-last line that is printed is 'schedules: N passed, M failed', a case each, and the exit status is 0 where M is 0.
+PROGRAM boots its route, or its tree of routes. Tries and turns come in random order, and breakpoints are set, cleared
+and passed. At random moments the session asks how far the nodes are. If the first node has then taken the whole load
+part, each node with an image that hasn't started must have it in memory, with zeros behind it. The number of words that
+a node has taken is that of the steps of the first node or of the ledgers, and the number that it is sent follows from
+the lengths of the images. The last line that is printed is 'schedules: N passed, M failed', a case each, and the exit
+status is 0 if M is 0.
 """
 import json
 import random
@@ -75,7 +76,7 @@ def children_of(text):
 
 
 def sent(name, children, images, counts):
-    """How many words a node is sent to load and to start; the sum of both is put into the counts, of those behind it too."""
+    """How many words a node is sent to load and to start; puts the sums, also those of nodes behind it, into the counts."""
     load = 2 + (5 + len(images[name]) if name in images else 0)
     start = 1
     for child in children[name]:
@@ -111,7 +112,7 @@ def session(children, images, words, chance):
 
 
 def answers(commands, lines):
-    """What each command that asks is told: its lines."""
+    """The lines of the reply to each command that asks."""
     at = 0
     for command, asks in commands:
         name = command.split()[1]
@@ -120,7 +121,7 @@ def answers(commands, lines):
             yield asks, int(name), lines[at:at + count]
         at += count
     if at != len(lines):
-        raise ValueError(f'{len(lines)} lines where {at} are wanted')
+        raise ValueError(f'{len(lines)} lines instead of {at}')
 
 
 def moments(case, program):
@@ -164,7 +165,7 @@ def main(program, *files):
         found = list(pool.map(lambda case: moments(case, program), cases))
     failed = [it for it in found if isinstance(it, str)]
     held = [it for it in found if not isinstance(it, str)]
-    # a test of which no session came to such a moment would show nothing
+    # without such a moment in any session the test would show nothing
     if sum(1 for it in held if it > 0) * 2 < len(cases) or not cases:
         failed.append('too few sessions have a moment at which a node had to hold its image')
     print('\n'.join(failed), end='\n' if failed else '')

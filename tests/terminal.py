@@ -1,9 +1,9 @@
 #!/usr/bin/env python3
 """Runs PROGRAM at a terminal, and without one: tests/terminal.py PROGRAM
 
-Where standard input is a terminal, one line on standard error says so and what ends the input; else there is none.
-The output is the same. `explain` reads nothing, so it has no such line at a terminal either. The last line that is
-printed is 'N passed, M failed', and the exit status is 0 where M is 0.
+If standard input is a terminal, one line on standard error reports it, with the key that ends the input. The output is
+the same as without a terminal. `explain` reads nothing, so it has no such line. The last line that is printed is
+'N passed, M failed', and the exit status is 0 if M is 0.
 """
 import os
 import pty
@@ -42,10 +42,10 @@ def main():
     piped = subprocess.run([program, "asm"], input=SOURCE, capture_output=True, timeout=60)
     checks = {
         "the output of what is typed": typed == OUTPUT,
-        "one line for who types": hint.count(b"\n") == 1 and b"Ctrl-D" in hint,
+        "one line for whoever types": hint.count(b"\n") == 1 and b"Ctrl-D" in hint,
         "the output of what is piped": piped.stdout == OUTPUT,
         "no line without a terminal": piped.stderr == b"",
-        "no line where nothing is read": reads_nothing(program) == b"",
+        "no line if nothing is read": reads_nothing(program) == b"",
     }
     for what, held in checks.items():
         if not held:
