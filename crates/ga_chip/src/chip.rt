@@ -7,7 +7,7 @@ ghost use Rattle.ga_chip.specs.declared.error.ChipError.TheVariants.{NotHeld};
 ghost use Rattle.ga_chip.specs.declared.outcome.Outcome.TheVariants.{Held, Moved};
 ghost use Rattle.ga_chip.specs.Grow.{LedgersGrow};
 ghost use Rattle.ga_chip.specs.Legal.{IsLegal};
-ghost use Rattle.ga_chip.specs.Stream.{feed_refusal, left_of};
+ghost use Rattle.ga_chip.specs.Stream.{feed_refusal, left_of, next_input};
 ghost use Rattle.ga_chip.specs.Stuck.{HoldsEachClosed, IsClosed, has_node};
 ghost use Rattle.ga_chip.specs.Run.{ClearBreak, PassBreak, Piece, SetBreak, happened, has_break, moves, ran, stands_held, tries_of, turn_of, turns_of};
 ghost use Rattle.ga_chip.specs.Outcome.{moved_by};
@@ -171,6 +171,13 @@ impl Chip {
         ensures { result ≡ left_of self.now node }
     {
         self.parts[node.index()].stream_left()
+    }
+
+    /// The next word of a node's stream, if one is left.
+    pub fn next_input(&self, node: Node) -> Option<Word18>
+        ensures { result ≡ next_input self.now node }
+    {
+        self.parts[node.index()].next_input()
     }
 
     /// Gives a node words, at most 64, and an entry, an address of ten bits: it is then as by

@@ -61,6 +61,16 @@ impl Stream {
         }
     }
 
+    /// The next word, if one is left.
+    pub(crate) fn peek(&self) -> Option<Word18>
+        ensures { result ≡ slice_get self.now 0 }
+    {
+        match &self.words {
+            Some(words) => words.get(self.taken).copied(),
+            None => None,
+        }
+    }
+
     /// Takes the next word, if one is left.
     pub(crate) fn next(&mut self) -> Option<Word18>
         ensures word { result ≡ slice_get self.old 0 }

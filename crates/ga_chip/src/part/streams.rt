@@ -1,5 +1,5 @@
 //! What a node is given: words for its memory, or a stream, whole or in pieces.
-ghost use Rattle.std.specs.Prelude.{◌≡◌, ◌≤◌, ◌<◌, ◌^◌, [], length, None};
+ghost use Rattle.std.specs.Prelude.{◌≡◌, ◌≤◌, ◌<◌, ◌^◌, [], length, None, slice_get};
 ghost use Rattle.ga_chip.specs.Chip.{given, opening, part_refusal, streaming};
 ghost use Rattle.ga_chip.specs.Run.{piece_come, words_left};
 ghost use Rattle.ga_chip.specs.Stream.{part_feed_refusal};
@@ -63,6 +63,16 @@ impl NodePart {
         match &self.stream {
             Some(stream) => stream.len(),
             None => 0,
+        }
+    }
+
+    /// The next word of the node's stream, if one is left.
+    pub(crate) fn next_input(&self) -> Option<Word18>
+        ensures { result ≡ slice_get (words_left self.now.stream) 0 }
+    {
+        match &self.stream {
+            Some(stream) => stream.peek(),
+            None => None,
         }
     }
 

@@ -1,0 +1,6 @@
+pub mod Deeds
+pub mod Watched
+pub mod Moving
+pub mod Quiet
+pub mod Counting
+mod WorkedSteps

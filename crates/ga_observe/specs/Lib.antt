@@ -1,0 +1,5 @@
+pub mod Step
+pub mod Seen
+pub mod Counts
+pub mod Laws
+pub mod inner

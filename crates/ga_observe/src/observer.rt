@@ -1,0 +1,15 @@
+use crate::step::Step;
+
+/// What watches a run: the calls of this crate hand it each step, in the order of the run.
+pub trait Observer {
+    ghost use Rattle.std.specs.Prelude.{[], ◌∷◌, List};
+    ghost use Rattle.ga_observe.specs.Seen.{Sees};
+    ghost use Rattle.ga_observe.specs.declared.step.Step.{Step};
+
+    /// The observer is as it should be if it has seen these steps, in this order, and no others.
+    ghost has_seen: { Self → List Step → Type 0 };
+
+    /// The node has made this step, the next one of the run.
+    fn see(&mut self, step: Step)
+        ensures { Sees has_seen self.old self.new (step ∷ []) };
+}
