@@ -3,7 +3,7 @@ ghost use Rattle.ga_asm.specs.Text.{AtMostOne};
 ghost use Rattle.ga_path.specs.Names.{lists_in};
 ghost use Rattle.ga_path.specs.Stream.{IsBootFault, unreached};
 ghost use Rattle.ga_chip.specs.Chip.{reset_chip, stream_refusal, streamed, unless_refused};
-ghost use Rattle.ga_debug.specs.Beginning.{IsBeginning, IsChipOf, IsLoaded, booted_tree, chip_of, start_view};
+ghost use Rattle.ga_debug.specs.Beginning.{IsBeginning, IsChipOf, IsLoaded, all_placed, booted_tree, chip_of, start_view};
 ghost use Rattle.ga_path.specs.declared.error.BootError.TheVariants.{Memory};
 ghost use Rattle.ga_debug.specs.ReplayError.{Answers};
 ghost use Rattle.ga_debug.specs.inner.ReplayError.{Gives};
@@ -18,7 +18,7 @@ use ga_asm::{Images, assemble_text};
 use ga_chip::Chip;
 use ga_path::{Boot, BootError, Tree, boot_tree, routes_along};
 use ga_place::Node;
-use std::alloc::Global;
+use std::alloc::{AllocError, Global};
 
 /// The chip, the images and the lines of a replay text.
 #[derive(Drop)]
@@ -87,14 +87,18 @@ fn loaded_chip(
         (chip_of (option_map (λ lists. lists_in lists.now) routes.entry) images.now) }
 {
     match routes {
-        None => all_placed(alloc, images),
+        None => {
+            let chip = placed_chip(alloc, images)?;
+            Ok(chip)
+        }
         Some(lists) => routed_chip(alloc, lists, images),
     }
 }
 
-/// A chip with each image in its node.
-fn all_placed(alloc: Global, images: &Images) -> Result<Chip, ReplayError>
-    ensures { Gives (λ chip. chip) result (chip_of None images.now) }
+/// A chip after reset with the words of each image in its node, and P at its entry. Fails only when
+/// out of memory.
+pub fn placed_chip(alloc: Global, images: &Images) -> Result<Chip, AllocError>
+    ensures { IfOk result (λ chip. chip ≡ all_placed images.now reset_chip) }
 {
     let mut chip = Chip::reset(alloc)?;
     for (node, image) in images.images() {

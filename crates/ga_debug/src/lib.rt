@@ -19,7 +19,7 @@ mod until;
 mod word;
 
 pub use address::Address;
-pub use beginning::{Loaded, begin, booted_tree, load};
+pub use beginning::{Loaded, begin, booted_tree, load, placed_chip};
 pub use error::DebugError;
 pub use pieces::Pieces;
 pub use replay_error::ReplayError;

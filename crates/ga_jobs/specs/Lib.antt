@@ -33,6 +33,7 @@ pub mod Replay
 pub mod Debug
 pub mod Answering
 pub mod Reading
+pub mod Writing
 pub mod Engine
 
 -- what a job may answer to an input that is not too long

@@ -10,6 +10,7 @@ use crate::answering::answer;
 use crate::fault::ServeError;
 use crate::reading::read_input;
 use crate::reads::Reads;
+use crate::writes::Writes;
 use crate::writing::write_output;
 use std::io::{Read, Write};
 use std::thread::Threads;
@@ -68,7 +69,7 @@ fn respond<Rt: AllocGlobal + Threads + Sync, W: Write>(
         → Keeps (W.contents writer.old) (W.contents writer.new)) }
 {
     let text = answer(rt, job, input)?;
-    write_output(writer, text.as_bytes())
+    write_output(writer, text.as_bytes(), &mut Writes::default())
 }
 
 /// The exit status of the program: 0 for an output that was written, 1 for a refused input and for

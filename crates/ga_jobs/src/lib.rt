@@ -30,6 +30,7 @@ mod text;
 mod text_fault;
 mod transcript_fault;
 mod tree;
+mod writes;
 mod writing;
 
 pub use crate::answering::{answer, answer_alone};

@@ -1,10 +1,8 @@
 -- A text has one listing and one list of labels, or one first fault.
-use Rattle.std.proofs.Common.{◌≡◌, ◌∙◌, ℕ, List, Result, Ok, Err, sym, ap, subst}
-use Rattle.ga_pack.specs.Model.Program.{PlacedSection}
+use Rattle.std.proofs.Common.{◌≡◌, ◌∙◌, ℕ, List, Ok, Err, sym, ap}
 use Rattle.ga_pack.proofs.OneSource.{one_program}
 use Rattle.ga_asm.specs.Image.{ImageView}
 use Rattle.ga_asm.specs.Text.{AtMostOne, HasImages}
-use Rattle.ga_asm.specs.declared.text.TextError.{TextError}
 use Rattle.ga_asm.proofs.OneAnswer.{one_answer}
 use Rattle.ga_list.specs.Labels.{AreLabelsOf, labels_of_images}
 use Rattle.ga_list.specs.Listing.{IsListingOf, listing_from}

@@ -1,12 +1,14 @@
 -- The lines of words, word by word.
 use Rattle.std.proofs.Common.{◌≡◌, ◌∙◌, ◌<◌, ◌≤◌, ℕ, zero, suc, ◌+◌, List, [], ◌∷◌, ◌++◌, length, map, drop, drop-cons, get_or, Some, None, refl, sym, ap, append_assoc, append-nil, arith}
 use Rattle.std.proofs.lemmas.List.{drop-map, drop_all}
+use Rattle.std.specs.Prelude.{◌==◌, true, false, option_map, if◌then◌else◌}
 use Rattle.std.specs.List.{slice_get}
 use Rattle.std.specs.Option.{option_map_or}
 use Rattle.ga_asm.specs.Image.{ImageView}
 use Rattle.ga_asm.specs.Places.{word_places}
 use Rattle.ga_disasm.specs.declared.item.Item.{Item}
 use Rattle.ga_disasm.specs.Disassembling.{ItemView, item_view, items_from}
+use Rattle.ga_list.specs.Lines.{line_from}
 use Rattle.ga_list.specs.Listing.{listing_from, node_listing}
 use Rattle.ga_list.specs.Row.{label_lines, line_at, row_text, rows_from}
 use Rattle.ga_pack.specs.Model.Layout.{Labels}
@@ -68,6 +70,13 @@ rows_end labels places words views address text total h inv =
     ∙ ap (λ ws. text ++ rows_from labels places address ws (drop address views))
     (sym (drop_all address words h)) ∙ inv
 
+-- the image that is next, and those behind it
+cut_at : (images : List (ℕ × ImageView)) (section : ℕ) (image : ℕ × ImageView)
+    → Some image ≡ slice_get images section → drop section images ≡ image ∷ drop (suc section) images
+cut_at [] n x e = absurd (cc)
+cut_at (y ∷ l) zero x e = let same : x ≡ y = cc in ap (λ t. t ∷ l) (sym same)
+cut_at (y ∷ l) (suc n) x e = cut_at l n x e
+
 -- the listing of an image more, of those that are left
 pub listing_next : (program : List PlacedSection) (images : List (ℕ × ImageView)) (section : ℕ)
     (image : ℕ × ImageView) (old new total : List ℕ) → Some image ≡ slice_get images section
@@ -84,12 +93,34 @@ listing_next program images section image old new total at inv new_is =
     ∙ ap (λ t. t ++ listing_from program (suc section) (drop (suc section) images)) new_is
     ∙ append_assoc old own (listing_from program (suc section) (drop (suc section) images))
     ∙ ap (λ l. old ++ listing_from program section l) (sym cut) ∙ inv
-  where
-    cut_at : (l : List (ℕ × ImageView)) (n : ℕ) (x : ℕ × ImageView) → Some x ≡ slice_get l n
-        → drop n l ≡ x ∷ drop (suc n) l
-    cut_at [] n x e = absurd (cc)
-    cut_at (y ∷ l) zero x e = let same : x ≡ y = cc in ap (λ t. t ∷ l) (sym same)
-    cut_at (y ∷ l) (suc n) x e = cut_at l n x e
+
+-- the line of a word of the image that is next
+pub line_here : (program : List PlacedSection) (images : List (ℕ × ImageView))
+    (section node address : ℕ) (image : ℕ × ImageView) → Some image ≡ slice_get images section
+    → (image.0 == node) ≡ true → line_from program section (drop section images) node address
+    ≡ option_map (λ (place : Place). place.line)
+    (slice_get (word_places image.1.item_counts (items_at program section)) address)
+line_here program images section node address image at same =
+    ap (λ l. line_from program section l node address) (cut_at images section image at)
+    ∙ ap (λ b. if b
+    then option_map (λ (place : Place). place.line)
+        (slice_get (word_places image.1.item_counts (items_at program section)) address)
+    else line_from program (suc section) (drop (suc section) images) node address) same
+
+-- the image that is next is of another node
+pub line_next : (program : List PlacedSection) (images : List (ℕ × ImageView))
+    (section node address : ℕ) (image : ℕ × ImageView) → Some image ≡ slice_get images section
+    → (image.0 == node) ≡ false
+    → line_from program (section + 1) (drop (section + 1) images) node address
+    ≡ line_from program section (drop section images) node address
+line_next program images section node address image at apart =
+    let next : section + 1 ≡ suc section = omega arith in
+    ap (λ n. line_from program n (drop n images) node address) next
+    ∙ sym (ap (λ l. line_from program section l node address) (cut_at images section image at)
+    ∙ ap (λ b. if b
+    then option_map (λ (place : Place). place.line)
+        (slice_get (word_places image.1.item_counts (items_at program section)) address)
+    else line_from program (suc section) (drop (suc section) images) node address) apart)
 
 -- of the places of all sections' items those of a section
 pub section_found : {V : Type 0} (items : V → List found.ItemPlace) (all : List V)

@@ -2,4 +2,5 @@ pub mod Reading
 pub mod Row
 pub mod Listing
 pub mod Labels
+pub mod Lines
 pub mod Laws

@@ -4,9 +4,11 @@
 
 mod labels;
 pub mod laws;
+mod lines;
 mod listing;
 mod reading;
 mod row;
 
 pub use labels::list_labels;
+pub use lines::line_of;
 pub use listing::list;

@@ -52,7 +52,7 @@ fn listing_of(alloc: Global, program: &Program<'_>, images: &Images) -> Result<S
 }
 
 /// The places of the items of a section, by its number.
-fn places_at(found: &[Vec<ItemPlace>], section: usize) -> &[ItemPlace]
+pub(crate) fn places_at(found: &[Vec<ItemPlace>], section: usize) -> &[ItemPlace]
     ensures { result.now
         ≡ option_map_or (λ places. places.items) (slice_get found.now section) [] }
 {

@@ -8,4 +8,5 @@ mod ring;
 mod sides;
 mod text;
 
+pub use label::push_label;
 pub use text::waits;

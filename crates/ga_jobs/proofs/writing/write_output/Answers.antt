@@ -1,4 +1,4 @@
-use Rattle.std.proofs.Common.{◌+◌, ◌≡◌, ◌∙◌, ◌++◌, ℕ, List, drop, take, sym, ap, subst}
+use Rattle.std.proofs.Common.{◌+◌, ◌-◌, ◌^◌, ◌<◌, arith, ◌≡◌, ◌∙◌, ◌++◌, ℕ, List, drop, take, sym, ap, subst}
 use Rattle.std.specs.Prelude.{Option}
 use Rattle.std.specs.Io.KnownBytes.{Appends}
 use Rattle.std.proofs.KnownBytes.{Appends-trans, Appends-kept}
@@ -17,20 +17,36 @@ writes_more a b c text rest count n left before after = (
       (Appends-trans a b c _ _ before after),
 )
 
+-- a call more is counted
+counted_more : (calls turns next : ℕ) → calls ≡ turns → turns < 2 ^ 64 - 1
+    → (calls < 2 ^ 64 - 1 → next ≡ calls + 1) → next ≡ turns + 1
+counted_more calls turns next same room more =
+    let below : calls < 2 ^ 64 - 1 = omega arith in
+    let next_is : next ≡ calls + 1 = more below in
+    omega arith
+
 pub loop-preserved : goal.loop-preserved
 loop-preserved g c =
-    let (count, left, written) = c.loop.invariant in
+    let (count, left, written) = c.loop.invariant.written in
     elim c.match-write.branch [
       | in-Ok-write w ↦
           let more = writes_more _ _ _ _ _ count w.in-Ok-write.count left written
-          w.in-Ok-write.ensures.bytes in (
-            count + w.in-Ok-write.count,
-            ap (λ r. r.now) w.rest-is ∙ take_rest c.loop.rest.now w.in-Ok-write.count ∙ more.0,
-            more.1,
-          )
-      | in-Err-write w ↦ (
-        count,
-        ap (λ r. r.now) w.rest-is ∙ left,
-        Appends-kept _ _ _ _ written w.in-Err-write.ensures.bytes,
-      )
+          w.in-Ok-write.ensures.bytes in record {
+            written = (
+              count + w.in-Ok-write.count,
+              ap (λ r. r.now) w.rest-is ∙ take_rest c.loop.rest.now w.in-Ok-write.count ∙ more.0,
+              more.1,
+            );
+            counted = λ none. counted_more c.loop.writes.calls c.loop.counter c.write.new.self.calls
+                (c.loop.invariant.counted none) c.loop-test.true w.in-Ok-write.ensures.counted;
+          }
+      | in-Err-write w ↦ record {
+        written = (
+          count,
+          ap (λ r. r.now) w.rest-is ∙ left,
+          Appends-kept _ _ _ _ written w.in-Err-write.ensures.bytes,
+        );
+        counted = λ none. counted_more c.loop.writes.calls c.loop.counter c.write.new.self.calls
+            (c.loop.invariant.counted none) c.loop-test.true w.in-Err-write.ensures.counted;
+      }
     ]

@@ -2,8 +2,10 @@ use Rattle.std.proofs.Common.{◌≡◌, ℕ, take, drop}
 use Rattle.std.specs.Io.KnownBytes.{Appends}
 use Rattle.ga_jobs.proofs.writing.write_output.Given as goal
 
--- what is gone from the front of the text was written
+-- what is gone from the front of the text was written, one call a turn
 abbrev pub invariant-loop : goal.invariant-loop
-invariant-loop g l =
-    (count : ℕ) × (l.rest ≡ drop count l.text) × Appends (g.W.Write.contents l.initial.writer)
-    (g.W.Write.contents l.writer) (take count l.text)
+invariant-loop g l = record {
+  written : (count : ℕ) × (l.rest ≡ drop count l.text) × Appends
+      (g.W.Write.contents l.initial.writer) (g.W.Write.contents l.writer) (take count l.text);
+  counted : l.initial.writes.calls ≡ 0 → l.writes.calls ≡ l.counter;
+}

@@ -1,4 +1,4 @@
-use Rattle.std.proofs.Common.{◌∙◌, refl, arith, option_map, sym, ap}
+use Rattle.std.proofs.Common.{refl, arith}
 use Rattle.ga_word.proofs.HexFormat.{padded_hex}
 use Rattle.ga_asm.specs.Image.{labels_of}
 use Rattle.ga_list.proofs.Writing.{by_number}
