@@ -33,8 +33,8 @@ pub mod Replay
 pub mod Debug
 pub mod Answering
 pub mod Reading
-pub mod Writing
 pub mod Engine
+pub mod inner
 
 -- what a job may answer to an input that is not too long
 unfoldable pub IsJobOutput : Job → List ℕ → Result (List ℕ) ServeError → Type 0

@@ -2,7 +2,7 @@ ghost use Rattle.std.specs.Prelude.{◌≡◌, ◌+◌, ◌<◌, ◌-◌, ◌^�
 ghost use Rattle.std.specs.Io.KnownBytes.{Keeps, WriteAppends};
 ghost use Rattle.std.specs.Io.{WritesAtMost};
 ghost use Rattle.std.specs.IoError.{error_kind};
-ghost use Rattle.ga_jobs.specs.Writing.{calls_of, has_failed};
+ghost use Rattle.ga_jobs.specs.inner.Writing.{calls_of, has_failed};
 
 use std::io;
 use std::io::{ErrorKind, Write};
@@ -22,7 +22,8 @@ impl Writes {
         ensures bound { WritesAtMost result text.now }
         ensures bytes { WriteAppends (W.contents writer.old) (W.contents writer.new)
             result text.now }
-        ensures counted { calls_of self.old < 2 ^ 64 - 1 → calls_of self.new ≡ calls_of self.old + 1 }
+        ensures counted { calls_of self.old < 2 ^ 64 - 1
+            → calls_of self.new ≡ calls_of self.old + 1 }
         ensures none { result ≡ Ok 0 → has_failed self.new ≡ true }
         ensures failed { IfErr result (λ error. (error_kind error ≡ ErrorKind.Interrupted → ⊥)
             → has_failed self.new ≡ true) }

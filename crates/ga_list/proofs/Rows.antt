@@ -72,7 +72,8 @@ rows_end labels places words views address text total h inv =
 
 -- the image that is next, and those behind it
 cut_at : (images : List (ℕ × ImageView)) (section : ℕ) (image : ℕ × ImageView)
-    → Some image ≡ slice_get images section → drop section images ≡ image ∷ drop (suc section) images
+    → Some image ≡ slice_get images section
+    → drop section images ≡ image ∷ drop (suc section) images
 cut_at [] n x e = absurd (cc)
 cut_at (y ∷ l) zero x e = let same : x ≡ y = cc in ap (λ t. t ∷ l) (sym same)
 cut_at (y ∷ l) (suc n) x e = cut_at l n x e

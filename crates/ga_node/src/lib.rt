@@ -1,6 +1,7 @@
 //! One node of the GA144: its state, what it needs for its next step, and its steps.
 #![tactic(auto)]
 
+mod copy;
 mod decoded;
 mod fetch;
 mod line;

@@ -31,6 +31,16 @@ impl Stack {
         }
     }
 
+    /// A copy of the stack.
+    pub fn copied(&self) -> Self
+        ensures { result ≡ self.now }
+    {
+        Stack {
+            words: self.words,
+            first: self.first,
+        }
+    }
+
     /// Puts a word at the front. The last one is lost.
     #[inline(always)]
     pub fn push(&mut self, word: Word18)

@@ -16,28 +16,29 @@ use Rattle.ga_observe.specs.Laws.{events_in}
 use Rattle.ga_observe.specs.Seen.{Sees, numbered, steps_in, steps_seen, turns_numbered}
 
 -- nothing more was seen
-pub sees_none : {A : Type 0} (S : A → List Step → Type 0) (a : A) → Sees S a a []
-sees_none S a steps seen = subst (S a) (sym (append-nil steps)) seen
+pub sees_none : {A : Type 0} (S : A → A → List Step → Type 0) (a : A) → Sees S a a []
+sees_none S a begun steps seen = subst (S begun a) (sym (append-nil steps)) seen
 
 -- some steps, and then others
-pub sees_more : {A : Type 0} (S : A → List Step → Type 0) (a b c : A) (here there : List Step)
+pub sees_more : {A : Type 0} (S : A → A → List Step → Type 0) (a b c : A) (here there : List Step)
     → Sees S a b here → Sees S b c there → Sees S a c (here ++ there)
-sees_more S a b c here there first next steps seen =
-    subst (S c) (append_assoc steps here there) (next (steps ++ here) (first steps seen))
+sees_more S a b c here there one next begun steps seen =
+    subst (S begun c) (append_assoc steps here there)
+    (next begun (steps ++ here) (one begun steps seen))
 
 -- How far an observer has come in a run: what it saw, and the steps of the events that are left,
 -- are the steps of the run.
-pub record Watched {A : Type 0} (S : A → List Step → Type 0) (first now : A) (start chip : Chip)
+pub record Watched {A : Type 0} (S : A → A → List Step → Type 0) (first now : A) (start chip : Chip)
     (all rest : List (ℕ × Event)) : Type 0 where
   pub done : List Step
   pub sees : Sees S first now done
   pub left : done ++ steps_seen chip rest ≡ steps_seen start all
 
-pub watch_begins : {A : Type 0} (S : A → List Step → Type 0) (first : A) (start : Chip)
+pub watch_begins : {A : Type 0} (S : A → A → List Step → Type 0) (first : A) (start : Chip)
     (all : List (ℕ × Event)) → Watched S first first start start all all
 watch_begins S first start all = record { done = []; sees = sees_none S first; left = refl }
 
-pub watch_goes_on : {A : Type 0} (S : A → List Step → Type 0) (first now next : A)
+pub watch_goes_on : {A : Type 0} (S : A → A → List Step → Type 0) (first now next : A)
     (start chip behind : Chip) (turn name : ℕ) (side : Side) (outcome : Outcome)
     (all rest more : List (ℕ × Event)) → rest ≡ (turn, Try name side) ∷ more
     → ◌≡◌ {A = Outcome × Chip} (outcome, behind) (tried chip name side)
@@ -55,7 +56,7 @@ watch_goes_on S first now next start chip behind turn name side outcome all rest
           ∙ w.left;
     }
 
-pub watch_ends : {A : Type 0} (S : A → List Step → Type 0) (first now : A) (start chip : Chip)
+pub watch_ends : {A : Type 0} (S : A → A → List Step → Type 0) (first now : A) (start chip : Chip)
     (all rest : List (ℕ × Event)) → rest ≡ [] → Watched S first now start chip all rest
     → Sees S first now (steps_seen start all)
 watch_ends S first now start chip all rest e w =
@@ -148,7 +149,7 @@ turns_steps start chip count is =
     ∙ ap (steps_seen start) (sym (numbered-more count))
 
 -- what an observer saw of some turns, and of one turn more
-pub turns_go_on : {A : Type 0} (S : A → List Step → Type 0) (first now next : A)
+pub turns_go_on : {A : Type 0} (S : A → A → List Step → Type 0) (first now next : A)
     (start chip : Chip) (count : ℕ) → chip ≡ ran start (turns_of count)
     → Sees S first now (steps_seen start (turns_numbered count))
     → Sees S now next (steps_seen chip (turn_events count))
@@ -159,12 +160,12 @@ turns_go_on S first now next start chip count is so_far turned =
     (steps_seen chip (turn_events count)) so_far turned)
 
 -- How far a turn has come, and what the observer saw of it.
-pub record TurnWatched {A : Type 0} (S : A → List Step → Type 0) (first now : A)
+pub record TurnWatched {A : Type 0} (S : A → A → List Step → Type 0) (first now : A)
     (start chip : Chip) (turn index moved : ℕ) : Type 0 where
   pub made : InTurn start chip (side_of_turn turn) index moved
   pub seen : Watched S first now start chip (turn_events turn) (turn_rest turn index)
 
-pub turn_opens : {A : Type 0} (S : A → List Step → Type 0) (first : A) (start : Chip) (turn : ℕ)
+pub turn_opens : {A : Type 0} (S : A → A → List Step → Type 0) (first : A) (start : Chip) (turn : ℕ)
     → TurnWatched S first first start start turn 0 0
 turn_opens S first start turn = record {
   made = turn_begins start (side_of_turn turn);
@@ -172,7 +173,7 @@ turn_opens S first start turn = record {
       (watch_begins S first start (turn_events turn));
 }
 
-pub turn_goes : {A : Type 0} (S : A → List Step → Type 0) (first now next : A)
+pub turn_goes : {A : Type 0} (S : A → A → List Step → Type 0) (first now next : A)
     (start chip behind : Chip) (turn index moved more node : ℕ) (side : Side) (outcome : Outcome)
     → index < 144 → node ≡ name_at index → side ≡ side_of_turn turn
     → ◌≡◌ {A = Outcome × Chip} (outcome, behind) (tried chip node side)
@@ -194,7 +195,7 @@ turn_goes S first now next start chip behind turn index moved more node side out
           sees) w.seen;
     }
 
-pub turn_closes : {A : Type 0} (S : A → List Step → Type 0) (first now : A) (start chip : Chip)
+pub turn_closes : {A : Type 0} (S : A → A → List Step → Type 0) (first now : A) (start chip : Chip)
     (turn index moved : ℕ) → 144 ≤ index → TurnWatched S first now start chip turn index moved
     → Sees S first now (steps_seen start (turn_events turn))
 turn_closes S first now start chip turn index moved reached w =

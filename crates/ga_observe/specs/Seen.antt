@@ -65,7 +65,8 @@ unfoldable pub turns_numbered : ℕ → List (ℕ × Event)
 turns_numbered count =
     flat_map (λ turn. numbered turn (turn_of (side_of_turn turn))) (range_with_len 0 count)
 
--- What an observer has seen grows by more steps: if it had seen some, it has then seen those and
--- these, in order.
-abbrev pub Sees : {A : Type 0} → (A → List Step → Type 0) → A → A → List Step → Type 0
-Sees has_seen old new more = (steps : List Step) → has_seen old steps → has_seen new (steps ++ more)
+-- What an observer has seen grows by more steps: if it began as some observer and had seen some
+-- steps, it has then seen those and these, in order.
+abbrev pub Sees : {A : Type 0} → (A → A → List Step → Type 0) → A → A → List Step → Type 0
+Sees {A = A} has_seen old new more =
+    (begun : A) (steps : List Step) → has_seen begun old steps → has_seen begun new (steps ++ more)

@@ -6,8 +6,9 @@ pub trait Observer {
     ghost use Rattle.ga_observe.specs.Seen.{Sees};
     ghost use Rattle.ga_observe.specs.declared.step.Step.{Step};
 
-    /// The observer is as it should be if it has seen these steps, in this order, and no others.
-    ghost has_seen: { Self → List Step → Type 0 };
+    /// The second observer is as it should be if it began as the first one, and has then seen these
+    /// steps, in this order, and no others.
+    ghost has_seen: { Self → Self → List Step → Type 0 };
 
     /// The node has made this step, the next one of the run.
     fn see(&mut self, step: Step)

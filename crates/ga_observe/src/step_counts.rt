@@ -47,7 +47,7 @@ impl StepCounts {
 }
 
 impl Observer for StepCounts {
-    ghost has_seen = { λ counts steps. Counts counts steps };
+    ghost has_seen = { λ _ counts steps. Counts counts steps };
 
     fn see(&mut self, step: Step) {
         let index = step.node.index();

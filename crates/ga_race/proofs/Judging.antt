@@ -1,0 +1,72 @@
+-- The verdict after some turns is so.
+use Rattle.std.proofs.Common.{◌≡◌, ◌∙◌, ℕ, Bool, true, false, List, Some, ap, subst, sym}
+use Rattle.ga_chip.specs.Chip.{Chip}
+use Rattle.ga_chip.specs.Run.{Event, ran, turns_of, words_fed}
+use Rattle.ga_chip.specs.Legal.{IsLegal}
+use Rattle.ga_observe.specs.Laws.{events_in}
+use Rattle.ga_observe.specs.Seen.{steps_seen, turns_numbered}
+use Rattle.ga_observe.proofs.Watched.{plain_turns}
+use Rattle.ga_race.specs.Clocks.{steps_in}
+use Rattle.ga_race.specs.Differs.{HasRace}
+use Rattle.ga_race.specs.Races.{HasNoRace, IsDeterminateWithin}
+use Rattle.ga_race.specs.Shown.{HasSeen, Kept}
+use Rattle.ga_race.specs.Verdict.{AgreesFor, IsSo}
+use Rattle.ga_race.specs.Watch.{CountsFit, finds_race, first_watch, watch_on}
+use Rattle.ga_race.specs.declared.verdict.Verdict.{Verdict}
+use Rattle.ga_race.specs.declared.verdict.Verdict.TheVariants as verdict
+use Rattle.ga_race.specs.inner.Ending.{IsFound}
+use Rattle.ga_race.proofs.Deciding.{quiet_within, watch_finds}
+use Rattle.ga_race.proofs.Differs.{race_differs}
+use Rattle.ga_race.proofs.Fair.{breaks_kept}
+use Rattle.ga_race.proofs.Fitting.{steps_are_counted}
+use Rattle.ga_race.proofs.Following.{finds_same}
+use Rattle.ga_race.proofs.Spinning.{no_race_spinning}
+use Rattle.ga_race.proofs.TurnLists.{turns_tries}
+use Rattle.ga_race.proofs.Watching.{finds_all}
+
+-- what a watch keeps is whether its run has a race
+pub kept_finds : (chip : Chip) (turns : ℕ) (kept : Kept) → IsLegal chip → CountsFit chip
+    → kept.start ≡ chip.cells → HasSeen kept (steps_seen chip (turns_numbered turns))
+    → kept.race ≡ finds_race chip (turns_numbered turns)
+kept_finds chip turns kept legal fits start seen =
+    (seen (steps_are_counted chip (turns_numbered turns) legal fits)).race
+    ∙ ap (λ cells. (watch_on (first_watch cells) (steps_seen chip (turns_numbered turns))).race)
+    start
+
+-- without a race two runs agree for these turns
+pub agrees_for : (chip : Chip) (turns : ℕ) → IsLegal chip
+    → finds_race chip (turns_numbered turns) ≡ false → AgreesFor chip turns
+agrees_for chip turns legal quiet =
+    subst (λ (events : List Event). IsDeterminateWithin chip (steps_in chip events)
+    (words_fed chip events)) (plain_turns turns)
+    (quiet_within chip (turns_numbered turns) legal quiet)
+
+no_race_in : (chip : Chip) (turns : ℕ) → IsLegal chip
+    → finds_race chip (turns_numbered turns) ≡ false → HasNoRace chip (turns_of turns)
+no_race_in chip turns legal quiet =
+    subst (HasNoRace chip) (plain_turns turns)
+    (finds_all chip (events_in (turns_numbered turns)) legal
+    (sym (finds_same chip (turns_numbered turns) legal) ∙ quiet))
+
+race_in : (chip : Chip) (turns : ℕ) → IsLegal chip
+    → finds_race chip (turns_numbered turns) ≡ true → HasRace chip (turns_of turns)
+race_in chip turns legal found =
+    subst (HasRace chip) (plain_turns turns)
+    (watch_finds chip (turns_numbered turns) legal found)
+
+-- what is found after some turns is so
+pub found_so : (chip : Chip) (turns : ℕ) (race : Bool) (v : Verdict) → IsLegal chip
+    → race ≡ finds_race chip (turns_numbered turns)
+    → IsFound race (ran chip (turns_of turns)) (Some v) → IsSo chip turns v
+found_so chip turns race (verdict.Race details) legal is found =
+    let one = race_in chip turns legal (sym is ∙ found) in
+    (one, (race_differs chip (turns_of turns) legal one).0)
+found_so chip turns race (verdict.AtRest spins) legal is found =
+    let quiet = sym is ∙ found.0 in (
+      agrees_for chip turns legal quiet,
+      λ free. (no_race_spinning chip (turns_of turns) legal (no_race_in chip turns legal quiet)
+          (found.1 (breaks_kept chip (turns_of turns) (turns_tries turns) legal free))).0,
+    )
+found_so chip turns race (verdict.Round round) legal is found =
+    agrees_for chip turns legal (sym is ∙ found)
+found_so chip turns race verdict.Open legal is found = agrees_for chip turns legal (sym is ∙ found)

@@ -1,0 +1,35 @@
+pub mod Prefixes
+pub mod Causes
+pub mod Embedded
+pub mod Rest
+pub mod Room
+pub mod Uncounted
+pub mod Cuts
+pub mod Tried
+pub mod Longer
+pub mod Spinning
+pub mod Alike
+pub mod Shifted
+pub mod Round
+pub mod TurnLists
+pub mod Rounds
+pub mod Fair
+pub mod Simple
+pub mod Tracks
+pub mod Watching
+pub mod Ticking
+pub mod Trying
+pub mod Apart
+pub mod Differs
+pub mod Exact
+pub mod Following
+pub mod Deciding
+pub mod Fitting
+pub mod Rows
+pub mod Keeping
+mod Worked
+mod WorkedSpins
+pub mod Spun
+pub mod Resting
+pub mod EndingAll
+pub mod Judging

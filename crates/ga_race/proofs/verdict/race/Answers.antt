@@ -1,0 +1,91 @@
+use Rattle.std.proofs.Common.{◌≡◌, ◌∙◌, ◌+◌, ap, arith, length, refl, subst, sym, Some}
+use Rattle.std.proofs.lemmas.List.Elements.{All-nil}
+use Rattle.ga_chip.specs.Run.{moves, ran, turns_of}
+use Rattle.ga_chip.proofs.Turning.{one_more_count, one_turn}
+use Rattle.ga_observe.specs.Seen.{steps_seen, turns_numbered}
+use Rattle.ga_observe.proofs.Watched.{turns_steps}
+use Rattle.ga_race.specs.Shown.{HasSeenFrom}
+use Rattle.ga_race.specs.Verdict.{IsSo}
+use Rattle.ga_race.specs.inner.Ending.{IsFound}
+use Rattle.ga_race.proofs.Judging.{agrees_for, found_so, kept_finds}
+use Rattle.ga_race.proofs.verdict.race.Goals as goal
+
+pub loop-number-init : goal.loop-number-init
+unfolding turns_of turns_numbered
+loop-number-init c = record {
+  chip = refl;
+  steps = refl;
+  few = omega arith;
+  seen = record { start = refl; seen = c.in_ok-watch.ensures.seen };
+  quiet = (c.in_ok-watch.ensures.seen (All-nil _)).race;
+}
+
+pub overflow_add-steps : goal.overflow_add-steps
+overflow_add-steps c = omega arith
+
+pub loop-number-preserved : goal.loop-number-preserved
+loop-number-preserved c =
+    let so_far = c.loop-number.invariant in
+    record {
+      chip = one_turn c.args.chip.now c.loop-number.chip c.turn.new.chip c.loop-number.number
+          so_far.chip c.turn.ensures.chip;
+      steps = one_more_count c.args.chip.now c.loop-number.chip c.loop-number.number
+          c.loop-number.steps c.from-steps.result so_far.chip so_far.steps
+          (c.from-steps.ensures ∙ c.turn.ensures.moved);
+      few = omega (arith, so_far.few, c.from-steps.ensures);
+      seen = subst (HasSeenFrom c.in_ok-watch.watch.races c.turn.new.observer.races)
+          (turns_steps c.args.chip.now c.loop-number.chip c.loop-number.number so_far.chip)
+          (c.turn.ensures.seen c.in_ok-watch.watch
+          (steps_seen c.args.chip.now (turns_numbered c.loop-number.number)) so_far.seen);
+      quiet = subst (IsFound c.turn.new.observer.races.race c.turn.new.chip) c.in-None.is
+          c.in_ok-verdict.ensures;
+    }
+
+pub returns-in-Some-clause-chip : goal.returns-in-Some-clause-chip
+returns-in-Some-clause-chip c =
+    one_turn c.args.chip.now c.loop-number.chip c.turn.new.chip c.loop-number.number
+    c.loop-number.invariant.chip c.turn.ensures.chip
+    ∙ ap (λ n. ran c.args.chip.now (turns_of n)) (sym c.reported.ensures.turns)
+
+pub returns-in-Some-clause-steps : goal.returns-in-Some-clause-steps
+returns-in-Some-clause-steps c =
+    c.reported.ensures.steps
+    ∙ one_more_count c.args.chip.now c.loop-number.chip c.loop-number.number c.loop-number.steps
+    c.from-steps.result c.loop-number.invariant.chip c.loop-number.invariant.steps
+    (c.from-steps.ensures ∙ c.turn.ensures.moved)
+    ∙ ap (λ n. length (moves c.args.chip.now (turns_of n))) (sym c.reported.ensures.turns)
+
+pub returns-in-Some-clause-verdict : goal.returns-in-Some-clause-verdict
+returns-in-Some-clause-verdict c =
+    let turns = c.loop-number.number + 1 in
+    let races = c.turn.new.observer.races in
+    let seen : HasSeenFrom c.in_ok-watch.watch.races races
+    (steps_seen c.args.chip.now (turns_numbered turns)) =
+    subst (HasSeenFrom c.in_ok-watch.watch.races races)
+    (turns_steps c.args.chip.now c.loop-number.chip c.loop-number.number
+    c.loop-number.invariant.chip) (c.turn.ensures.seen c.in_ok-watch.watch
+    (steps_seen c.args.chip.now (turns_numbered c.loop-number.number))
+    c.loop-number.invariant.seen) in
+    let chip_is = one_turn c.args.chip.now c.loop-number.chip c.turn.new.chip c.loop-number.number
+    c.loop-number.invariant.chip c.turn.ensures.chip in
+    let found : IsFound races.race (ran c.args.chip.now (turns_of turns)) (Some c.in-Some.verdict) =
+    subst (λ chip. IsFound races.race chip (Some c.in-Some.verdict)) chip_is
+    (subst (IsFound races.race c.turn.new.chip) c.in-Some.is c.in_ok-verdict.ensures) in
+    let so : IsSo c.args.chip.now turns c.in-Some.verdict =
+    found_so c.args.chip.now turns races.race c.in-Some.verdict c.legal.ensures
+    (kept_finds c.args.chip.now turns races c.legal.ensures c.counts_fit.ensures
+    (seen.start ∙ c.in_ok-watch.ensures.start) seen.seen) found in
+    subst (λ n. IsSo c.args.chip.now n c.reported.result.verdict) (sym c.reported.ensures.turns)
+    (subst (IsSo c.args.chip.now turns) (sym c.reported.ensures.verdict) so)
+
+pub returns-clause-verdict : goal.returns-clause-verdict
+returns-clause-verdict c =
+    let so_far = c.loop-number.invariant in
+    let turns = c.loop-number.number in
+    let all : turns ≡ c.from.result = omega arith in
+    let is = kept_finds c.args.chip.now turns c.loop-number.watch.races c.legal.ensures
+    c.counts_fit.ensures (so_far.seen.start ∙ c.in_ok-watch.ensures.start) so_far.seen.seen in
+    subst (λ n. IsSo c.args.chip.now n c.reported-2.result.verdict)
+    (all ∙ sym c.reported-2.ensures.turns)
+    (subst (IsSo c.args.chip.now turns) (sym c.reported-2.ensures.verdict)
+    (agrees_for c.args.chip.now turns c.legal.ensures (sym is ∙ so_far.quiet)))

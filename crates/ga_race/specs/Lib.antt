@@ -1,0 +1,10 @@
+pub mod Clocks
+pub mod Races
+pub mod Spins
+pub mod Rounds
+pub mod Differs
+pub mod Watch
+pub mod Decides
+pub mod Verdict
+pub mod Shown
+pub mod inner

@@ -1,0 +1,62 @@
+-- Nodes that spin, and what a run without races shows if some nodes spin at its end.
+use Rattle.std.specs.Prelude.{◌≡◌, ◌≢◌, ℕ, ◌≤◌, ◌<◌, zero, suc, false, List, get_or, ◌⊎◌, Some, None}
+use Rattle.ga_place.specs.declared.side.Side.{Side}
+use Rattle.ga_node.specs.State.{State}
+use Rattle.ga_node.specs.Need.{wants}
+use Rattle.ga_node.specs.Slot.{step}
+use Rattle.ga_node.specs.declared.need.Need.TheVariants.{Own}
+use Rattle.ga_chip.specs.declared.outcome.Outcome.TheVariants.{Held, Moved}
+use Rattle.ga_chip.specs.Part.{Part}
+use Rattle.ga_chip.specs.Chip.{Chip, part_of, tried}
+use Rattle.ga_chip.specs.Run.{Event, ran, words_fed}
+use Rattle.ga_chip.specs.Legal.{IsLegal}
+use Rattle.ga_race.specs.Clocks.{steps_in}
+use Rattle.ga_race.specs.Races.{HasNoRace, IsDeterminate, IsFed}
+
+-- a node's state after a number of own steps
+abbrev pub own_after : ℕ → State → State
+own_after zero state = state
+own_after (suc steps) state = own_after steps (step state None)
+
+-- a state without its number of steps
+abbrev pub uncounted : State → State
+uncounted state = record state { steps = 0 }
+
+-- A node spins: own steps alone lead from its state back to it, except for the number of steps.
+pub record Spins (state : State) : Type 0 where
+  -- the number of steps that lead back, at least one
+  pub period : ℕ
+  pub some : 1 ≤ period
+  -- each of them is the node's own work
+  pub own : (steps : ℕ) → steps < period → wants (own_after steps state) ≡ Own
+  -- behind them the state is the same
+  pub back : uncounted (own_after period state) ≡ uncounted state
+
+-- A node that spins still spins after any number of own steps.
+abbrev pub StillSpins : Type 0
+StillSpins = (state : State) (steps : ℕ) → Spins state → Spins (own_after steps state)
+
+-- A node of a chip spins, and it has no breakpoint.
+pub record IsSpinning (chip : Chip) (name : ℕ) : Type 0 where
+  pub part : Part
+  pub there : part_of chip name ≡ Some part
+  pub spins : Spins part.state
+  pub unbroken : (address : ℕ) → get_or part.breaks address false ≡ false
+
+-- A node rests: no try of it is moved, and no breakpoint holds it.
+abbrev pub IsResting : Chip → ℕ → Type 0
+IsResting chip name =
+    (side : Side) → ((tried chip name side).0 ≢ Moved) × ((tried chip name side).0 ≢ Held)
+
+-- each node rests or spins
+abbrev pub IsRestOrSpins : Chip → Type 0
+IsRestOrSpins chip = (name : ℕ) → IsResting chip name ⊎ IsSpinning chip name
+
+-- If each node rests or spins at the end of a run without races, the chip is determinate, and no
+-- run makes more steps than this one of a node that rests at its end.
+abbrev pub NoRaceSpinning : Type 0
+NoRaceSpinning =
+    (chip : Chip) (events : List Event) → IsLegal chip → HasNoRace chip events
+    → IsRestOrSpins (ran chip events) → IsDeterminate chip (words_fed chip events)
+    × ((others : List Event) → IsFed chip others (words_fed chip events) → (name : ℕ)
+    → IsResting (ran chip events) name → steps_in chip others name ≤ steps_in chip events name)

@@ -1,0 +1,100 @@
+//! The verdict on a chip: whether the schedule decides what it does.
+ghost use Rattle.std.specs.Prelude.{◌≡◌, IfOk, IfSome, false, length};
+ghost use Rattle.ga_chip.specs.Run.{moves, ran, turns_of};
+ghost use Rattle.ga_race.specs.Verdict.{IsSo};
+ghost use Rattle.ga_race.specs.inner.Ending.{IsFound};
+
+use crate::counts::counts_fit;
+use crate::ending::{RoundSearch, at_rest};
+use crate::found::Race;
+use crate::run_watch::RunWatch;
+use ga_chip::Chip;
+use ga_observe::turn;
+use std::alloc::{AllocError, Global};
+
+/// What one run shows of all runs of a chip.
+#[derive(Clone, Copy)]
+pub enum Verdict {
+    /// The schedule decides which word a node takes.
+    Race(Race),
+    /// No race. Each node rests, or spins: own steps alone lead back to the same state.
+    AtRest { spins: [bool; 144] },
+    /// No race in two rounds of this many turns, after each of which all is as before it, but for
+    /// numbers of steps and words.
+    Round { turns: u64 },
+    /// No race in the turns that were made.
+    Open,
+}
+
+/// A verdict, and the run that it comes from.
+#[derive(Clone, Copy)]
+pub struct Report {
+    pub verdict: Verdict,
+    /// How many turns were made.
+    pub turns: u64,
+    /// How many steps the nodes made in them.
+    pub steps: u64,
+    /// How many multiport reads took a word.
+    pub multiport_reads: u64,
+}
+
+/// Makes turns, at most `turns`, until there is a verdict on all runs of the chip: a race, rest, or
+/// a round. Fails only when out of memory.
+pub fn race(alloc: Global, chip: &mut Chip, turns: u32) -> Result<Report, AllocError>
+    ensures chip { IfOk result (λ report. chip.new ≡ ran chip.old (turns_of report.turns)) }
+    ensures steps { IfOk result (λ report.
+        report.steps ≡ length (moves chip.old (turns_of report.turns))) }
+    ensures verdict { IfOk result (λ report. IsSo chip.old report.turns report.verdict) }
+{
+    chip.legal();
+    counts_fit(chip);
+    let mut watch = RunWatch::new(alloc, chip)?;
+    let mut search = RoundSearch::new(alloc, chip)?;
+    let mut steps = 0;
+    for number in 0..u64::from(turns) {
+        steps += u64::from(turn(chip, &mut watch, number));
+        match verdict_at(alloc, chip, &watch, &mut search, number + 1)? {
+            Some(verdict) => return Ok(reported(verdict, number + 1, steps, &watch)),
+            None => {}
+        }
+    }
+    Ok(reported(Verdict::Open, u64::from(turns), steps, &watch))
+}
+
+/// A verdict with the run that it comes from.
+fn reported(verdict: Verdict, turns: u64, steps: u64, watch: &RunWatch) -> Report
+    ensures verdict { result.verdict ≡ verdict }
+    ensures turns { result.turns ≡ turns }
+    ensures steps { result.steps ≡ steps }
+{
+    Report {
+        verdict,
+        turns,
+        steps,
+        multiport_reads: watch.multiport_reads,
+    }
+}
+
+/// The verdict after a number of turns, if there is one.
+fn verdict_at(
+    alloc: Global,
+    chip: &Chip,
+    watch: &RunWatch,
+    search: &mut RoundSearch,
+    turns: u64,
+) -> Result<Option<Verdict>, AllocError>
+    ensures { IfOk result (IsFound watch.now.races.race chip.now) }
+{
+    if let Some(race) = watch.races.race() {
+        return Ok(Some(Verdict::Race(race)));
+    }
+    if watch.is_quiet(turns) {
+        if let Some(spins) = at_rest(chip, turns) {
+            return Ok(Some(Verdict::AtRest { spins }));
+        }
+    }
+    match search.look(alloc, chip, turns)? {
+        Some(turns) => Ok(Some(Verdict::Round { turns })),
+        None => Ok(None),
+    }
+}
