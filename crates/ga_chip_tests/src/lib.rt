@@ -11,6 +11,8 @@ mod loader;
 #[cfg(test)]
 mod nodes;
 #[cfg(test)]
+mod observed;
+#[cfg(test)]
 mod parts;
 #[cfg(test)]
 mod ports;

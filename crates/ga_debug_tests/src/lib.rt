@@ -12,6 +12,8 @@ mod laws;
 #[cfg(test)]
 mod pieces;
 #[cfg(test)]
+mod races;
+#[cfg(test)]
 mod rings;
 #[cfg(test)]
 mod sessions;

@@ -140,7 +140,7 @@ more_one a b d n f h = omega arith
 
 -- ---- what a try finds
 
--- a list of one or none tells what it was made of
+-- a list of one or none shows what it was made of
 same_option : {A : Type 0} (p q : Option A) → option_to_list p ≡ option_to_list q → p ≡ q
 same_option None None e = refl
 same_option None (Some y) e = cc
@@ -178,7 +178,7 @@ push_fed : (start : Chip) (done : List Event) (event : Event) (x : ℕ)
     ≡ words_fed start done x ++ words_fed start (event ∷ []) x
 push_fed start done event x = flat_map-append (piece_of (is_open start x) x) done (event ∷ [])
 
--- to what holds of each event of two runs
+-- to what is true of each event of two runs
 push_among : (p : Event → Bool) (done way : List Event) (event : Event)
     → (list_all p done ≡ true → list_all p way ≡ true) → list_all p (done ++ event ∷ []) ≡ true
     → list_all p (way ++ event ∷ []) ≡ true
@@ -197,7 +197,7 @@ keep_among p done event e =
 
 -- ---- the moves apart from a step
 
--- Where a run of a chip has come to some moves, another run has made those that don't come behind
+-- If a run of a chip has come to some moves, another run has made those that don't come behind
 -- the step of a node that follows its first k.
 pub record Apart (start : Chip) (first : Clocks) (name k : ℕ) (done : List Event) (now : Chip)
     (made : List Move) : Type 0 where

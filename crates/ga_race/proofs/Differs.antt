@@ -286,7 +286,7 @@ module _ (chip : Chip) (before : List Event) (event : Event) (later : List Event
     abbrev upto : List Event
     upto = event ∷ (p.mid ++ p.post ∷ [])
 
-    -- is a front of the rest
+    -- is a prefix of the rest
     upto_is : upto ++ p.rest ≡ event ∷ later
     upto_is =
         ap (λ es. event ∷ es) (append_assoc p.mid (p.post ∷ []) p.rest)
@@ -558,7 +558,7 @@ module _ (chip : Chip) (events : List Event) (race : HasRace chip events)
   left_out : CanTake chip events way race.name l.left_out
   left_out = can_take l.left_out race.cell t.among_left l.reads r.left_out
 
-  -- what holds of each event of the run
+  -- what is true of each event of the run
   all_among : (p : Event → Bool) → list_all p events ≡ true → list_all p way ≡ true
   all_among p all =
       let both = and_parts (list_all p race.before) (list_all p (race.event ∷ race.later))

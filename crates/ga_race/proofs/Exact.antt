@@ -99,7 +99,7 @@ full_word : (cells : List (Option ℕ)) (at : Option ℕ) → is_full cells at �
 full_word cells None e = absurd (false≢true e)
 full_word cells (Some cell) e = (cell, refl, e)
 
--- a test of order tells
+-- what a test of order shows
 below : (a b : ℕ) → nat_lt a b ≡ true → a < b
 below a b e = grind (arith, common_steps)
 

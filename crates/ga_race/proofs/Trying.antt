@@ -1,4 +1,4 @@
--- A try of a node: its move, the parts behind it, and chips at which it goes alike.
+-- A try of a node: its move, the parts behind it, and chips at which it does the same.
 use Rattle.std.proofs.Common.{◌≡◌, ℕ, ◌<◌, ◌==◌, Bool, true, false, [], ◌∷◌, ◌⊎◌, inl, inr, length, set, slice_get, option_map, Option, Some, None, refl, sym, ap, ◌∙◌, subst, arith}
 use Rattle.std.specs.Prelude.{◌&&◌, if◌then◌else◌}
 use Rattle.std.proofs.lemmas.Bool.{ne_eqb}

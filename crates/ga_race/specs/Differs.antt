@@ -58,7 +58,7 @@ pub record GoesTwoWays (chip : Chip) (events : List Event)
   -- the run before the take, and behind it what of the run doesn't come behind the take
   pub way : List Event
   pub front : IsPrefix race.before way
-  -- so that what holds of each event of the run holds of each of these
+  -- so that what is true of each event of the run is true of each of these
   pub among : (p : Event → Bool) → list_all p events ≡ true → list_all p way ≡ true
   -- it leads to where the node is as it was before the take
   pub node : part_of (ran chip way) race.name ≡ Some race.leaves.part

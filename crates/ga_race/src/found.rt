@@ -34,7 +34,7 @@ pub struct MultiportTake {
     pub turn: u64,
     /// The sides at which the node reads.
     pub sides: Sides,
-    /// Where the node stood before the take: its place, and P.
+    /// The place of the node before the take, and P.
     pub place: Place,
     pub p: u16,
     /// The address of the word in execution: P before the node's last fetch.

@@ -332,7 +332,7 @@ impl RaceWatch {
         }
     }
 
-    /// Keeps which cells a take leaves out, if it reads at several sides.
+    /// Keeps which cells a take leaves out, if it is a multiport take.
     fn choose(&mut self, step: &Step, side: Side, of: Sides, word: Word18)
         ensures shows { (w : Watch) → Shows self.old w
             → Shows self.new (all_left step.now.node of side (count_of step.now) w) }
