@@ -17,9 +17,15 @@ fn steps_are_counted(rt: HostRuntime) -> Result<(), Fail> {
     let own = count_steps(&mut chip, 6);
     assert!(rt; own.count(node_708) == 6 && own.count(node_709) == 0);
     let mut counts = StepCounts::new();
-    let post = Try { node: node_708, side };
+    let post = Try {
+        node: node_708,
+        side,
+    };
     run(&mut chip, &mut counts, &[post]);
-    let take = Try { node: node_709, side };
+    let take = Try {
+        node: node_709,
+        side,
+    };
     assert!(rt; attempt(&mut chip, &mut counts, take, 7) == Outcome::Moved);
     assert!(rt; counts.count(node_708) == 1 && counts.count(node_709) == 1);
     assert!(rt; turn(&mut chip, &mut counts, 8) == 1 && counts.count(node_708) == 2);

@@ -105,7 +105,7 @@ line_here program images section node address image at same =
     ap (λ l. line_from program section l node address) (cut_at images section image at)
     ∙ ap (λ b. if b
     then option_map (λ (place : Place). place.line)
-        (slice_get (word_places image.1.item_counts (items_at program section)) address)
+    (slice_get (word_places image.1.item_counts (items_at program section)) address)
     else line_from program (suc section) (drop (suc section) images) node address) same
 
 -- the image that is next is of another node
@@ -120,7 +120,7 @@ line_next program images section node address image at apart =
     ∙ sym (ap (λ l. line_from program section l node address) (cut_at images section image at)
     ∙ ap (λ b. if b
     then option_map (λ (place : Place). place.line)
-        (slice_get (word_places image.1.item_counts (items_at program section)) address)
+    (slice_get (word_places image.1.item_counts (items_at program section)) address)
     else line_from program (suc section) (drop (suc section) images) node address) apart)
 
 -- of the places of all sections' items those of a section

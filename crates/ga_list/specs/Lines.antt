@@ -13,5 +13,5 @@ line_from program section [] node address = None
 line_from program section (image ∷ images) node address =
     if image.0 == node
     then option_map (λ (place : Place). place.line)
-        (slice_get (word_places image.1.item_counts (items_at program section)) address)
+    (slice_get (word_places image.1.item_counts (items_at program section)) address)
     else line_from program (suc section) images node address
