@@ -3,9 +3,9 @@ use crate::chips::chip_with;
 use ga_chip::{Outcome, Try};
 use ga_node::Place;
 use ga_observe::{Deed, Step, StepCounts, attempt, count_steps, run, turn, turns};
-use ga_place::Side;
+use ga_place::{Node, Side};
 use ga_test_values::{WRITE_12_RIGHT, node, nodes, word};
-use ga_word::Op;
+use ga_word::{Op, Word18};
 use std::test::Fail;
 
 /// Node 708 makes six steps of its own, and then posts; 709 takes the word; 708 sees that.
@@ -33,23 +33,26 @@ fn steps_are_counted(rt: HostRuntime) -> Result<(), Fail> {
     Ok(())
 }
 
-/// A step of node 708 in the word `@p @p b! .`.
-fn step_at(place: Place) -> Result<Step, Fail> {
-    Ok(Step {
-        node: node(708)?,
+/// A step of node 708 in a word.
+fn step_at(node: Node, word: Word18, place: Place) -> Step {
+    Step {
+        node,
         number: 1,
         turn: 1,
         place,
         p: 1,
-        word: word(WRITE_12_RIGHT[0])?,
+        word,
         deed: Deed::Own,
-    })
+    }
 }
 
+/// The word is `@p @p b! .`.
 #[test]
 fn opcodes_of_steps(rt: HostRuntime) -> Result<(), Fail> {
-    assert!(rt; step_at(Place::Slot2)?.op() == Some(Op::BStore));
-    assert!(rt; step_at(Place::Slot3)?.op() == Some(Op::Nop));
-    assert!(rt; step_at(Place::Fetch)?.op().is_none());
+    let node_708 = node(708)?;
+    let word = word(WRITE_12_RIGHT[0])?;
+    assert!(rt; step_at(node_708, word, Place::Slot2).op() == Some(Op::BStore));
+    assert!(rt; step_at(node_708, word, Place::Slot3).op() == Some(Op::Nop));
+    assert!(rt; step_at(node_708, word, Place::Fetch).op().is_none());
     Ok(())
 }
