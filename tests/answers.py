@@ -15,6 +15,7 @@ output of a run must have its form, and must agree with other runs of the progra
 | `debug`, `record` | each has the replies of the other |
 | `record` | `check` accepts its transcript, and `record` writes that again as it is |
 | `check` | it compares with the replies of `record` |
+| `race` | `debug` makes as many steps in its turns, and `check` accepts its witness |
 | `replay` of profile 2 | it compares with the replies of `debug` |
 | `replay` of profile 1 | it accepts the lines before one that differs, and refuses the last one changed |
 """
@@ -67,7 +68,7 @@ class Wrong(Exception):
 
 
 # The arguments of a subcommand: values, which are numbers of a range, and texts; and options, which have a number of a
-# range, or no value. FILE and NAME may be left out. `answer` gives the expected output.
+# range, a text, or no value. FILE and NAME may be left out. `answer` gives the expected output.
 Subcommand = namedtuple("Subcommand", "values options answer")
 SUBCOMMANDS = {}
 
@@ -100,11 +101,16 @@ class Job:
             elif word[:2] != "--" or option in self.options or option not in self.kind.options:
                 raise ValueError("no such option, or it is given twice")
             elif self.kind.options[option]:
-                self.options[option] = number_in(self.kind.options[option], value if equals or not rest else rest.pop(0))
+                if not equals and (not rest or re.match("-.", rest[0])):
+                    raise ValueError("an option without its value")
+                kind, text = self.kind.options[option], value if equals else rest.pop(0)
+                self.options[option] = text if kind == "ROUTE" else number_in(kind, text)
             elif equals:
                 raise ValueError("an option with a value that has none")
             else:
                 self.options[option] = True
+        if {"place", "route"} <= {*self.options}:
+            raise ValueError("source text is placed or booted")
         self.read_values(self.kind.values)
 
     def read_values(self, kinds):
@@ -291,6 +297,49 @@ def check(ask, job, text, answer):
     return f"same {len(old.exchanges)}\n"
 
 
+RACE = (
+    r"race: \d{3}(?: in its loader| at [0-3][0-9A-F]{2}(?: \S+)?) reads 1[0-9A-F]{2}(?: \(line \d+\))?; the schedule decides "
+    r"which word it takes\n"
+    r"(?:  (?:right|down |left |up   ) [0-3][0-9A-F]{4} from \d{3}"
+    r"(?: in its loader| at [0-3][0-9A-F]{2}(?: \S+)?(?: \(line \d+\))?)?\n){2}"
+)
+COUNTS = r"(\d+) turns?, (\d+) steps?, \d+ multiport reads?"
+NO_RACE = "no race(?:{}|{}|{})\n".format(
+    rf": no schedule leads elsewhere\n  at rest after {COUNTS}(?:; spinning:(?: \d{{3}})+)?",
+    rf" in 2 rounds of \d+ turns\n  all is as before a round after {COUNTS}",
+    rf" so far: still moving after {COUNTS}",
+)
+
+
+@subcommand("FILE", turns=range(1000001), witness=None, place=None, route="ROUTE")
+def race(ask, job, text, answer):
+    head = head_in(job, text)
+    found = re.fullmatch(NO_RACE, answer.output)
+    if found:
+        turns, steps = next(it for it in zip(found.groups()[::2], found.groups()[1::2]) if it[0])
+        ask(["debug"], f"{head}turn {turns}\n", f"moved {steps}\n")
+    elif "witness" in job.options:
+        witness = transcript_of(answer.output)
+        ask(["check"], answer.output, f"same {len(witness.exchanges)}\n")
+    elif not re.fullmatch(RACE, answer.output):
+        raise Wrong("no text of a verdict")
+    return answer.output
+
+
+def head_in(job, text):
+    """The head of a session, or that which loads a source text."""
+    if not {"place", "route"} & {*job.options} and text.startswith("profile"):
+        return head_of(text, shows_source=True).text
+    if "route" in job.options:
+        tree_and_images(job.options["route"], text)
+        line = f"route {job.options['route']}"
+    else:
+        images_of(text)
+        line = "place"
+    source = re.sub("^go$", " go", text, flags=re.M)
+    return f"profile 2\n{line}\n{source}\ngo\n"
+
+
 # A line of a replay text behind `go`, with its number and its command.
 Step = namedtuple("Step", "line text command")
 
@@ -376,7 +425,8 @@ def judge(ask, args, data, answer):
         return
     try:
         text = job.input_of(data) if job.name != "explain" else ""
-        wanted = Answer(0, job.kind.answer(ask, job, text, answer), "")
+        output = job.kind.answer(ask, job, text, answer)
+        wanted = Answer(int(job.name == "race" and not output.startswith("no race")), output, "")
     except Fault as fault:
         wanted = Answer(1, "", reported(job, fault, text))
     if answer != wanted:

@@ -6,7 +6,7 @@ A worked program is a folder examples/NAME with three files:
   NAME.transcript  a session with its replies, with this source in its head
   NAME.replay      a text of `replay`, with this source in its head
 Of each, or of those that are named, `check` accepts the transcript, and `record` writes it as it is; the replay text
-holds; both have the source; and the row of docs/EXAMPLES.md has the program's nodes, words and steps. Each other
+holds; both have the source; and the row of docs/EXAMPLES.md has the program's nodes, words, steps and verdict. Each other
 transcript of the folder is checked and recorded too.
 
 Then the program is run with other data, at the limits of its range too, and its results are compared with
@@ -492,10 +492,21 @@ def kept(bench, name):
     images = bench.images(source)
     steps = sum(map(int, re.findall(r"^turn \d+ = (\d+)$", replay, re.M))) + len(re.findall(r"^try .* = moved$", replay, re.M))
     with open(f"{ROOT}/docs/EXAMPLES.md", encoding="utf-8") as page:
-        row = re.search(rf"^\| `{name}` \| (\d+) \| (\d+) \| (\d+)", page.read(), re.M)
+        row = re.search(rf"^\| `{name}` \| (\d+) \| (\d+) \| (\d+) \| ([a-z ]+) \|", page.read(), re.M)
     words = sum(len(words) for _, words in images.values())
-    what = f"{name}, its nodes, words and steps in docs/EXAMPLES.md"
-    bench.same(what, row and " ".join(row.groups()), f"{len(images)} {words} {steps}")
+    what = f"{name}, its nodes, words, steps and verdict in docs/EXAMPLES.md"
+    verdict = verdict_of("\n".join(bench.run("race", transcript)))
+    bench.same(what, row and " ".join(row.groups()), f"{len(images)} {words} {steps} {verdict}")
+
+
+def verdict_of(text):
+    """The verdict of a text of `race`, in the words of the page."""
+    if text.startswith("no race: "):
+        return "spins" if "; spinning: " in text else "at rest"
+    for front, verdict in [("no race in ", "goes round"), ("no race so far: ", "moves on"), ("race: ", "race")]:
+        if text.startswith(front):
+            return verdict
+    raise ValueError("no verdict")
 
 
 def check(program, name):

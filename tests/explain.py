@@ -29,7 +29,7 @@ CASES = f"{ROOT}/tests/cases/explain.jsonl"
 SECONDS = 60
 LINES, COLUMNS = 24, 80
 
-TERMS = {"stuck", "ring", "turn", "place", "step", "slot", "follower", "profile"}
+TERMS = {"stuck", "ring", "race", "turn", "place", "step", "slot", "follower", "profile"}
 # No recorded case can make a read, a write or an allocation fail, or a node step 2^64 times. The example of `ring` is
 # that of `stuck`.
 UNRECORDED = {"read", "write", "memory", "Counted", "ring"}

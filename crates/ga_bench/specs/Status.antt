@@ -5,6 +5,7 @@ use Rattle.clap.specs.declared.error.kind.ErrorKind.TheVariants.{DisplayHelp, Di
 use Rattle.ga_command_line.specs.declared.command_line.LineError.{LineError}
 use Rattle.ga_command_line.specs.declared.command_line.LineError.TheVariants.{Parse, Memory}
 use Rattle.ga_jobs.specs.declared.Job.{Job}
+use Rattle.ga_jobs.specs.declared.engine.Ending.{Ending}
 use Rattle.ga_jobs.specs.declared.fault.ServeError.{ServeError}
 use Rattle.ga_jobs.specs.Engine.{Serves, status_of}
 
@@ -18,11 +19,11 @@ IsStatusOf Memory status = status ≡ 3
 
 -- that of some answer to a job: 0, 1 or 3
 abbrev pub HasStatus : ℕ → Type 0
-HasStatus status = (answer : Result (Unit {0}) ServeError) × (status ≡ status_of answer)
+HasStatus status = (answer : Result Ending ServeError) × (status ≡ status_of answer)
 
 -- A job was served, for an input and the bytes that a writer holds, old and new, and the status is
 -- that of the answer.
 abbrev pub HasServed : Job → List ℕ → Option (List ℕ) → Option (List ℕ) → ℕ → Type 0
 HasServed job input old new status =
-    (answer : Result (Unit {0}) ServeError) × Serves job input old new answer
+    (answer : Result Ending ServeError) × Serves job input old new answer
     × (status ≡ status_of answer)

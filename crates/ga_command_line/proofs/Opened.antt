@@ -9,9 +9,12 @@ use Rattle.ga_command_line.specs.Explain.{explain_command}
 use Rattle.ga_command_line.specs.File.{file_command}
 use Rattle.ga_command_line.specs.List.{list_command}
 use Rattle.ga_command_line.specs.One.{one_command}
+use Rattle.ga_command_line.specs.Race as race
 use Rattle.ga_command_line.specs.Run.{routed_command, run_command, shared_command}
 
 unfoldable pub whole_command : App
 unfolding bench_command linked bare_command one_command dis_command boot_command routed_command
-    shared_command run_command list_command file_command explain_command
+    shared_command run_command list_command race.placed_command
+    race.routed_command race.turns_command race.witness_command race.race_command
+    file_command explain_command
 whole_command = bench_command

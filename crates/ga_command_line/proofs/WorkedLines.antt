@@ -1,9 +1,10 @@
 -- Command lines that were worked out by hand.
-use Rattle.std.proofs.Common.{◌≡◌, Global, String, string_bytes, ap, sym, false, [], ◌∷◌, Some, None, refl, lit<, lit≤}
+use Rattle.std.proofs.Common.{◌≡◌, Global, String, string_bytes, ap, sym, true, false, [], ◌∷◌, Some, None, refl, lit<, lit≤}
 use Rattle.std.specs.Prelude.{codes}
 use Rattle.clap.proofs.OnLiterals.{clap_on_literals}
 use Rattle.clap.specs.Words.{takes}
-use Rattle.ga_jobs.specs.declared.Job.TheVariants.{One, Dis, Boot, Check, Record, Explain}
+use Rattle.ga_jobs.specs.declared.Job.TheVariants.{One, Dis, Boot, Race, Check, Record, Explain}
+use Rattle.ga_jobs.specs.declared.race.Loading.TheVariants.{Any}
 use Rattle.ga_explain.specs.declared.topic.Topic.{Topic}
 use Rattle.ga_command_line.specs.Explain.{IsOfTable}
 use Rattle.ga_command_line.specs.CommandLine.{IsRight, bench_command}
@@ -44,6 +45,12 @@ topic_line : (topic : Topic) → topic.name.now ≡ codes "BadToken" → IsOfTab
     → IsRight (codes "ga-bench" ∷ codes "explain" ∷ codes "BadToken" ∷ []) (Explain (Some topic))
 unfolding whole_command clap_on_literals
 topic_line topic is of_table = (refl, (refl, ap Some is), of_table)
+
+race_line : (file : String Global) → string_bytes file ≡ codes "arbiter"
+    → IsRight (codes "ga-bench" ∷ codes "race" ∷ codes "--witness" ∷ codes "arbiter" ∷ [])
+    (Race Any None true (Some file))
+unfolding whole_command clap_on_literals
+race_line file is = (refl, (refl, ((refl, refl), refl, refl, ap Some is)), tt)
 
 two_topics : takes bench_command
     (codes "ga-bench" ∷ codes "explain" ∷ codes "own" ∷ codes "take" ∷ []) ≡ false

@@ -1,19 +1,21 @@
 -- The command line: the command as clap's definitions read it, and the job that its words name.
-use Rattle.std.specs.Prelude.{◌≡◌, ◌≤◌, ◌∷◌, [], List, true, false, codes, fold, IfSome, IsSomeAnd, Option, option_map, string_bytes}
-use Rattle.std.specs.Option.{option_map_or}
-use Rattle.std.specs.Str.{bytes_eq}
-use Rattle.clap.specs.Words.{App, Row, Text, first_of, new_app, subcommand_of, takes}
+use Rattle.std.specs.Prelude.{◌≡◌, ◌≤◌, ◌∷◌, [], List, true, codes, fold, map, IfSome, IsSomeAnd, Option, option_map, string_bytes}
+use Rattle.clap.specs.Words.{App, Row, Text, new_app, subcommand_of, takes}
 use Rattle.ga_jobs.specs.declared.Job.{Job}
 use Rattle.ga_jobs.specs.declared.Job.TheVariants.{One, Asm, Dis, Boot, Run, Debug, Replay, Explain}
 use Rattle.ga_jobs.specs.declared.Job.TheVariants as job
+use Rattle.ga_command_line.specs.declared.Subcommand.{Subcommand}
+use Rattle.ga_command_line.specs.declared.Subcommand.TheVariants as sub
 use Rattle.ga_command_line.specs.Boot.{boot_command}
 use Rattle.ga_command_line.specs.Command.{linked}
 use Rattle.ga_command_line.specs.Dis.{dis_command}
 use Rattle.ga_command_line.specs.Explain.{IsOfTable, IsTopicAt, explain_command}
 use Rattle.ga_command_line.specs.File.{IsFileAt, file_command}
+use Rattle.ga_command_line.specs.Flag.{is_set}
 use Rattle.ga_command_line.specs.List.{list_command}
 use Rattle.ga_command_line.specs.Number.{IsNumberAt, IsNumberIfAt}
 use Rattle.ga_command_line.specs.One.{one_command}
+use Rattle.ga_command_line.specs.Race.{IsLoadingAt, race_command}
 use Rattle.ga_command_line.specs.Route.{IsRouteAt}
 use Rattle.ga_command_line.specs.Run.{run_command}
 
@@ -23,16 +25,30 @@ bare_command =
     let named = new_app (codes "ga-bench") in
     record named { top = record named.top { has_version = true; subcommand_required = true } }
 
+-- the command of each subcommand
+abbrev pub command_of : Subcommand → App
+command_of sub.One = one_command
+command_of sub.Asm = new_app (codes "asm")
+command_of sub.Dis = dis_command
+command_of sub.Boot = boot_command
+command_of sub.Run = run_command
+command_of sub.Debug = new_app (codes "debug")
+command_of sub.Replay = new_app (codes "replay")
+command_of sub.List = list_command
+command_of sub.Race = race_command
+command_of sub.Check = file_command (codes "check")
+command_of sub.Record = file_command (codes "record")
+command_of sub.Explain = explain_command
+
 -- the subcommands, in the order of help
-abbrev pub subcommands : List App
+abbrev pub subcommands : List Subcommand
 subcommands =
-    one_command ∷ new_app (codes "asm") ∷ dis_command ∷ boot_command ∷ run_command
-    ∷ new_app (codes "debug") ∷ new_app (codes "replay") ∷ list_command
-    ∷ file_command (codes "check") ∷ file_command (codes "record") ∷ explain_command ∷ []
+    sub.One ∷ sub.Asm ∷ sub.Dis ∷ sub.Boot ∷ sub.Run ∷ sub.Debug ∷ sub.Replay ∷ sub.List ∷ sub.Race
+    ∷ sub.Check ∷ sub.Record ∷ sub.Explain ∷ []
 
 -- the whole command
 unfoldable pub bench_command : App
-bench_command = fold linked bare_command subcommands
+bench_command = fold linked bare_command (map command_of subcommands)
 
 -- the name of the subcommand that a job is asked for by
 abbrev pub job_name : Job → Text
@@ -44,6 +60,7 @@ job_name (Run route workers turns) = codes "run"
 job_name Debug = codes "debug"
 job_name Replay = codes "replay"
 job_name (job.List labels file) = codes "list"
+job_name (job.Race loading turns witness file) = codes "race"
 job_name (job.Check file) = codes "check"
 job_name (job.Record file) = codes "record"
 job_name (Explain topic) = codes "explain"
@@ -57,9 +74,10 @@ HasArguments rows (Run route workers turns) =
     IsRouteAt rows (string_bytes route) × IsNumberAt (codes "WORKERS") rows workers
     × IsNumberAt (codes "TURNS") rows turns
 HasArguments rows (job.List labels file) =
-    -- the flag is given or not
-    (labels ≡ option_map_or (λ text. bytes_eq text (codes "true")) (first_of (codes "LABELS") rows)
-    false) × IsFileAt rows (option_map string_bytes file)
+    (labels ≡ is_set (codes "LABELS") rows) × IsFileAt rows (option_map string_bytes file)
+HasArguments rows (job.Race loading turns witness file) =
+    IsLoadingAt rows loading × IsNumberIfAt (codes "N") rows turns
+    × (witness ≡ is_set (codes "WITNESS") rows) × IsFileAt rows (option_map string_bytes file)
 HasArguments rows (job.Check file) = IsFileAt rows (option_map string_bytes file)
 HasArguments rows (job.Record file) = IsFileAt rows (option_map string_bytes file)
 HasArguments rows (Explain topic) = IsTopicAt rows topic
@@ -70,6 +88,7 @@ abbrev pub InRange : Job → Type 0
 InRange (One tries) = tries ≤ 1000000
 InRange (Dis code) = IfSome code (λ number. number ≤ 64)
 InRange (Run route workers turns) = ((1 ≤ workers) × (workers ≤ 144)) × (turns ≤ 1000000)
+InRange (job.Race loading turns witness file) = IfSome turns (λ number. number ≤ 1000000)
 InRange (Explain topic) = IsOfTable topic
 InRange job = Unit {0}
 

@@ -8,5 +8,7 @@ pub mod Run
 pub mod Explain
 pub mod File
 pub mod List
+pub mod Flag
+pub mod Race
 pub mod CommandLine
 pub mod inner

@@ -6,7 +6,7 @@ ghost use Rattle.ga_command_line.specs.Command.{linked};
 ghost use Rattle.ga_command_line.specs.inner.Command.{IsCommandOf, has_globals};
 ghost use Rattle.ga_command_line.specs.CommandLine.{AsksFor, InRange, IsAskedFor, IsJobOf, IsRight, bare_command, bench_command};
 
-use crate::{job_named, subcommands};
+use crate::{SUBCOMMANDS, command_of, job_named};
 use clap::error::ErrorKind;
 use clap::{ArgMatches, Command};
 use ga_jobs::Job;
@@ -97,8 +97,8 @@ fn command<'a>(alloc: Global) -> Result<Command<'a>, AllocError>
     ensures { IfOk result (IsCommandOf bench_command) }
 {
     let mut command = bare_command(alloc)?;
-    for subcommand in subcommands(alloc) {
-        command = linked(command, subcommand?)?;
+    for subcommand in SUBCOMMANDS {
+        command = linked(command, command_of(alloc, subcommand)?)?;
     }
     Ok(command)
 }

@@ -4,8 +4,8 @@
 
 ghost use Rattle.std.specs.Prelude.{◌≡◌, IfErr, IfOk};
 ghost use Rattle.clap.specs.Words.{found_of, new_app, rows_of};
-ghost use Rattle.ga_command_line.specs.CommandLine.{AsksFor, InRange, subcommands};
-ghost use Rattle.ga_command_line.specs.inner.Command.{AreCommandsOf, IsCommandOf};
+ghost use Rattle.ga_command_line.specs.CommandLine.{AsksFor, InRange, command_of};
+ghost use Rattle.ga_command_line.specs.inner.Command.{IsCommandOf};
 
 mod boot;
 mod check;
@@ -13,9 +13,11 @@ mod command_line;
 mod dis;
 mod explain;
 mod file;
+mod flag;
 mod list;
 mod number;
 mod one;
+mod race;
 mod record;
 mod route;
 mod run;
@@ -26,38 +28,72 @@ use clap::{ArgMatches, Command};
 use ga_jobs::Job;
 use std::alloc::{AllocError, Global};
 
-/// The subcommands, in the order of help.
-fn subcommands<'a>(alloc: Global) -> [Result<Command<'a>, AllocError>; 11]
-    ensures { AreCommandsOf subcommands result }
+/// What a command line may ask for, in the order of help.
+#[derive(Clone, Copy, Debug, PartialEq, Eq)]
+pub enum Subcommand {
+    One,
+    Asm,
+    Dis,
+    Boot,
+    Run,
+    Debug,
+    Replay,
+    List,
+    Race,
+    Check,
+    Record,
+    Explain,
+}
+
+/// All subcommands.
+const SUBCOMMANDS: [Subcommand; 12] = [
+    Subcommand::One,
+    Subcommand::Asm,
+    Subcommand::Dis,
+    Subcommand::Boot,
+    Subcommand::Run,
+    Subcommand::Debug,
+    Subcommand::Replay,
+    Subcommand::List,
+    Subcommand::Race,
+    Subcommand::Check,
+    Subcommand::Record,
+    Subcommand::Explain,
+];
+
+/// The command of a subcommand.
+fn command_of<'a>(alloc: Global, subcommand: Subcommand) -> Result<Command<'a>, AllocError>
+    ensures { IfOk result (IsCommandOf (command_of subcommand)) }
 {
-    [
-        one::command(alloc),
-        plain(
+    match subcommand {
+        Subcommand::One => one::command(alloc),
+        Subcommand::Asm => plain(
             alloc,
             "asm",
             "Assembles source text, and prints the words of each node",
             ASM_HELP,
         ),
-        dis::command(alloc),
-        boot::command(alloc),
-        run::command(alloc),
-        plain(
+        Subcommand::Dis => dis::command(alloc),
+        Subcommand::Boot => boot::command(alloc),
+        Subcommand::Run => run::command(alloc),
+        Subcommand::Debug => plain(
             alloc,
             "debug",
             "Loads source text into a chip, runs commands on it, and prints the replies",
             DEBUG_HELP,
         ),
-        plain(
+        Subcommand::Replay => plain(
             alloc,
             "replay",
             "Runs the commands of a replay text, and compares their results",
             REPLAY_HELP,
         ),
-        list::command(alloc),
-        check::command(alloc),
-        record::command(alloc),
-        explain::command(alloc),
-    ]
+        Subcommand::List => list::command(alloc),
+        Subcommand::Race => race::command(alloc),
+        Subcommand::Check => check::command(alloc),
+        Subcommand::Record => record::command(alloc),
+        Subcommand::Explain => explain::command(alloc),
+    }
 }
 
 /// A subcommand without arguments.
@@ -90,6 +126,7 @@ fn job_named(alloc: Global, name: &str, found: &ArgMatches<'_>) -> Result<Job, L
         "debug" => Ok(Job::Debug),
         "replay" => Ok(Job::Replay),
         "list" => Ok(list::job_of(alloc, found)?),
+        "race" => race::job_of(alloc, found),
         "check" => Ok(check::job_of(alloc, found)?),
         "record" => Ok(record::job_of(alloc, found)?),
         "explain" => explain::job_of(alloc, found),

@@ -1,12 +1,11 @@
-ghost use Rattle.std.specs.Prelude.{◌≡◌, IfOk, codes, false};
-ghost use Rattle.std.specs.Option.{option_map_or};
-ghost use Rattle.std.specs.Str.{bytes_eq};
-ghost use Rattle.clap.specs.Words.{first_of, found_of, rows_of};
+ghost use Rattle.std.specs.Prelude.{IfOk, codes};
+ghost use Rattle.clap.specs.Words.{found_of, rows_of};
 ghost use Rattle.ga_command_line.specs.CommandLine.{AsksFor, InRange};
 ghost use Rattle.ga_command_line.specs.inner.Command.{IsCommandOf};
 ghost use Rattle.ga_command_line.specs.List.{list_command};
 
 use crate::file::file_in;
+use crate::flag::flag_in;
 use clap::{Arg, ArgAction, ArgMatches, Command};
 use ga_jobs::Job;
 use std::alloc::{AllocError, Global};
@@ -46,18 +45,7 @@ pub fn job_of(alloc: Global, found: &ArgMatches<'_>) -> Result<Job, AllocError>
     ensures in_range { IfOk result InRange }
     ensures asked { IfOk result (AsksFor (codes "list", rows_of (found_of found.now))) }
 {
-    let labels = labels_in(found);
+    let labels = flag_in(found, "LABELS");
     let file = file_in(alloc, found)?;
     Ok(Job::List { labels, file })
-}
-
-/// Whether the arguments of `list` ask for only the labels.
-fn labels_in(found: &ArgMatches<'_>) -> bool
-    ensures { result ≡ option_map_or (λ text. bytes_eq text (codes "true"))
-        (first_of (codes "LABELS") (rows_of (found_of found.now))) false }
-{
-    match found.get_str("LABELS") {
-        Some(given) => given == "true",
-        None => false,
-    }
 }

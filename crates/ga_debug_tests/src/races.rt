@@ -1,7 +1,8 @@
 //! Races in the programs of sessions. The answers come from a race detector apart.
 
-use ga_chip::Chip;
+use ga_chip::{Chip, Try, side_of_turn};
 use ga_debug::load;
+use ga_law_examples::{settled_top, sum_chip, watched_tries};
 use ga_observe::turns;
 use ga_place::Side;
 use ga_race::{RaceWatch, Report, Verdict, counts_fit, race, way_to};
@@ -157,5 +158,35 @@ fn too_few_turns(rt: HostRuntime) -> Result<(), Fail> {
         _ => false,
     };
     assert!(rt; is_open && report.turns == 20);
+    Ok(())
+}
+
+/// Ten turns of these three nodes, as tries.
+fn ten_turns(alloc: Global, names: [u16; 3]) -> Result<Vec<Try>, Fail> {
+    let mut tries = Vec::new(alloc);
+    for index in 0..30usize {
+        tries.push(Try {
+            node: node(names[index % 3])?,
+            side: side_of_turn(index as u64 / 3),
+        })?;
+    }
+    Ok(tries)
+}
+
+#[test]
+fn the_examples_of_laws(rt: HostRuntime) -> Result<(), Fail> {
+    let alloc = rt.alloc();
+    let Some(mut sum) = sum_chip(alloc) else {
+        return Err("memory")?;
+    };
+    assert!(rt; settled_top(alloc, &mut sum, node(709)?) == Some(word(12)?));
+    for (text, names, found) in [
+        (BESIDE, [304, 305, 404], true),
+        (SPINNING, [609, 709, 608], false),
+    ] {
+        let mut chip = chip_of(alloc, text)?;
+        let tries = ten_turns(alloc, names)?;
+        assert!(rt; watched_tries(alloc, &mut chip, &tries) == Some(found));
+    }
     Ok(())
 }

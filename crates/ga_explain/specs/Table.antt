@@ -8,7 +8,7 @@ use Rattle.ga_explain.specs.declared.routes.TheConstants.{BAD_ROUTE, NOT_EDGE, N
 use Rattle.ga_explain.specs.declared.sessions.TheConstants.{BAD_COMMAND, BAD_ADDRESS, BAD_SIDE, BAD_COUNT, NOT_HELD, BAD_PROFILE, NO_GO, SOURCE, ASM, ROUTE, TREE, BOOT, EARLY_REPLY, DIFFERS}
 use Rattle.ga_explain.specs.declared.input.TheConstants.{READ, NO_FILE, FOLDER, BAD_TEXT, BAD_CODE, WRITE, MEMORY}
 use Rattle.ga_explain.specs.declared.needs.TheConstants.{OWN, TAKE, POST, CHECK, INPUT, STOPPED, COUNTED, IO_READ, ROM, UNMAPPED, MULTI_WRITE}
-use Rattle.ga_explain.specs.declared.terms.TheConstants.{CARRY, MOVED, WAITS, HELD, STUCK, RING, TURN, PLACE, STEP, SLOT, FOLLOWER, PROFILE}
+use Rattle.ga_explain.specs.declared.terms.TheConstants.{CARRY, MOVED, WAITS, HELD, STUCK, RING, RACE, TURN, PLACE, STEP, SLOT, FOLLOWER, PROFILE}
 
 -- the faults of source text
 unfoldable pub source_entries : List Entry
@@ -140,6 +140,7 @@ terms_entries =
     (codes "held", [], HELD.now) ∷
     (codes "stuck", [], STUCK.now) ∷
     (codes "ring", [], RING.now) ∷
+    (codes "race", [], RACE.now) ∷
     (codes "turn", [], TURN.now) ∷
     (codes "place", [], PLACE.now) ∷
     (codes "step", [], STEP.now) ∷

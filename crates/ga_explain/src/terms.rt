@@ -6,7 +6,7 @@ use crate::topic::{Topic, topic};
 
 /// The carry, the outcomes of a try, and other words that replies, listings and help use.
 #[tactic(auto, unfolding(crate::specs::Table::terms_entries))]
-pub fn topics() -> [Topic; 12]
+pub fn topics() -> [Topic; 13]
     ensures { map entry_of result ≡ terms_entries }
 {
     [
@@ -16,6 +16,7 @@ pub fn topics() -> [Topic; 12]
         topic!("held", "", HELD),
         topic!("stuck", "", STUCK),
         topic!("ring", "", RING),
+        topic!("race", "", RACE),
         topic!("turn", "", TURN),
         topic!("place", "", PLACE),
         topic!("step", "", STEP),
@@ -124,6 +125,18 @@ const RING: &str = "\
 ring: nodes of which each waits for the next, and the last for the first. The
 command 'where' lists each ring behind the nodes, for example 'ring 708 709', a
 deadlock of two nodes. See stuck.
+";
+
+const RACE: &str = "\
+race: a multiport read of one word, although a word at another of its sides
+could have come first. So the schedule, the order of tries, decides which word
+it takes. The command 'race' finds one, or shows that there is none.
+
+  $ printf '%s\\n' 'node 709 $1F5 a! @' 'node 708 right a! 1 !' \\
+    'node 710 left a! 2 !' | ga-bench race
+  race: 709 at 000 reads 1F5 (line 1); the schedule decides which word it takes
+    right 00001 from 708 at 003 (line 2)
+    left  00002 from 710 at 003 (line 3)
 ";
 
 const TURN: &str = "\

@@ -7,3 +7,4 @@ pub mod OneRun
 mod OneAnswer
 mod Again
 mod WorkedOutputs
+mod Judged

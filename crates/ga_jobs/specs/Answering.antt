@@ -2,7 +2,7 @@
 use Rattle.std.specs.Prelude.{◌≡◌, ◌&&◌, ℕ, Bool, List, length, nat_lt, MatchBool, Result, Err}
 use Rattle.ga_asm.specs.Text.{AtMostOne}
 use Rattle.ga_jobs.specs.declared.Job.{Job}
-use Rattle.ga_jobs.specs.declared.Job.TheVariants.{Run}
+use Rattle.ga_jobs.specs.declared.Job.TheVariants.{Race, Run}
 use Rattle.ga_jobs.specs.declared.fault.ServeError.{ServeError}
 use Rattle.ga_jobs.specs.declared.fault.ServeError.TheVariants.{Input}
 use Rattle.ga_jobs.specs.declared.fault.InputFault.TheVariants.{TooLong}
@@ -27,4 +27,6 @@ IsOutput job input answer =
 abbrev pub HasOneOutput : Job → List ℕ → Type 0
 HasOneOutput (Run route workers turns) input =
     HasRuns workers (IsOutput (Run route workers turns) input)
+-- what `race` writes of a race isn't determined by what is stated of it
+HasOneOutput (Race loading turns witness file) input = Unit {0}
 HasOneOutput job input = AtMostOne (IsOutput job input)

@@ -11,6 +11,7 @@ use Rattle.ga_jobs.specs.Debug.{IsDebugOutput}
 use Rattle.ga_jobs.specs.Dis.{dis_output}
 use Rattle.ga_jobs.specs.Listing.{IsListOutput}
 use Rattle.ga_jobs.specs.One.{one_output}
+use Rattle.ga_jobs.specs.Race.{IsRaceOutput}
 use Rattle.ga_jobs.specs.Replay.{IsReplayOutput}
 use Rattle.ga_jobs.specs.Run.{IsRunOutput}
 use Rattle.ga_jobs.specs.Transcript.{IsCheckOutput, IsRecordOutput}
@@ -30,6 +31,7 @@ pub mod Tree
 pub mod Boot
 pub mod Run
 pub mod Replay
+pub mod Race
 pub mod Debug
 pub mod Answering
 pub mod Reading
@@ -49,6 +51,8 @@ IsJobOutput job.Replay input answer = IsReplayOutput input answer
 IsJobOutput (job.List labels file) input answer = IsListOutput labels input answer
 IsJobOutput (job.Check file) input answer = IsCheckOutput input answer
 IsJobOutput (job.Record file) input answer = IsRecordOutput input answer
+IsJobOutput (job.Race loading turns witness file) input answer =
+    IsRaceOutput loading witness input answer
 IsJobOutput (job.Explain topic) input answer = answer ≡ Ok (explain_output topic)
 
 -- each job except `explain` reads an input
@@ -66,6 +70,7 @@ abbrev pub file_of : Job → Option (List ℕ)
 file_of (job.List labels (Some file)) = named_file file
 file_of (job.Check (Some file)) = named_file file
 file_of (job.Record (Some file)) = named_file file
+file_of (job.Race loading turns witness (Some file)) = named_file file
 file_of job = None
 
 -- the job that is handed the means to start threads

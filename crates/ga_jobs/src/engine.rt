@@ -3,7 +3,7 @@ ghost use Rattle.std.specs.Io.KnownBytes.{Consumes, Keeps};
 ghost use Rattle.ga_jobs.specs.{reads_input};
 ghost use Rattle.ga_jobs.specs.Answering.{HasOneOutput, INPUT_LIMIT};
 ghost use Rattle.ga_jobs.specs.Reading.{ReadsToEnd};
-ghost use Rattle.ga_jobs.specs.Engine.{Serves, status_of};
+ghost use Rattle.ga_jobs.specs.Engine.{Serves, ending_of, status_of};
 
 use crate::Job;
 use crate::answering::answer;
@@ -14,6 +14,14 @@ use crate::writes::Writes;
 use crate::writing::write_output;
 use std::io::{Read, Write};
 use std::thread::Threads;
+
+/// How a job ended whose output was written.
+#[derive(Debug, Clone, Copy, PartialEq, Eq)]
+pub enum Ending {
+    Done,
+    /// The output says that the schedule decides what the program does.
+    Race,
+}
 
 /// Serves a job, the engine under every subcommand: reads the whole input, makes the whole output,
 /// and then writes it. An input has at most 1,048,576 bytes, and comes in at most 2,097,152 reads.
@@ -28,7 +36,7 @@ pub fn serve<Rt: AllocGlobal + Threads + Sync, R: Read, W: Write>(
     reader: &mut R,
     writer: &mut W,
     job: &Job,
-) -> Result<(), ServeError>
+) -> Result<Ending, ServeError>
     // If the bytes of the reader and the writer are known, what is written is an output for the
     // input, or after a fault its prefix or nothing.
     ensures served { IfSome (R.remaining reader.old) (λ input.
@@ -61,7 +69,7 @@ fn respond<Rt: AllocGlobal + Threads + Sync, W: Write>(
     writer: &mut W,
     job: &Job,
     input: &[u8],
-) -> Result<(), ServeError>
+) -> Result<Ending, ServeError>
     ensures served { Serves job.now input.now
         (W.contents writer.old) (W.contents writer.new) result }
     ensures no_read { IfErr result (λ fault. fault ≢ ServeError.Read) }
@@ -69,17 +77,28 @@ fn respond<Rt: AllocGlobal + Threads + Sync, W: Write>(
         → Keeps (W.contents writer.old) (W.contents writer.new)) }
 {
     let text = answer(rt, job, input)?;
-    write_output(writer, text.as_bytes(), &mut Writes::default())
+    write_output(writer, text.as_bytes(), &mut Writes::default())?;
+    Ok(ending_of(job, text.as_str()))
 }
 
-/// The exit status of the program: 0 for an output that was written, 1 for a refused input and for
-/// a read or a write that failed, and 3 when out of memory.
-pub fn status(outcome: &Result<(), ServeError>) -> u8
+/// How a job ends that wrote a text.
+fn ending_of(job: &Job, text: &str) -> Ending
+    ensures { result ≡ ending_of job.now text.now }
+{
+    match job {
+        Job::Race { .. } if !text.starts_with("no race") => Ending::Race,
+        _ => Ending::Done,
+    }
+}
+
+/// The exit status of the program: 0 for an output that was written, 1 for one that says of a race,
+/// for a refused input, and for a read or a write that failed, and 3 when out of memory.
+pub fn status(outcome: &Result<Ending, ServeError>) -> u8
     ensures { result ≡ status_of outcome.now }
 {
     match outcome {
-        Ok(()) => 0,
+        Ok(Ending::Done) => 0,
         Err(ServeError::Memory) => 3,
-        Err(_) => 1,
+        Ok(Ending::Race) | Err(_) => 1,
     }
 }

@@ -19,6 +19,8 @@ mod fault;
 pub mod list;
 mod meaning;
 pub mod one;
+pub mod race;
+mod race_text;
 mod reading;
 mod reads;
 pub mod record;
@@ -30,12 +32,14 @@ mod text;
 mod text_fault;
 mod transcript_fault;
 mod tree;
+mod witness;
 mod writes;
 mod writing;
 
 pub use crate::answering::{answer, answer_alone};
-pub use crate::engine::{serve, status};
+pub use crate::engine::{Ending, serve, status};
 pub use crate::fault::{InputFault, OutputFault, RouteFault, ServeError, TextFault, WordsFault};
+pub use crate::race::Loading;
 pub use crate::reading::read_input;
 pub use crate::reads::Reads;
 pub use crate::shown::ShownText;
@@ -84,6 +88,14 @@ pub enum Job {
     Record {
         file: Option<String>,
     },
+    /// What one run of a chip shows of all its runs. The session or the source text is in the file,
+    /// or comes from standard input if there is none.
+    Race {
+        loading: Loading,
+        turns: Option<u32>,
+        witness: bool,
+        file: Option<String>,
+    },
     /// What a name means that the program writes, or all these names.
     Explain {
         topic: Option<Topic>,
@@ -110,7 +122,10 @@ impl Job {
             }
             | Job::Check { file: Some(file) }
             | Job::Record { file: Some(file) }
-                if file.as_str() != "-" => { Some(file.as_str()) }
+            | Job::Race {
+                file: Some(file),
+                ..
+            } if file.as_str() != "-" => { Some(file.as_str()) }
             _ => None,
         }
     }
@@ -133,6 +148,12 @@ fn output(alloc: Global, job: &Job, input: &[u8]) -> Option<Result<String, Serve
         Job::List { labels, .. } => Some(list::output(alloc, *labels, input)),
         Job::Check { .. } => Some(check::output(alloc, input)),
         Job::Record { .. } => Some(record::output(alloc, input)),
+        Job::Race {
+            loading,
+            turns,
+            witness,
+            ..
+        } => Some(race::output(alloc, loading, *turns, *witness, input)),
         Job::Explain { topic } => Some(explain::output(alloc, *topic)),
     }
 }

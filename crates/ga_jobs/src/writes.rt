@@ -1,4 +1,4 @@
-ghost use Rattle.std.specs.Prelude.{◌≡◌, ◌+◌, ◌<◌, ◌-◌, ◌^◌, IfErr, IfOk, true};
+ghost use Rattle.std.specs.Prelude.{◌≡◌, ◌≢◌, ◌+◌, ◌<◌, ◌-◌, ◌^◌, IfErr, IfOk, OnOk, true};
 ghost use Rattle.std.specs.Io.KnownBytes.{Keeps, WriteAppends};
 ghost use Rattle.std.specs.Io.{WritesAtMost};
 ghost use Rattle.std.specs.IoError.{error_kind};
@@ -25,7 +25,7 @@ impl Writes {
         ensures counted { calls_of self.old < 2 ^ 64 - 1
             → calls_of self.new ≡ calls_of self.old + 1 }
         ensures none { result ≡ Ok 0 → has_failed self.new ≡ true }
-        ensures failed { IfErr result (λ error. (error_kind error ≡ ErrorKind.Interrupted → ⊥)
+        ensures failed { IfErr result (λ error. error_kind error ≢ ErrorKind.Interrupted
             → has_failed self.new ≡ true) }
         ensures kept { IfOk result (λ count. 0 < count
             → has_failed self.new ≡ has_failed self.old) }
@@ -50,6 +50,7 @@ impl Writes {
     pub(crate) fn flush<W: Write>(&mut self, writer: &mut W) -> io::Result<()>
         ensures bytes { Keeps (W.contents writer.old) (W.contents writer.new) }
         ensures failed { IfErr result (λ error. has_failed self.new ≡ true) }
+        ensures kept { OnOk result (has_failed self.new ≡ has_failed self.old) }
     {
         let answer = writer.flush();
         if answer.is_err() {

@@ -1,4 +1,4 @@
-ghost use Rattle.std.specs.Prelude.{◌≡◌, ◌-◌, ◌^◌, ◌⊎◌, ℕ, OnOk, OnErr, IfErr, take, true};
+ghost use Rattle.std.specs.Prelude.{◌≡◌, ◌-◌, ◌^◌, ◌⊎◌, ℕ, OnOk, OnErr, IfErr, false, take, true};
 ghost use Rattle.std.specs.Io.KnownBytes.{Appends};
 ghost use Rattle.ga_jobs.specs.inner.Writing.{calls_of, has_failed};
 
@@ -20,9 +20,11 @@ pub fn write_output<W: Write>(
     ensures part { OnErr result ((count : ℕ)
         × Appends (W.contents writer.old) (W.contents writer.new) (take count text.now)) }
     ensures fault { IfErr result (λ fault. fault ≡ ServeError.Write) }
-    // if no call was made before
-    ensures failed { calls_of writes.old ≡ 0 → OnErr result
+    // if no call was made before, and so none failed
+    ensures failed { calls_of writes.old ≡ 0 → has_failed writes.old ≡ false → OnErr result
         ((has_failed writes.new ≡ true) ⊎ (calls_of writes.new ≡ 2 ^ 64 - 1)) }
+    ensures unfailed { has_failed writes.old ≡ false → OnOk result
+        (has_failed writes.new ≡ false) }
 {
     let mut rest = text;
     for _ in 0..u64::MAX {

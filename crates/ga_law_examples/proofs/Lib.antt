@@ -8,3 +8,6 @@ pub mod SpinningRun
 pub mod Assembled
 pub mod Fed
 pub mod Leaf
+pub mod Placed
+pub mod Watched
+pub mod Settled

@@ -1,4 +1,5 @@
 pub mod Spinning
 pub mod Firmware
 pub mod Pieces
+pub mod Races
 pub mod inner

@@ -1,10 +1,11 @@
-//! Examples of how the laws of schedules and of booting are used.
+//! Examples of how the laws of schedules, of booting and of races are used.
 #![tactic(auto)]
 
 mod firmware;
 mod orders;
 mod pieces;
 mod plans;
+mod races;
 mod spinning;
 mod stuck;
 
@@ -12,5 +13,6 @@ pub use firmware::{assemble_firmware, boot_firmware, run_firmware};
 pub use orders::{one_side, two_orders, two_parts};
 pub use pieces::{PlannedRun, in_pieces, leaf_is_loaded};
 pub use plans::{after_run, plan_behind_plan, plan_beside_tries, two_plans};
+pub use races::{settled_top, sum_chip, watched_tries};
 pub use spinning::{spinning_chip, spinning_plans};
 pub use stuck::tries_beside_stuck;

@@ -1,4 +1,4 @@
-ghost use Rattle.std.specs.Prelude.{◌≡◌, ℕ, ◌+◌, ◌<◌, Bool, true, false, IfOk, IfSome, List, [], Some, is_some, replicate};
+ghost use Rattle.std.specs.Prelude.{◌≡◌, ℕ, ◌+◌, ◌<◌, Bool, true, false, IfOk, IfSome, List, [], None, Some, is_some, replicate};
 ghost use Rattle.ga_place.specs.Side.{neighbour_of};
 ghost use Rattle.ga_observe.specs.declared.step.Step.{Step as step};
 ghost use Rattle.ga_observe.specs.declared.step.Deed.TheVariants.{Posted, SawRead, Took};
@@ -75,11 +75,11 @@ impl RaceWatch {
             posts: clocks(alloc, 524)?,
             takes: clocks(alloc, 524)?,
             words,
-            left: Vec::from_array(alloc, [None; 524])?,
+            left: no_takes(alloc)?,
             race: None,
             start,
-            posted: Vec::from_array(alloc, [None; 524])?,
-            fetched: Vec::from_array(alloc, [None; 144])?,
+            posted: vec![in alloc; None; 524]?,
+            fetched: vec![in alloc; None; 144]?,
         })
     }
 
@@ -104,6 +104,14 @@ impl RaceWatch {
     {
         self.race
     }
+}
+
+/// No multiport take for any cell.
+fn no_takes(alloc: Global) -> Result<Vec<Option<MultiportTake>>, AllocError>
+    ensures { IfOk result (λ takes. takes.items ≡ replicate 524 None) }
+{
+    let takes = vec![in alloc; None; 524]?;
+    Ok(takes)
 }
 
 /// A number of clocks without steps.

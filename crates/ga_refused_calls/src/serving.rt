@@ -23,7 +23,7 @@ pub fn serve_told<Rt: AllocGlobal + Threads + Sync, R: Read>(
     let mut writer = Vec::with_capacity(alloc, ROOM)?;
     writer.extend_from_slice(BEFORE)?;
     match serve(rt, reader, &mut writer, &job) {
-        Ok(()) => Ok(Told::Answered),
+        Ok(_) => Ok(Told::Answered),
         Err(fault) => {
             let is_alike = writer.as_slice() == BEFORE;
             Ok(Told::failed(fault == ServeError::Memory, is_alike))

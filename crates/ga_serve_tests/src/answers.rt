@@ -3,7 +3,7 @@ ghost use Rattle.std.specs.Prelude.{◌≡◌, ◌++◌, List, ℕ, Ok, OnOk};
 ghost use Rattle.ga_jobs.specs.Answering.{IsOutput};
 
 use crate::streams::{LINE, WORDS, run_of};
-use ga_jobs::{Job, ServeError, answer, answer_alone, serve, status};
+use ga_jobs::{Ending, Job, ServeError, answer, answer_alone, serve, status};
 use std::test::Fail;
 use std::thread::Threads;
 
@@ -14,7 +14,7 @@ fn served(
     job: &Job,
     input: &[u8],
     output: &mut Vec<u8>,
-) -> Result<(), ServeError>
+) -> Result<Ending, ServeError>
     ensures { OnOk result ((text : List ℕ) × IsOutput job.now input.now (Ok text)
         × (output.new.items ≡ output.old.items ++ text)) }
 {

@@ -2,7 +2,7 @@
 //! call.
 use crate::streams::{WORDS, boot_of, run_of, sink_of, source_of};
 use ga_explain::Topic;
-use ga_jobs::{Job, ServeError, serve};
+use ga_jobs::{Ending, Job, Loading, ServeError, serve};
 use std::alloc::Global;
 use std::test::Fail;
 use std::thread::Threads;
@@ -46,6 +46,13 @@ fn jobs(alloc: Global) -> Result<Vec<(Job, &'static str)>, Fail> {
     jobs.push((listed, SOURCE))?;
     jobs.push((Job::Check { file: None }, TRANSCRIPT))?;
     jobs.push((Job::Record { file: None }, TRANSCRIPT))?;
+    let raced = Job::Race {
+        loading: Loading::Any,
+        turns: None,
+        witness: false,
+        file: None,
+    };
+    jobs.push((raced, TRANSCRIPT))?;
     jobs.push((Job::Explain { topic }, ""))?;
     Ok(jobs)
 }
@@ -72,7 +79,7 @@ fn read_fails(
     job: &Job,
     input: &str,
     call: u32,
-) -> (Result<(), ServeError>, bool) {
+) -> (Result<Ending, ServeError>, bool) {
     let mut reader = source_of(input.as_bytes(), PIECE);
     reader.fails_at = Some(call);
     let mut writer = sink_of(rt.alloc(), PIECE);
@@ -86,7 +93,7 @@ fn write_fails(
     job: &Job,
     input: &str,
     call: u32,
-) -> (Result<(), ServeError>, Vec<u8>) {
+) -> (Result<Ending, ServeError>, Vec<u8>) {
     let mut reader = source_of(input.as_bytes(), PIECE);
     let mut writer = sink_of(rt.alloc(), PIECE);
     writer.fails_at = Some(call);

@@ -1,6 +1,6 @@
 //! Inputs are read up to the limit, whatever the pieces they come in.
 use crate::streams::{LINE, Restless, WORDS, sink_of, source_of};
-use ga_jobs::{Job, Reads, ServeError, WordsFault, read_input, serve};
+use ga_jobs::{Ending, Job, Reads, ServeError, WordsFault, read_input, serve};
 use std::alloc::{AllocError, Global};
 use std::io::ErrorKind;
 use std::test::Fail;
@@ -19,7 +19,7 @@ fn is_served(rt: &(impl AllocGlobal + Threads + Sync), input: &[u8], most: usize
     let mut reader = source_of(input, most);
     let mut writer = sink_of(rt.alloc(), 8192);
     let outcome = serve(rt, &mut reader, &mut writer, &Job::One { tries: 5 });
-    outcome == Ok(()) && writer.taken.as_slice() == LINE.as_bytes()
+    outcome == Ok(Ending::Done) && writer.taken.as_slice() == LINE.as_bytes()
 }
 
 /// How many bytes of an input that `one 5` refuses aren't read.
@@ -27,7 +27,7 @@ fn left_of(rt: &(impl AllocGlobal + Threads + Sync), input: &[u8], most: usize) 
     let mut reader = source_of(input, most);
     let mut writer = sink_of(rt.alloc(), 8192);
     match serve(rt, &mut reader, &mut writer, &Job::One { tries: 5 }) {
-        Ok(()) => None,
+        Ok(_) => None,
         Err(_) => Some(reader.bytes.len()),
     }
 }

@@ -1,6 +1,6 @@
 //! Writes that are interrupted, and a writer that takes nothing.
 use crate::streams::{LINE, WORDS, sink_of, source_of};
-use ga_jobs::{Job, ServeError, serve};
+use ga_jobs::{Ending, Job, ServeError, serve};
 use std::io::ErrorKind;
 use std::thread::Threads;
 
@@ -11,7 +11,7 @@ fn writes_on(rt: &(impl AllocGlobal + Threads + Sync), call: u32) -> bool {
     writer.kind = ErrorKind::Interrupted;
     let mut reader = source_of(WORDS.as_bytes(), 8192);
     let outcome = serve(rt, &mut reader, &mut writer, &Job::One { tries: 5 });
-    outcome == Ok(()) && writer.taken.as_slice() == LINE.as_bytes()
+    outcome == Ok(Ending::Done) && writer.taken.as_slice() == LINE.as_bytes()
 }
 
 #[test]

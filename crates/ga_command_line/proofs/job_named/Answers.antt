@@ -1,14 +1,16 @@
-use Rattle.std.proofs.Common.{◌≡◌, ◌∙◌, ◌≤◌, ℕ, List, Result, Ok, Err, IfErr, ap, rules, string_bytes, sym}
+use Rattle.std.proofs.Common.{◌≡◌, ◌∙◌, ◌≤◌, ℕ, List, Option, Result, Ok, Err, IfErr, IfSome, ap, rules, string_bytes, sym}
 use Rattle.std.specs.Prelude.{codes}
 use Rattle.std.specs.Str.{bytes_eq}
 use Rattle.std.proofs.lemmas.Bool.{false≢true}
 use Rattle.clap.specs.Words.{Row, Text, found_of, rows_of}
 use Rattle.ga_jobs.specs.declared.Job.{Job}
-use Rattle.ga_jobs.specs.declared.Job.TheVariants.{Asm, Run}
+use Rattle.ga_jobs.specs.declared.Job.TheVariants.{Asm, Race, Run}
+use Rattle.ga_jobs.specs.declared.race.Loading.{Loading}
 use Rattle.ga_command_line.specs.declared.command_line.LineError.{LineError}
 use Rattle.ga_command_line.specs.declared.command_line.LineError.TheVariants.{Memory}
 use Rattle.ga_command_line.specs.CommandLine.{AsksFor, InRange}
-use Rattle.ga_command_line.specs.Number.{IsNumberAt}
+use Rattle.ga_command_line.specs.Number.{IsNumberAt, IsNumberIfAt}
+use Rattle.ga_command_line.specs.Race.{IsLoadingAt}
 use Rattle.ga_command_line.specs.Route.{IsRouteAt}
 use Rattle.ga_command_line.proofs.job_named.Goals as goal
 
@@ -41,3 +43,23 @@ pub returns-in-run-clause-right : goal.returns-in-run-clause-right
 returns-in-run-clause-right c =
     run_right c.args.name.now (rows_of (found_of c.args.found.now)) c.job_of-in-run.result
     c.in-run.is c.job_of-in-run.ensures.right
+
+-- and the name `race` for a verdict alone
+race_right : (name : Text) (rows : List Row) (result : Result Job LineError) → name ≡ codes "race"
+    → IfErr result (λ error. (loading : Loading) (turns : Option ℕ)
+    → IfSome turns (λ number. number ≤ 1000000) → IsLoadingAt rows loading
+    → IsNumberIfAt (codes "N") rows turns → error ≡ Memory)
+    → IfErr result (λ error. (job : Job) → AsksFor (name, rows) job → InRange job → error ≡ Memory)
+race_right name rows (Ok job) is right = right
+race_right name rows (Err error) is right =
+    λ asked. elim asked as (λ job. AsksFor (name, rows) job → InRange job → error ≡ Memory) [
+      | Race loading turns witness file ↦
+          λ asks within. right loading turns within asks.1.0 asks.1.1
+      | _ ↦ λ asks within. absurd (false≢true
+          (sym (ap (λ (text : Text). bytes_eq text (codes "race")) (sym is ∙ asks.0))))
+    ]
+
+pub returns-in-race-clause-right : goal.returns-in-race-clause-right
+returns-in-race-clause-right c =
+    race_right c.args.name.now (rows_of (found_of c.args.found.now)) c.job_of-in-race.result
+    c.in-race.is c.job_of-in-race.ensures.right

@@ -12,3 +12,9 @@ returns-in-Boot-clause-answer c =
     (sym boot.is)
     (subst (λ route. Answers string_bytes (IsBootOutput route c.args.input.now)
     c.output-in-Boot.result) c.deref.ensures c.output-in-Boot.ensures.output)
+
+pub returns-in-Race-clause-answer : goal.returns-in-Race-clause-answer
+unfolding IsJobOutput
+returns-in-Race-clause-answer c =
+    subst (λ job. Answers string_bytes (IsJobOutput job c.args.input.now) c.output-in-Race.result)
+    (sym c.in-Race.is) c.output-in-Race.ensures

@@ -3,6 +3,7 @@ use Rattle.std.proofs.lemmas.Bool.{true≢false}
 use Rattle.ga_jobs.specs.{reads_input}
 use Rattle.ga_jobs.specs.declared.Job.{Job}
 use Rattle.ga_jobs.specs.declared.Job.TheVariants.{Explain}
+use Rattle.ga_jobs.specs.declared.engine.Ending.{Ending}
 use Rattle.ga_jobs.specs.declared.fault.ServeError.{ServeError}
 use Rattle.ga_jobs.specs.declared.fault.ServeError.TheVariants.{Read, Write, Memory}
 use Rattle.ga_jobs.specs.{IsJobOutput}
@@ -17,11 +18,11 @@ unfolding IsJobOutput
 any_input (Explain topic) input other answer reads is = is
 any_input job input other answer reads is = absurd (true≢false reads)
 
-serves_any : {Done : Type 0} (job : Job) (input other : List ℕ) (old new : Option (List ℕ))
-    (answer : Result Done ServeError) → reads_input job ≡ false → Serves job input old new answer
+serves_any : (job : Job) (input other : List ℕ) (old new : Option (List ℕ))
+    (answer : Result Ending ServeError) → reads_input job ≡ false → Serves job input old new answer
     → Serves job other old new answer
-serves_any job input other old new (Ok done) reads is =
-    (is.0, any_input job input other (Ok is.0) reads is.1, is.2)
+serves_any job input other old new (Ok ended) reads is =
+    (is.0, any_input job input other (Ok is.0) reads is.1, is.2, is.3)
 serves_any job input other old new (Err Write) reads is =
     (is.0, any_input job input other (Ok is.0) reads is.1, is.2)
 serves_any job input other old new (Err Read) reads is = is

@@ -1,4 +1,4 @@
-use Rattle.std.proofs.Common.{◌+◌, ◌-◌, ◌^◌, ◌<◌, arith, ◌≡◌, ◌∙◌, ◌++◌, ℕ, List, drop, take, sym, ap, subst}
+use Rattle.std.proofs.Common.{◌+◌, ◌-◌, ◌^◌, ◌<◌, arith, rules, ◌≡◌, ◌∙◌, ◌++◌, ℕ, List, drop, take, sym, ap, subst}
 use Rattle.std.specs.Prelude.{Option}
 use Rattle.std.specs.Io.KnownBytes.{Appends}
 use Rattle.std.proofs.KnownBytes.{Appends-trans, Appends-kept}
@@ -37,6 +37,8 @@ loop-preserved g c =
               ap (λ r. r.now) w.rest-is ∙ take_rest c.loop.rest.now w.in-Ok-write.count ∙ more.0,
               more.1,
             );
+            unfailed = λ none. w.in-Ok-write.ensures.kept (omega arith)
+                ∙ c.loop.invariant.unfailed none;
             counted = λ none. counted_more c.loop.writes.calls c.loop.counter c.write.new.self.calls
                 (c.loop.invariant.counted none) c.loop-test.true w.in-Ok-write.ensures.counted;
           }
@@ -46,6 +48,8 @@ loop-preserved g c =
           ap (λ r. r.now) w.rest-is ∙ left,
           Appends-kept _ _ _ _ written w.in-Err-write.ensures.bytes,
         );
+        unfailed = λ none. w.in-Err-write.ensures.interrupted (search rules)
+            ∙ c.loop.invariant.unfailed none;
         counted = λ none. counted_more c.loop.writes.calls c.loop.counter c.write.new.self.calls
             (c.loop.invariant.counted none) c.loop-test.true w.in-Err-write.ensures.counted;
       }

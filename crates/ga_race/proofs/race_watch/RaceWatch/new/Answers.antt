@@ -13,7 +13,7 @@ returns-clause-seen c = λ counted. record {
   takes = λ cell below. fresh c.in_ok-clocks-3.field-0.items 524 cell c.in_ok-clocks-3.ensures
       below;
   full = λ cell below. ap (λ l. is_some (get_or l cell None)) (search rules);
-  left_at = λ cell below. ap (λ l. take_count (get_or l cell None)) c.in_ok-from_array.ensures.items
+  left_at = λ cell below. ap (λ l. take_count (get_or l cell None)) c.in_ok-no_takes.ensures
       ∙ ap take_count (get_or-replicate 524 cell None None below);
   race = refl;
 }

@@ -1,0 +1,136 @@
+ghost use Rattle.std.specs.Prelude.{◌≡◌, ◌≤◌, ℕ, IfErr, IfOk, IfSome, Option, codes};
+ghost use Rattle.clap.specs.Words.{found_of, rows_of};
+ghost use Rattle.ga_command_line.specs.CommandLine.{AsksFor, InRange};
+ghost use Rattle.ga_command_line.specs.Number.{IsNumberIfAt};
+ghost use Rattle.ga_command_line.specs.Race.{IsLoadingAt, placed_command, race_command, routed_command, turns_command, witness_command};
+ghost use Rattle.ga_command_line.specs.inner.Command.{IsCommandOf};
+
+use crate::command_line::{LineError, refusal};
+use crate::file::file_in;
+use crate::flag::flag_in;
+use crate::number::number_if;
+use clap::error::ErrorKind;
+use clap::{Arg, ArgAction, ArgMatches, Command, value_parser};
+use ga_jobs::{Job, Loading};
+use std::alloc::{AllocError, Global};
+
+/// The most turns of a job.
+const TURNS_LIMIT: u32 = 1_000_000;
+
+const HELP: &str = "\
+Decides whether the schedule, the order in which nodes step, decides what a program does. Reads from
+FILE, or from standard input if FILE is left out or is -: the head of a session, whose commands aren't
+looked at; or source text, whose words are placed in their nodes. Runs it once, until it is at rest, goes
+round or has made N turns.
+
+Writes 'no race' if no other schedule leads elsewhere, and how the run ended. If a multiport read may take
+either of two words, it writes 'race', the node that reads, and both words with their writers, with labels
+and lines. The exit status is then 1.
+
+Example: printf 'node 000 main: jump main' | ga-bench race
+More: docs/GUIDE.md, and Races in docs/FORMATS.md";
+
+/// The subcommand `race [--turns N] [--witness] [--place | --route ROUTE] [FILE]`.
+#[tactic(auto, unfolding(crate::specs::Race::race_command))]
+pub fn command<'a>(alloc: Global) -> Result<Command<'a>, AllocError>
+    ensures { IfOk result (IsCommandOf race_command) }
+{
+    let file = Arg::new(alloc, "FILE").help(
+        "The session or the source text; standard input by default or if it is -",
+    );
+    let command = witness_command(alloc)?;
+    command.arg(file)
+}
+
+/// The subcommand without FILE.
+#[tactic(auto, unfolding(crate::specs::Race::witness_command))]
+fn witness_command<'a>(alloc: Global) -> Result<Command<'a>, AllocError>
+    ensures { IfOk result (IsCommandOf witness_command) }
+{
+    let witness = Arg::new(alloc, "WITNESS")
+        .long("witness")
+        .action(ArgAction::SetTrue)
+        .help("For a race, writes a transcript up to the moment at which both words are pending");
+    let command = turns_command(alloc)?;
+    command.arg(witness)
+}
+
+/// The subcommand without FILE and `--witness`.
+#[tactic(auto, unfolding(crate::specs::Race::turns_command))]
+fn turns_command<'a>(alloc: Global) -> Result<Command<'a>, AllocError>
+    ensures { IfOk result (IsCommandOf turns_command) }
+{
+    let turns = Arg::new(alloc, "N")
+        .long("turns")
+        .value_parser(value_parser!(u32).range(0..=i64::from(TURNS_LIMIT)))
+        .help("How many turns are made at most, from 0 to 1000000; by default 1000000");
+    let command = routed_command(alloc)?;
+    command.arg(turns)
+}
+
+/// The subcommand with only its options for source text.
+#[tactic(auto, unfolding(crate::specs::Race::routed_command))]
+fn routed_command<'a>(alloc: Global) -> Result<Command<'a>, AllocError>
+    ensures { IfOk result (IsCommandOf routed_command) }
+{
+    let route = Arg::new(alloc, "ROUTE").long("route").help(
+        "The input is source text, which boots along this route, or a tree of routes",
+    );
+    let command = placed_command(alloc)?;
+    command.arg(route)
+}
+
+/// The subcommand with only `--place`.
+#[tactic(auto, unfolding(crate::specs::Race::placed_command))]
+fn placed_command<'a>(alloc: Global) -> Result<Command<'a>, AllocError>
+    ensures { IfOk result (IsCommandOf placed_command) }
+{
+    let place = Arg::new(alloc, "PLACE")
+        .long("place")
+        .action(ArgAction::SetTrue)
+        .help("The input is source text, even if it begins with 'profile'; its words are placed");
+    Command::new(alloc, "race")
+        .about("Decides whether the schedule can change what a program does")
+        .after_help(HELP)
+        .arg(place)
+}
+
+/// The job for the arguments of `race`.
+pub fn job_of(alloc: Global, found: &ArgMatches<'_>) -> Result<Job, LineError>
+    ensures in_range { IfOk result InRange }
+    ensures asked { IfOk result (AsksFor (codes "race", rows_of (found_of found.now))) }
+    ensures right { IfErr result (λ error. (loading : Loading) (turns : Option ℕ)
+        → IfSome turns (λ number. number ≤ 1000000)
+        → IsLoadingAt (rows_of (found_of found.now)) loading
+        → IsNumberIfAt (codes "N") (rows_of (found_of found.now)) turns
+        → error ≡ LineError.Memory) }
+{
+    let loading = loading_in(alloc, found)?;
+    let turns = number_if(alloc, found, "N", 0, TURNS_LIMIT)?;
+    let witness = flag_in(found, "WITNESS");
+    let file = file_in(alloc, found)?;
+    Ok(Job::Race {
+        loading,
+        turns,
+        witness,
+        file,
+    })
+}
+
+/// How the arguments say that the input is loaded.
+fn loading_in(alloc: Global, found: &ArgMatches<'_>) -> Result<Loading, LineError>
+    ensures loading { IfOk result (IsLoadingAt (rows_of (found_of found.now))) }
+    ensures right { IfErr result (λ error. (loading : Loading)
+        → IsLoadingAt (rows_of (found_of found.now)) loading → error ≡ LineError.Memory) }
+{
+    match (flag_in(found, "PLACE"), found.get_str("ROUTE")) {
+        (false, None) => Ok(Loading::Any),
+        (true, None) => Ok(Loading::Place),
+        (false, Some(route)) => Ok(Loading::Route(String::from_str(alloc, route)?)),
+        (true, Some(_)) => Err(refusal(
+            alloc,
+            ErrorKind::ArgumentConflict,
+            "source text is placed or booted, not both",
+        )),
+    }
+}

@@ -1,0 +1,105 @@
+//! The witness of a race: a transcript up to the moment at which both words are there.
+ghost use Rattle.std.specs.Prelude.{◌≡◌, ◌⊎◌, IfErr, IfOk, ℕ, List, string_bytes};
+ghost use Rattle.ga_jobs.specs.Fault.{Answers};
+ghost use Rattle.ga_jobs.specs.inner.Witness.{IsWitness};
+
+use crate::fault::ServeError;
+use crate::race::{Loading, is_head};
+use crate::transcript_fault::shown_transcript_fault;
+use ga_chip::Chip;
+use ga_place::Side;
+use ga_race::{Race, SideWord, way_to};
+use ga_transcript::{TranscriptError, record};
+use std::alloc::{AllocError, Global};
+use std::fmt::Write;
+
+/// A transcript that leads a fresh chip of an input to the moment at which both words of a race are
+/// there, and shows them.
+pub fn witness_text(
+    alloc: Global,
+    loading: &Loading,
+    input: &str,
+    mut chip: Chip,
+    race: &Race,
+) -> Result<String, ServeError>
+    ensures { Answers string_bytes IsWitness result }
+{
+    let text = session_text(alloc, loading, input, &mut chip, race)?;
+    match record(alloc, text.as_str()) {
+        Ok(recording) => Ok(recording),
+        Err(TranscriptError::Memory) => Err(ServeError::Memory),
+        Err(error) => Err(shown_transcript_fault(alloc, text.as_str(), error)?),
+    }
+}
+
+/// The session of a witness, without the replies.
+fn session_text(
+    alloc: Global,
+    loading: &Loading,
+    input: &str,
+    chip: &mut Chip,
+    race: &Race,
+) -> Result<String, AllocError> {
+    let mut text = String::new(alloc);
+    push_head(&mut text, loading, input)?;
+    writeln!(text, "\\ both words come before {} reads", race.take.reader)?;
+    // No run has more turns than these.
+    let turns = race.take.turn.min(1_000_000) as u32;
+    if turns > 0 {
+        writeln!(text, "> turn {turns}")?;
+    }
+    let _moved = chip.turns(turns);
+    for step in &way_to(alloc, chip, race)? {
+        writeln!(text, "> try {} {}", step.node, letter(step.side))?;
+    }
+    writeln!(text, "> ports {}", race.take.taken.writer)?;
+    writeln!(text, "> ports {}", race.left_out.writer)?;
+    writeln!(text, "> regs {}", race.take.reader)?;
+    push_choice(&mut text, race)?;
+    Ok(text)
+}
+
+/// Adds the head that loads an input, with its line `go`.
+fn push_head(text: &mut String, loading: &Loading, input: &str) -> Result<(), AllocError> {
+    if !is_head(loading, input) {
+        text.push_str("profile 2\n")?;
+        match loading {
+            Loading::Route(names) => writeln!(text, "route {names}")?,
+            Loading::Any | Loading::Place => text.push_str("place\n")?,
+        }
+    }
+    for line in input.strip_suffix('\n').unwrap_or(input).split('\n') {
+        if line == "go" && is_head(loading, input) {
+            break;
+        }
+        text.push_str(line)?;
+        // such a line would end the source text
+        text.push_str(if line == "go" { " \n" } else { "\n" })?;
+    }
+    text.push_str("go\n")
+}
+
+/// Adds a comment with the two tries that differ.
+fn push_choice(text: &mut String, race: &Race) -> Result<(), AllocError> {
+    text.push_str("\\ now ")?;
+    push_try(text, race, &race.take.taken)?;
+    text.push_str(" takes the word of ")?;
+    write!(text, "{}, and ", race.take.taken.writer)?;
+    push_try(text, race, &race.left_out)?;
+    writeln!(text, " that of {}", race.left_out.writer)
+}
+
+/// Adds the try that takes the word of a sender.
+fn push_try(text: &mut String, race: &Race, word: &SideWord) -> Result<(), AllocError> {
+    write!(text, "`try {} {}`", race.take.reader, letter(word.side))
+}
+
+/// The letter of a side in a command.
+fn letter(side: Side) -> char {
+    match side {
+        Side::Right => 'r',
+        Side::Down => 'd',
+        Side::Left => 'l',
+        Side::Up => 'u',
+    }
+}
