@@ -255,6 +255,15 @@ impl Chip {
         self.parts[node.index()].stands_at_break()
     }
 
+    /// Whether a node is known to sleep: a try of it moves it at no side, and so changes nothing.
+    /// `false` if it was not tried since it could move.
+    #[inline]
+    pub fn is_asleep(&self, node: Node) -> bool
+        ensures { (side : Side) → result ≡ true → (tried self.now node side).0 ≢ Moved }
+    {
+        self.sleeps_at(node.index())
+    }
+
     /// One try of one node. A node that has stopped is `Stopped`; else one that is about to fetch
     /// at a breakpoint, without a pass, is `Held`; else it goes by the node's need. Only a `Moved`
     /// try changes anything, and it adds one to the node's steps.
@@ -432,7 +441,7 @@ impl Chip {
         if self.try_own_at(index) {
             return 1;
         }
-        if self.is_asleep(index) {
+        if self.sleeps_at(index) {
             return 0;
         }
         self.attempt_far(index, side).moves()
@@ -440,7 +449,7 @@ impl Chip {
 
     /// Whether the node at an index in order of name sleeps: its tries change nothing.
     #[inline(always)]
-    fn is_asleep(&self, index: usize) -> bool
+    fn sleeps_at(&self, index: usize) -> bool
         requires { index < 144 }
         ensures { (side : Side) → result ≡ true → (tried self.now (name_at index) side).0 ≢ Moved }
     {

@@ -116,7 +116,9 @@ fn a_chip_that_stood_still_goes_on_with_words(rt: HostRuntime) -> Result<(), Fai
     let node_708 = node(708)?;
     let mut chip = chip_with(rt.alloc(), node_708, &[0x101D5])?;
     assert!(rt; chip.turns(32) == 2 && chip.turns(1000) == 0);
+    assert!(rt; chip.is_asleep(node_708) && chip.is_asleep(node(0)?));
     place(&mut chip, node(0)?, &WRITE_12_RIGHT)?;
+    assert!(rt; !chip.is_asleep(node(0)?));
     assert!(rt; chip.turns(6) == 6 && chip.state(node(0)?).steps() == 6);
     Ok(())
 }

@@ -1,6 +1,7 @@
 ghost use Rattle.std.specs.Prelude.{◌≡◌, ◌==◌, ◌+◌, ◌<◌, ◌≤◌, if◌then◌else◌, length};
 ghost use Rattle.std.specs.List.{enumerate_from};
 ghost use Rattle.ga_chip.specs.Chip.{tried};
+ghost use Rattle.ga_chip.specs.Outcome.{moved_by};
 ghost use Rattle.ga_chip.specs.Run.{Try as try_event, moves, ran, side_of_turn, tries_of, turn_of, turns_of};
 ghost use Rattle.ga_observe.specs.Seen.{Sees, numbered, steps_in, steps_seen, turns_numbered};
 
@@ -50,10 +51,24 @@ pub fn turn<O: Observer>(chip: &mut Chip, observer: &mut O, number: u64) -> u8
     let mut moved = 0;
     for index in 0..144 {
         let node = Node::at(index);
-        let outcome = attempt(chip, observer, Try { node, side }, number);
-        moved += outcome.moves();
+        moved += attempt_step(chip, observer, Try { node, side }, number);
     }
     moved
+}
+
+/// One try of one node in the turn of a number, as `attempt` makes it. Answers how many steps it
+/// made, 0 or 1. A node that sleeps isn't looked at.
+#[inline]
+fn attempt_step<O: Observer>(chip: &mut Chip, observer: &mut O, what: Try, turn: u64) -> u8
+    ensures chip { chip.new ≡ (tried chip.old what.node what.side).1 }
+    ensures moved { result ≡ moved_by (tried chip.old what.node what.side).0 }
+    ensures seen { Sees O.has_seen observer.old observer.new
+        (steps_in turn chip.old (try_event what.node what.side)) }
+{
+    if chip.is_asleep(what.node) {
+        return 0;
+    }
+    attempt(chip, observer, what, turn).moves()
 }
 
 /// Makes `count` turns, as `Chip::turns` makes them. Answers how many tries were `Moved` in all.

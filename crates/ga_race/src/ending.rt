@@ -114,10 +114,15 @@ impl KeptChip {
     /// Whether a chip is as it was kept, but for the numbers of steps and the nodes that spin.
     fn is_again(&self, chip: &Chip) -> bool {
         for (index, state) in self.states.iter().enumerate() {
-            if index < 144 && !self.spins[index] && !chip.state(Node::at(index)).is_again(state) {
+            if index < 144 && !self.spins[index] && !is_kept(chip.state(Node::at(index)), state) {
                 return false;
             }
         }
         self.pending.as_slice() == chip.cells().words()
     }
+}
+
+/// Whether a node is as it was kept. Without a step since then it is.
+fn is_kept(state: &NodeState, kept: &NodeState) -> bool {
+    state.steps() == kept.steps() || state.is_again(kept)
 }

@@ -2,7 +2,7 @@ use Rattle.std.proofs.Common.{◌≡◌, ◌≢◌, Bool, false, true, not, refl
 use Rattle.ga_place.specs.Cell.{name_at}
 use Rattle.ga_chip.specs.Chip.{tried}
 use Rattle.ga_chip.specs.declared.outcome.Outcome.TheVariants.{Moved}
-use Rattle.ga_chip.proofs.chip.Chip.is_asleep.Goals as goal
+use Rattle.ga_chip.proofs.chip.Chip.sleeps_at.Goals as goal
 
 is_false : (b : Bool) → not b ≡ true → b ≡ false
 is_false false h = refl
