@@ -85,7 +85,7 @@ class Job:
     """What a command line asks for. ValueError: it is wrong."""
 
     def __init__(self, args):
-        self.name, *rest = args or [""]
+        self.args, (self.name, *rest) = args, args or [""]
         if self.name not in SUBCOMMANDS:
             raise ValueError("no such subcommand")
         self.kind = SUBCOMMANDS[self.name]
@@ -318,12 +318,20 @@ def race(ask, job, text, answer):
     if found:
         turns, steps = next(it for it in zip(found.groups()[::2], found.groups()[1::2]) if it[0])
         ask(["debug"], f"{head}turn {turns}\n", f"moved {steps}\n")
-    elif "witness" in job.options:
-        witness = transcript_of(answer.output)
-        ask(["check"], answer.output, f"same {len(witness.exchanges)}\n")
-    elif not re.fullmatch(RACE, answer.output):
+    elif "witness" not in job.options and not re.fullmatch(RACE, answer.output):
         raise Wrong("no text of a verdict")
+    else:
+        judge_witness(ask, job, text, answer)
     return answer.output
+
+
+def judge_witness(ask, job, text, answer):
+    """Judges the witness of a race: the answer, or that of the same command line with `--witness`."""
+    if "witness" in job.options and answer.error == "ga-bench: output TooLong\n":
+        raise Fault("output TooLong")
+    witness = answer.output if "witness" in job.options else ask([*job.args, "--witness"], text, error=None)
+    if witness:
+        ask(["check"], witness, f"same {len(transcript_of(witness).exchanges)}\n")
 
 
 def head_in(job, text):
@@ -444,7 +452,8 @@ def wrong(runner, args, data):
         if len(text.encode()) > LIMIT:
             return None
         other = runner.answer(args, text.encode())
-        if other.status != int(error != "") or other.error != error or output not in (None, other.output):
+        is_as_asked = error is None or (other.status, other.error) == (int(error != ""), error)
+        if not is_as_asked or output not in (None, other.output):
             raise Wrong(f"{args} with {text[:300]!r} gave {shortened(other)}")
         return other.output
 

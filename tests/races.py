@@ -9,7 +9,8 @@ Each line of tests/races.jsonl is a program with its verdict, as an earlier prog
   spins             which nodes spin, compared at rest
   round             how many turns a round has
   race              the node, the address that it reads, its step, and both words with their sides and writers
-`check` must accept the witness of each race, and its replies must show both words pending.
+`check` must accept the witness of each race. Its replies must show both words pending, and `regs` behind it as many steps
+of both writers.
 The last line that is printed is 'races: N passed, M failed', and the exit status is 0 if M is 0.
 """
 import json
@@ -56,17 +57,25 @@ def race_shown(program, case):
     wanted = [1, race["node"], race["read_address"], sorted(takes)]
     status, witness, _ = run(program, ["race", "--witness"], case["text"])
     commands = len(re.findall("^> ", witness, re.M))
-    came += [status, run(program, ["check"], witness), *pending_of(witness, race)]
-    wanted += [1, (0, f"same {commands}\n", ""), {1}, race["step"] - 1]
+    came += [status, run(program, ["check"], witness), pending_of(witness, race)]
+    wanted += [1, (0, f"same {commands}\n", ""), [1, 1]]
+    nodes = [race["node"], *(it["writer"] for it in race["takes"])]
+    came.append([steps_behind(program, witness, node) for node in nodes])
+    wanted.append([race["step"] - 1, *(it["writer_step"] for it in race["takes"])])
     return came, wanted
 
 
 def pending_of(witness, race):
-    """How many words of the two writers are pending at the reader's sides, and how many steps the reader has made."""
+    """How many words of the two writers are pending at the reader's sides."""
     sides = {(it["writer"], it["side"]) for it in race["takes"]}
     shown = re.findall(r"^(\d{3}) (\w+) written \d+ read \d+ pending (\d)", witness, re.M)
-    steps = re.search(rf"^node {race['node']:03} .* steps (\d+) need", witness, re.M)[1]
-    return {int(count) for node, side, count in shown if (int(node), side) in sides}, int(steps)
+    return [int(count) for node, side, count in shown if (int(node), side) in sides]
+
+
+def steps_behind(program, witness, node):
+    """How many steps a node has made at the end of a witness."""
+    _, recording, _ = run(program, ["record"], f"{witness}> regs {node:03}\n")
+    return int(re.findall(r"^node .* steps (\d+) need", recording, re.M)[-1])
 
 
 def rest_shown(program, case):

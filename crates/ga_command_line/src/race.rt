@@ -20,15 +20,17 @@ const TURNS_LIMIT: u32 = 1_000_000;
 const HELP: &str = "\
 Decides whether the schedule, the order in which nodes step, decides what a program does. Reads from
 FILE, or from standard input if FILE is left out or is -: the head of a session, whose commands aren't
-looked at; or source text, whose words are placed in their nodes. Runs it once, until it is at rest, goes
-round or has made N turns.
+looked at; or source text, whose words are placed in their nodes. Runs it once, until there is a verdict,
+or for N turns.
 
-Writes 'no race' if no other schedule leads elsewhere, and how the run ended. If a multiport read may take
-either of two words, it writes 'race', the node that reads, and both words with their writers, with labels
-and lines. The exit status is then 1.
+  race: ..                 a multiport read may take either of two words: the node that reads, and both
+                           words with their writers, labels and lines. The exit status is 1
+  no race: ..              the nodes are at rest, and no schedule leads elsewhere
+  no race in 2 rounds ..   the run repeats itself; no race as far as it went
+  no race so far: ..       no race as far as it went
 
-Example: printf 'node 000 main: jump main' | ga-bench race
-More: docs/GUIDE.md, and Races in docs/FORMATS.md";
+Example: printf 'node 709 $1F5 a! @\nnode 708 right a! 1 !\nnode 710 left a! 2 !' | ga-bench race
+More: docs/GUIDE.md, and race in docs/FORMATS.md";
 
 /// The subcommand `race [--turns N] [--witness] [--place | --route ROUTE] [FILE]`.
 #[tactic(auto, unfolding(crate::specs::Race::race_command))]

@@ -27,6 +27,6 @@ IsOutput job input answer =
 abbrev pub HasOneOutput : Job → List ℕ → Type 0
 HasOneOutput (Run route workers turns) input =
     HasRuns workers (IsOutput (Run route workers turns) input)
--- what `race` writes of a race isn't determined by what is stated of it
+-- the text of `race` behind its first words is free
 HasOneOutput (Race loading turns witness file) input = Unit {0}
 HasOneOutput job input = AtMostOne (IsOutput job input)

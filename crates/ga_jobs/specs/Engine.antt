@@ -10,7 +10,8 @@ use Rattle.ga_jobs.specs.declared.fault.ServeError.{ServeError}
 use Rattle.ga_jobs.specs.declared.fault.ServeError.TheVariants.{Read, Write, Memory}
 use Rattle.ga_jobs.specs.Answering.{IsOutput}
 
--- how a job ends that wrote a text
+-- how a job ended, by the text that it wrote: a race is each text of `race` but for those without
+-- one
 abbrev pub ending_of : Job → List ℕ → Ending
 ending_of (job.Race loading turns witness file) text =
     if starts_with nat_eq text (codes "no race") then ending.Done else ending.Race

@@ -52,7 +52,7 @@ IsJobOutput (job.List labels file) input answer = IsListOutput labels input answ
 IsJobOutput (job.Check file) input answer = IsCheckOutput input answer
 IsJobOutput (job.Record file) input answer = IsRecordOutput input answer
 IsJobOutput (job.Race loading turns witness file) input answer =
-    IsRaceOutput loading witness input answer
+    IsRaceOutput loading turns witness input answer
 IsJobOutput (job.Explain topic) input answer = answer ≡ Ok (explain_output topic)
 
 -- each job except `explain` reads an input

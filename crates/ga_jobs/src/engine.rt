@@ -19,7 +19,7 @@ use std::thread::Threads;
 #[derive(Debug, Clone, Copy, PartialEq, Eq)]
 pub enum Ending {
     Done,
-    /// The output says that the schedule decides what the program does.
+    /// The output reports a race.
     Race,
 }
 
@@ -81,7 +81,7 @@ fn respond<Rt: AllocGlobal + Threads + Sync, W: Write>(
     Ok(ending_of(job, text.as_str()))
 }
 
-/// How a job ends that wrote a text.
+/// How a job ended, by the text that it wrote.
 fn ending_of(job: &Job, text: &str) -> Ending
     ensures { result ≡ ending_of job.now text.now }
 {
@@ -91,7 +91,7 @@ fn ending_of(job: &Job, text: &str) -> Ending
     }
 }
 
-/// The exit status of the program: 0 for an output that was written, 1 for one that says of a race,
+/// The exit status of the program: 0 for an output that was written, 1 for one that reports a race,
 /// for a refused input, and for a read or a write that failed, and 3 when out of memory.
 pub fn status(outcome: &Result<Ending, ServeError>) -> u8
     ensures { result ≡ status_of outcome.now }

@@ -41,7 +41,7 @@ pub fn output(
     witness: bool,
     input: &[u8],
 ) -> Result<String, ServeError>
-    ensures { Answers string_bytes (IsRaceOutput loading.now witness input.now) result }
+    ensures { Answers string_bytes (IsRaceOutput loading.now turns witness input.now) result }
 {
     let text = input_text(input)?;
     let (chip, images) = loaded(alloc, loading, text)?;
@@ -66,7 +66,8 @@ fn judged(
     images: &Images,
     witness: bool,
 ) -> Result<String, ServeError>
-    ensures { Answers string_bytes (IsJudgedBy chip loading.now witness text.now) result }
+    ensures { Answers string_bytes
+        (IsJudgedBy chip turns loading.now witness text.now) result }
 {
     match race(alloc, &mut chip, turns) {
         Ok(report) => shown(alloc, loading, text, images, &report, witness),

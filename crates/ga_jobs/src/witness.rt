@@ -1,11 +1,11 @@
 //! The witness of a race: a transcript up to the moment at which both words are there.
-ghost use Rattle.std.specs.Prelude.{◌≡◌, ◌⊎◌, IfErr, IfOk, ℕ, List, string_bytes};
+ghost use Rattle.std.specs.Prelude.{string_bytes};
 ghost use Rattle.ga_jobs.specs.Fault.{Answers};
 ghost use Rattle.ga_jobs.specs.inner.Witness.{IsWitness};
 
-use crate::fault::ServeError;
+use crate::answering::INPUT_LIMIT;
+use crate::fault::{OutputFault, ServeError};
 use crate::race::{Loading, is_head};
-use crate::transcript_fault::shown_transcript_fault;
 use ga_chip::Chip;
 use ga_place::Side;
 use ga_race::{Race, SideWord, way_to};
@@ -14,7 +14,7 @@ use std::alloc::{AllocError, Global};
 use std::fmt::Write;
 
 /// A transcript that leads a fresh chip of an input to the moment at which both words of a race are
-/// there, and shows them.
+/// pending, and shows them. It is refused if it has more bytes than an input may have.
 pub fn witness_text(
     alloc: Global,
     loading: &Loading,
@@ -25,14 +25,23 @@ pub fn witness_text(
     ensures { Answers string_bytes IsWitness result }
 {
     let text = session_text(alloc, loading, input, &mut chip, race)?;
-    match record(alloc, text.as_str()) {
-        Ok(recording) => Ok(recording),
-        Err(TranscriptError::Memory) => Err(ServeError::Memory),
-        Err(error) => Err(shown_transcript_fault(alloc, text.as_str(), error)?),
+    if text.len() > INPUT_LIMIT {
+        return Err(ServeError::Output(OutputFault::TooLong));
     }
+    let recording = match record(alloc, text.as_str()) {
+        Ok(recording) => recording,
+        Err(TranscriptError::Memory) => return Err(ServeError::Memory),
+        // The head was loaded before, and each command is right, so only the length can be wrong.
+        Err(_) => return Err(ServeError::Output(OutputFault::TooLong)),
+    };
+    if recording.len() > INPUT_LIMIT {
+        return Err(ServeError::Output(OutputFault::TooLong));
+    }
+    Ok(recording)
 }
 
-/// The session of a witness, without the replies.
+/// The session of a witness, without the replies; or a part of it that is longer than an input may
+/// be.
 fn session_text(
     alloc: Global,
     loading: &Loading,
@@ -50,6 +59,9 @@ fn session_text(
     }
     let _moved = chip.turns(turns);
     for step in &way_to(alloc, chip, race)? {
+        if text.len() > INPUT_LIMIT {
+            return Ok(text);
+        }
         writeln!(text, "> try {} {}", step.node, letter(step.side))?;
     }
     writeln!(text, "> ports {}", race.take.taken.writer)?;

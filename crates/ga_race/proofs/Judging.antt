@@ -64,8 +64,11 @@ found_so chip turns race (verdict.Race details) legal is found =
 found_so chip turns race (verdict.AtRest spins) legal is found =
     let quiet = sym is ∙ found.0 in (
       agrees_for chip turns legal quiet,
-      λ free. (no_race_spinning chip (turns_of turns) legal (no_race_in chip turns legal quiet)
-          (found.1 (breaks_kept chip (turns_of turns) (turns_tries turns) legal free))).0,
+      λ free.
+          let rest = found.1 (breaks_kept chip (turns_of turns) (turns_tries turns) legal free) in
+          let all = no_race_spinning chip (turns_of turns) legal
+          (no_race_in chip turns legal quiet) rest in
+          record { rest = rest; determinate = all.0; most = all.1 },
     )
 found_so chip turns race (verdict.Round round) legal is found =
     agrees_for chip turns legal (sym is ∙ found)

@@ -1,5 +1,5 @@
 //! The verdict on a chip: whether the schedule decides what it does.
-ghost use Rattle.std.specs.Prelude.{◌≡◌, IfOk, IfSome, false, length};
+ghost use Rattle.std.specs.Prelude.{◌≡◌, ◌≢◌, ◌≤◌, IfOk, IfSome, Some, false, length};
 ghost use Rattle.ga_chip.specs.Run.{moves, ran, turns_of};
 ghost use Rattle.ga_race.specs.Verdict.{IsSo};
 ghost use Rattle.ga_race.specs.inner.Ending.{IsFound};
@@ -45,6 +45,9 @@ pub fn race(alloc: Global, chip: &mut Chip, turns: u32) -> Result<Report, AllocE
     ensures steps { IfOk result (λ report.
         report.steps ≡ length (moves chip.old (turns_of report.turns))) }
     ensures verdict { IfOk result (λ report. IsSo chip.old report.turns report.verdict) }
+    // without another verdict all turns are made
+    ensures open { IfOk result (λ report. report.verdict ≡ Verdict.Open → report.turns ≡ turns) }
+    ensures most { IfOk result (λ report. report.turns ≤ turns) }
 {
     chip.legal();
     counts_fit(chip);
@@ -58,7 +61,8 @@ pub fn race(alloc: Global, chip: &mut Chip, turns: u32) -> Result<Report, AllocE
             None => {}
         }
     }
-    Ok(reported(Verdict::Open, u64::from(turns), steps, &watch))
+    let turns = u64::from(turns);
+    Ok(reported(at_rest_or(chip, turns, Verdict::Open), turns, steps, &watch))
 }
 
 /// A verdict with the run that it comes from.
@@ -83,7 +87,8 @@ fn verdict_at(
     search: &mut RoundSearch,
     turns: u64,
 ) -> Result<Option<Verdict>, AllocError>
-    ensures { IfOk result (IsFound watch.now.races.race chip.now) }
+    ensures found { IfOk result (IsFound watch.now.races.race chip.now) }
+    ensures not_open { IfOk result (λ verdict. verdict ≢ Some Verdict.Open) }
 {
     if let Some(race) = watch.races.race() {
         return Ok(Some(Verdict::Race(race)));
@@ -94,7 +99,19 @@ fn verdict_at(
         }
     }
     match search.look(alloc, chip, turns)? {
-        Some(turns) => Ok(Some(Verdict::Round { turns })),
+        // a chip at rest is as it was, too
+        Some(round) => Ok(Some(at_rest_or(chip, turns, Verdict::Round { turns: round }))),
         None => Ok(None),
+    }
+}
+
+/// The verdict of rest, if the chip is at rest after a number of turns, or another one.
+fn at_rest_or(chip: &Chip, turns: u64, other: Verdict) -> Verdict
+    ensures found { IsFound false chip.now (Some other) → IsFound false chip.now (Some result) }
+    ensures open { result ≡ Verdict.Open → other ≡ Verdict.Open }
+{
+    match at_rest(chip, turns) {
+        Some(spins) => Verdict::AtRest { spins },
+        None => other,
     }
 }

@@ -1,4 +1,4 @@
-use Rattle.std.proofs.Common.{◌≡◌, ◌∙◌, ◌+◌, ap, arith, length, refl, subst, sym, Some}
+use Rattle.std.proofs.Common.{◌≡◌, ◌∙◌, ◌+◌, ap, arith, false, length, refl, subst, sym, Some}
 use Rattle.std.proofs.lemmas.List.Elements.{All-nil}
 use Rattle.ga_chip.specs.Run.{moves, ran, turns_of}
 use Rattle.ga_chip.proofs.Turning.{one_more_count, one_turn}
@@ -7,7 +7,7 @@ use Rattle.ga_observe.proofs.Watched.{turns_steps}
 use Rattle.ga_race.specs.Shown.{HasSeenFrom}
 use Rattle.ga_race.specs.Verdict.{IsSo}
 use Rattle.ga_race.specs.inner.Ending.{IsFound}
-use Rattle.ga_race.proofs.Judging.{agrees_for, found_so, kept_finds}
+use Rattle.ga_race.proofs.Judging.{found_so, kept_finds}
 use Rattle.ga_race.proofs.verdict.race.Goals as goal
 
 pub loop-number-init : goal.loop-number-init
@@ -38,7 +38,7 @@ loop-number-preserved c =
           (c.turn.ensures.seen c.in_ok-watch.watch
           (steps_seen c.args.chip.now (turns_numbered c.loop-number.number)) so_far.seen);
       quiet = subst (IsFound c.turn.new.observer.races.race c.turn.new.chip) c.in-None.is
-          c.in_ok-verdict.ensures;
+          c.in_ok-verdict.ensures.found;
     }
 
 pub returns-in-Some-clause-chip : goal.returns-in-Some-clause-chip
@@ -70,7 +70,7 @@ returns-in-Some-clause-verdict c =
     c.loop-number.invariant.chip c.turn.ensures.chip in
     let found : IsFound races.race (ran c.args.chip.now (turns_of turns)) (Some c.in-Some.verdict) =
     subst (λ chip. IsFound races.race chip (Some c.in-Some.verdict)) chip_is
-    (subst (IsFound races.race c.turn.new.chip) c.in-Some.is c.in_ok-verdict.ensures) in
+    (subst (IsFound races.race c.turn.new.chip) c.in-Some.is c.in_ok-verdict.ensures.found) in
     let so : IsSo c.args.chip.now turns c.in-Some.verdict =
     found_so c.args.chip.now turns races.race c.in-Some.verdict c.legal.ensures
     (kept_finds c.args.chip.now turns races c.legal.ensures c.counts_fit.ensures
@@ -82,10 +82,15 @@ pub returns-clause-verdict : goal.returns-clause-verdict
 returns-clause-verdict c =
     let so_far = c.loop-number.invariant in
     let turns = c.loop-number.number in
-    let all : turns ≡ c.from.result = omega arith in
+    let all : turns ≡ c.from-turns.result = omega arith in
     let is = kept_finds c.args.chip.now turns c.loop-number.watch.races c.legal.ensures
     c.counts_fit.ensures (so_far.seen.start ∙ c.in_ok-watch.ensures.start) so_far.seen.seen in
+    let found : IsFound false (ran c.args.chip.now (turns_of turns)) (Some c.at_rest_or.result) =
+    subst (λ chip. IsFound false chip (Some c.at_rest_or.result)) so_far.chip
+    (c.at_rest_or.ensures.found refl) in
+    let so : IsSo c.args.chip.now turns c.at_rest_or.result =
+    found_so c.args.chip.now turns false c.at_rest_or.result c.legal.ensures
+    (sym so_far.quiet ∙ is) found in
     subst (λ n. IsSo c.args.chip.now n c.reported-2.result.verdict)
     (all ∙ sym c.reported-2.ensures.turns)
-    (subst (IsSo c.args.chip.now turns) (sym c.reported-2.ensures.verdict)
-    (agrees_for c.args.chip.now turns c.legal.ensures (sym is ∙ so_far.quiet)))
+    (subst (IsSo c.args.chip.now turns) (sym c.reported-2.ensures.verdict) so)
