@@ -19,12 +19,26 @@ pub(crate) fn at_rest(chip: &Chip, limit: u64) -> Option<[bool; 144]>
     ensures { IfSome result (λ spins. HasNoBreaks chip.now → IsRestOrSpins chip.now) }
 {
     chip.legal();
+    if goes_on(chip, limit) {
+        return None;
+    }
     let mut spins = [false; 144];
     for index in 0..144 {
         let spins_here = rests_or_spins(chip, Node::at(index), limit)?;
         spins[index] = spins_here;
     }
     Some(spins)
+}
+
+/// Whether a node that is awake neither rests nor spins. This is seen sooner than that all do.
+fn goes_on(chip: &Chip, limit: u64) -> bool {
+    for index in 0..144 {
+        let node = Node::at(index);
+        if !chip.is_asleep(node) && rests_or_spins(chip, node, limit).is_none() {
+            return true;
+        }
+    }
+    false
 }
 
 /// Whether a node spins, if it spins or rests.

@@ -30,10 +30,9 @@ impl RunWatch {
         })
     }
 
-    /// Whether all nodes have been by themselves for 4, 8, 16, .. turns.
-    pub(crate) fn is_quiet(&self, turns: u64) -> bool {
-        let quiet = turns.saturating_sub(self.last_shared);
-        quiet >= 4 && quiet.is_power_of_two()
+    /// For how many turns all nodes have been by themselves.
+    pub(crate) fn quiet_turns(&self, turns: u64) -> u64 {
+        turns.saturating_sub(self.last_shared)
     }
 
     /// Counts a step.

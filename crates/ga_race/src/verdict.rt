@@ -93,8 +93,11 @@ fn verdict_at(
     if let Some(race) = watch.races.race() {
         return Ok(Some(Verdict::Race(race)));
     }
-    if watch.is_quiet(turns) {
-        if let Some(spins) = at_rest(chip, turns) {
+    // Looked at after 4, 8, 16, .. such turns, over as many steps of a node: so it takes no longer
+    // than the turns did.
+    let quiet = watch.quiet_turns(turns);
+    if quiet >= 4 && quiet.is_power_of_two() {
+        if let Some(spins) = at_rest(chip, quiet) {
             return Ok(Some(Verdict::AtRest { spins }));
         }
     }
