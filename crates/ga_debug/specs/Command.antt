@@ -1,5 +1,5 @@
 -- Which words are which command, or else which word is the first bad one.
-use Rattle.std.specs.Prelude.{ℕ, List, [], ◌∷◌, Option, Some, None, ok_or, option_map, Result, Ok, Err}
+use Rattle.std.specs.Prelude.{ℕ, Bool, false, List, [], ◌∷◌, Option, Some, None, is_some, ok_or, option_map, Result, Ok, Err}
 use Rattle.std.specs.Option.{option_and_then, option_or}
 use Rattle.ga_asm.specs.Image.{image_of}
 use Rattle.ga_pack.specs.Model.Layout as laid
@@ -24,6 +24,14 @@ Words = List (List ℕ)
 -- the words of a line, with one space between two
 abbrev pub words_of : List ℕ → Words
 words_of line = pieces 32 line
+
+-- whether the first of them names a command of transcripts
+abbrev pub first_names : Words → Bool
+first_names [] = false
+first_names (word ∷ rest) = is_some (verb_named Transcripts word)
+
+abbrev pub names_command : List ℕ → Bool
+names_command line = first_names (words_of line)
 
 -- What words begin with, and the words behind it; or a fault.
 abbrev pub First : Type 0 → Type 0

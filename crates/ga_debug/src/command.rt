@@ -1,6 +1,6 @@
 //! The command that a line is.
 ghost use Rattle.std.specs.Prelude.{◌≡◌, option_map};
-ghost use Rattle.ga_debug.specs.Command.{NOTHING, address_in, all_read, command_first, command_in, fault_of, shape_read, word_read};
+ghost use Rattle.ga_debug.specs.Command.{NOTHING, address_in, all_read, command_first, command_in, fault_of, names_command, shape_read, word_read};
 ghost use Rattle.ga_debug.specs.inner.Command.{Reads};
 ghost use Rattle.ga_waits.specs.Label.{images_in};
 
@@ -45,6 +45,16 @@ pub(crate) fn command_in(images: Option<&Images>, line: &str) -> Result<Command,
     match words.next() {
         None => Ok(command),
         Some(_) => Err(DebugError::BadCommand),
+    }
+}
+
+/// Whether the first word of a line names a command of transcripts.
+pub fn names_command(line: &str) -> bool
+    ensures { result ≡ names_command line.now }
+{
+    match Pieces::new(line, ' ').next() {
+        Some(word) => verb_named(Scope::Transcripts, word.as_bytes()).is_some(),
+        None => false,
     }
 }
 

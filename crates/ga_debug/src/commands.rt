@@ -53,6 +53,12 @@ pub(crate) enum View {
     Where,
 }
 
+/// The names of all commands of transcripts.
+pub const COMMANDS: [&str; 12] = [
+    "break", "clear", "pass", "try", "turn", "until", "regs", "mem", "ports", "node", "breaks",
+    "where",
+];
+
 /// What the first word of a line names.
 #[derive(Clone, Copy)]
 pub(crate) enum Verb {

@@ -20,8 +20,11 @@ mod word;
 
 pub use address::Address;
 pub use beginning::{Loaded, begin, booted_tree, load, placed_chip};
+pub use command::names_command;
+pub use commands::COMMANDS;
 pub use error::DebugError;
 pub use pieces::Pieces;
 pub use replay_error::ReplayError;
 pub use replaying::replay;
 pub use session::{Session, reply_into, reply_or_refusal};
+pub use word::count_of;

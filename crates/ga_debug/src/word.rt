@@ -62,7 +62,7 @@ pub(crate) fn decimal_of(word: &[u8], most: usize) -> Option<u32>
 }
 
 /// The count of turns that a word is, in one to seven decimal digits, up to 1000000.
-pub(crate) fn count_of(word: &[u8]) -> Option<u32>
+pub fn count_of(word: &[u8]) -> Option<u32>
     ensures { result ≡ count_of word.now }
 {
     let number = decimal_of(word, 7)?;

@@ -1,5 +1,5 @@
 -- A reply is compared with the expected lines, one line at a time, up to the next command.
-use Rattle.std.proofs.Common.{◌≡◌, ◌∙◌, ℕ, suc, ◌+◌, true, false, Bool, List, [], ◌∷◌, Option, None, Some, ap, ap₂, arith, refl, sym}
+use Rattle.std.proofs.Common.{◌≡◌, ◌∙◌, ℕ, suc, ◌+◌, true, List, [], ◌∷◌, Option, None, Some, ap, ap₂, arith, refl, sym}
 use Rattle.ga_transcript.specs.Following.{Lines, Step, checked, early_reply, same_lines, wanted}
 use Rattle.ga_transcript.specs.Reply.{reply_lines}
 use Rattle.ga_transcript.specs.Line.{Kind, Command, Note, Reply, by_kind, kind_of}

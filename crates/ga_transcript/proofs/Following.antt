@@ -1,5 +1,5 @@
 -- What is recorded holds, and is recorded again.
-use Rattle.std.proofs.Common.{◌≡◌, ◌∙◌, ℕ, suc, ◌+◌, true, false, List, [], ◌∷◌, ◌++◌, Ok, Some, None, ap, append-nil, arith, refl, rules, sym}
+use Rattle.std.proofs.Common.{◌≡◌, ◌∙◌, ℕ, suc, ◌+◌, true, List, [], ◌∷◌, ◌++◌, Ok, Some, None, ap, append-nil, arith, refl, rules, sym}
 use Rattle.std.proofs.lemmas.Slice.Eq.{bytes_eq-Decides}
 use Rattle.std.specs.List.{All}
 use Rattle.std.proofs.lemmas.List.Elements.{All-head, All-tail}
@@ -7,7 +7,7 @@ use Rattle.std.specs.Prelude.{◌&&◌}
 use Rattle.std.specs.Str.{bytes_eq}
 use Rattle.ga_transcript.specs.Line.{Kind, Command, Note, Reply, by_kind, kind_of}
 use Rattle.ga_transcript.specs.Following.{Lines, Step, checked, early_reply, recorded, same_lines, wanted}
-use Rattle.ga_transcript.specs.inner.Counting.{command_count}
+use Rattle.ga_transcript.specs.Live.{command_count}
 
 -- all that a command replies is read as a reply
 abbrev pub AreReplies : Lines → Type 0
@@ -17,16 +17,16 @@ abbrev pub RepliesOnly : {S : Type 0} → Step S → Type 0
 RepliesOnly {S} step = (command : List ℕ) (state : S) → AreReplies (step command state).0
 
 -- what is recorded of a first line
-at_command : {S : Type 0} (step : Step S) (state : S) (line : List ℕ) (lines : Lines)
+pub at_command : {S : Type 0} (step : Step S) (state : S) (line : List ℕ) (lines : Lines)
     (command : List ℕ) → kind_of line ≡ Command command → recorded step state (line ∷ lines) ≡ line
     ∷ ((step command state).0 ++ recorded step (step command state).1 lines)
 at_command step state line lines command e = rw (e) refl
 
-at_note : {S : Type 0} (step : Step S) (state : S) (line : List ℕ) (lines : Lines)
+pub at_note : {S : Type 0} (step : Step S) (state : S) (line : List ℕ) (lines : Lines)
     → kind_of line ≡ Note → recorded step state (line ∷ lines) ≡ line ∷ recorded step state lines
 at_note step state line lines e = rw (e) refl
 
-at_reply : {S : Type 0} (step : Step S) (state : S) (line : List ℕ) (lines : Lines)
+pub at_reply : {S : Type 0} (step : Step S) (state : S) (line : List ℕ) (lines : Lines)
     → kind_of line ≡ Reply → recorded step state (line ∷ lines) ≡ recorded step state lines
 at_reply step state line lines e = rw (e) refl
 
@@ -182,7 +182,7 @@ recorded_again step only (line ∷ lines) state =
     again_by step only state line lines (kind_of line) refl (recorded_again step only lines)
 
 -- No reply comes before all commands in a recording.
-early_by : (number : ℕ) (line : List ℕ) (lines : Lines) (kind : Kind) → kind_of line ≡ kind
+pub early_by : (number : ℕ) (line : List ℕ) (lines : Lines) (kind : Kind) → kind_of line ≡ kind
     → early_reply number (line ∷ lines)
     ≡ by_kind kind (λ command. None) (early_reply (suc number) lines) (Some number)
 early_by number line lines kind e = rw (e) refl

@@ -6,4 +6,5 @@ pub mod Recordings
 pub mod Writing
 pub mod Starting
 pub mod Comparing
+pub mod Lives
 mod WorkedTranscripts

@@ -6,7 +6,7 @@ use Rattle.ga_debug.proofs.OneReplay.{one_loaded}
 use Rattle.ga_transcript.specs.Check.{Fault, IsBehindHead, IsChecked, checked_from}
 use Rattle.ga_transcript.specs.Record.{IsRecorded, recorded_from}
 
-one_behind : {A : Type 0} (text : List ℕ) (from : Start → Result A Fault)
+pub one_behind : {A : Type 0} (text : List ℕ) (from : Start → Result A Fault)
     → AtMostOne (IsBehindHead text from)
 one_behind text from (Ok one) (Ok other) (start, p, is) (start', q, is') =
     let same : start ≡ start' = cc (one_loaded text (Ok start) (Ok start') p q) in

@@ -9,7 +9,7 @@ use Rattle.ga_debug.specs.Beginning.{IsLoaded, Start}
 use Rattle.ga_debug.specs.Session.{replied, text_or_refusal}
 use Rattle.ga_transcript.specs.Check.{Fault, TooLong, checked_by, checked_from, unless_early}
 use Rattle.ga_transcript.specs.Following.{Lines, Step, checked, early_reply, recorded}
-use Rattle.ga_transcript.specs.inner.Counting.{command_count}
+use Rattle.ga_transcript.specs.Live.{command_count}
 use Rattle.ga_transcript.specs.Line.{Kind, Command, Note, Reply, as_reply, kind_of}
 use Rattle.ga_transcript.specs.Record.{Holds, IsRecorded, lines_text, recorded_from, recording_of, unless_too_long}
 use Rattle.ga_transcript.specs.Reply.{lines_in, step_of}
@@ -63,7 +63,7 @@ recorded_clean step replies (line ∷ lines) clean state =
     (recorded_clean step replies lines (All-tail IsClean line lines clean))
 
 -- the two parts of clean lines
-clean_parts : (front back : Lines) → AreClean (front ++ back) → AreClean front × AreClean back
+pub clean_parts : (front back : Lines) → AreClean (front ++ back) → AreClean front × AreClean back
 clean_parts [] back clean = (All-nil IsClean, clean)
 clean_parts (line ∷ front) back clean =
     let parts = clean_parts front back (All-tail IsClean line (front ++ back) clean) in
@@ -85,14 +85,15 @@ pub record Recording (text recording : List ℕ) : Type 0 where
       × (start.commands ≡ recorded (step_of start.images) start.chip lines)
   pub is : recording_of recording start ≡ recording
 
-not_too_long : (made recording : List ℕ) → unless_too_long made ≡ Ok recording → made ≡ recording
+pub not_too_long : (made recording : List ℕ) → unless_too_long made ≡ Ok recording
+    → made ≡ recording
 not_too_long made recording e = by (nat_lt 268435456 (length made)) e
   where
     by : (long : Bool) → (if long then Err TooLong else Ok made) ≡ Ok recording → made ≡ recording
     by true e = absurd (cc e)
     by false e = cc e
 
-not_early : (found : Option ℕ) (made : Result (List ℕ) Fault) (recording : List ℕ)
+pub not_early : (found : Option ℕ) (made : Result (List ℕ) Fault) (recording : List ℕ)
     → unless_early found made ≡ Ok recording → made ≡ Ok recording
 not_early None made recording e = e
 not_early (Some line) made recording e = absurd (cc e)

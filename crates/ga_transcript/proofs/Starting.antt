@@ -61,7 +61,7 @@ go_line text start (head, is, images, chip, line, commands) =
     let f = head_front text head is in omega (arith, f.size, line)
 
 -- what is recorded of the lines
-lines_text_append : (line : List ℕ) (lines more : Lines)
+pub lines_text_append : (line : List ℕ) (lines more : Lines)
     → lines_text ((line ∷ lines) ++ more) ≡ lines_text (line ∷ lines) ++ behind_ends more
 lines_text_append line lines more =
     ap (λ t. line ++ t) (flat_map-append (λ (l : List ℕ). 10 ∷ l) lines more)
@@ -90,7 +90,7 @@ recording_made text start front (head, is, images, chip, line, commands) front_i
     ∙ sym (ap (λ t. t ++ behind_ends rec) front_is)
 
 -- the result of the lines behind a head is the result of the text
-recorded_by : (text : List ℕ) (start : Start) (answer : Result (List ℕ) Fault)
+pub recorded_by : (text : List ℕ) (start : Start) (answer : Result (List ℕ) Fault)
     → IsLoaded text (Ok start) → recorded_from text start ≡ answer → IsRecorded text answer
 recorded_by text start (Ok recording) loaded is = (start, loaded, is)
 recorded_by text start (Err fault) loaded is = inr (start, loaded, is)

@@ -3,4 +3,5 @@ pub mod Following
 pub mod Reply
 pub mod Check
 pub mod Record
+pub mod Live
 pub mod inner

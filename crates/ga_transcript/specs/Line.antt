@@ -1,5 +1,5 @@
 -- What the lines of a transcript behind `go` are.
-use Rattle.std.specs.Prelude.{ℕ, ◌==◌, Bool, true, false, ◌||◌, List, ◌++◌, codes, drop, eqb, length, if◌then◌else◌}
+use Rattle.std.specs.Prelude.{ℕ, ◌==◌, ◌||◌, List, ◌++◌, codes, drop, eqb, length, if◌then◌else◌}
 use Rattle.std.specs.List.{starts_with}
 
 pub data Kind : Type 0 where

@@ -5,9 +5,12 @@ mod checking;
 mod error;
 mod line;
 mod lines;
+mod live;
 mod recording;
 mod reply;
 
 pub use checking::check;
 pub use error::TranscriptError;
+pub use live::{Live, without_line_end};
 pub use recording::record;
+pub use reply::{is_read_as_reply, lines_in};

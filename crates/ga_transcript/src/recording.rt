@@ -98,7 +98,7 @@ fn push_came(
 }
 
 /// The first `count` lines of a text, with an LF between two.
-fn front(alloc: Global, text: &str, count: u64) -> Result<String, AllocError>
+pub(crate) fn front(alloc: Global, text: &str, count: u64) -> Result<String, AllocError>
     requires { 0 < count }
     ensures { IfOk result (λ front.
         string_bytes front ≡ lines_text (take count (lines_of text.now))) }
@@ -132,7 +132,7 @@ fn push_reply(text: &mut String, came: &str) -> Result<(), AllocError>
 }
 
 /// Adds a line behind an LF.
-fn push_line(text: &mut String, line: &str) -> Result<(), AllocError>
+pub(crate) fn push_line(text: &mut String, line: &str) -> Result<(), AllocError>
     ensures { OnOk result (string_bytes text.new ≡ string_bytes text.old ++ 10 ∷ line.now) }
 {
     text.push('\n')?;

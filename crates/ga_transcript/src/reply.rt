@@ -1,5 +1,5 @@
 //! The replies to the commands of a transcript, as it has them.
-ghost use Rattle.std.specs.Prelude.{◌≡◌, ◌++◌, OnOk, string_bytes};
+ghost use Rattle.std.specs.Prelude.{◌≡◌, ◌++◌, OnOk, codes, string_bytes, if◌then◌else◌};
 ghost use Rattle.ga_transcript.specs.Line.{as_reply};
 ghost use Rattle.ga_transcript.specs.Reply.{lines_in};
 ghost use Rattle.std.specs.Str.{bytes_eq};
@@ -9,7 +9,7 @@ use ga_debug::Pieces;
 use std::alloc::AllocError;
 
 /// The lines of a reply. An empty one has none.
-pub(crate) fn lines_in(reply: &str) -> Pieces<'_>
+pub fn lines_in(reply: &str) -> Pieces<'_>
     ensures { result ≡ lines_in reply.now }
 {
     let mut lines = Pieces::new(reply, '\n');
@@ -19,12 +19,20 @@ pub(crate) fn lines_in(reply: &str) -> Pieces<'_>
     lines
 }
 
-/// Adds a line of a reply. One that would be read as something else in a transcript is put behind
-/// `. `.
+/// Whether a transcript has a line of a reply as it is. A line that would be read as something else
+/// is put behind `. `.
+pub fn is_read_as_reply(line: &str) -> bool
+    ensures quoted { as_reply line.now
+        ≡ (if result then line.now else codes ". " ++ line.now) }
+{
+    matches!(line_of(line), Line::Reply)
+}
+
+/// Adds a line of a reply, as a transcript has it.
 pub(crate) fn push_as_reply(text: &mut String, line: &str) -> Result<(), AllocError>
     ensures { OnOk result (string_bytes text.new ≡ string_bytes text.old ++ as_reply line.now) }
 {
-    if !matches!(line_of(line), Line::Reply) {
+    if !is_read_as_reply(line) {
         text.push_str(". ")?;
     }
     text.push_str(line)
