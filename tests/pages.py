@@ -7,6 +7,9 @@ prints: standard output and standard error together, to the byte, as a terminal 
 front of a command or at the block's end are no output. Lines of a here-document belong to their command.
 Blocks without '$ ' are listings, and nothing is done with them.
 
+A command that begins with './ga-bench debug ' and redirects nothing runs at a terminal. The lines behind it are the
+screen, of which those that begin with '> ' are typed there, one after the other, and then the end of the input.
+
 The commands of a page are run in order by one bash, in a folder of their own in which ./ga-bench is PROGRAM
 and examples/ is a copy of the repository's. Standard input is empty.
 
@@ -32,6 +35,8 @@ NOT_RUN = {}
 
 # Tools that a command may name and that aren't on every machine. Without its tool a command isn't run.
 TOOLS = ["m4"]
+
+PROMPT = re.compile(r"\./ga-bench debug [^<|>&]+$")
 
 HERE = re.compile(r"(?<!<)<<(-?)\s*(?:'([^']+)'|\"([^\"]+)\"|([A-Za-z_]\w*))")
 
@@ -79,6 +84,12 @@ def commands(block):
         while wanted and not wanted[-1].strip():
             wanted.pop()
         yield number, "\n".join(command), "".join(line + "\n" for line in wanted), wrong
+
+
+def at_terminal(text, screen):
+    """The text of a command that runs another one at a terminal, at which the lines of a screen are typed."""
+    typed = [line[2:] for line in screen.decode().split("\n") if line.startswith("> ")]
+    return " ".join(["python3", shlex.quote(f"{ROOT}/tests/at_terminal.py"), text, "--", *map(shlex.quote, typed)])
 
 
 def run(program, texts):
@@ -138,7 +149,7 @@ def check(program, page, unused):
     for number, line in enumerate(lines, 1):
         if number not in seen and re.match(r"\s*\$ \S", line):
             failures.append((number, line, ["a command that is in no indented code block"]))
-    came = run(program, [text for _, text, _ in found])
+    came = run(program, [at_terminal(text, wanted) if PROMPT.match(text) else text for _, text, wanted in found])
     passed = 0
     for (number, text, wanted), output in zip(found, came):
         if output == wanted:

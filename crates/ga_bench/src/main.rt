@@ -1,13 +1,19 @@
 //! The bench of the GA144: each subcommand writes one text, and all but `explain` read one input.
 #![tactic(auto)]
 
+mod saved_files;
+
 ghost use Rattle.std.specs.Prelude.{◌≡◌, IfErr, IfOk, IfSome, map, string_bytes};
 ghost use Rattle.ga_command_line.specs.CommandLine.{InRange, IsJobOf, IsRight};
 ghost use Rattle.ga_bench.specs.Status.{HasServed, HasStatus, IsStatusOf};
 
+use crate::saved_files::SavedFiles;
 use clap::error::ErrorKind::InvalidValue;
 use ga_command_line::{LineError, job, refusal};
-use ga_jobs::{InputFault, Job, ServeError, serve, status};
+use ga_jobs::{
+    Ending, InputFault, Job, Loading, Reads, ServeError, open_session, read_input, serve, status,
+};
+use ga_prompt::talk;
 use std::alloc::Global;
 use std::fs::OpenFile;
 use std::io::ErrorKind::{NotFound, OutOfMemory};
@@ -19,6 +25,9 @@ use std::{env, fs, io};
 
 fn main(rt: HostRuntime) -> ExitCode {
     let status = match job_of_arguments(&rt) {
+        Ok(Job::Talk { loading, file }) => {
+            talk_status(&rt, &mut rt.reader(), &loading, file.as_str())
+        }
         Ok(job) => match job.file() {
             Some(name) => serve_file(&rt, name, &job),
             None => {
@@ -34,6 +43,55 @@ fn main(rt: HostRuntime) -> ExitCode {
         Err(error) => refuse(&rt, error),
     };
     ExitCode::from(status)
+}
+
+/// Talks with the session of a file. Answers the exit status.
+fn talk_status<Rt: AllocGlobal + Print + Eprint + Files, R: Read + IsTerminal>(
+    rt: &Rt,
+    reader: &mut R,
+    loading: &Loading,
+    name: &str,
+) -> u8 {
+    match talk_about(rt, reader, loading, name) {
+        Ok(()) => status(&Ok(Ending::Done)),
+        // A word that names no file is one that the command line may not have.
+        Err(ServeError::Input(InputFault::NoFile)) => {
+            refuse(
+                rt,
+                refusal(rt.alloc(), InvalidValue, "there is no such FILE"),
+            )
+        }
+        Err(fault) => {
+            let _ = eprintln!(rt; "ga-bench: {fault}");
+            status(&Err(fault))
+        }
+    }
+}
+
+/// Talks with the session of a file.
+fn talk_about<Rt: AllocGlobal + Print + Files, R: Read + IsTerminal>(
+    rt: &Rt,
+    reader: &mut R,
+    loading: &Loading,
+    name: &str,
+) -> Result<(), ServeError> {
+    let alloc = rt.alloc();
+    let input = if name == "-" {
+        read_input(alloc, reader, &mut Reads::default())?
+    } else {
+        read_input(alloc, &mut opened(rt, name)?, &mut Reads::default())?
+    };
+    let mut live = open_session(alloc, loading, &input)?;
+    let prompts = reader.is_terminal();
+    let mut saves = SavedFiles { alloc, files: rt };
+    talk(
+        alloc,
+        &mut live,
+        &mut saves,
+        reader,
+        &mut io::writer(rt),
+        prompts,
+    )
 }
 
 /// Serves a job whose input is the file with a name. Answers the exit status.

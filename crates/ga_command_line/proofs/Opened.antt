@@ -4,17 +4,19 @@ use Rattle.clap.specs.Words.{App}
 use Rattle.ga_command_line.specs.Boot.{boot_command}
 use Rattle.ga_command_line.specs.Command.{linked}
 use Rattle.ga_command_line.specs.CommandLine.{bare_command, bench_command}
+use Rattle.ga_command_line.specs.Debug.{debug_command}
 use Rattle.ga_command_line.specs.Dis.{dis_command}
 use Rattle.ga_command_line.specs.Explain.{explain_command}
 use Rattle.ga_command_line.specs.File.{file_command}
 use Rattle.ga_command_line.specs.List.{list_command}
+use Rattle.ga_command_line.specs.Loading as loading
 use Rattle.ga_command_line.specs.One.{one_command}
 use Rattle.ga_command_line.specs.Race as race
 use Rattle.ga_command_line.specs.Run.{routed_command, run_command, shared_command}
 
 unfoldable pub whole_command : App
 unfolding bench_command linked bare_command one_command dis_command boot_command routed_command
-    shared_command run_command list_command race.placed_command
-    race.routed_command race.turns_command race.witness_command race.race_command
+    shared_command run_command list_command loading.placed_command
+    loading.loading_command debug_command race.turns_command race.witness_command race.race_command
     file_command explain_command
 whole_command = bench_command

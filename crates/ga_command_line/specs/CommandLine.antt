@@ -1,21 +1,24 @@
 -- The command line: the command as clap's definitions read it, and the job that its words name.
-use Rattle.std.specs.Prelude.{◌≡◌, ◌≤◌, ◌∷◌, [], List, true, codes, fold, map, IfSome, IsSomeAnd, Option, option_map, string_bytes}
+use Rattle.std.specs.Prelude.{◌≡◌, ◌≤◌, ◌∷◌, [], List, true, codes, fold, map, IfSome, IsSomeAnd, Option, None, Some, option_map, string_bytes}
 use Rattle.clap.specs.Words.{App, Row, Text, new_app, subcommand_of, takes}
 use Rattle.ga_jobs.specs.declared.Job.{Job}
-use Rattle.ga_jobs.specs.declared.Job.TheVariants.{One, Asm, Dis, Boot, Run, Debug, Replay, Explain}
+use Rattle.ga_jobs.specs.declared.Job.TheVariants.{One, Asm, Dis, Boot, Run, Debug, Talk, Replay, Explain}
 use Rattle.ga_jobs.specs.declared.Job.TheVariants as job
+use Rattle.ga_jobs.specs.declared.race.Loading.TheVariants.{Any}
 use Rattle.ga_command_line.specs.declared.Subcommand.{Subcommand}
 use Rattle.ga_command_line.specs.declared.Subcommand.TheVariants as sub
 use Rattle.ga_command_line.specs.Boot.{boot_command}
 use Rattle.ga_command_line.specs.Command.{linked}
+use Rattle.ga_command_line.specs.Debug.{debug_command}
 use Rattle.ga_command_line.specs.Dis.{dis_command}
 use Rattle.ga_command_line.specs.Explain.{IsOfTable, IsTopicAt, explain_command}
 use Rattle.ga_command_line.specs.File.{IsFileAt, file_command}
 use Rattle.ga_command_line.specs.Flag.{is_set}
 use Rattle.ga_command_line.specs.List.{list_command}
+use Rattle.ga_command_line.specs.Loading.{IsLoadingAt}
 use Rattle.ga_command_line.specs.Number.{IsNumberAt, IsNumberIfAt}
 use Rattle.ga_command_line.specs.One.{one_command}
-use Rattle.ga_command_line.specs.Race.{IsLoadingAt, race_command}
+use Rattle.ga_command_line.specs.Race.{race_command}
 use Rattle.ga_command_line.specs.Route.{IsRouteAt}
 use Rattle.ga_command_line.specs.Run.{run_command}
 
@@ -32,7 +35,7 @@ command_of sub.Asm = new_app (codes "asm")
 command_of sub.Dis = dis_command
 command_of sub.Boot = boot_command
 command_of sub.Run = run_command
-command_of sub.Debug = new_app (codes "debug")
+command_of sub.Debug = debug_command
 command_of sub.Replay = new_app (codes "replay")
 command_of sub.List = list_command
 command_of sub.Race = race_command
@@ -58,6 +61,7 @@ job_name (Dis code) = codes "dis"
 job_name (Boot route) = codes "boot"
 job_name (Run route workers turns) = codes "run"
 job_name Debug = codes "debug"
+job_name (Talk loading file) = codes "debug"
 job_name Replay = codes "replay"
 job_name (job.List labels file) = codes "list"
 job_name (job.Race loading turns witness file) = codes "race"
@@ -73,6 +77,9 @@ HasArguments rows (Boot route) = IsRouteAt rows (string_bytes route)
 HasArguments rows (Run route workers turns) =
     IsRouteAt rows (string_bytes route) × IsNumberAt (codes "WORKERS") rows workers
     × IsNumberAt (codes "TURNS") rows turns
+HasArguments rows Debug = IsLoadingAt rows Any × IsFileAt rows None
+HasArguments rows (Talk loading file) =
+    IsLoadingAt rows loading × IsFileAt rows (Some (string_bytes file))
 HasArguments rows (job.List labels file) =
     (labels ≡ is_set (codes "LABELS") rows) × IsFileAt rows (option_map string_bytes file)
 HasArguments rows (job.Race loading turns witness file) =

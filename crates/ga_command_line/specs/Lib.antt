@@ -9,6 +9,8 @@ pub mod Explain
 pub mod File
 pub mod List
 pub mod Flag
+pub mod Loading
 pub mod Race
+pub mod Debug
 pub mod CommandLine
 pub mod inner

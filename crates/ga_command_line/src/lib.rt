@@ -10,11 +10,13 @@ ghost use Rattle.ga_command_line.specs.inner.Command.{IsCommandOf};
 mod boot;
 mod check;
 mod command_line;
+mod debug;
 mod dis;
 mod explain;
 mod file;
 mod flag;
 mod list;
+mod loading;
 mod number;
 mod one;
 mod race;
@@ -76,12 +78,7 @@ fn command_of<'a>(alloc: Global, subcommand: Subcommand) -> Result<Command<'a>, 
         Subcommand::Dis => dis::command(alloc),
         Subcommand::Boot => boot::command(alloc),
         Subcommand::Run => run::command(alloc),
-        Subcommand::Debug => plain(
-            alloc,
-            "debug",
-            "Loads source text into a chip, runs commands on it, and prints the replies",
-            DEBUG_HELP,
-        ),
+        Subcommand::Debug => debug::command(alloc),
         Subcommand::Replay => plain(
             alloc,
             "replay",
@@ -123,7 +120,7 @@ fn job_named(alloc: Global, name: &str, found: &ArgMatches<'_>) -> Result<Job, L
         "dis" => dis::job_of(alloc, found),
         "boot" => boot::job_of(alloc, found),
         "run" => run::job_of(alloc, found),
-        "debug" => Ok(Job::Debug),
+        "debug" => debug::job_of(alloc, found),
         "replay" => Ok(Job::Replay),
         "list" => Ok(list::job_of(alloc, found)?),
         "race" => race::job_of(alloc, found),
@@ -141,24 +138,6 @@ then the words, eight on a line.
 
 Example: echo 'node 709 main: $5 $7 + @b' | ga-bench asm
 More: Source text in docs/FORMATS.md";
-
-const DEBUG_HELP: &str = "\
-Reads a session from standard input: the line 'profile 2'; the line 'place', or 'route' and a ROUTE as
-for boot; source text; the line 'go'; and commands.
-Writes the reply to each command, or 'refused' and the reason, and goes on.
-
-  break NNN HHH   node NNN, three digits, is held before it fetches at address HHH, three hex digits
-  clear NNN HHH   it isn't held there any more
-  pass NNN        a node that is held isn't held at its next fetch
-  try NNN SIDE    one try of the node; in a multiport read it takes from the side r, d, l or u
-  turn K          K turns, up to 1000000: each tries all 144 nodes once. The turns' sides are right,
-                  down, left, up, and again. Use at least 4 turns: fewer don't look at every port, so
-                  'moved 0' doesn't show that no node can move
-  regs NNN        the node's registers; mem NNN its memory; ports NNN how many words it wrote at each
-                  port, and how many of them were read
-
-Example: printf 'profile 2\\nplace\\nnode 000 .\\ngo\\nturn 4\\nregs 000\\n' | ga-bench debug
-More: docs/GUIDE.md, and Sessions in docs/FORMATS.md";
 
 const REPLAY_HELP: &str = "\
 Reads a replay text from standard input: the line 'profile 2' or 'profile 1'; the line 'place', or

@@ -2,14 +2,15 @@ ghost use Rattle.std.specs.Prelude.{◌≡◌, ◌≤◌, ℕ, IfErr, IfOk, IfSo
 ghost use Rattle.clap.specs.Words.{found_of, rows_of};
 ghost use Rattle.ga_command_line.specs.CommandLine.{AsksFor, InRange};
 ghost use Rattle.ga_command_line.specs.Number.{IsNumberIfAt};
-ghost use Rattle.ga_command_line.specs.Race.{IsLoadingAt, placed_command, race_command, routed_command, turns_command, witness_command};
+ghost use Rattle.ga_command_line.specs.Loading.{IsLoadingAt};
+ghost use Rattle.ga_command_line.specs.Race.{race_command, turns_command, witness_command};
 ghost use Rattle.ga_command_line.specs.inner.Command.{IsCommandOf};
 
-use crate::command_line::{LineError, refusal};
+use crate::command_line::LineError;
 use crate::file::file_in;
 use crate::flag::flag_in;
+use crate::loading::{loading_command, loading_in};
 use crate::number::number_if;
-use clap::error::ErrorKind;
 use clap::{Arg, ArgAction, ArgMatches, Command, value_parser};
 use ga_jobs::{Job, Loading};
 use std::alloc::{AllocError, Global};
@@ -66,35 +67,13 @@ fn turns_command<'a>(alloc: Global) -> Result<Command<'a>, AllocError>
         .long("turns")
         .value_parser(value_parser!(u32).range(0..=i64::from(TURNS_LIMIT)))
         .help("How many turns are made at most, from 0 to 1000000; by default 1000000");
-    let command = routed_command(alloc)?;
+    let command = loading_command(
+        alloc,
+        "race",
+        "Decides whether the schedule can change what a program does",
+        HELP,
+    )?;
     command.arg(turns)
-}
-
-/// The subcommand with only its options for source text.
-#[tactic(auto, unfolding(crate::specs::Race::routed_command))]
-fn routed_command<'a>(alloc: Global) -> Result<Command<'a>, AllocError>
-    ensures { IfOk result (IsCommandOf routed_command) }
-{
-    let route = Arg::new(alloc, "ROUTE").long("route").help(
-        "The input is source text, which boots along this route, or a tree of routes",
-    );
-    let command = placed_command(alloc)?;
-    command.arg(route)
-}
-
-/// The subcommand with only `--place`.
-#[tactic(auto, unfolding(crate::specs::Race::placed_command))]
-fn placed_command<'a>(alloc: Global) -> Result<Command<'a>, AllocError>
-    ensures { IfOk result (IsCommandOf placed_command) }
-{
-    let place = Arg::new(alloc, "PLACE")
-        .long("place")
-        .action(ArgAction::SetTrue)
-        .help("The input is source text, even if it begins with 'profile'; its words are placed");
-    Command::new(alloc, "race")
-        .about("Decides whether the schedule can change what a program does")
-        .after_help(HELP)
-        .arg(place)
 }
 
 /// The job for the arguments of `race`.
@@ -117,22 +96,4 @@ pub fn job_of(alloc: Global, found: &ArgMatches<'_>) -> Result<Job, LineError>
         witness,
         file,
     })
-}
-
-/// How the arguments say that the input is loaded.
-fn loading_in(alloc: Global, found: &ArgMatches<'_>) -> Result<Loading, LineError>
-    ensures loading { IfOk result (IsLoadingAt (rows_of (found_of found.now))) }
-    ensures right { IfErr result (λ error. (loading : Loading)
-        → IsLoadingAt (rows_of (found_of found.now)) loading → error ≡ LineError.Memory) }
-{
-    match (flag_in(found, "PLACE"), found.get_str("ROUTE")) {
-        (false, None) => Ok(Loading::Any),
-        (true, None) => Ok(Loading::Place),
-        (false, Some(route)) => Ok(Loading::Route(String::from_str(alloc, route)?)),
-        (true, Some(_)) => Err(refusal(
-            alloc,
-            ErrorKind::ArgumentConflict,
-            "source text is placed or booted, not both",
-        )),
-    }
 }

@@ -3,7 +3,7 @@ use Rattle.std.proofs.Common.{◌≡◌, ◌∙◌, sym, ℕ, Bool, true, false,
 use Rattle.std.specs.Prelude.{MatchBool, string_bytes}
 use Rattle.ga_asm.specs.Text.{AtMostOne}
 use Rattle.ga_jobs.specs.declared.Job.{Job}
-use Rattle.ga_jobs.specs.declared.Job.TheVariants.{Race, Run}
+use Rattle.ga_jobs.specs.declared.Job.TheVariants.{Race, Run, Talk}
 use Rattle.ga_jobs.specs.declared.fault.ServeError.TheVariants.{Input}
 use Rattle.ga_jobs.specs.declared.fault.InputFault.TheVariants.{TooLong}
 use Rattle.ga_jobs.proofs.OneOutput.{one_outputs}
@@ -47,4 +47,5 @@ one_output (Run route workers turns) input =
       alone = λ single. within_limit (Run route workers turns) input (runs.alone single);
     }
 one_output (Race loading turns witness file) input = tt
+one_output (Talk loading file) input = tt
 one_output job input = within_limit job input (λ one other p q. first_of (cc, search one_outputs))

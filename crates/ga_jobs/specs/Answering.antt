@@ -2,7 +2,7 @@
 use Rattle.std.specs.Prelude.{◌≡◌, ◌&&◌, ℕ, Bool, List, length, nat_lt, MatchBool, Result, Err}
 use Rattle.ga_asm.specs.Text.{AtMostOne}
 use Rattle.ga_jobs.specs.declared.Job.{Job}
-use Rattle.ga_jobs.specs.declared.Job.TheVariants.{Race, Run}
+use Rattle.ga_jobs.specs.declared.Job.TheVariants.{Race, Run, Talk}
 use Rattle.ga_jobs.specs.declared.fault.ServeError.{ServeError}
 use Rattle.ga_jobs.specs.declared.fault.ServeError.TheVariants.{Input}
 use Rattle.ga_jobs.specs.declared.fault.InputFault.TheVariants.{TooLong}
@@ -29,4 +29,6 @@ HasOneOutput (Run route workers turns) input =
     HasRuns workers (IsOutput (Run route workers turns) input)
 -- the text of `race` behind its first words is free
 HasOneOutput (Race loading turns witness file) input = Unit {0}
+-- the faults of a session that is opened aren't compared
+HasOneOutput (Talk loading file) input = Unit {0}
 HasOneOutput job input = AtMostOne (IsOutput job input)

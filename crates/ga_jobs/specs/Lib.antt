@@ -14,6 +14,7 @@ use Rattle.ga_jobs.specs.One.{one_output}
 use Rattle.ga_jobs.specs.Race.{IsRaceOutput}
 use Rattle.ga_jobs.specs.Replay.{IsReplayOutput}
 use Rattle.ga_jobs.specs.Run.{IsRunOutput}
+use Rattle.ga_jobs.specs.Session.{IsSessionOutput}
 use Rattle.ga_jobs.specs.Transcript.{IsCheckOutput, IsRecordOutput}
 pub mod Fault
 pub mod Shown
@@ -32,9 +33,11 @@ pub mod Boot
 pub mod Run
 pub mod Replay
 pub mod Race
+pub mod Session
 pub mod Debug
 pub mod Answering
 pub mod Reading
+pub mod Writing
 pub mod Engine
 pub mod inner
 
@@ -47,6 +50,7 @@ IsJobOutput (job.Boot route) input answer = IsBootOutput (string_bytes route) in
 IsJobOutput (job.Run route workers turns) input answer =
     IsRunOutput (string_bytes route) workers turns input answer
 IsJobOutput job.Debug input answer = IsDebugOutput input answer
+IsJobOutput (job.Talk loading file) input answer = IsSessionOutput loading input answer
 IsJobOutput job.Replay input answer = IsReplayOutput input answer
 IsJobOutput (job.List labels file) input answer = IsListOutput labels input answer
 IsJobOutput (job.Check file) input answer = IsCheckOutput input answer
@@ -71,6 +75,7 @@ file_of (job.List labels (Some file)) = named_file file
 file_of (job.Check (Some file)) = named_file file
 file_of (job.Record (Some file)) = named_file file
 file_of (job.Race loading turns witness (Some file)) = named_file file
+file_of (job.Talk loading file) = named_file file
 file_of job = None
 
 -- the job that is handed the means to start threads

@@ -26,6 +26,7 @@ mod reads;
 pub mod record;
 pub mod replay;
 pub mod run;
+mod session;
 mod shown;
 mod source;
 mod text;
@@ -41,8 +42,11 @@ pub use crate::engine::{Ending, serve, status};
 pub use crate::fault::{InputFault, OutputFault, RouteFault, ServeError, TextFault, WordsFault};
 pub use crate::race::Loading;
 pub use crate::reading::read_input;
-pub use crate::reads::Reads;
+pub use crate::reads::{Reads, tried_again};
+pub use crate::session::open_session;
 pub use crate::shown::ShownText;
+pub use crate::writes::Writes;
+pub use crate::writing::write_output;
 use ga_explain::Topic;
 use std::alloc::Global;
 
@@ -71,6 +75,12 @@ pub enum Job {
     },
     /// The replies to the commands of a replay text.
     Debug,
+    /// The session of the file, to be talked with at the prompt. As a job it is opened, and nothing
+    /// is written.
+    Talk {
+        loading: Loading,
+        file: String,
+    },
     /// How many stated outcomes of a replay text hold.
     Replay,
     /// The words of a source text with their instructions, or only its labels. The text is in the
@@ -125,7 +135,9 @@ impl Job {
             | Job::Race {
                 file: Some(file),
                 ..
-            } if file.as_str() != "-" => { Some(file.as_str()) }
+            }
+            | Job::Talk { file, .. }
+                if file.as_str() != "-" => { Some(file.as_str()) }
             _ => None,
         }
     }
@@ -144,6 +156,7 @@ fn output(alloc: Global, job: &Job, input: &[u8]) -> Option<Result<String, Serve
         Job::Boot { route } => Some(boot::output(alloc, route, input)),
         Job::Run { .. } => None,
         Job::Debug => Some(debug::output(alloc, input)),
+        Job::Talk { loading, .. } => Some(session::output(alloc, loading, input)),
         Job::Replay => Some(replay::output(alloc, input)),
         Job::List { labels, .. } => Some(list::output(alloc, *labels, input)),
         Job::Check { .. } => Some(check::output(alloc, input)),

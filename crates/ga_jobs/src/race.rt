@@ -136,7 +136,11 @@ fn head_chip(alloc: Global, text: &str) -> Result<(Chip, Images), ServeError>
 }
 
 /// The chip of a source text, with its images.
-fn source_chip(alloc: Global, loading: &Loading, text: &str) -> Result<(Chip, Images), ServeError>
+pub(crate) fn source_chip(
+    alloc: Global,
+    loading: &Loading,
+    text: &str,
+) -> Result<(Chip, Images), ServeError>
     ensures { Answers (λ loaded. loaded.0) (IsSourceChip loading.now text.now) result }
 {
     match assemble_text(alloc, text) {

@@ -56,7 +56,7 @@ impl Reads {
 
 /// What follows a failed read: an interrupted one is tried again, and any other ends the input with
 /// `Read`.
-pub(crate) fn tried_again(error: &io::Error) -> Result<(), ServeError>
+pub fn tried_again(error: &io::Error) -> Result<(), ServeError>
     ensures interrupted { error_kind error.now ≡ ErrorKind.Interrupted → result ≡ Ok tt }
     ensures other { error_kind error.now ≢ ErrorKind.Interrupted
         → result ≡ Err ServeError.Read }

@@ -6,6 +6,7 @@ ghost use Rattle.ga_jobs.specs.inner.Witness.{IsWitness};
 use crate::answering::INPUT_LIMIT;
 use crate::fault::{OutputFault, ServeError};
 use crate::race::{Loading, is_head};
+use crate::session::push_source_head;
 use ga_chip::Chip;
 use ga_place::Side;
 use ga_race::{Race, SideWord, way_to};
@@ -50,7 +51,7 @@ fn session_text(
     race: &Race,
 ) -> Result<String, AllocError> {
     let mut text = String::new(alloc);
-    push_head(&mut text, loading, input)?;
+    push_head(alloc, &mut text, loading, input)?;
     writeln!(text, "\\ both words come before {} reads", race.take.reader)?;
     // No run has more turns than these.
     let turns = race.take.turn.min(1_000_000) as u32;
@@ -72,23 +73,30 @@ fn session_text(
 }
 
 /// Adds the head that loads an input, with its line `go`.
-fn push_head(text: &mut String, loading: &Loading, input: &str) -> Result<(), AllocError> {
-    if !is_head(loading, input) {
-        text.push_str("profile 2\n")?;
-        match loading {
-            Loading::Route(names) => writeln!(text, "route {names}")?,
-            Loading::Any | Loading::Place => text.push_str("place\n")?,
-        }
-    }
-    for line in input.strip_suffix('\n').unwrap_or(input).split('\n') {
-        if line == "go" && is_head(loading, input) {
-            break;
-        }
-        text.push_str(line)?;
-        // such a line would end the source text
-        text.push_str(if line == "go" { " \n" } else { "\n" })?;
+fn push_head(
+    alloc: Global,
+    text: &mut String,
+    loading: &Loading,
+    input: &str,
+) -> Result<(), AllocError> {
+    if is_head(loading, input) {
+        push_lines_to_go(text, input)?;
+    } else {
+        push_source_head(alloc, text, loading, input)?;
     }
     text.push_str("go\n")
+}
+
+/// Adds the lines of a text before its line `go`, each ended by LF.
+fn push_lines_to_go(text: &mut String, input: &str) -> Result<(), AllocError> {
+    for line in input.split('\n') {
+        if line == "go" {
+            return Ok(());
+        }
+        text.push_str(line)?;
+        text.push('\n')?;
+    }
+    Ok(())
 }
 
 /// Adds a comment with the two tries that differ.

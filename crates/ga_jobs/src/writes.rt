@@ -2,7 +2,7 @@ ghost use Rattle.std.specs.Prelude.{◌≡◌, ◌≢◌, ◌+◌, ◌<◌, ◌-
 ghost use Rattle.std.specs.Io.KnownBytes.{Keeps, WriteAppends};
 ghost use Rattle.std.specs.Io.{WritesAtMost};
 ghost use Rattle.std.specs.IoError.{error_kind};
-ghost use Rattle.ga_jobs.specs.inner.Writing.{calls_of, has_failed};
+ghost use Rattle.ga_jobs.specs.Writing.{calls_of, has_failed};
 
 use std::io;
 use std::io::{ErrorKind, Write};

@@ -1,6 +1,6 @@
 ghost use Rattle.std.specs.Prelude.{◌≡◌, ◌-◌, ◌^◌, ◌⊎◌, ℕ, OnOk, OnErr, IfErr, false, take, true};
 ghost use Rattle.std.specs.Io.KnownBytes.{Appends};
-ghost use Rattle.ga_jobs.specs.inner.Writing.{calls_of, has_failed};
+ghost use Rattle.ga_jobs.specs.Writing.{calls_of, has_failed};
 
 use crate::fault::ServeError;
 use crate::writes::Writes;

@@ -10,7 +10,7 @@ use Rattle.ga_command_line.specs.declared.command_line.LineError.{LineError}
 use Rattle.ga_command_line.specs.declared.command_line.LineError.TheVariants.{Memory}
 use Rattle.ga_command_line.specs.CommandLine.{AsksFor, InRange}
 use Rattle.ga_command_line.specs.Number.{IsNumberAt, IsNumberIfAt}
-use Rattle.ga_command_line.specs.Race.{IsLoadingAt}
+use Rattle.ga_command_line.specs.Loading.{IsLoadingAt}
 use Rattle.ga_command_line.specs.Route.{IsRouteAt}
 use Rattle.ga_command_line.proofs.job_named.Goals as goal
 

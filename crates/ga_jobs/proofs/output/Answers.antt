@@ -18,3 +18,9 @@ unfolding IsJobOutput
 returns-in-Race-clause-answer c =
     subst (λ job. Answers string_bytes (IsJobOutput job c.args.input.now) c.output-in-Race.result)
     (sym c.in-Race.is) c.output-in-Race.ensures
+
+pub returns-in-Talk-clause-answer : goal.returns-in-Talk-clause-answer
+unfolding IsJobOutput
+returns-in-Talk-clause-answer c =
+    subst (λ job. Answers string_bytes (IsJobOutput job c.args.input.now) c.output-in-Talk.result)
+    (sym c.in-Talk.is) c.output-in-Talk.ensures

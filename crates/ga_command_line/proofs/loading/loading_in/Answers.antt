@@ -5,8 +5,8 @@ use Rattle.clap.proofs.WalkLemmas.{first_value-rows}
 use Rattle.ga_jobs.specs.declared.race.Loading.{Loading}
 use Rattle.ga_jobs.specs.declared.race.Loading.TheVariants.{Any, Place, Route}
 use Rattle.ga_command_line.specs.Flag.{is_set}
-use Rattle.ga_command_line.specs.Race.{IsLoadingAt}
-use Rattle.ga_command_line.proofs.race.loading_in.Goals as goal
+use Rattle.ga_command_line.specs.Loading.{IsLoadingAt}
+use Rattle.ga_command_line.proofs.loading.loading_in.Goals as goal
 
 pub returns-in-true-None-clause-loading : goal.returns-in-true-None-clause-loading
 returns-in-true-None-clause-loading c = (

@@ -1,0 +1,2 @@
+pub mod TypedLines
+pub mod SoFar

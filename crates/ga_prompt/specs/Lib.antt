@@ -1,0 +1,4 @@
+pub mod Request
+pub mod Typed
+pub mod Talk
+pub mod inner

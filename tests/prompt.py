@@ -1,0 +1,223 @@
+#!/usr/bin/env python3
+"""Talks with PROGRAM at its prompt, `debug FILE`: python3 tests/prompt.py PROGRAM
+
+  story     at a terminal, a deadlock is found by `where`; the screen without its own commands is a transcript that
+            `check` accepts, and so is what `save` wrote
+  pipe      replies come one by one: each is read before the next line is written
+  recorded  for random commands the replies are those of `record`, `back` leads to where they would have led without the
+            commands undone, and `check` accepts what `save` writes
+  hostile   files and lines of any bytes; output that can't be written
+The last line that is printed is 'prompt: N passed, M failed', and the exit status is 0 if M is 0.
+"""
+import os
+import pty
+import random
+import select
+import subprocess
+import sys
+import tempfile
+
+TWO = "node 708\nmain: right b! 1 2 3 !b !b\ndone: jump done\nnode 709\nmain: right b! @b @b + @b\ndone: jump done\n"
+RING = ("node 708\nmain: right b!  5 !b @b  jump warm\nnode 709\nmain: right a! left b!  @ @ + !b  @b !  jump warm\n"
+        "node 710\nmain: left a!  @ 2* !  jump warm\n")
+LOOP = "node 000\nmain: 0\nloop: 1 . + jump loop\nnode 001\nmain: right b!\nmore: @b 2* !b jump more\n"
+HEAD = "profile 2\nplace\n" + TWO + "go\n"
+COMMANDS = ["turn 4", "turn 1", "regs 708", "regs 709", "node 709", "where", "breaks", "ports 708", "mem 708", "try 709 r",
+            "break 709 done", "break 708 001", "clear 709 done", "pass 709", "until 709 done 20", "turn x", "regs 800",
+            "until 708 nowhere", "turn 4 4"]
+failures = []
+passed = 0
+
+
+def check(what, held):
+    global passed
+    if held:
+        passed += 1
+    else:
+        failures.append(what)
+        print(f"failed: {what}")
+
+
+def talk(program, arguments, lines, **more):
+    return subprocess.run([program, "debug", *arguments], input=lines, capture_output=True, timeout=60, **more)
+
+
+def recorded(program, text):
+    run = subprocess.run([program, "record"], input=text.encode(), capture_output=True, timeout=60)
+    return run.stdout.decode().split("\ngo\n", 1)[1]
+
+
+def session(commands, head=HEAD):
+    return head + "".join(f"> {command}\n" for command in commands)
+
+
+def accepted(program, file):
+    run = subprocess.run([program, "check", file], capture_output=True, timeout=60)
+    return run.returncode == 0
+
+
+def story(program, folder):
+    """At a terminal."""
+    source = f"{folder}/ring.source"
+    with open(source, "w") as file:
+        file.write(RING)
+    typist, terminal = pty.openpty()
+    run = subprocess.Popen([program, "debug", source], stdin=terminal, stdout=terminal, stderr=terminal, close_fds=True)
+    os.close(terminal)
+    screen = b""
+
+    def until(end, since=0):
+        nonlocal screen
+        while not screen[since:].endswith(end) and select.select([typist], [], [], 20)[0]:
+            screen += os.read(typist, 4096)
+        return screen[since:].endswith(end)
+
+    def types(line):
+        since = len(screen)
+        os.write(typist, line.encode() + b"\n")
+        return until(b"\r\n> ", since) and screen[since:].startswith(line.encode() + b"\r\n")
+
+    check("a prompt comes first", until(b"> ") and screen == b"> ")
+    check("a reply, and a prompt again", types("turn 40") and b"\r\nmoved " in screen)
+    check("the deadlock", types("where") and b"ring 708 709\r\n" in screen)
+    before = len(screen)
+    types("break 709 main")
+    check("what is undone", types("back") and screen.endswith(b"back\r\nundone break 709 main\r\n> "))
+    kept = screen[:before]
+    before = len(screen)
+    check("no breakpoint is left", types("breaks") and screen.endswith(b"> breaks\r\n> "))
+    kept += screen[before:]
+    check("it is saved", types(f"save {folder}/kept") and screen.endswith(f"saved {folder}/kept\r\n> ".encode()))
+    os.write(typist, b"\x04")
+    check("the end of the input ends it", run.wait(20) == 0)
+    os.close(typist)
+    check("what was saved is accepted", accepted(program, f"{folder}/kept"))
+    with open(f"{folder}/kept") as file:
+        saved = file.read()
+    check("the screen is the session", saved == "profile 2\nplace\n" + RING + "go\n" + kept.replace(b"\r\n", b"\n").decode().removesuffix("> "))
+
+
+def pipe(program, folder):
+    """Without a terminal: no prompt, and each reply at once."""
+    with open(f"{folder}/head", "w") as file:
+        file.write(HEAD)
+    run = subprocess.Popen([program, "debug", f"{folder}/head"], stdin=subprocess.PIPE, stdout=subprocess.PIPE)
+
+    def said(line):
+        run.stdin.write(line + b"\n")
+        run.stdin.flush()
+        return run.stdout.readline() if select.select([run.stdout], [], [], 20)[0] else None
+
+    check("a first reply", (said(b"turn 4") or b"").startswith(b"moved "))
+    first = said(b"regs 708")
+    check("a second reply", (first or b"").startswith(b"node 708 "))
+    check("an empty line repeats", said(b"") == first)
+    check("nothing to repeat that isn't a command", said(b"trun 4") == b"refused BadCommand, the nearest is turn\n")
+    check("back", said(b"back 2") == b"undone regs 708\n" and run.stdout.readline() == b"undone regs 708\n")
+    check("help", said(b"help turn") == b"turn K             K turns of all nodes, up to 1000000\n")
+    run.stdin.write(b"quit\nregs 708\n")
+    run.stdin.close()
+    check("quit ends it", run.stdout.read() == b"" and run.wait(20) == 0)
+
+
+def compare(program, folder, seed):
+    """Replies beside those of `record`."""
+    rng = random.Random(seed)
+    file = f"{folder}/random"
+    with open(file, "w") as text:
+        text.write(HEAD)
+    lines, left = [], []
+    for _ in range(rng.randrange(1, 14)):
+        if rng.random() < 0.2:
+            count = rng.randrange(0, 4)
+            lines.append("back" if count == 1 and rng.random() < 0.5 else f"back {count}")
+            left = left[:max(len(left) - count, 0)]
+        else:
+            lines.append(rng.choice(COMMANDS))
+            left.append(lines[-1])
+    saved = f"{folder}/saved{seed}"
+    run = talk(program, [file], "".join(f"{line}\n" for line in [*lines, "where", "breaks", f"save {saved}"]).encode())
+    whole = recorded(program, session([*left, "where", "breaks"]))
+    end = whole[whole.rindex("> where\n") + len("> where\n"):].replace("> breaks\n", "")
+    check(f"random {seed}: the state at the end", run.returncode == 0
+          and run.stdout.decode().endswith(end + f"saved {saved}\n"))
+    with open(saved) as text:
+        check(f"random {seed}: what is saved is the recording", text.read() == session([]) + whole)
+    check(f"random {seed}: and holds", accepted(program, saved))
+    plain = [line for line in lines if not line.startswith("back")]
+    run = talk(program, [file], "".join(f"{line}\n" for line in plain).encode())
+    shown = "".join(line + "\n" for line in recorded(program, session(plain)).splitlines() if not line.startswith("> "))
+    check(f"random {seed}: the replies are those of record", run.stdout.decode() == shown)
+    again = f"{folder}/again"
+    with open(again, "w") as text:
+        text.write(session(plain[:3]))
+    rest = talk(program, [again], "".join(f"{line}\n" for line in plain[3:]).encode()).stdout
+    check(f"random {seed}: a transcript goes on", run.stdout.endswith(rest))
+
+
+def hostile(program, folder):
+    """Files and lines of any bytes."""
+    source = f"{folder}/loop.source"
+    with open(source, "w") as file:
+        file.write(LOOP)
+    fault = talk(program, [f"{folder}/none"], b"")
+    check("no file", (fault.returncode, fault.stdout) == (2, b"") and b"there is no such FILE" in fault.stderr)
+    fault = talk(program, [folder], b"")
+    check("a folder", (fault.returncode, fault.stderr) == (1, b"ga-bench: input Folder\n"))
+    for name, text, message in [
+        ("bytes", b"\xff\xfe", b"ga-bench: input BadText\n"),
+        ("long", b" " * 1048577, b"ga-bench: input TooLong\n"),
+        ("token", b"node 000 nothing\n", b"ga-bench: source 1:10 BadToken\n"),
+        ("early", HEAD.encode() + b"moved 4\n", b"ga-bench: transcript line 10 EarlyReply\n"),
+    ]:
+        with open(f"{folder}/{name}", "wb") as file:
+            file.write(text)
+        run = talk(program, [f"{folder}/{name}"], b"turn 4\n")
+        check(f"a file that is {name}", run.returncode == 1 and run.stdout == b"" and run.stderr.startswith(message))
+    moved = recorded(program, session(["turn 4"], "profile 2\nplace\n" + LOOP + "go\n")).split("\n")[1].encode() + b"\n"
+    for line, reply in [
+        (b"\xff", b"refused BadText\n"),
+        (b"a" * 65536, b"refused BadCommand\n"),
+        (b"a" * 65537, b"refused TooLong\n"),
+        (b"a" * 3000000, b"refused TooLong\n"),
+        (b"turn 4\r", b"refused BadCount\n"),
+        (b"back x", b"refused BadCount\n"),
+        (b"back -1", b"refused BadCount\n"),
+        (b"\x00", b"refused BadCommand\n"),
+        (b"", b""),
+        (b"save " + folder.encode(), b"refused Exists\n"),
+        (b"save /nowhere/at/all", b"refused Write\n"),
+        (b"save a\x00b", b"refused Write\n"),
+        (b"save! " + folder.encode(), b"refused Write\n"),
+        (b"help nothing", b"refused BadCommand\n"),
+    ]:
+        run = talk(program, [source], line + b"\nturn 4\n")
+        check(f"the line {line[:20]!r}", run.returncode == 0 and run.stdout == reply + moved)
+    check("no LF at the end", talk(program, [source], b"turn 4").stdout == moved)
+    check("the program as a route", talk(program, ["--route", "000,001", source], b"turn 4").returncode == 0)
+    run = talk(program, ["--place"], b"")
+    check("--place wants a file", run.returncode == 2)
+    with open("/dev/full", "wb") as full:
+        run = subprocess.run([program, "debug", source], input=b"turn 4\n", stdout=full, stderr=subprocess.PIPE, timeout=60)
+    check("output that can't be written", (run.returncode, run.stderr) == (1, b"ga-bench: write\n"))
+    run = talk(program, [source], f"save {folder}/one\nsave {folder}/one\nturn 4\nsave! {folder}/one\n".encode())
+    check("a file is replaced only by save!", run.stdout.decode().split("\n")[:2] == [f"saved {folder}/one", "refused Exists"]
+          and accepted(program, f"{folder}/one") and not os.path.exists(f"{folder}/one.new"))
+
+
+def main():
+    if len(sys.argv) != 2:
+        sys.exit("usage: tests/prompt.py PROGRAM")
+    program = os.path.abspath(sys.argv[1])
+    with tempfile.TemporaryDirectory() as folder:
+        story(program, folder)
+        pipe(program, folder)
+        for seed in range(60):
+            compare(program, folder, seed)
+        hostile(program, folder)
+    print(f"prompt: {passed} passed, {len(failures)} failed")
+    return 1 if failures else 0
+
+
+if __name__ == "__main__":
+    sys.exit(main())
