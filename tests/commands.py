@@ -3,6 +3,7 @@
 
 The rows of crates/ga_debug/specs/Commands.antt have each command's name, the words that follow it and the texts that have it.
 
+- `help` at the prompt shows each of them, and a misspelt one is refused with its name.
 - The help of `debug`, `replay` and `check` shows each command that its texts have, with these words, and no other.
 - docs/FORMATS.md has a row of each, under Sessions or Transcripts, and tests/sessions.py reads these words.
 - `explain BadCommand` names the commands that a session has and a replay text doesn't.
@@ -13,6 +14,7 @@ import os
 import re
 import subprocess
 import sys
+import tempfile
 
 import sessions
 
@@ -56,6 +58,15 @@ def section(page, heading):
         return re.split(rf"^## {heading}$", file.read(), flags=re.M)[1].split("\n## ")[0]
 
 
+def prompt(program, lines):
+    """Returns the lines that the prompt writes for lines, without one of its own."""
+    with tempfile.NamedTemporaryFile("w") as source:
+        source.write("node 000 .")
+        source.flush()
+        run = subprocess.run([program, "debug", source.name], input="\n".join(lines), capture_output=True, text=True)
+    return run.stdout.splitlines()
+
+
 def wrong(program):
     """Yields each check and whether it passes."""
     help_of = {
@@ -78,6 +89,10 @@ def wrong(program):
         yield f"sessions.py: {name} of sessions", (name in sessions.COMMANDS) == (scope != "Transcripts")
         of_replays = words + STATES[states] if scope == "Replays" else None
         yield f"sessions.py: {name} of replays", sessions.IN_REPLAYS.get(name) == of_replays
+    shown = prompt(program, [f"help {name}" for name, *_ in table] + [f"{name}x" for name, *_ in table])
+    for name, shapes, *_ in table:
+        yield f"help {name} at the prompt", any(line.startswith(form(name, shapes, 0) + " ") for line in shown)
+        yield f"the nearest to {name}x", f"refused BadCommand, the nearest is {name}" in shown
     yield "sessions.py has no others", set(sessions.IN_TRANSCRIPTS) == {name for name, *_ in table}
 
 
