@@ -25,6 +25,12 @@ impl Breaks {
         Breaks { words: [0; 8] }
     }
 
+    pub(crate) fn copied(&self) -> Self
+        ensures { result ≡ self.now }
+    {
+        Breaks { words: self.words }
+    }
+
     pub(crate) fn has(&self, address: u16) -> bool
         requires { address < 2 ^ 9 }
         ensures { result ≡ get_or self.now address false }

@@ -49,7 +49,7 @@ impl Model for Chip {
 
 impl Chip {
     /// The chip after reset: each node as by `NodeState::reset`, and nothing pending. Fails only
-    /// when out of memory. No other call allocates.
+    /// when out of memory. Of the other calls only `copied` allocates.
     pub fn reset(alloc: Global) -> Result<Self, AllocError>
         ensures { IfOk result (λ chip. chip ≡ reset_chip) }
     {
@@ -62,6 +62,19 @@ impl Chip {
             parts,
             cells: CellRow::new(cells),
             awake: NodeSet::all(),
+        })
+    }
+
+    /// A copy of the chip, whose tries are its own. Fails only when out of memory.
+    pub fn copied(&self, alloc: Global) -> Result<Self, AllocError>
+        ensures { IfOk result (λ copy. copy ≡ self.now) }
+    {
+        let parts = copied_parts(alloc, &self.parts)?;
+        let cells = self.cells.copied(alloc)?;
+        Ok(Chip {
+            parts,
+            cells,
+            awake: self.awake,
         })
     }
 
@@ -501,4 +514,15 @@ impl Chip {
     {
         self.awake.next(from)
     }
+}
+
+/// Copies of parts.
+fn copied_parts(alloc: Global, parts: &[NodePart]) -> Result<Vec<NodePart>, AllocError>
+    ensures { IfOk result (λ copies. copies.items ≡ parts.now) }
+{
+    let mut copies = Vec::with_capacity(alloc, parts.len())?;
+    for part in parts {
+        copies.push(part.copied(alloc)?)?;
+    }
+    Ok(copies)
 }

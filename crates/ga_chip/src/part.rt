@@ -1,4 +1,4 @@
-ghost use Rattle.std.specs.Prelude.{◌≡◌, ◌≢◌, ℕ, ◌<◌, ◌^◌, false, true, get_or, if◌then◌else◌, IfSome, None, Some, Option, option_map};
+ghost use Rattle.std.specs.Prelude.{◌≡◌, ◌≢◌, ℕ, ◌<◌, ◌^◌, false, true, get_or, if◌then◌else◌, IfOk, IfSome, None, Some, Option, option_map};
 ghost use Rattle.ga_place.specs.Cell.{cell_of, index_of, name_at, read_cell};
 ghost use Rattle.ga_place.specs.Side.{is_among, neighbour_of, one_side};
 ghost use Rattle.ga_place.specs.declared.side.Side.{Side};
@@ -26,6 +26,7 @@ use crate::watch::Watch;
 use ga_node::{Need, NodeState};
 use ga_place::{CellId, Node, Side, Sides};
 use ga_word::Word18;
+use std::alloc::{AllocError, Global};
 use std::marker::Model;
 
 /// What the chip has of one node: its breakpoints and a pass, its state, how many words it has
@@ -97,6 +98,25 @@ impl NodePart {
             opened: false,
             ports: Ports::new(node),
         }
+    }
+
+    /// A copy of the part. Fails only when out of memory.
+    pub(crate) fn copied(&self, alloc: Global) -> Result<Self, AllocError>
+        ensures { IfOk result (λ copy. copy ≡ self.now) }
+    {
+        let stream = match &self.stream {
+            Some(stream) => Some(stream.copied(alloc)?),
+            None => None,
+        };
+        Ok(NodePart {
+            watch: self.watch.copied(),
+            state: self.state.copied(),
+            written: self.written,
+            read: self.read,
+            stream,
+            opened: self.opened,
+            ports: self.ports,
+        })
     }
 
     /// The node.

@@ -1,8 +1,9 @@
-ghost use Rattle.std.specs.Prelude.{◌≡◌, None, Some, length, set};
+ghost use Rattle.std.specs.Prelude.{◌≡◌, IfOk, None, Some, length, set};
 ghost use Rattle.ga_chip.specs.Chip.{pending_in};
 
 use ga_place::CellId;
 use ga_word::Word18;
+use std::alloc::{AllocError, Global};
 use std::marker::Model;
 
 /// The word pending in each of the 524 cells. A contract sees their list, in the order of the
@@ -30,6 +31,15 @@ impl CellRow {
         ensures { result ≡ words.items }
     {
         CellRow { words }
+    }
+
+    /// A copy of the row. Fails only when out of memory.
+    pub(crate) fn copied(&self, alloc: Global) -> Result<Self, AllocError>
+        ensures { IfOk result (λ copy. copy ≡ self.now) }
+    {
+        let mut words = Vec::new(alloc);
+        words.extend_from_slice(&self.words)?;
+        Ok(CellRow { words })
     }
 
     /// The list of the words, which is the one that the row was made of.

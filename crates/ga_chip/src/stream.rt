@@ -1,6 +1,7 @@
-ghost use Rattle.std.specs.Prelude.{◌≡◌, [], drop, is_none, length, slice_get};
+ghost use Rattle.std.specs.Prelude.{◌≡◌, [], IfOk, drop, is_none, length, slice_get};
 
 use ga_word::Word18;
+use std::alloc::{AllocError, Global};
 use std::marker::Model;
 
 /// The words of a node's stream that it has not yet taken. A contract sees their list.
@@ -41,6 +42,18 @@ impl Stream {
             words: None,
             taken: 0,
         }
+    }
+
+    /// A copy, without the words that were taken.
+    pub(crate) fn copied(&self, alloc: Global) -> Result<Self, AllocError>
+        ensures { IfOk result (λ copy. copy ≡ self.now) }
+    {
+        let Some(words) = &self.words else {
+            return Ok(Stream::open());
+        };
+        let mut left = Vec::new(alloc);
+        left.extend_from_slice(&words[self.taken..])?;
+        Ok(Stream::new(left))
     }
 
     pub(crate) fn len(&self) -> usize

@@ -38,6 +38,16 @@ impl Watch {
         }
     }
 
+    pub(crate) fn copied(&self) -> Self
+        ensures { result ≡ self.now }
+    {
+        Watch {
+            breaks: self.breaks.copied(),
+            pass: self.pass,
+            on: self.on,
+        }
+    }
+
     /// Whether fetches have to be looked at, since there is a breakpoint or a pass.
     #[inline(always)]
     pub(crate) fn is_on(&self) -> bool

@@ -5,4 +5,5 @@ pub mod Line
 pub mod Closed
 pub mod Ring
 pub mod Waits
+pub mod Folded
 pub mod inner

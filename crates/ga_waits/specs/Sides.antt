@@ -60,3 +60,18 @@ told_need chip name (Check side) = codes " check " ++ told_end chip name side
 told_need chip name Own = 32 ∷ need_text Own
 told_need chip name Input = 32 ∷ need_text Input
 told_need chip name (Stopped stop) = 32 ∷ need_text (Stopped stop)
+
+-- why a node that isn't held makes no step, by its need
+abbrev pub wait_text : ℕ → Need → List ℕ
+wait_text name Own = codes "works"
+wait_text name (Take sides) = codes "waits " ++ joined (end_text name) [] (codes "/") sides SIDES
+wait_text name (Post side word) = codes "waits " ++ end_text name side
+wait_text name (Check side) = codes "waits " ++ end_text name side
+wait_text name Input = codes "waits for its stream"
+wait_text name (Stopped stop) = need_text (Stopped stop)
+
+-- the same by whether it is held
+abbrev pub rest_text : Bool → ℕ → Option State → List ℕ
+rest_text true name state = codes "held"
+rest_text false name (Some state) = wait_text name (need_of state)
+rest_text false name None = []

@@ -3,7 +3,7 @@ ghost use Rattle.std.specs.Prelude.{◌≡◌, ◌++◌, [], OnOk, codes, string
 ghost use Rattle.ga_place.specs.Side.{SIDES};
 ghost use Rattle.ga_chip.specs.Chip.{state_of};
 ghost use Rattle.ga_chip.specs.Run.{stands_held};
-ghost use Rattle.ga_waits.specs.Sides.{act_text, doing_text, end_text, joined, told_end, told_need};
+ghost use Rattle.ga_waits.specs.Sides.{act_text, doing_text, end_text, joined, rest_text, told_end, told_need, wait_text};
 
 use ga_chip::Chip;
 use ga_dump::side_name;
@@ -135,6 +135,39 @@ fn push_end(text: &mut String, node: Node, side: Side) -> Result<(), AllocError>
     match neighbour(node, side) {
         Some(other) => write!(text, "{} of {other}", side_name(side))?,
         None => write!(text, "{} of nobody", side_name(side))?,
+    }
+    Ok(())
+}
+
+/// Adds why a node makes no step: that it is held, at which sides it waits, or why it has stopped.
+/// (The text is this project's own: profile.)
+pub fn push_rest(text: &mut String, chip: &Chip, node: Node) -> Result<(), AllocError>
+    ensures { OnOk result (string_bytes text.new ≡ string_bytes text.old
+        ++ rest_text (stands_held chip.now node) node (state_of chip.now node)) }
+{
+    if chip.is_held(node) {
+        text.push_str("held")?;
+        return Ok(());
+    }
+    push_wait(text, node, chip.state(node).need())
+}
+
+/// Adds why a node that isn't held makes no step, by its need.
+fn push_wait(text: &mut String, node: Node, need: Need) -> Result<(), AllocError>
+    ensures { OnOk result (string_bytes text.new ≡ string_bytes text.old ++ wait_text node need) }
+{
+    match need {
+        Need::Own => text.push_str("works")?,
+        Need::Take(sides) => {
+            text.push_str("waits ")?;
+            push_ends(text, node, sides)?;
+        }
+        Need::Post(side, _) | Need::Check(side) => {
+            text.push_str("waits ")?;
+            push_end(text, node, side)?;
+        }
+        Need::Input => text.push_str("waits for its stream")?,
+        Need::Stopped(_) => write!(text, "{need}")?,
     }
     Ok(())
 }

@@ -61,7 +61,8 @@ fn push_nodes(
     Ok(())
 }
 
-fn push_rings(text: &mut String, chip: &Chip) -> Result<(), AllocError>
+/// Adds the lines of all rings.
+pub(crate) fn push_rings(text: &mut String, chip: &Chip) -> Result<(), AllocError>
     ensures { OnOk result (string_bytes text.new
         ≡ string_bytes text.old ++ text_of (all_ring_lines chip.now)) }
 {

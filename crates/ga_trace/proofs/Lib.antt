@@ -1,0 +1,4 @@
+pub mod LastSteps
+pub mod Tracing
+pub mod Watching
+pub mod Stepping

@@ -1,0 +1,45 @@
+-- Turns until a value of a node changes.
+use Rattle.std.specs.Prelude.{ℕ, zero, suc, ◌+◌, ◌==◌, Bool, ◌&&◌, not, List, ◌++◌, codes, Option, Some, None, if◌then◌else◌}
+use Rattle.std.specs.Fmt.{decimal}
+use Rattle.ga_asm.specs.Image.{ImageView}
+use Rattle.ga_chip.specs.Chip.{Chip}
+use Rattle.ga_trace.specs.declared.what.Value.{Value}
+use Rattle.ga_trace.specs.declared.what.What.{What}
+use Rattle.ga_trace.specs.Stepped.{rest_line}
+use Rattle.ga_trace.specs.Traced.{moved_in, quiet_after, turn_line, turned}
+use Rattle.ga_trace.specs.What.{same_value, value_of, value_text}
+
+-- a value changes, or it becomes the one that is waited for
+abbrev pub changes_to : Option Value → Value → Value → Bool
+changes_to None old new = not (same_value old new)
+changes_to (Some goal) old new = same_value goal new && not (same_value goal old)
+
+-- the change, and behind how many turns it came
+abbrev pub change_line : Value → Value → ℕ → List ℕ
+change_line old new turns =
+    value_text old ++ codes " -> " ++ value_text new
+    ++ codes " after " ++ decimal turns ++ codes " turns\n"
+
+-- no change: why the node makes no step
+abbrev pub no_change_line : ℕ → Chip → List ℕ
+no_change_line name chip = codes "not reached, " ++ rest_line name chip
+
+-- In at most `left` turns, behind a number of turns, the last of which were quiet: the line of the
+-- node's step in the turn that changes the value, if it makes one, and the change. The chip
+-- afterwards.
+unfoldable pub watched_from : List (ℕ × ImageView) → ℕ → What → Option Value → ℕ → ℕ → ℕ → Chip
+    → List ℕ × Chip
+watched_from images name what goal zero turn quiet chip = (no_change_line name chip, chip)
+watched_from images name what goal (suc left) turn quiet chip =
+    let next = turned turn chip in
+    let old = value_of what name chip in
+    let new = value_of what name next in
+    if quiet == 4 then (no_change_line name chip, chip)
+    else if changes_to goal old new
+    then (turn_line images name turn chip ++ change_line old new (suc turn), next)
+    else watched_from images name what goal left (suc turn) (quiet_after quiet (moved_in turn chip))
+    next
+
+-- at most 1,000,000 turns are made
+unfoldable pub watched : List (ℕ × ImageView) → ℕ → What → Option Value → Chip → List ℕ × Chip
+watched images name what goal chip = watched_from images name what goal 1000000 0 0 chip
