@@ -9,4 +9,6 @@ pub mod OneReplay
 pub mod Loads
 pub mod Turns
 pub mod Passing
+pub mod HexDigits
+pub mod ValuesRead
 mod WorkedSessions

@@ -8,19 +8,24 @@ use Rattle.ga_node.specs.Line.{line_of}
 use Rattle.ga_chip.specs.Chip.{Chip, state_of, tried, unless_held}
 use Rattle.ga_chip.specs.Run.{ClearBreak, PassBreak, SetBreak, happened, moves, ran, turns_of}
 use Rattle.ga_dump.specs.Ledger.{ledger_dump}
-use Rattle.ga_dump.specs.Memory.{memory_dump}
 use Rattle.ga_dump.specs.Node.{node_dump}
 use Rattle.ga_path.specs.Stream.{Images}
+use Rattle.ga_waits.specs.Folded.{nodes_text}
 use Rattle.ga_waits.specs.Waits.{waits_text}
+use Rattle.ga_trace.specs.Stepped.{stepped}
+use Rattle.ga_trace.specs.Traced.{traced}
+use Rattle.ga_trace.specs.Watched.{watched}
 use Rattle.ga_debug.specs.declared.command.Arguments.{Arguments}
 use Rattle.ga_debug.specs.declared.commands.Action.{Action}
 use Rattle.ga_debug.specs.declared.commands.Action.TheVariants.{Break, Clear, Pass, Try, Turn, Until}
+use Rattle.ga_debug.specs.declared.commands.Follow.{Follow}
+use Rattle.ga_debug.specs.declared.commands.Follow.TheVariants.{Step, Trace, Watch}
 use Rattle.ga_debug.specs.declared.commands.Answer.{Answer}
 use Rattle.ga_debug.specs.declared.commands.Answer.TheVariants.{Done, Tried, Moved, Reached}
 use Rattle.ga_debug.specs.declared.commands.Verb.{Verb}
-use Rattle.ga_debug.specs.declared.commands.Verb.TheVariants.{Act, Show}
+use Rattle.ga_debug.specs.declared.commands.Verb.TheVariants.{Act, Show, Tell}
 use Rattle.ga_debug.specs.declared.commands.View.{View}
-use Rattle.ga_debug.specs.declared.commands.View.TheVariants.{Regs, Mem, Ports, Node, Breaks, Where}
+use Rattle.ga_debug.specs.declared.commands.View.TheVariants.{Regs, Mem, Ports, Node, Sides, Expect, Breaks, Where, Nodes}
 use Rattle.ga_debug.specs.declared.error.DebugError.{DebugError}
 use Rattle.ga_debug.specs.declared.error.DebugError.TheVariants.{NotHeld}
 use Rattle.ga_debug.specs.declared.row.Scope.{Scope}
@@ -28,7 +33,11 @@ use Rattle.ga_debug.specs.declared.row.Scope.TheVariants.{Replays, Sessions, Tra
 use Rattle.ga_debug.specs.declared.row.Shape.TheVariants as shape
 use Rattle.ga_debug.specs.declared.row.States.TheVariants.{Nothing, Outcome, Steps}
 use Rattle.ga_debug.specs.Breaks.{break_note, breaks_text}
+use Rattle.ga_debug.specs.Expect.{expected_text, goal_of}
+use Rattle.ga_debug.specs.Mem.{memory_shown}
 use Rattle.ga_debug.specs.Row.{Row, is_seen_by, row}
+use Rattle.ga_debug.specs.Sides.{sides_text}
+use Rattle.ga_debug.specs.declared.row.Shape.{Shape}
 use Rattle.ga_debug.specs.Until.{until_done}
 use Rattle.ga_debug.specs.Word.{outcome_text}
 
@@ -42,7 +51,15 @@ action_row Pass = row (codes "pass") (shape.Node ∷ []) Replays Nothing
 action_row Try = row (codes "try") (shape.Node ∷ shape.Side ∷ []) Replays Outcome
 action_row Turn = row (codes "turn") (shape.Count ∷ []) Replays Steps
 action_row Until =
-    row (codes "until") (shape.Node ∷ shape.Address ∷ shape.CountIf ∷ []) Transcripts Nothing
+    row (codes "until") (shape.Node ∷ shape.Address ∷ shape.PassesIf ∷ shape.CountIf ∷ [])
+    Transcripts Nothing
+
+-- the commands that make steps and tell them
+abbrev pub follow_row : Follow → Row
+follow_row Step = row (codes "step") (shape.Node ∷ shape.OneIf ∷ []) Transcripts Nothing
+follow_row Trace = row (codes "trace") (shape.Node ∷ shape.Count ∷ []) Transcripts Nothing
+follow_row Watch =
+    row (codes "watch") (shape.Node ∷ shape.What ∷ shape.GoalIf ∷ []) Transcripts Nothing
 
 -- the commands that show something
 abbrev pub view_row : View → Row
@@ -50,28 +67,48 @@ view_row Regs = row (codes "regs") (shape.Node ∷ []) Sessions Nothing
 view_row Mem = row (codes "mem") (shape.Node ∷ []) Sessions Nothing
 view_row Ports = row (codes "ports") (shape.Node ∷ []) Sessions Nothing
 view_row Node = row (codes "node") (shape.Node ∷ []) Transcripts Nothing
+view_row Sides = row (codes "sides") (shape.Node ∷ []) Transcripts Nothing
+view_row Expect =
+    row (codes "expect") (shape.Node ∷ shape.What ∷ shape.Values ∷ []) Transcripts Nothing
 view_row Breaks = row (codes "breaks") [] Transcripts Nothing
 view_row Where = row (codes "where") [] Transcripts Nothing
+view_row Nodes = row (codes "nodes") [] Transcripts Nothing
 
 abbrev pub verb_row : Verb → Row
 verb_row (Act action) = action_row action
+verb_row (Tell follow) = follow_row follow
 verb_row (Show view) = view_row view
+
+-- the words that follow a command's name; in transcripts `mem` may have an address
+abbrev pub shapes_in : Scope → Verb → List Shape
+shapes_in Transcripts (Show Mem) = shape.Node ∷ shape.RangeIf ∷ []
+shapes_in scope verb = (verb_row verb).shapes
 
 abbrev pub action_named : List ℕ → Option Action
 action_named word =
     find (λ action. bytes_eq (action_row action).name word)
     (Break ∷ Clear ∷ Pass ∷ Try ∷ Turn ∷ Until ∷ [])
 
+abbrev pub follow_named : List ℕ → Option Follow
+follow_named word =
+    find (λ follow. bytes_eq (follow_row follow).name word) (Step ∷ Trace ∷ Watch ∷ [])
+
 abbrev pub view_named : List ℕ → Option View
 view_named word =
     find (λ view. bytes_eq (view_row view).name word)
-    (Regs ∷ Mem ∷ Ports ∷ Node ∷ Breaks ∷ Where ∷ [])
+    (Regs ∷ Mem ∷ Ports ∷ Node ∷ Sides ∷ Expect ∷ Breaks ∷ Where ∷ Nodes ∷ [])
 
--- the command of this name that texts of a scope have
+-- the command of this name,
+abbrev pub any_verb : List ℕ → Option Verb
+any_verb word =
+    option_or (option_map Act (action_named word))
+    (option_or (option_map Tell (follow_named word)) (option_map Show (view_named word)))
+
+-- if texts of a scope have it
 abbrev pub verb_named : Scope → List ℕ → Option Verb
 verb_named scope word =
     option_and_then (λ verb. if is_seen_by scope (verb_row verb).scope then Some verb else None)
-    (option_or (option_map Act (action_named word)) (option_map Show (view_named word)))
+    (any_verb word)
 
 -- ---- what they do
 
@@ -90,7 +127,8 @@ did Try given chip =
 did Turn given chip =
     (Ok (Moved (length (moves chip (turns_of given.count)))), ran chip (turns_of given.count))
 did Until given chip =
-    let end = until_done given.node given.address given.count chip in (Ok (Reached end.0), end.1)
+    let end = until_done given.node given.address given.passes given.count chip in
+    (Ok (Reached end.0), end.1)
 
 -- an answer as text
 abbrev pub answer_text : Answer → List ℕ
@@ -106,13 +144,23 @@ abbrev pub note_of : Images → Action → Arguments → List ℕ
 note_of images Break given = break_note images given.node given.address
 note_of images action given = []
 
+-- what is told of the steps that a command makes, and the chip afterwards
+abbrev pub followed : Images → Follow → Arguments → Chip → List ℕ × Chip
+followed images Step given chip = stepped images given.node given.count chip
+followed images Trace given chip = traced images given.node given.count chip
+followed images Watch given chip = watched images given.node given.what (goal_of given.values) chip
+
 -- ---- what they show
 
 -- of a chip into which these images were loaded
 abbrev pub shown : Images → View → Arguments → Chip → List ℕ
 shown images Regs given chip = option_map_or line_of (state_of chip given.node) []
-shown images Mem given chip = option_map_or memory_dump (state_of chip given.node) []
+shown images Mem given chip =
+    option_map_or (memory_shown given.address given.count) (state_of chip given.node) []
 shown images Ports given chip = ledger_dump chip given.node
 shown images Node given chip = option_map_or node_dump (state_of chip given.node) []
+shown images Sides given chip = sides_text chip given.node
+shown images Expect given chip = expected_text given.node given.what given.values chip
 shown images Breaks given chip = breaks_text images chip
 shown images Where given chip = waits_text images chip
+shown images Nodes given chip = nodes_text images chip

@@ -1,8 +1,13 @@
 pub mod Pieces
 pub mod Word
 pub mod Row
+pub mod Label
+pub mod Values
 pub mod Command
 pub mod Until
+pub mod Mem
+pub mod Expect
+pub mod Sides
 pub mod Breaks
 pub mod Commands
 pub mod Session

@@ -18,7 +18,7 @@ use Rattle.ga_debug.specs.declared.replaying.Statement.{Statement}
 use Rattle.ga_debug.specs.declared.row.Scope.TheVariants.{Replays}
 use Rattle.ga_debug.specs.declared.row.States.{States}
 use Rattle.ga_debug.specs.declared.row.States.TheVariants.{Nothing, Outcome, Steps}
-use Rattle.ga_debug.specs.declared.commands.Verb.TheVariants.{Act, Show}
+use Rattle.ga_debug.specs.declared.commands.Verb.TheVariants.{Act, Show, Tell}
 use Rattle.ga_debug.specs.Beginning.{IsBegun}
 use Rattle.ga_debug.specs.Command.{Words, command_first, then_with, whole, words_of}
 use Rattle.ga_debug.specs.Head.{Head}
@@ -54,6 +54,7 @@ statement_in line =
     (λ command rest.
     elim command.verb [
       | Show view ↦ Err BadCommand
+      | Tell follow ↦ Err BadCommand
       | Act action ↦
           elim (stated_answer (action_row action).states rest) [
             | Ok stated ↦ Ok (record { action = action; given = command.given; stated = stated })

@@ -1,8 +1,8 @@
 //! The commands: the row of each, what it does and what it shows.
-ghost use Rattle.std.specs.Prelude.{◌≡◌, ◌+◌, ◌++◌, ◌≤◌, [], IfOk, OnErr, string_bytes, length};
+ghost use Rattle.std.specs.Prelude.{◌≡◌, ◌+◌, ◌++◌, ◌≤◌, [], IfOk, OnErr, OnOk, string_bytes, length};
 ghost use Rattle.std.specs.Fmt.{decimal};
 ghost use Rattle.std.specs.String.{string_capacity};
-ghost use Rattle.ga_debug.specs.Commands.{action_named, action_row, answer_text, did, note_of, shown, verb_named, verb_row, view_named, view_row};
+ghost use Rattle.ga_debug.specs.Commands.{action_named, action_row, answer_text, any_verb, did, follow_named, follow_row, followed, note_of, shapes_in, shown, verb_named, verb_row, view_named, view_row};
 ghost use Rattle.ga_debug.specs.Session.{without_line_end};
 ghost use Rattle.ga_debug.specs.Word.{outcome_text};
 ghost use Rattle.ga_waits.specs.Label.{images_in};
@@ -10,12 +10,16 @@ ghost use Rattle.ga_waits.specs.Label.{images_in};
 use crate::breaks::{break_note, breaks_text};
 use crate::command::Arguments;
 use crate::error::DebugError;
+use crate::expect::expected_text;
+use crate::mem::memory_shown;
 use crate::row::{Row, Scope, Shape, States, is_seen_by};
+use crate::sides::sides_text;
 use crate::until::{Reached, until};
 use ga_asm::Images;
 use ga_chip::{Chip, Outcome, Try};
-use ga_dump::{ledger_text, memory_text, node_text};
-use ga_waits::waits;
+use ga_dump::{ledger_text, node_text};
+use ga_trace::{step, trace, watch};
+use ga_waits::{nodes, waits};
 use itoa::Buffer;
 use std::alloc::{AllocError, Global};
 
@@ -36,33 +40,51 @@ pub(crate) enum Action {
     Until,
 }
 
+/// A command that makes steps, and tells them.
+#[derive(Clone, Copy)]
+pub(crate) enum Follow {
+    /// Steps of one node alone.
+    Step,
+    /// Turns of all nodes, and the steps of one of them.
+    Trace,
+    /// Turns until a value of a node changes.
+    Watch,
+}
+
 /// A command that shows something.
 #[derive(Clone, Copy)]
 pub(crate) enum View {
     /// The registers of a node.
     Regs,
-    /// The memory of a node.
+    /// The memory of a node, or some words of it.
     Mem,
     /// The numbers of the cells that a node writes.
     Ports,
     /// The registers and stacks of a node.
     Node,
+    /// The neighbours of a node, and what lies at its ports.
+    Sides,
+    /// Whether a node shows some values.
+    Expect,
     /// The breakpoints.
     Breaks,
     /// Which nodes wait for which.
     Where,
+    /// The same, with the idle ones in one line.
+    Nodes,
 }
 
 /// The names of all commands of transcripts.
-pub const COMMANDS: [&str; 12] = [
-    "break", "clear", "pass", "try", "turn", "until", "regs", "mem", "ports", "node", "breaks",
-    "where",
+pub const COMMANDS: [&str; 18] = [
+    "break", "clear", "pass", "try", "turn", "until", "step", "trace", "watch", "regs", "mem",
+    "ports", "node", "sides", "expect", "breaks", "where", "nodes",
 ];
 
 /// What the first word of a line names.
 #[derive(Clone, Copy)]
 pub(crate) enum Verb {
     Act(Action),
+    Tell(Follow),
     Show(View),
 }
 
@@ -70,15 +92,25 @@ pub(crate) enum Verb {
 pub(crate) fn verb_named(scope: Scope, word: &[u8]) -> Option<Verb>
     ensures { result ≡ verb_named scope word.now }
 {
-    let verb = match action_named(word) {
-        Some(action) => Verb::Act(action),
-        None => Verb::Show(view_named(word)?),
-    };
+    let verb = any_verb(word)?;
     if is_seen_by(scope, verb.row().scope) {
         Some(verb)
     } else {
         None
     }
+}
+
+/// The command of this name, whatever texts have it.
+fn any_verb(word: &[u8]) -> Option<Verb>
+    ensures { result ≡ any_verb word.now }
+{
+    if let Some(action) = action_named(word) {
+        return Some(Verb::Act(action));
+    }
+    if let Some(follow) = follow_named(word) {
+        return Some(Verb::Tell(follow));
+    }
+    Some(Verb::Show(view_named(word)?))
 }
 
 fn action_named(word: &[u8]) -> Option<Action>
@@ -96,6 +128,18 @@ fn action_named(word: &[u8]) -> Option<Action>
     Some(action)
 }
 
+fn follow_named(word: &[u8]) -> Option<Follow>
+    ensures { result ≡ follow_named word.now }
+{
+    let follow = match word {
+        b"step" => Follow::Step,
+        b"trace" => Follow::Trace,
+        b"watch" => Follow::Watch,
+        _ => return None,
+    };
+    Some(follow)
+}
+
 fn view_named(word: &[u8]) -> Option<View>
     ensures { result ≡ view_named word.now }
 {
@@ -104,8 +148,11 @@ fn view_named(word: &[u8]) -> Option<View>
         b"mem" => View::Mem,
         b"ports" => View::Ports,
         b"node" => View::Node,
+        b"sides" => View::Sides,
+        b"expect" => View::Expect,
         b"breaks" => View::Breaks,
         b"where" => View::Where,
+        b"nodes" => View::Nodes,
         _ => return None,
     };
     Some(view)
@@ -119,7 +166,18 @@ impl Verb {
     {
         match self {
             Verb::Act(action) => action.row(),
+            Verb::Tell(follow) => follow.row(),
             Verb::Show(view) => view.row(),
+        }
+    }
+
+    /// The words that follow its name in texts of a scope. In transcripts `mem` may have an address.
+    pub(crate) fn shapes_in(self, scope: Scope) -> &'static [Shape]
+        ensures { result.now ≡ shapes_in scope self }
+    {
+        match (scope, self) {
+            (Scope::Transcripts, Verb::Show(View::Mem)) => &[Shape::Node, Shape::RangeIf],
+            _ => self.row().shapes,
         }
     }
 }
@@ -145,7 +203,7 @@ impl Action {
             Action::Try => (&[Shape::Node, Shape::Side], Scope::Replays, States::Outcome),
             Action::Turn => (&[Shape::Count], Scope::Replays, States::Steps),
             Action::Until => (
-                &[Shape::Node, Shape::Address, Shape::CountIf],
+                &[Shape::Node, Shape::Address, Shape::PassesIf, Shape::CountIf],
                 Scope::Transcripts,
                 States::Nothing,
             ),
@@ -158,6 +216,25 @@ impl Action {
     }
 }
 
+impl Follow {
+    fn row(self) -> Row
+        ensures shapes { result.shapes.now ≡ (follow_row self).shapes }
+        ensures scope { result.scope ≡ (follow_row self).scope }
+        ensures states { result.states ≡ (follow_row self).states }
+    {
+        let shapes: &'static [Shape] = match self {
+            Follow::Step => &[Shape::Node, Shape::OneIf],
+            Follow::Trace => &[Shape::Node, Shape::Count],
+            Follow::Watch => &[Shape::Node, Shape::What, Shape::GoalIf],
+        };
+        Row {
+            shapes,
+            scope: Scope::Transcripts,
+            states: States::Nothing,
+        }
+    }
+}
+
 impl View {
     fn row(self) -> Row
         ensures shapes { result.shapes.now ≡ (view_row self).shapes }
@@ -166,8 +243,12 @@ impl View {
     {
         let (shapes, scope): (&'static [Shape], Scope) = match self {
             View::Regs | View::Mem | View::Ports => (&[Shape::Node], Scope::Sessions),
-            View::Node => (&[Shape::Node], Scope::Transcripts),
-            View::Breaks | View::Where => (&[], Scope::Transcripts),
+            View::Node | View::Sides => (&[Shape::Node], Scope::Transcripts),
+            View::Expect => (
+                &[Shape::Node, Shape::What, Shape::Values],
+                Scope::Transcripts,
+            ),
+            View::Breaks | View::Where | View::Nodes => (&[], Scope::Transcripts),
         };
         Row {
             shapes,
@@ -197,17 +278,12 @@ pub(crate) const ANSWER_LENGTH: usize = 60 + 34;
 pub(crate) fn perform(
     chip: &mut Chip,
     action: Action,
-    given: Arguments,
+    given: &Arguments,
 ) -> Result<Answer, DebugError>
-    ensures done { (result, chip.new) ≡ did action given chip.old }
+    ensures done { (result, chip.new) ≡ did action given.now chip.old }
     ensures same { OnErr result (chip.new ≡ chip.old) }
 {
-    let Arguments {
-        node,
-        address,
-        side,
-        count,
-    } = given;
+    let (node, address, count) = (given.node, given.address, given.count);
     match action {
         Action::Break => {
             chip.set_break(node, address.get());
@@ -221,9 +297,12 @@ pub(crate) fn perform(
             Ok(()) => Ok(Answer::Done),
             Err(_) => Err(DebugError::NotHeld),
         },
-        Action::Try => Ok(Answer::Tried(chip.attempt(Try { node, side }))),
+        Action::Try => Ok(Answer::Tried(chip.attempt(Try {
+            node,
+            side: given.side,
+        }))),
         Action::Turn => Ok(Answer::Moved(chip.turns(count))),
-        Action::Until => Ok(Answer::Reached(until(chip, node, address, count))),
+        Action::Until => Ok(Answer::Reached(until(chip, node, address, given.passes, count))),
     }
 }
 
@@ -277,10 +356,10 @@ pub(crate) fn note_of(
     alloc: Global,
     images: Option<&Images>,
     action: Action,
-    given: Arguments,
+    given: &Arguments,
 ) -> Result<&'static str, AllocError>
     ensures note { IfOk result (λ note. note.now
-        ≡ note_of (images_in images.entry) action given) }
+        ≡ note_of (images_in images.entry) action given.now) }
     ensures short { IfOk result (λ note. length note.now ≤ 34) }
 {
     match action {
@@ -295,22 +374,56 @@ pub(crate) fn show(
     chip: &Chip,
     images: Option<&Images>,
     view: View,
-    given: Arguments,
+    given: &Arguments,
 ) -> Result<String, AllocError>
     ensures { IfOk result (λ text. string_bytes text
-        ≡ without_line_end (shown (images_in images.entry) view given chip.now)) }
+        ≡ without_line_end (shown (images_in images.entry) view given.now chip.now)) }
 {
     let node = given.node;
     let mut text = match view {
         View::Regs => chip.state(node).line(alloc)?,
-        View::Mem => memory_text(alloc, chip.state(node))?,
+        View::Mem => memory_shown(alloc, chip.state(node), given.address, given.count)?,
         View::Ports => ledger_text(alloc, chip, node)?,
         View::Node => node_text(alloc, chip.state(node))?,
+        View::Sides => sides_text(alloc, chip, node)?,
+        View::Expect => expected_text(alloc, chip, node, given.what, &given.values)?,
         View::Breaks => breaks_text(alloc, chip, images)?,
         View::Where => waits(alloc, chip, images)?,
+        View::Nodes => nodes(alloc, chip, images)?,
     };
+    drop_line_end(&mut text);
+    Ok(text)
+}
+
+/// Takes away the LF at the end of a text.
+fn drop_line_end(text: &mut String)
+    ensures { string_bytes text.new ≡ without_line_end (string_bytes text.old) }
+{
     if text.as_bytes().last() == Some(&b'\n') {
         text.truncate(text.len() - 1);
     }
+}
+
+/// Makes the steps of a command, and tells them, without the last LF. Fails only when out of
+/// memory; then the chip may have made some of them.
+pub(crate) fn tell(
+    alloc: Global,
+    chip: &mut Chip,
+    images: Option<&Images>,
+    follow: Follow,
+    given: &Arguments,
+) -> Result<String, AllocError>
+    ensures text { IfOk result (λ text. string_bytes text
+        ≡ without_line_end (followed (images_in images.entry) follow given.now chip.old).0) }
+    ensures chip { OnOk result (chip.new
+        ≡ (followed (images_in images.entry) follow given.now chip.old).1) }
+{
+    let (node, count) = (given.node, given.count);
+    let mut text = match follow {
+        Follow::Step => step(alloc, chip, images, node, count)?,
+        Follow::Trace => trace(alloc, chip, images, node, count)?,
+        Follow::Watch => watch(alloc, chip, images, node, given.what, &given.values[0])?,
+    };
+    drop_line_end(&mut text);
     Ok(text)
 }

@@ -23,6 +23,9 @@ pub enum DebugError {
     /// A word isn't one to seven decimal digits, or the count is over 1000000.
     #[error("BadCount")]
     BadCount,
+    /// A word names nothing that a node shows, or is no value of it.
+    #[error("BadValue")]
+    BadValue,
     /// The node isn't held at a breakpoint.
     #[error("NotHeld")]
     NotHeld,
@@ -42,6 +45,7 @@ impl DebugError {
             DebugError::BadAddress => "BadAddress",
             DebugError::BadSide => "BadSide",
             DebugError::BadCount => "BadCount",
+            DebugError::BadValue => "BadValue",
             DebugError::NotHeld => "NotHeld",
             DebugError::Memory => "Memory",
         }

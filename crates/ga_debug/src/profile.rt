@@ -51,20 +51,15 @@ pub(crate) fn perform_as(
     chip: &mut Chip,
     profile: Profile,
     action: Action,
-    given: Arguments,
+    given: &Arguments,
 ) -> Result<Answer, DebugError>
-    ensures { (result, chip.new) ≡ did_as profile action given chip.old }
+    ensures { (result, chip.new) ≡ did_as profile action given.now chip.old }
 {
-    let Arguments {
-        node,
-        side,
-        count,
-        ..
-    } = given;
+    let node = given.node;
     match (profile, action) {
         (Profile::One, Action::Pass) if is_left_out(chip, node) => Err(DebugError::NotHeld),
-        (Profile::One, Action::Try) => Ok(Answer::Tried(try_in_profile_1(chip, node, side))),
-        (Profile::One, Action::Turn) => Ok(Answer::Moved(turns_in_profile_1(chip, count))),
+        (Profile::One, Action::Try) => Ok(Answer::Tried(try_in_profile_1(chip, node, given.side))),
+        (Profile::One, Action::Turn) => Ok(Answer::Moved(turns_in_profile_1(chip, given.count))),
         _ => perform(chip, action, given),
     }
 }

@@ -95,7 +95,7 @@ fn line_on(chip: &mut Chip, profile: Profile, line: u64, text: &str) -> Result<u
         Ok(statement) => statement,
         Err(fault) => return Err(LineError::Bad(line, fault)),
     };
-    match perform_as(chip, profile, statement.action, statement.given) {
+    match perform_as(chip, profile, statement.action, &statement.given) {
         Ok(answer) => {
             if !is_same(answer, statement.stated) {
                 return Err(LineError::Differs(line));

@@ -11,10 +11,23 @@ pub(crate) enum Shape {
     Address,
     /// The first letter of a side.
     Side,
-    /// A count of turns, 0 to 1000000.
+    /// A count, 0 to 1000000.
     Count,
-    /// A count of turns, or no word, for 1000000.
+    /// A count, or no word, for 1000000.
     CountIf,
+    /// A count, or no word, for 1.
+    OneIf,
+    /// How often a node passes an address: `x` and a count; or no such word, for 0.
+    PassesIf,
+    /// An address of memory and a count of words from there on, which may be left out; or no word,
+    /// for all words.
+    RangeIf,
+    /// What the node shows that has a value.
+    What,
+    /// Up to eight values of that.
+    Values,
+    /// `=` and a value of that, or no word.
+    GoalIf,
 }
 
 /// Which texts have a command: those of one scope have the commands of the scopes before it, too.

@@ -1,9 +1,10 @@
 ghost use Rattle.std.specs.Prelude.{◌≡◌, ◌⊎◌, IfErr, IfOk, None, OnErr, OnOk, Err, Ok, option_map, string_bytes};
-ghost use Rattle.ga_debug.specs.Session.{replied, text_or_refusal};
+ghost use Rattle.ga_debug.specs.Session.{done_by, replied, text_or_refusal};
+ghost use Rattle.ga_waits.specs.Label.{images_in};
 ghost use Rattle.ga_debug.specs.declared.error.DebugError.TheVariants.{Memory};
 
-use crate::command::command_in;
-use crate::commands::{ANSWER_LENGTH, Verb, note_of, perform, push_answer, show};
+use crate::command::{Command, command_in};
+use crate::commands::{ANSWER_LENGTH, Verb, note_of, perform, push_answer, show, tell};
 use crate::error::DebugError;
 use ga_asm::Images;
 use ga_chip::Chip;
@@ -69,18 +70,46 @@ pub fn reply_into(
     ensures same { OnErr result (chip.new ≡ chip.old) }
     ensures same_text { OnErr result (string_bytes text.new ≡ string_bytes text.old) }
 {
-    let command = command_in(images, line)?;
+    match command_in(images, line) {
+        Ok(command) => reply_to(alloc, text, chip, images, &command),
+        Err(fault) => Err(fault),
+    }
+}
+
+/// Replaces a text by the reply to a command.
+fn reply_to(
+    alloc: Global,
+    text: &mut String,
+    chip: &mut Chip,
+    images: Option<&Images>,
+    command: &Command,
+) -> Result<(), DebugError>
+    ensures replied { OnOk result (
+        done_by (images_in images.entry) command.now.verb command.now.given chip.old
+        ≡ (Ok (string_bytes text.new), chip.new)) }
+    ensures refused { IfErr result (λ error. (error ≡ Memory)
+        ⊎ (done_by (images_in images.entry) command.now.verb command.now.given chip.old ≡ (Err error, chip.old))) }
+    ensures same { OnErr result (chip.new ≡ chip.old) }
+    ensures same_text { OnErr result (string_bytes text.new ≡ string_bytes text.old) }
+{
+    let given = &command.given;
     match command.verb {
         Verb::Act(action) => {
             // Before the action, so that it is refused as a whole.
-            let note = note_of(alloc, images, action, command.given)?;
+            let note = note_of(alloc, images, action, given)?;
             text.reserve(ANSWER_LENGTH)?;
-            let answer = perform(chip, action, command.given)?;
+            let answer = perform(chip, action, given)?;
             text.clear();
             push_answer(text, answer);
             text.push_str(note).unwrap();
         }
-        Verb::Show(view) => *text = show(alloc, chip, images, view, command.given)?,
+        Verb::Tell(follow) => {
+            // On a copy, so that the command is refused as a whole.
+            let mut next = chip.copied(alloc)?;
+            *text = tell(alloc, &mut next, images, follow, given)?;
+            *chip = next;
+        }
+        Verb::Show(view) => *text = show(alloc, chip, images, view, given)?,
     }
     Ok(())
 }

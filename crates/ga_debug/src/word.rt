@@ -20,7 +20,7 @@ pub(crate) fn address_of(word: &[u8]) -> Option<Address>
 }
 
 /// The value of a hex digit of either case.
-fn hex_digit(digit: u8) -> Option<u16>
+pub(crate) fn hex_digit(digit: u8) -> Option<u16>
     ensures value { result ≡ (if is_digit digit 16 then Some (digit_value digit) else None) }
     ensures below { IfSome result (λ value. value < 16) }
 {

@@ -6,5 +6,5 @@ use Rattle.ga_debug.proofs.commands.perform.Goals as goal
 
 pub returns-in-Err-clause-same : goal.returns-in-Err-clause-same
 returns-in-Err-clause-same c =
-    c.in-Err.ensures.same (ap Err (not_held (tried c.args.chip.now c.args.given.node Right).0
+    c.in-Err.ensures.same (ap Err (not_held (tried c.args.chip.now c.args.given.now.node Right).0
     c.in-Err.field-0 (c.in-Err.ensures.refused Right)))
