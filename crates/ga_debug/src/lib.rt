@@ -4,6 +4,7 @@
 mod address;
 mod beginning;
 mod breaks;
+mod code;
 mod command;
 mod commands;
 mod error;
