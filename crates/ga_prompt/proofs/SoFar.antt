@@ -12,7 +12,7 @@ use Rattle.ga_prompt.specs.Saving.{Files}
 use Rattle.ga_prompt.specs.Talk.{HasTalked, IsReply, Talks, WritesSo, end_text, is_quit, prompt_text}
 use Rattle.ga_prompt.specs.Typed.{Lines, asked_in}
 use Rattle.ga_prompt.specs.inner.Talk.{IsSoFar}
-use Rattle.ga_prompt.proofs.Written.{none_written, wrote_part, wrote_then}
+use Rattle.ga_prompt.proofs.Written.{wrote_part, wrote_then}
 
 abbrev Bytes : Type 0
 Bytes = Option (List ℕ)
@@ -149,11 +149,6 @@ turn_any now next rest after saved saves shown false turn = (
   subst (Talks (prompts_of now) (live_of now) (asked_in (last_of now) rest))
       (sym (append-nil shown)) (turn_stops now next rest after saved saves shown turn),
 )
-
--- before the first line
-pub begun : (first : Conversation) (input old : Bytes) → IsSoFar first input old first input old
-begun first None old = tt
-begun first (Some all) old = ([], all, refl, none_written old, λ shown talks. talks)
 
 -- it goes on
 pub goes_further : (first now next : Conversation) (input old left after mid new : Bytes)

@@ -1,5 +1,5 @@
 -- What was written of texts, one behind the other.
-use Rattle.std.proofs.Common.{◌∙◌, ℕ, List, [], ◌++◌, Option, Some, None, Result, Ok, Err, ap, append-nil, append_assoc, refl, sym, take, drop, take-append-drop}
+use Rattle.std.proofs.Common.{◌∙◌, ℕ, List, ◌++◌, Option, Result, Ok, Err, ap, append_assoc, sym, take, drop, take-append-drop}
 use Rattle.std.specs.Prelude.{OnErr, OnOk}
 use Rattle.std.specs.Io.KnownBytes.{Appends}
 use Rattle.std.proofs.KnownBytes.{Appends-trans}
@@ -30,12 +30,3 @@ pub wrote_part : (a b : Option (List ℕ)) (front behind : List ℕ) (fault : Se
     → WritesSo a b front (Err fault) → WritesSo a b (front ++ behind) (Err fault)
 wrote_part a b front behind fault (part, rest, is, wrote) =
     (part, rest ++ behind, ap (λ t. t ++ behind) is ∙ append_assoc part rest behind, wrote)
-
--- nothing more is written
-pub stopped : (a b : Option (List ℕ)) (front behind : List ℕ) (fault : ServeError)
-    → Appends a b front → WritesSo a b (front ++ behind) (Err fault)
-stopped a b front behind fault wrote = (front, behind, refl, wrote)
-
-pub none_written : (a : Option (List ℕ)) → Appends a a []
-none_written None = tt
-none_written (Some bytes) = sym (append-nil bytes)
