@@ -1,8 +1,8 @@
 //! The help of the prompt.
 use std::alloc::AllocError;
 
-/// A line for each command. A line that begins with a space goes on with the one before.
-const HELP: &str = "\
+/// A line for each command, which it begins with.
+const COMMANDS: &str = "\
 break NNN HHH      node NNN is held before it fetches at HHH: three hex digits, or a label
 clear NNN HHH      it isn't held there any more
 pass NNN           a node that is held isn't held at its next fetch
@@ -20,23 +20,22 @@ back [K]           undoes the last K commands, or the last one; the chip is as i
 save FILE          writes the session into a new file, as a transcript that check accepts
 save! FILE         the same, and replaces a file that is there
 quit               ends the session, as the end of the input does
-An empty line repeats the last line.
 ";
+
+/// What is behind them.
+const REPEATING: &str = "An empty line repeats the last line.\n";
 
 /// Adds the help on a command to an empty text, or the whole help if the name is empty.
 pub(crate) fn push_help(text: &mut String, name: &str) -> Result<(), AllocError> {
-    let mut shows = false;
-    for line in HELP.lines() {
-        if !line.starts_with(' ') {
-            shows = name.is_empty() || line.split(' ').next() == Some(name);
-        }
-        if shows {
+    if name.is_empty() {
+        text.push_str(COMMANDS)?;
+        return text.push_str(REPEATING);
+    }
+    for line in COMMANDS.lines() {
+        if line.split(' ').next() == Some(name) {
             text.push_str(line)?;
-            text.push('\n')?;
+            return text.push('\n');
         }
     }
-    if text.is_empty() {
-        text.push_str("refused BadCommand\n")?;
-    }
-    Ok(())
+    text.push_str("refused BadCommand\n")
 }
