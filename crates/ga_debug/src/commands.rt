@@ -79,12 +79,6 @@ pub(crate) enum View {
     Nodes,
 }
 
-/// The names of all commands of transcripts.
-pub const COMMANDS: [&str; 20] = [
-    "break", "clear", "pass", "try", "turn", "until", "run", "step", "trace", "watch", "regs",
-    "mem", "ports", "node", "code", "sides", "expect", "breaks", "where", "nodes",
-];
-
 /// What the first word of a line names.
 #[derive(Clone, Copy)]
 pub(crate) enum Verb {

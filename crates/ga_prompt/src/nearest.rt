@@ -1,6 +1,6 @@
 //! The command whose name is nearest to a word.
 use crate::own::Own;
-use ga_debug::COMMANDS;
+use ga_debug::HELP;
 use std::alloc::{AllocError, Global};
 use strsim::osa_distance;
 
@@ -26,15 +26,19 @@ pub(crate) fn hint_of(alloc: Global, line: &str) -> Result<String, AllocError> {
 fn nearest(alloc: Global, word: &str) -> Result<Option<&'static str>, AllocError> {
     let mut found = None;
     let mut least = MOST_EDITS + 1;
-    for name in COMMANDS
-        .iter()
-        .copied()
-        .chain(Own::ALL.iter().map(|own| own.name()))
-    {
+    for line in HELP.lines() {
+        let name = line.split(' ').next().unwrap_or(line);
         let edits = osa_distance(alloc, word, name)?;
         if edits < least {
             least = edits;
             found = Some(name);
+        }
+    }
+    for own in Own::ALL {
+        let edits = osa_distance(alloc, word, own.name())?;
+        if edits < least {
+            least = edits;
+            found = Some(own.name());
         }
     }
     Ok(found)
