@@ -115,7 +115,8 @@ def random_texts(program, folder):
 def alone(program, folder):
     text = HEAD + "> turn 4\nmoved 9\n> turn 4\nmoved 9\n"
     name = write(folder, "alone.transcript", text)
-    fault = b"ga-bench: check differs 11\n-moved 9\n+moved 8\n"
+    recorded = exchanges(run(program, ["record"], text.encode()).stdout.decode())
+    fault = f"ga-bench: check differs {recorded[0][0]}\n-moved 9\n+{recorded[0][2][0]}\n".encode()
     for what, arguments, data in [("file", ["check", name], b""), ("-", ["check", "-"], text.encode()),
                                   ("input", ["check"], text.encode())]:
         came = run(program, arguments, data, cwd=folder)
@@ -133,7 +134,7 @@ def hostile(program, folder):
         write(folder, "long", b" " * 1048577): "long: input TooLong",
         write(folder, "bytes", HEAD.encode() + b"\xff\n"): "bytes: input BadText",
         write(folder, "early", HEAD + "moved 4\n"): "early: transcript line 10 EarlyReply",
-        write(folder, "source", "profile 2\nplace\nnode 000 what\ngo\n"): "source: source 3:10 UnknownName",
+        write(folder, "source", "profile 2\nplace\nnode 000 what\ngo\n"): "source: source 3:10 BadToken",
     }
     for name, first in files.items():
         came = run(program, ["check", good, name, good], cwd=folder)

@@ -1,6 +1,6 @@
 ghost use Rattle.std.specs.Prelude.{◌≡◌, IfErr, IfOk, codes};
 ghost use Rattle.clap.specs.Words.{found_of, rows_of};
-ghost use Rattle.ga_command_line.specs.CommandLine.{AsksFor, HasArguments, InRange};
+ghost use Rattle.ga_command_line.specs.CommandLine.{AsksFor, InRange};
 ghost use Rattle.ga_command_line.specs.File.{writing_command};
 ghost use Rattle.ga_command_line.specs.inner.Command.{IsCommandOf};
 

@@ -101,7 +101,7 @@ pub enum Job {
     Record {
         file: Option<String>,
     },
-    /// Each file, which has a transcript, is replaced by its recording. As a job it has the bytes of
+    /// Each file has a transcript, and is replaced by its recording. As a job it has the bytes of
     /// one of them, and its output is what replaces them.
     Rewrite {
         files: Vec<String>,

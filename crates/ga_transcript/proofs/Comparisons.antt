@@ -112,7 +112,8 @@ few_lines text = by (length text == 0)
     by : (none : Bool) → length (if none then [] else pieces 10 text) ≤ length text + 1
     by true = omega arith
     by false =
-        omega (arith, length-slice_split (λ c. c == 10) text, count_by-le-length (λ c. c == 10) text)
+        let ends : ℕ → Bool = λ c. c == 10 in
+        omega (arith, length-slice_split ends text, count_by-le-length ends text)
 
 pub ruleset excerpts = (excerpt_begins, excerpt_ends, excerpt_more)
 
@@ -211,7 +212,8 @@ compared_more step number state new line lines rest command came done whole firs
     ∙ ap (λ n. done ++ (one (step command state).0 ∷ compared step n new rest)) next
     ∙ ap (λ s. done ++ (one (step command state).0 ∷ compared step (suc number) s rest)) new_is
     ∙ ap (λ (cs : List Compared). done ++ cs)
-    (sym (ap (compared step number state) first ∙ at_command step number state line rest command is))
+    (sym (ap (compared step number state) first
+    ∙ at_command step number state line rest command is))
     ∙ all
 
 -- the report on the first ones is too long already

@@ -95,11 +95,11 @@ compare_by (Err error) = Err (BadHead error)
 -- all differences are reported
 all_differences : compare_by (head_in SESSION_PROFILE
     (codes "profile 2\nplace\ngo\n> try 709 r\nmoved\n> halt\n> try 709 r\nwaits\n")) ≡ Ok (record {
-  commands = 3;
-  differences = 2;
-  report = codes
-      "t:4: differs: > try 709 r\n-moved\n+waits\nt:6: differs: > halt\n+refused BadCommand\n";
-})
+      commands = 3;
+      differences = 2;
+      report = codes
+          "t:4: differs: > try 709 r\n-moved\n+waits\nt:6: differs: > halt\n+refused BadCommand\n";
+    })
 unfolding compare_by start_of compared_from comparison_of difference_text kind_of command_in
     command_first head_in tried after asks need_of reset_chip cell_of all_cells digits
 all_differences = refl

@@ -1,5 +1,5 @@
 -- What is done with the lines behind `go`, by what each command replies and does.
-use Rattle.std.specs.Prelude.{ℕ, suc, Bool, true, false, ◌&&◌, List, [], ◌∷◌, ◌++◌, Option, Some, None, Result, Ok, Err, filter, if◌then◌else◌, not}
+use Rattle.std.specs.Prelude.{ℕ, suc, Bool, true, false, ◌&&◌, List, [], ◌∷◌, ◌++◌, Option, Some, None, Result, Ok, Err, if◌then◌else◌, not}
 use Rattle.std.specs.Str.{bytes_eq}
 use Rattle.ga_transcript.specs.Line.{by_kind, kind_of}
 
@@ -70,10 +70,6 @@ compared step number state (line ∷ lines) =
 
 abbrev pub differs : Compared → Bool
 differs command = not (same_lines command.wanted command.came)
-
--- all commands with another reply than the one behind them
-abbrev pub differences : {S : Type 0} → Step S → ℕ → S → Lines → List Compared
-differences step number state lines = filter differs (compared step number state lines)
 
 -- The lines with the actual replies: each is behind its command, in place of the one that was
 -- there.

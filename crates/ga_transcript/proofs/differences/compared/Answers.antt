@@ -55,4 +55,5 @@ returns c =
     (compared (step_of c.args.images.now) (c.loop-left.left.number + 1) c.loop-left.chip
     c.loop-left.left.lines)
     (compared (step_of c.args.images.now) (c.args.left.number + 1) c.args.chip c.args.left.lines)
-    (comparison_view c.loop-left.found) is all (omega (arith, c.loop-left-test.false, c.len.ensures))
+    (comparison_view c.loop-left.found) is all
+    (omega (arith, c.loop-left-test.false, c.len.ensures))
