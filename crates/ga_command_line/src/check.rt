@@ -19,12 +19,8 @@ With two or more FILEs it checks each, and names it: it reports all commands tha
 ten lines of each reply, and then writes the numbers of files that passed and failed. The exit status is
 1 if one failed.
 
-The commands are those of debug, and:
-  node NNN        the node's registers and stacks
-  breaks          the breakpoints, with their labels, and which node is held there
-  until NNN HHH [K]   turns, K or 1000000 at most, until node NNN is about to fetch at address HHH
-  where           the nodes that have started: where each is, for whom it waits, and whether it is stuck
-An address is three hex digits, or a label of its node.
+The commands are those of the prompt, 'ga-bench debug FILE', where 'help' lists them. An address is three
+hex digits, LABEL of its node, or LABEL+N.
 
 Example: printf 'profile 2\\nplace\\nnode 000 .\\ngo\\n> turn 4\\nmoved 4\\n' | ga-bench check
 More: Transcripts in docs/FORMATS.md";

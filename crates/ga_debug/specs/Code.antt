@@ -20,7 +20,7 @@ index_of_word state = index_at (where_is (at_word state.place state.p state.word
 -- the mark in front of a word: whether it is that one
 abbrev pub mark_at : Option ℕ → ℕ → List ℕ
 mark_at None index = codes "  "
-mark_at (Some at) index = if at == index then codes "> " else codes "  "
+mark_at (Some at) index = if at == index then codes "* " else codes "  "
 
 -- the mark, the address and the number of a word
 abbrev pub number_text : Option ℕ → ℕ → ℕ → List ℕ

@@ -74,7 +74,8 @@ word_read images shape.Node given word =
     option_map (λ node. record given { node = node }) (node_named word)
 word_read images shape.Address given word =
     option_map (λ address. record given { address = address }) (address_in images given.node word)
-word_read images shape.Side given word = option_map (λ side. record given { side = side }) (side_of word)
+word_read images shape.Side given word =
+    option_map (λ side. record given { side = side }) (side_of word)
 word_read images other given word =
     option_map (λ count. record given { count = count }) (count_of word)
 

@@ -138,7 +138,7 @@ fn mark_at(at: Option<usize>, index: usize) -> &'static str
     ensures { result.now ≡ mark_at at index }
 {
     match at {
-        Some(at) if at == index => "> ",
+        Some(at) if at == index => "* ",
         _ => "  ",
     }
 }

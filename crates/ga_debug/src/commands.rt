@@ -172,7 +172,8 @@ impl Verb {
         }
     }
 
-    /// The words that follow its name in texts of a scope. In transcripts `mem` may have an address.
+    /// The words that follow its name in texts of a scope. In transcripts `mem` may have an
+    /// address.
     pub(crate) fn shapes_in(self, scope: Scope) -> &'static [Shape]
         ensures { result.now ≡ shapes_in scope self }
     {

@@ -36,15 +36,15 @@ pub(crate) fn expected_text(
 fn shows(chip: &Chip, node: Node, what: What, values: &[Option<Value>]) -> bool
     ensures { result ≡ shows node what values.now chip.now }
 {
-    let mut what = what;
+    let mut here = what;
     for value in values {
         let Some(value) = value else {
             return true;
         };
-        if !value.is(&value_of(chip, node, what)) {
+        if !value.is(&value_of(chip, node, here)) {
             return false;
         }
-        what = next_what(what);
+        here = next_what(here);
     }
     true
 }

@@ -39,8 +39,8 @@ fn range_shown(alloc: Global, ram: &[Word18], from: u16, count: u32) -> Result<S
     Ok(text)
 }
 
-/// Adds the word at an index of a range behind a blank, and in front of it, at the head of a line of
-/// eight, its address.
+/// Adds the word at an index of a range behind a blank, and in front of it, at the head of a line
+/// of eight, its address.
 fn push_word(text: &mut String, ram: &[Word18], from: u16, index: u16) -> Result<(), AllocError>
     requires ram { length ram.now ≡ 64 }
     requires within { from + index < 64 }

@@ -88,7 +88,8 @@ fn reply_to(
         done_by (images_in images.entry) command.now.verb command.now.given chip.old
         ≡ (Ok (string_bytes text.new), chip.new)) }
     ensures refused { IfErr result (λ error. (error ≡ Memory)
-        ⊎ (done_by (images_in images.entry) command.now.verb command.now.given chip.old ≡ (Err error, chip.old))) }
+        ⊎ (done_by (images_in images.entry) command.now.verb command.now.given chip.old
+        ≡ (Err error, chip.old))) }
     ensures same { OnErr result (chip.new ≡ chip.old) }
     ensures same_text { OnErr result (string_bytes text.new ≡ string_bytes text.old) }
 {

@@ -116,7 +116,8 @@ turn_goes now next rest after saved saves shown
     (inl (asked, text, (behind, left, lines), last, reply, kept, is, e)) = (
       behind,
       left,
-      λ tail talks. subst (λ ls. Talks (prompts_of now) (live_of now) ls (shown ++ tail)) (sym lines)
+      λ tail talks. subst (λ ls. Talks (prompts_of now) (live_of now) ls (shown ++ tail))
+          (sym lines)
           (answered_more now next asked text shown tail (asked_in asked behind) reply is
           (not_true _ e)
           (subst (λ l. Talks (prompts_of now) (live_of next) (asked_in l behind) tail) last talks)),

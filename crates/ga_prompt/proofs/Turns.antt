@@ -16,25 +16,6 @@ use Rattle.ga_prompt.proofs.Written.{wrote_then}
 abbrev Bytes : Type 0
 Bytes = Option (List ℕ)
 
--- the prompt couldn't be written
-pub fails_first : (old new : Conversation) (input left before after : Bytes)
-    (saved : Option Files) (fault : ServeError) → live_of new ≡ live_of old
-    → WritesSo before after (prompt_text (prompts_of old)) (Err fault)
-    → DoesLine old new input left before after saved saved (Err fault)
-fails_first old new input left before after saved fault same wrote =
-    inl (same, none_saved saved, wrote)
-
--- no line could be read behind it
-pub fails_to_read : (old new : Conversation) (input left before after : Bytes)
-    (saved : Option Files) (fault : ServeError) → live_of new ≡ live_of old
-    → Appends before after (prompt_text (prompts_of old))
-    → DoesLine old new input left before after saved saved (Err fault)
-fails_to_read old new input left before after saved fault same wrote = inl (
-  same,
-  none_saved saved,
-  (prompt_text (prompts_of old), [], sym (append-nil (prompt_text (prompts_of old))), wrote),
-)
-
 -- what is shown of a turn behind the prompt couldn't be written
 turned : (old new : Conversation) (input left before mid after : Bytes)
     (saved saves : Option Files) (text : List ℕ) (going : Bool) (fault : ServeError)

@@ -18,7 +18,8 @@ by_one Reply rest = refl
 
 pub one_more : (line : List ℕ) (lines : Lines)
     → ended (map undone_line (commands_in (line ∷ lines)))
-    ≡ ended (map undone_line (commands_in (line ∷ []))) ++ ended (map undone_line (commands_in lines))
+    ≡ ended (map undone_line (commands_in (line ∷ [])))
+    ++ ended (map undone_line (commands_in lines))
 one_more line lines = by_one (kind_of line) (commands_in lines)
 
 -- of one line

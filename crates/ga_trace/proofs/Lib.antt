@@ -3,3 +3,4 @@ pub mod Tracing
 pub mod Watching
 pub mod Stepping
 pub mod Resting
+mod Worked

@@ -35,16 +35,18 @@ run_ended most turns moved calm chip whole all so_far =
 pub run_next : (most turns moved calm steps spinning : ℕ) (chip next : Chip) (whole : Ran × Chip)
     → turns < most → (calm == 4) ≡ false → next ≡ turned turns chip → steps ≡ moved_in turns chip
     → spinning ≡ spin_count chip → ran_from (most - turns) turns moved calm chip ≡ whole
-    → ran_from (most - (turns + 1)) (turns + 1) (moved + steps) (calm_after calm steps spinning) next
-    ≡ whole
+    → ran_from (most - (turns + 1)) (turns + 1) (moved + steps)
+    (calm_after calm steps spinning) next ≡ whole
 unfolding ran_from
-run_next most turns moved calm steps spinning chip next whole within going is_next made spin so_far =
+run_next most turns moved calm steps spinning chip next whole within going is_next made spin
+    so_far =
     let left = most - (turns + 1) in
     let more : most - turns ≡ suc left = omega (arith, within) in
     let one : turns + 1 ≡ suc turns = omega arith in
     let here : ran_from (suc left) turns moved calm chip
     ≡ ran_from left (suc turns) (moved + moved_in turns chip)
-    (calm_after calm (moved_in turns chip) (spin_count chip)) (turned turns chip) = rw (going) refl in
+    (calm_after calm (moved_in turns chip) (spin_count chip)) (turned turns chip) =
+    rw (going) refl in
     ap (λ n. ran_from left n (moved + steps) (calm_after calm steps spinning) next) one
     ∙ ap (λ s. ran_from left (suc turns) (moved + s) (calm_after calm s spinning) next) made
     ∙ ap (λ s. ran_from left (suc turns) (moved + moved_in turns chip)

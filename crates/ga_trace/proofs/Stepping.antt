@@ -17,22 +17,6 @@ use Rattle.ga_trace.specs.Stepped.{is_moved, line_between, moving_side, one_step
 use Rattle.ga_trace.specs.inner.Stepped.{Tells}
 use Rattle.ga_trace.proofs.Tracing.{behind}
 
--- the first step
-pub step_start : (images : List (ℕ × ImageView)) (name count : ℕ) (chip : Chip)
-    → behind [] (stepped images name (count - 0) chip) ≡ stepped images name count chip
-step_start images name count chip =
-    let all : count - 0 ≡ count = omega arith in
-    ap (λ left. stepped images name left chip) all
-
--- all were made
-pub step_ended : (images : List (ℕ × ImageView)) (name count done : ℕ) (chip : Chip)
-    (text : List ℕ) (whole : List ℕ × Chip) → count ≤ done
-    → behind text (stepped images name (count - done) chip) ≡ whole → (text, chip) ≡ whole
-step_ended images name count done chip text whole past so_far =
-    let none : count - done ≡ 0 = omega (arith, past) in
-    ap (λ t. (t, chip)) (sym (append-nil text))
-    ∙ ap (λ n. behind text (stepped images name n chip)) (sym none) ∙ so_far
-
 -- there is no more
 pub step_over : (images : List (ℕ × ImageView)) (name count done : ℕ) (chip next : Chip)
     (text longer : List ℕ) (whole : List ℕ × Chip) → done < count

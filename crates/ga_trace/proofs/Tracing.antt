@@ -20,14 +20,6 @@ quiet_bound name quiet chip most going = grind arith
 abbrev pub behind : List ℕ → List ℕ × Chip → List ℕ × Chip
 behind text rest = (text ++ rest.0, rest.1)
 
--- the first turn
-pub trace_start : (images : List (ℕ × ImageView)) (name most steps : ℕ) (chip : Chip)
-    → behind [] (traced_from images name (most - 0) 0 0 steps chip)
-    ≡ traced_from images name most 0 0 steps chip
-trace_start images name most steps chip =
-    let all : most - 0 ≡ most = omega arith in
-    ap (λ left. traced_from images name left 0 0 steps chip) all
-
 -- all steps were made
 pub trace_done : (images : List (ℕ × ImageView)) (name left turn quiet steps : ℕ) (chip : Chip)
     (text : List ℕ) (whole : List ℕ × Chip) → steps ≡ 0
@@ -50,7 +42,8 @@ pub trace_over : (images : List (ℕ × ImageView)) (name most number quiet step
     → behind text (traced_from images name (most - number) number quiet steps chip) ≡ whole
     → (longer, chip) ≡ whole
 unfolding traced_from
-trace_over images name most number quiet steps chip text longer whole within some over wrote so_far =
+trace_over images name most number quiet steps chip text longer whole within some over wrote
+    so_far =
     let left = most - (number + 1) in
     let more : most - number ≡ suc left = omega (arith, within) in
     let end : traced_from images name (suc left) number quiet steps chip
@@ -79,7 +72,8 @@ pub made_told : (images : List (ℕ × ImageView)) (name number : ℕ) (old next
 made_told images name number old next made new is after =
     ap (λ (o : Option State). option_map_or (λ step. line_between images step o (Some new))
     made.step []) is.before
-    ∙ ap (λ (o : Option State). option_map_or (λ step. line_between images step (state_of old name) o)
+    ∙ ap (λ (o : Option State). option_map_or
+    (λ step. line_between images step (state_of old name) o)
     made.step []) (after ∙ ap (λ c. state_of c name) is.chip)
     ∙ ap (λ (s : Option Step). option_map_or (λ step. line_between images step (state_of old name)
     (state_of (turned number old) name)) s []) is.step
@@ -112,7 +106,8 @@ trace_next images name most number quiet steps chip next text longer moved step 
     ∙ ap (λ s. behind longer (traced_from images name left (suc number)
     (quiet_after quiet (moved_in number chip)) (less_by steps s) next)) is_step
     ∙ ap (λ c. behind longer (traced_from images name left (suc number)
-    (quiet_after quiet (moved_in number chip)) (less_by steps (step_in name number chip)) c)) is_next
+    (quiet_after quiet (moved_in number chip)) (less_by steps (step_in name number chip)) c))
+    is_next
     ∙ ap (λ t. behind t rest) wrote
     ∙ ap (λ t. (t, rest.1)) (append_assoc text line rest.0)
     ∙ ap (behind text) (sym here)

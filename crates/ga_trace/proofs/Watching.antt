@@ -9,15 +9,6 @@ use Rattle.ga_trace.specs.Traced.{moved_in, quiet_after, turn_line, turned}
 use Rattle.ga_trace.specs.Watched.{change_line, changes_to, no_change_line, watched_from}
 use Rattle.ga_trace.specs.What.{value_of}
 
--- the first turn
-pub watch_start : (images : List (ℕ × ImageView)) (name most : ℕ) (what : What)
-    (goal : Option Value) (chip : Chip)
-    → watched_from images name what goal (most - 0) 0 0 chip
-    ≡ watched_from images name what goal most 0 0 chip
-watch_start images name most what goal chip =
-    let all : most - 0 ≡ most = omega arith in
-    ap (λ left. watched_from images name what goal left 0 0 chip) all
-
 -- no step comes any more
 pub watch_quiet : (images : List (ℕ × ImageView)) (name most number quiet : ℕ) (what : What)
     (goal : Option Value) (chip : Chip) (whole : List ℕ × Chip) → number < most

@@ -21,8 +21,8 @@ pub struct Ran {
     pub rests: bool,
 }
 
-/// Makes turns of all nodes, at most `most`, until four in a row moved only nodes that spin: then no
-/// other node moves any more. A node spins if it is about to fetch a word that jumps to itself, or
+/// Makes turns of all nodes, at most `most`, until four in a row moved only nodes that spin: then
+/// no other node moves any more. A node spins if it is about to fetch a word that jumps to itself, or
 /// to jump to one. It allocates nothing. (Rest is this project's own: profile.)
 pub fn run(chip: &mut Chip, most: u32) -> Ran
     ensures { (result, chip.new) ≡ ran_from most 0 0 0 chip.old }

@@ -21,7 +21,8 @@ returns-in_default-clause-read g c =
     let mid = g.R.Read.remaining c.loop-byte.reader in
     let new = g.R.Read.remaining c.next_byte.new.reader in
     let (none, end) = subst (IsByte mid new) c.in_default.is c.in_ok-byte.ensures.byte in
-    read_end old mid new c.loop-byte.line.items front c.loop-byte.is_there took none end clean is there
+    read_end old mid new c.loop-byte.line.items front c.loop-byte.is_there took none end clean is
+    there
 
 pub returns-then-byte-eq10-clause-clean : goal.returns-then-byte-eq10-clause-clean
 returns-then-byte-eq10-clause-clean g c =

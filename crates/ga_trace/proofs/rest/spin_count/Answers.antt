@@ -9,7 +9,8 @@ pub loop-index-preserved : goal.loop-index-preserved
 loop-index-preserved c = record {
   counted = one_more c.args.chip.now c.loop-index.index c.loop-index.count c.count_if-count.result
       c.loop-index.invariant.counted
-      (c.count_if-count.ensures.value ∙ ap (λ name. length (if_spins c.args.chip.now name)) c.at.ensures);
+      (c.count_if-count.ensures.value
+      ∙ ap (λ name. length (if_spins c.args.chip.now name)) c.at.ensures);
   few = omega (arith, c.loop-index.invariant.few, c.count_if-count.ensures.most);
 }
 

@@ -1,7 +1,7 @@
 use Rattle.std.proofs.Common.{◌≡◌, Bool, true, false, string_bytes, subst}
 use Rattle.ga_waits.specs.Label.{images_in}
 use Rattle.ga_trace.specs.inner.Stepped.{Tells}
-use Rattle.ga_trace.proofs.Stepping.{step_ended, step_next, step_over}
+use Rattle.ga_trace.proofs.Stepping.{step_next, step_over}
 use Rattle.ga_trace.proofs.stepped.step.Goals as goal
 
 pub returns-then-not-made : goal.returns-then-not-made

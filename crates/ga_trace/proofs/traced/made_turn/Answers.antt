@@ -14,7 +14,8 @@ returns c =
     record {
       chip = c.turn-moved.ensures.chip;
       moved = c.turn-moved.ensures.moved;
-      step = seen.1 ∙ ap (λ (node : ℕ). last_by node c.of-last.result.step steps) c.of-last.ensures.node
+      step = seen.1
+          ∙ ap (λ (node : ℕ). last_by node c.of-last.result.step steps) c.of-last.ensures.node
           ∙ ap (λ (found : Option Step). last_by c.args.node found steps) c.of-last.ensures.none;
       before = search rules;
     }

@@ -44,7 +44,8 @@ loop-number-preserved c =
       quiet = omega (
         arith,
         c.quiet_after-quiet.ensures.most,
-        quiet_bound c.args.node c.loop-number.quiet c.loop-number.chip c.loop-number.invariant.quiet going,
+        quiet_bound c.args.node c.loop-number.quiet c.loop-number.chip
+            c.loop-number.invariant.quiet going,
       );
     }
 

@@ -40,7 +40,8 @@ loop-number-preserved c =
           ∙ watch_next (images_in c.args.images) c.args.node c.args.most c.loop-number.number
           c.loop-number.quiet c.args.what c.args.goal.now c.loop-number.chip
           c.made_turn-made.new.chip c.loop-number.old c.value_of-new.result
-          c.made_turn-made.result.moved _ c.loop-number-test.true (search rules) made.chip made.moved
+          c.made_turn-made.result.moved _ c.loop-number-test.true (search rules) made.chip
+          made.moved
           c.loop-number.invariant.old c.value_of-new.ensures
           (sym c.changes_to.ensures ∙ c.if-changes_to.false) c.loop-number.invariant.told;
       nothing = c.loop-number.invariant.nothing;

@@ -1,0 +1,49 @@
+-- What the definitions compute at values that were worked out by hand.
+use Rattle.std.proofs.Common.{◌≡◌, [], codes, refl, true, false}
+use Rattle.std.specs.Prelude.{None, Some}
+use Rattle.ga_node.specs.State.{reset_state}
+use Rattle.ga_node.specs.declared.place.Place.TheVariants.{Fetch, Slot0, Slot1, Slot3}
+use Rattle.ga_pack.specs.Decoded.{reading_of}
+use Rattle.ga_place.specs.declared.side.Side.TheVariants.{Right}
+use Rattle.ga_word.specs.Hex.{hex_digits}
+use Rattle.ga_word.specs.Op.{op_with}
+use Rattle.ga_observe.specs.declared.step.Deed.TheVariants.{Own, Posted, SawRead}
+use Rattle.ga_trace.specs.At.{at_word, retreat}
+use Rattle.ga_trace.specs.Line.{changes, deed_text, ram_changes}
+use Rattle.ga_trace.specs.Rest.{target_of}
+use Rattle.ga_trace.specs.Watched.{changes_to}
+use Rattle.ga_trace.specs.What.{same_value}
+use Rattle.ga_trace.specs.declared.what.Value.TheVariants.{Nothing, Word, Count}
+
+-- 04A12 is `[ @p a! @p . ]` at 000, whose followers are at 001 and 002: before slot 1 P is 2, and
+-- before slot 3 it is 3
+at_first : (at_word Fetch 0 0x04A12 ≡ 0) × (at_word Slot0 1 0x04A12 ≡ 0)
+    × (at_word Slot1 2 0x04A12 ≡ 0) × (at_word Slot3 3 0x04A12 ≡ 0)
+unfolding at_word reading_of op_with
+at_first = (refl, refl, refl, refl)
+
+-- addresses go round in seven bits, and those of ports stay
+going_back : (retreat 1 0x080 ≡ 0x0FF) × (retreat 2 0x201 ≡ 0x27F) × (retreat 3 0x1D5 ≡ 0x1D5)
+going_back = (refl, refl, refl)
+
+deeds : (deed_text (Posted Right 0x1C) ≡ codes "  posts right 0001C")
+    × (deed_text (SawRead Right) ≡ codes "  sees right read") × (deed_text Own ≡ [])
+unfolding hex_digits
+deeds = (refl, refl, refl)
+
+-- T and B changed, and nothing else
+changed : changes (reset_state 708) (record (reset_state 708) { t = 0x2C; b = 0x1D5 })
+    ≡ codes "  T 0002C  B 1D5"
+unfolding changes ram_changes hex_digits
+changed = refl
+
+-- 10000 jumps to 000 in slot 0 (the code 02 in exclusive or with 0A), and 04A12 doesn't jump
+jumps : (target_of 0x10000 ≡ Some 0) × (target_of 0x04A12 ≡ None)
+unfolding reading_of op_with
+jumps = (refl, refl)
+
+-- to become a value is to change to it
+becomes : (changes_to (Some (Word 5)) (Word 4) (Word 5) ≡ true)
+    × (changes_to (Some (Word 5)) (Word 5) (Word 5) ≡ false)
+    × (changes_to None Nothing (Word 5) ≡ true) × (same_value (Word 1) (Count 1) ≡ false)
+becomes = (refl, refl, refl, refl)
