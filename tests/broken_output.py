@@ -1,6 +1,6 @@
 """Runs a program whose output can't be written: python3 tests/broken_output.py PROGRAM
 
-For each subcommand a recorded case that has output is run
+For each subcommand a recorded case that has output is run, and a conversation at the prompt,
 - with a standard output that is full, as /dev/full is;
 - with a pipe as standard output that nobody reads;
 - with a pipe from which a part is read and which is closed then, if the output is longer than a pipe holds.
@@ -18,6 +18,9 @@ SECONDS = 60
 FAULT = (1, b"ga-bench: write\n")
 # A pipe holds 65,536 bytes, so this output doesn't fit. These numbers of its bytes are read.
 LONG = (["debug"], b"profile 2\nplace\nnode 000 .\ngo\n" + b"mem 000\n" * 2000)
+FILE = f"{ROOT}/examples/two_nodes/two_nodes.transcript"
+TALK = (["debug", FILE], b"turn 4\nback\n")
+LONG_TALK = (["debug", FILE], b"mem 708\n" * 2000)
 PARTS = [1, 100, 5000, 70000]
 
 
@@ -29,7 +32,7 @@ def cases():
             for case in map(json.loads, lines):
                 if case.get("status") == 0 and case.get("stdout") and "stdin" in case:
                     found.setdefault(case["args"][0], (case["args"], case["stdin"].encode()))
-    return [*found.values(), (["--help"], b""), (["--version"], b""), LONG]
+    return [*found.values(), (["--help"], b""), (["--version"], b""), LONG, TALK]
 
 
 def ended(program, args, data, output):
@@ -70,14 +73,14 @@ def main(program):
             passed += told == FAULT
             if told != FAULT:
                 failed.append(f"{args} to an output that is {run.__name__}: {told}")
-    args, data = LONG
-    whole = subprocess.run([program, *args], input=data, capture_output=True, timeout=SECONDS).stdout
-    for most in PARTS:
-        told, part = front(program, args, data, most)
-        if told == FAULT and len(part) == most and whole.startswith(part):
-            passed += 1
-        else:
-            failed.append(f"{args} of which {most} bytes are read: {told}, {len(part)} bytes")
+    for args, data in (LONG, LONG_TALK):
+        whole = subprocess.run([program, *args], input=data, capture_output=True, timeout=SECONDS).stdout
+        for most in PARTS:
+            told, part = front(program, args, data, most)
+            if told == FAULT and len(part) == most and whole.startswith(part):
+                passed += 1
+            else:
+                failed.append(f"{args} of which {most} bytes are read: {told}, {len(part)} bytes")
     print("\n".join(failed), end="\n" if failed else "")
     print(f"output: {passed} passed, {len(failed)} failed")
     return 1 if failed or not passed else 0

@@ -6,13 +6,16 @@
   pipe      replies come one by one: each is read before the next line is written
   recorded  for random commands the replies are those of `record`, `back` leads to where they would have led without the
             commands undone, and `check` accepts what `save` writes
+  saving    what has the name already: files, links, folders, pipes; a folder and a disk that take no more
   hostile   files and lines of any bytes; output that can't be written
 The last line that is printed is 'prompt: N passed, M failed', and the exit status is 0 if M is 0.
 """
 import os
 import pty
 import random
+import resource
 import select
+import stat
 import subprocess
 import sys
 import tempfile
@@ -186,10 +189,15 @@ def hostile(program, folder):
         (b"\x00", b"refused BadCommand\n"),
         (b"", b""),
         (b"save " + folder.encode(), b"refused Exists\n"),
-        (b"save /nowhere/at/all", b"refused Write\n"),
-        (b"save a\x00b", b"refused Write\n"),
-        (b"save! " + folder.encode(), b"refused Write\n"),
+        (b"save /nowhere/at/all", b"refused Write, No such file or directory (os error 2)\n"),
+        (b"save a\x00b", b"refused Write, file name contained an unexpected NUL byte\n"),
+        (b"save! " + folder.encode(), b"refused NotAFile\n"),
+        (b"save", b"refused NoName\n"),
+        (b"save! ", b"refused NoName\n"),
+        (b"back 1000001", b"refused BadCount\n"),
+        (b"quit now", b"refused BadCommand\n"),
         (b"help nothing", b"refused BadCommand\n"),
+        (b"help An", b"refused BadCommand\n"),
     ]:
         run = talk(program, [source], line + b"\nturn 4\n")
         check(f"the line {line[:20]!r}", run.returncode == 0 and run.stdout == reply + moved)
@@ -200,9 +208,82 @@ def hostile(program, folder):
     with open("/dev/full", "wb") as full:
         run = subprocess.run([program, "debug", source], input=b"turn 4\n", stdout=full, stderr=subprocess.PIPE, timeout=60)
     check("output that can't be written", (run.returncode, run.stderr) == (1, b"ga-bench: write\n"))
-    run = talk(program, [source], f"save {folder}/one\nsave {folder}/one\nturn 4\nsave! {folder}/one\n".encode())
-    check("a file is replaced only by save!", run.stdout.decode().split("\n")[:2] == [f"saved {folder}/one", "refused Exists"]
-          and accepted(program, f"{folder}/one") and not os.path.exists(f"{folder}/one.new"))
+    with open(f"{folder}/escapes", "wb") as file:
+        file.write(b"profile 2\nplace\nnode 000 .\ngo\n> turn 1\n>\x01no command\n> turn \x1b[31m\xe2\x80\xae\n> turn\t2\n")
+    run = talk(program, [f"{folder}/escapes"], b"back 2\n")
+    check("what was undone is shown as other texts are", run.stdout == b"undone turn  [31m \nundone turn\t2\n")
+
+
+def saving(program, folder):
+    """What has the name already."""
+    folder = f"{folder}/saving"
+    os.mkdir(folder)
+    source = f"{folder}/loop.source"
+    with open(source, "w") as file:
+        file.write(LOOP)
+
+    def says(line, reply, **more):
+        """Whether a line has this reply behind a command, and the session goes on."""
+        run = talk(program, [source], f"turn 4\n{line}\nback\n".encode(), **more)
+        return run.returncode == 0 and run.stdout.decode().split("\n")[1:] == [reply, "undone turn 4", ""]
+
+    def made(name, text="old", mode=0o644):
+        with open(f"{folder}/{name}", "w") as file:
+            file.write(text)
+        os.chmod(f"{folder}/{name}", mode)
+        return f"{folder}/{name}"
+
+    def holds(name, text):
+        with open(name) as file:
+            return file.read() == text
+
+    def mode_of(name):
+        return stat.S_IMODE(os.stat(name).st_mode)
+
+    new = f"{folder}/new"
+    check("a new file", says(f"save {new}", f"saved {new}") and accepted(program, new))
+    check("no file is replaced by save", says(f"save {made('kept')}", "refused Exists") and holds(f"{folder}/kept", "old"))
+    check("a new file by save!", says(f"save! {new}er", f"saved {new}er") and accepted(program, f"{new}er"))
+    for mode in (0o644, 0o600, 0o444):
+        name = made(f"mode{mode}", mode=mode)
+        check(f"a file of mode {mode:o}", says(f"save! {name}", f"saved {name}") and accepted(program, name) and mode_of(name) == mode)
+    name, beside = made("beside"), made("beside.new0")
+    check("a file beside it", says(f"save! {name}", f"saved {name}") and accepted(program, name) and holds(beside, "old"))
+    check("and no other", sorted(file for file in os.listdir(folder) if file.startswith("beside")) == ["beside", "beside.new0"])
+    for number in range(1, 100):
+        made(f"beside.new{number}")
+    check("no name is free", says(f"save! {made('beside')}", "refused Exists") and holds(name, "old"))
+
+    target, link = made("target", mode=0o640), f"{folder}/link"
+    os.symlink("target", link)
+    check("a link", says(f"save! {link}", f"saved {link}") and os.readlink(link) == "target")
+    check("the file that it leads to", accepted(program, target) and mode_of(target) == 0o640)
+    check("a link isn't new", says(f"save {link}", "refused Exists") and os.readlink(link) == "target")
+    pipe, nowhere = f"{folder}/pipe", f"{folder}/nowhere"
+    os.mkfifo(pipe)
+    os.symlink("none", nowhere)
+    os.symlink("pipe", f"{folder}/piped")
+    for what, name in [("a pipe", pipe), ("a folder", folder), ("a link to a pipe", f"{folder}/piped"), ("a link to nothing", nowhere)]:
+        check(f"{what} isn't replaced", says(f"save! {name}", "refused NotAFile") and says(f"save {name}", "refused Exists"))
+    check("all are as they were", stat.S_ISFIFO(os.stat(pipe).st_mode) and os.readlink(nowhere) == "none"
+          and not os.path.exists(f"{folder}/none"))
+
+    def limited():
+        resource.setrlimit(resource.RLIMIT_FSIZE, (8, 8))
+
+    before, name = sorted(os.listdir(folder)), made("kept")
+    reply = "refused Write, File too large (os error 27)"
+    # Python ignores the signal for a file that is too large, and so does the program then.
+    full = {"preexec_fn": limited, "restore_signals": False}
+    check("a disk that is full", says(f"save {folder}/more", reply, **full) and says(f"save! {name}", reply, **full))
+    check("it leaves all as it was", sorted(os.listdir(folder)) == before and holds(name, "old"))
+    locked = f"{folder}/locked"
+    os.mkdir(locked)
+    name = made("locked/kept", mode=0o666)
+    os.chmod(locked, 0o555)
+    if os.geteuid() != 0:
+        reply = "refused Write, Permission denied (os error 13)"
+        check("a folder that can't be written", says(f"save {locked}/more", reply) and says(f"save! {name}", reply) and holds(name, "old"))
 
 
 def main():
@@ -215,6 +296,7 @@ def main():
         for seed in range(60):
             compare(program, folder, seed)
         hostile(program, folder)
+        saving(program, folder)
     print(f"prompt: {passed} passed, {len(failures)} failed")
     return 1 if failures else 0
 

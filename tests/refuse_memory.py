@@ -3,9 +3,10 @@
 With one allocation refused a run must report `ga-bench: memory`, with status 3 and nothing on standard output, or answer
 as it does with ample memory. The runs are those of recorded cases, and SESSIONS. CALLER is the program of the crate
 ga_refused_calls: its call must answer as it does with ample memory, or be refused and leave its borrowed values as they
-were before, unless memory runs out outside the call; and at least one is refused. The last line that is printed is
-'memory: N passed, M failed', a run each, and the exit status is 0 if M is 0. It needs a C compiler, the command in the
-variable CC or else cc.
+were before, unless memory runs out outside the call; and at least one is refused. In a conversation at the prompt it may
+also be one line that is answered `refused Memory`; the others are then answered as if this one had no effect. The last
+line that is printed is 'memory: N passed, M failed', a run each, and the exit status is 0 if M is 0. It needs a C compiler,
+the command in the variable CC or else cc.
 """
 import os
 import re
@@ -117,6 +118,32 @@ def refuse_each(program, library, rights_of, run):
     return passed, wrong
 
 
+def rights_of_talk(program, words, lines, ample):
+    """All answers with an allocation refused: that of each conversation in which one line has no effect. BadText has
+    none, and needs no memory."""
+    rights = [ample]
+    for at in range(len(lines)):
+        kept = [*lines[:at], b"\xff", *lines[at + 1 :]]
+        code, told, error = answer(program, words, b"".join(line + b"\n" for line in kept))
+        rights.append((code, told.replace(b"refused BadText", b"refused Memory"), error))
+    return [*rights, (3, b"", b"ga-bench: memory\n")]
+
+
+def refuse_in_talk(program, library, folder):
+    """Refuses each allocation of a conversation in which a file is replaced."""
+    file, kept = f"{folder}/file", f"{folder}/kept"
+    for name in (file, kept):
+        with open(name, "wb") as text:
+            text.write(HEAD + b"> turn 4\n> break 000 x\n")
+    words = ["debug", file]
+    lines = [b"turn 2", b"where", b"turm 2", b"help turn", b"back 2", b"regs 000", b"save! " + kept.encode(), b"quit"]
+    run = (words, b"".join(line + b"\n" for line in lines))
+    passed, wrong = refuse_each(program, library, partial(rights_of_talk, program, words, lines), run)
+    if sorted(os.listdir(folder)) != ["file", "kept"]:
+        wrong.append(f"FAILED {words}: files are left over: {os.listdir(folder)}")
+    return passed, wrong
+
+
 def rights_of_run(ample):
     return [ample, (3, b"", b"ga-bench: memory\n")] if ample[0] != 3 else []
 
@@ -133,6 +160,8 @@ def main(program, caller=None):
         compiler = os.environ.get("CC", "cc")
         subprocess.run([compiler, "-shared", "-fPIC", "-O1", "-o", library, f"{FOLDER}/refuse_memory.c", "-ldl"], check=True)
         told = [*pool.map(partial(refuse_each, program, library, rights_of_run), RUNS + LINES)]
+        os.mkdir(f"{folder}/talk")
+        told.append(refuse_in_talk(program, library, f"{folder}/talk"))
         if caller:
             told += pool.map(partial(refuse_each, caller, library, rights_of_call), CALLS)
     wrong = [line for _, lines in told for line in lines]

@@ -13,11 +13,11 @@ use ga_command_line::{LineError, job, refusal};
 use ga_jobs::{
     Ending, InputFault, Job, Loading, Reads, ServeError, open_session, read_input, serve, status,
 };
-use ga_prompt::talk;
+use ga_prompt::Conversation;
 use std::alloc::Global;
 use std::fs::OpenFile;
 use std::io::ErrorKind::{NotFound, OutOfMemory};
-use std::io::{IsTerminal, Read, Write};
+use std::io::{BufReader, IsTerminal, Read, Write};
 use std::process::ExitCode;
 use std::rt::{Env, Files};
 use std::thread::Threads;
@@ -81,17 +81,13 @@ fn talk_about<Rt: AllocGlobal + Print + Files, R: Read + IsTerminal>(
     } else {
         read_input(alloc, &mut opened(rt, name)?, &mut Reads::default())?
     };
-    let mut live = open_session(alloc, loading, &input)?;
-    let prompts = reader.is_terminal();
+    let live = open_session(alloc, loading, &input)?;
+    let mut conversation = Conversation::new(alloc, live, reader.is_terminal())?;
+    let Ok(mut lines) = BufReader::new(alloc, reader) else {
+        return Err(ServeError::Memory);
+    };
     let mut saves = SavedFiles { alloc, files: rt };
-    talk(
-        alloc,
-        &mut live,
-        &mut saves,
-        reader,
-        &mut io::writer(rt),
-        prompts,
-    )
+    conversation.talk(alloc, &mut saves, &mut lines, &mut io::writer(rt))
 }
 
 /// Serves a job whose input is the file with a name. Answers the exit status.

@@ -63,6 +63,7 @@ NOTHING = record {
   side = Right;
   count = 0;
   passes = 0;
+  from = None;
   what = OfRegister P;
   values = replicate 8 None;
 }
@@ -105,6 +106,13 @@ passes_read given (word ∷ words) =
 abbrev pub some_count : List ℕ → Option ℕ
 some_count word =
     option_and_then (λ count. if count == 0 then None else Some count) (count_of word)
+
+-- an address of memory, or no word
+abbrev pub from_read : Images → Arguments → Words → First Arguments
+from_read images given [] = Ok (given, [])
+from_read images given (word ∷ words) =
+    ok_or (option_map (λ address. (record given { from = Some address }, words))
+    (memory_in images given.node word)) BadAddress
 
 -- how many words from an address on; a count that is left out is 1
 abbrev pub range_behind : Arguments → ℕ → Words → First Arguments
@@ -182,6 +190,7 @@ abbrev pub shape_read : Images → Shape → Arguments → Words → First Argum
 shape_read images shape.CountIf given words = count_or 1000000 given words
 shape_read images shape.OneIf given words = count_or 1 given words
 shape_read images shape.PassesIf given words = passes_read given words
+shape_read images shape.AddressIf given words = from_read images given words
 shape_read images shape.RangeIf given words = range_read images given words
 shape_read images shape.What given words = what_read images given words
 shape_read images shape.Values given words = values_read images given words

@@ -12,20 +12,21 @@ use Rattle.ga_dump.specs.Node.{node_dump}
 use Rattle.ga_path.specs.Stream.{Images}
 use Rattle.ga_waits.specs.Folded.{nodes_text}
 use Rattle.ga_waits.specs.Waits.{waits_text}
+use Rattle.ga_trace.specs.Rest.{ran_from}
 use Rattle.ga_trace.specs.Stepped.{stepped}
 use Rattle.ga_trace.specs.Traced.{traced}
 use Rattle.ga_trace.specs.Watched.{watched}
 use Rattle.ga_debug.specs.declared.command.Arguments.{Arguments}
 use Rattle.ga_debug.specs.declared.commands.Action.{Action}
-use Rattle.ga_debug.specs.declared.commands.Action.TheVariants.{Break, Clear, Pass, Try, Turn, Until}
+use Rattle.ga_debug.specs.declared.commands.Action.TheVariants.{Break, Clear, Pass, Try, Turn, Until, Run}
 use Rattle.ga_debug.specs.declared.commands.Follow.{Follow}
 use Rattle.ga_debug.specs.declared.commands.Follow.TheVariants.{Step, Trace, Watch}
 use Rattle.ga_debug.specs.declared.commands.Answer.{Answer}
-use Rattle.ga_debug.specs.declared.commands.Answer.TheVariants.{Done, Tried, Moved, Reached}
+use Rattle.ga_debug.specs.declared.commands.Answer.TheVariants.{Done, Tried, Moved, Reached, Ran}
 use Rattle.ga_debug.specs.declared.commands.Verb.{Verb}
 use Rattle.ga_debug.specs.declared.commands.Verb.TheVariants.{Act, Show, Tell}
 use Rattle.ga_debug.specs.declared.commands.View.{View}
-use Rattle.ga_debug.specs.declared.commands.View.TheVariants.{Regs, Mem, Ports, Node, Sides, Expect, Breaks, Where, Nodes}
+use Rattle.ga_debug.specs.declared.commands.View.TheVariants.{Regs, Mem, Ports, Node, Code, Sides, Expect, Breaks, Where, Nodes}
 use Rattle.ga_debug.specs.declared.error.DebugError.{DebugError}
 use Rattle.ga_debug.specs.declared.error.DebugError.TheVariants.{NotHeld}
 use Rattle.ga_debug.specs.declared.row.Scope.{Scope}
@@ -33,6 +34,7 @@ use Rattle.ga_debug.specs.declared.row.Scope.TheVariants.{Replays, Sessions, Tra
 use Rattle.ga_debug.specs.declared.row.Shape.TheVariants as shape
 use Rattle.ga_debug.specs.declared.row.States.TheVariants.{Nothing, Outcome, Steps}
 use Rattle.ga_debug.specs.Breaks.{break_note, breaks_text}
+use Rattle.ga_debug.specs.Code.{code_shown}
 use Rattle.ga_debug.specs.Expect.{expected_text, goal_of}
 use Rattle.ga_debug.specs.Mem.{memory_shown}
 use Rattle.ga_debug.specs.Row.{Row, is_seen_by, row}
@@ -53,6 +55,7 @@ action_row Turn = row (codes "turn") (shape.Count ∷ []) Replays Steps
 action_row Until =
     row (codes "until") (shape.Node ∷ shape.Address ∷ shape.PassesIf ∷ shape.CountIf ∷ [])
     Transcripts Nothing
+action_row Run = row (codes "run") (shape.CountIf ∷ []) Transcripts Nothing
 
 -- the commands that make steps and tell them
 abbrev pub follow_row : Follow → Row
@@ -67,6 +70,7 @@ view_row Regs = row (codes "regs") (shape.Node ∷ []) Sessions Nothing
 view_row Mem = row (codes "mem") (shape.Node ∷ []) Sessions Nothing
 view_row Ports = row (codes "ports") (shape.Node ∷ []) Sessions Nothing
 view_row Node = row (codes "node") (shape.Node ∷ []) Transcripts Nothing
+view_row Code = row (codes "code") (shape.Node ∷ shape.AddressIf ∷ []) Transcripts Nothing
 view_row Sides = row (codes "sides") (shape.Node ∷ []) Transcripts Nothing
 view_row Expect =
     row (codes "expect") (shape.Node ∷ shape.What ∷ shape.Values ∷ []) Transcripts Nothing
@@ -87,7 +91,7 @@ shapes_in scope verb = (verb_row verb).shapes
 abbrev pub action_named : List ℕ → Option Action
 action_named word =
     find (λ action. bytes_eq (action_row action).name word)
-    (Break ∷ Clear ∷ Pass ∷ Try ∷ Turn ∷ Until ∷ [])
+    (Break ∷ Clear ∷ Pass ∷ Try ∷ Turn ∷ Until ∷ Run ∷ [])
 
 abbrev pub follow_named : List ℕ → Option Follow
 follow_named word =
@@ -96,7 +100,7 @@ follow_named word =
 abbrev pub view_named : List ℕ → Option View
 view_named word =
     find (λ view. bytes_eq (view_row view).name word)
-    (Regs ∷ Mem ∷ Ports ∷ Node ∷ Sides ∷ Expect ∷ Breaks ∷ Where ∷ Nodes ∷ [])
+    (Regs ∷ Mem ∷ Ports ∷ Node ∷ Code ∷ Sides ∷ Expect ∷ Breaks ∷ Where ∷ Nodes ∷ [])
 
 -- the command of this name,
 abbrev pub any_verb : List ℕ → Option Verb
@@ -129,6 +133,7 @@ did Turn given chip =
 did Until given chip =
     let end = until_done given.node given.address given.passes given.count chip in
     (Ok (Reached end.0), end.1)
+did Run given chip = let end = ran_from given.count 0 0 0 chip in (Ok (Ran end.0), end.1)
 
 -- an answer as text
 abbrev pub answer_text : Answer → List ℕ
@@ -138,6 +143,9 @@ answer_text (Moved steps) = codes "moved " ++ decimal steps
 answer_text (Reached (Some reached)) =
     codes "turns " ++ decimal reached.turns ++ codes " moved " ++ decimal reached.moved
 answer_text (Reached None) = codes "not reached"
+answer_text (Ran made) =
+    codes "turns " ++ decimal made.turns ++ codes " moved " ++ decimal made.moved
+    ++ (if made.rests then codes ", at rest" else [])
 
 -- the note behind the answer of an action
 abbrev pub note_of : Images → Action → Arguments → List ℕ
@@ -159,6 +167,8 @@ shown images Mem given chip =
     option_map_or (memory_shown given.address given.count) (state_of chip given.node) []
 shown images Ports given chip = ledger_dump chip given.node
 shown images Node given chip = option_map_or node_dump (state_of chip given.node) []
+shown images Code given chip =
+    option_map_or (code_shown images given.from) (state_of chip given.node) []
 shown images Sides given chip = sides_text chip given.node
 shown images Expect given chip = expected_text given.node given.what given.values chip
 shown images Breaks given chip = breaks_text images chip

@@ -6,6 +6,7 @@ pub mod Values
 pub mod Command
 pub mod Until
 pub mod Mem
+pub mod Code
 pub mod Expect
 pub mod Sides
 pub mod Breaks

@@ -6,7 +6,7 @@ use Rattle.ga_chip.specs.declared.outcome.Outcome as tried
 use Rattle.ga_chip.specs.declared.outcome.Outcome.TheVariants as outcome
 use Rattle.ga_chip.specs.Chip.{Chip}
 use Rattle.ga_debug.specs.declared.commands.Answer.{Answer}
-use Rattle.ga_debug.specs.declared.commands.Answer.TheVariants.{Done, Tried, Moved, Reached}
+use Rattle.ga_debug.specs.declared.commands.Answer.TheVariants.{Done, Tried, Moved, Reached, Ran}
 use Rattle.ga_debug.specs.declared.error.DebugError.{DebugError}
 use Rattle.ga_debug.specs.declared.error.DebugError.TheVariants.{BadCommand}
 use Rattle.ga_debug.specs.declared.profile.Profile.{Profile}
@@ -82,6 +82,7 @@ comparisons Done = 0
 comparisons (Tried outcome) = 1
 comparisons (Moved steps) = 1
 comparisons (Reached reached) = 0
+comparisons (Ran made) = 0
 
 -- One line, with its number: how many outcomes were compared, and the chip afterwards; or the
 -- fault. A line without any character is skipped.

@@ -1,6 +1,6 @@
 //! The command that a line is.
 ghost use Rattle.std.specs.Prelude.{◌≡◌, ◌≤◌, option_map};
-ghost use Rattle.ga_debug.specs.Command.{NOTHING, all_read, command_first, command_in, count_or, fault_of, first_word, goal_read, names_command, passes_read, port_what, range_read, shape_read, some_count, some_values, values_in, values_read, what_read, word_read};
+ghost use Rattle.ga_debug.specs.Command.{NOTHING, all_read, command_first, command_in, count_or, fault_of, first_word, from_read, goal_read, names_command, passes_read, port_what, range_read, shape_read, some_count, some_values, values_in, values_read, what_read, word_read};
 ghost use Rattle.ga_debug.specs.inner.Command.{IsFirst, Reads};
 ghost use Rattle.ga_waits.specs.Label.{images_in};
 
@@ -24,6 +24,8 @@ pub(crate) struct Arguments {
     pub(crate) side: Side,
     pub(crate) count: u32,
     pub(crate) passes: u32,
+    /// An address of memory that may be left out, as an index.
+    pub(crate) from: Option<Address>,
     pub(crate) what: What,
     /// The values come first, and behind them nothing.
     pub(crate) values: [Option<Value>; 8],
@@ -94,6 +96,7 @@ fn nothing() -> Arguments
         side: Side::Right,
         count: 0,
         passes: 0,
+        from: None,
         what: What::Register(Register::P),
         values: [None; 8],
     }
@@ -129,6 +132,7 @@ fn read_shape(
         Shape::CountIf => read_count_or(1_000_000, given, words),
         Shape::OneIf => read_count_or(1, given, words),
         Shape::PassesIf => read_passes(given, words),
+        Shape::AddressIf => read_from(images, given, words),
         Shape::RangeIf => read_range(images, given, words),
         Shape::What => read_what(images, given, words),
         Shape::Values => read_values(images, given, words),
@@ -189,6 +193,23 @@ fn read_passes(given: Arguments, words: &mut Pieces<'_>) -> Result<Arguments, De
     match count_of(times.as_bytes()) {
         Some(passes) => Ok(Arguments { passes, ..given }),
         None => Err(DebugError::BadCount),
+    }
+}
+
+/// An address of memory, or no word.
+fn read_from(
+    images: Option<&Images>,
+    given: Arguments,
+    words: &mut Pieces<'_>,
+) -> Result<Arguments, DebugError>
+    ensures { Reads (from_read (images_in images.entry) given words.old) result words.new }
+{
+    let Some(word) = words.next() else {
+        return Ok(given);
+    };
+    match memory_in(images, given.node, word) {
+        None => Err(DebugError::BadAddress),
+        from => Ok(Arguments { from, ..given }),
     }
 }
 

@@ -8,6 +8,7 @@ ghost use Rattle.ga_debug.specs.Word.{outcome_text};
 ghost use Rattle.ga_waits.specs.Label.{images_in};
 
 use crate::breaks::{break_note, breaks_text};
+use crate::code::code_text;
 use crate::command::Arguments;
 use crate::error::DebugError;
 use crate::expect::expected_text;
@@ -18,7 +19,7 @@ use crate::until::{Reached, until};
 use ga_asm::Images;
 use ga_chip::{Chip, Outcome, Try};
 use ga_dump::{ledger_text, node_text};
-use ga_trace::{step, trace, watch};
+use ga_trace::{Ran, run, step, trace, watch};
 use ga_waits::{nodes, waits};
 use itoa::Buffer;
 use std::alloc::{AllocError, Global};
@@ -38,6 +39,8 @@ pub(crate) enum Action {
     Turn,
     /// Turns until a node is held at an address.
     Until,
+    /// Turns until no node moves but those that spin.
+    Run,
 }
 
 /// A command that makes steps, and tells them.
@@ -62,6 +65,8 @@ pub(crate) enum View {
     Ports,
     /// The registers and stacks of a node.
     Node,
+    /// The listing of a node's memory around an address.
+    Code,
     /// The neighbours of a node, and what lies at its ports.
     Sides,
     /// Whether a node shows some values.
@@ -73,12 +78,6 @@ pub(crate) enum View {
     /// The same, with the idle ones in one line.
     Nodes,
 }
-
-/// The names of all commands of transcripts.
-pub const COMMANDS: [&str; 18] = [
-    "break", "clear", "pass", "try", "turn", "until", "step", "trace", "watch", "regs", "mem",
-    "ports", "node", "sides", "expect", "breaks", "where", "nodes",
-];
 
 /// What the first word of a line names.
 #[derive(Clone, Copy)]
@@ -123,6 +122,7 @@ fn action_named(word: &[u8]) -> Option<Action>
         b"try" => Action::Try,
         b"turn" => Action::Turn,
         b"until" => Action::Until,
+        b"run" => Action::Run,
         _ => return None,
     };
     Some(action)
@@ -148,6 +148,7 @@ fn view_named(word: &[u8]) -> Option<View>
         b"mem" => View::Mem,
         b"ports" => View::Ports,
         b"node" => View::Node,
+        b"code" => View::Code,
         b"sides" => View::Sides,
         b"expect" => View::Expect,
         b"breaks" => View::Breaks,
@@ -207,6 +208,7 @@ impl Action {
                 Scope::Transcripts,
                 States::Nothing,
             ),
+            Action::Run => (&[Shape::CountIf], Scope::Transcripts, States::Nothing),
         };
         Row {
             shapes,
@@ -244,6 +246,7 @@ impl View {
         let (shapes, scope): (&'static [Shape], Scope) = match self {
             View::Regs | View::Mem | View::Ports => (&[Shape::Node], Scope::Sessions),
             View::Node | View::Sides => (&[Shape::Node], Scope::Transcripts),
+            View::Code => (&[Shape::Node, Shape::AddressIf], Scope::Transcripts),
             View::Expect => (
                 &[Shape::Node, Shape::What, Shape::Values],
                 Scope::Transcripts,
@@ -269,10 +272,12 @@ pub(crate) enum Answer {
     Moved(u64),
     /// The turns and moves until a node was held, if it was.
     Reached(Option<Reached>),
+    /// Turns until rest.
+    Ran(Ran),
 }
 
 /// Room for every answer as text, with a note behind it.
-pub(crate) const ANSWER_LENGTH: usize = 60 + 34;
+pub(crate) const ANSWER_LENGTH: usize = 64 + 34;
 
 /// Runs an action. A refused one leaves the chip as it was.
 pub(crate) fn perform(
@@ -303,15 +308,16 @@ pub(crate) fn perform(
         }))),
         Action::Turn => Ok(Answer::Moved(chip.turns(count))),
         Action::Until => Ok(Answer::Reached(until(chip, node, address, given.passes, count))),
+        Action::Run => Ok(Answer::Ran(run(chip, count))),
     }
 }
 
 /// Adds an answer to an empty text that has room for it.
 pub(crate) fn push_answer(text: &mut String, answer: Answer)
     requires empty { string_bytes text.old ≡ [] }
-    requires room { 60 ≤ string_capacity text.old }
+    requires room { 64 ≤ string_capacity text.old }
     ensures text { string_bytes text.new ≡ answer_text answer }
-    ensures short { length (string_bytes text.new) ≤ 60 }
+    ensures short { length (string_bytes text.new) ≤ 64 }
     ensures room { string_capacity text.old ≤ string_capacity text.new }
 {
     match answer {
@@ -323,6 +329,22 @@ pub(crate) fn push_answer(text: &mut String, answer: Answer)
             push_number(text, "turns ", u64::from(turns));
             push_number(text, " moved ", moved);
         }
+        Answer::Ran(ran) => push_ran(text, ran),
+    }
+}
+
+/// Adds turns until rest to an empty text.
+fn push_ran(text: &mut String, ran: Ran)
+    requires empty { string_bytes text.old ≡ [] }
+    requires room { 64 ≤ string_capacity text.old }
+    ensures text { string_bytes text.new ≡ answer_text (Answer.Ran ran) }
+    ensures short { length (string_bytes text.new) ≤ 64 }
+    ensures room { string_capacity text.old ≤ string_capacity text.new }
+{
+    push_number(text, "turns ", u64::from(ran.turns));
+    push_number(text, " moved ", ran.moved);
+    if ran.rests {
+        text.push_str(", at rest").unwrap();
     }
 }
 
@@ -385,6 +407,7 @@ pub(crate) fn show(
         View::Mem => memory_shown(alloc, chip.state(node), given.address, given.count)?,
         View::Ports => ledger_text(alloc, chip, node)?,
         View::Node => node_text(alloc, chip.state(node))?,
+        View::Code => code_text(alloc, chip.state(node), images, given.from)?,
         View::Sides => sides_text(alloc, chip, node)?,
         View::Expect => expected_text(alloc, chip, node, given.what, &given.values)?,
         View::Breaks => breaks_text(alloc, chip, images)?,

@@ -194,6 +194,6 @@ fn comparisons(answer: Answer) -> u64
 {
     match answer {
         Answer::Tried(_) | Answer::Moved(_) => 1,
-        Answer::Done | Answer::Reached(_) => 0,
+        Answer::Done | Answer::Reached(_) | Answer::Ran(_) => 0,
     }
 }

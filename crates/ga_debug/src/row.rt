@@ -19,6 +19,8 @@ pub(crate) enum Shape {
     OneIf,
     /// How often a node passes an address: `x` and a count; or no such word, for 0.
     PassesIf,
+    /// An address of memory, or no word.
+    AddressIf,
     /// An address of memory and a count of words from there on, which may be left out; or no word,
     /// for all words.
     RangeIf,

@@ -30,6 +30,11 @@ row_text labels address word item text_line =
     ++ codes " " ++ blanks_before text_line
     ++ decimal text_line ++ codes "  " ++ reading_line labels address item
 
+-- the kind of a word at an address, and what it reads as
+abbrev pub item_text : Labels → ℕ → ItemView → List ℕ
+item_text labels address item =
+    mark_text item ++ codes "  " ++ reading_line labels address item
+
 -- a line for each label that has this address
 abbrev pub label_lines : Labels → ℕ → List ℕ
 label_lines [] address = []

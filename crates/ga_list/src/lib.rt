@@ -12,3 +12,4 @@ mod row;
 pub use labels::list_labels;
 pub use lines::line_of;
 pub use listing::list;
+pub use row::{push_item, push_labels};

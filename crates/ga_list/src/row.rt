@@ -3,7 +3,7 @@ ghost use Rattle.std.specs.Prelude.{◌≡◌, ◌<◌, ◌≤◌, ◌++◌, OnO
 ghost use Rattle.ga_asm.specs.Image.{labels_of};
 ghost use Rattle.ga_disasm.specs.Disassembling.{item_view};
 ghost use Rattle.ga_list.specs.Row as spec;
-ghost use Rattle.ga_list.specs.Row.{label_lines, mark_text, row_text, rows_of};
+ghost use Rattle.ga_list.specs.Row.{item_text, label_lines, mark_text, row_text, rows_of};
 ghost use Rattle.ga_source.specs.Token.{place_of};
 
 use crate::reading::push_reading;
@@ -39,7 +39,7 @@ pub fn push_rows(
 }
 
 /// Adds a line for each label that has this address.
-fn push_labels(
+pub fn push_labels(
     text: &mut String,
     labels: &IndexMap<String, u8>,
     address: usize,
@@ -72,6 +72,23 @@ fn push_row(
     let number = Hex3::new(address as u16);
     let (mark, blanks) = (mark(item), blanks_before(line));
     write!(text, "{number}  {word}  {mark} {blanks}{line}  ")?;
+    push_reading(text, labels, address, item)?;
+    Ok(())
+}
+
+/// Adds what kind of word an item at an address is, in eight columns, and what it reads as, with
+/// labels for destinations, and the line's end. (The text is this project's own: profile.)
+pub fn push_item(
+    text: &mut String,
+    labels: &IndexMap<String, u8>,
+    address: usize,
+    item: &Item,
+) -> Result<(), AllocError>
+    requires { address < 64 }
+    ensures { OnOk result (string_bytes text.new ≡ string_bytes text.old
+        ++ item_text (labels_of labels.now.entries) address (item_view item.now)) }
+{
+    write!(text, "{}  ", mark(item))?;
     push_reading(text, labels, address, item)?;
     Ok(())
 }

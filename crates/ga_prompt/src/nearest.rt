@@ -1,10 +1,8 @@
 //! The command whose name is nearest to a word.
-use ga_debug::COMMANDS;
+use crate::own::Own;
+use ga_debug::HELP;
 use std::alloc::{AllocError, Global};
 use strsim::osa_distance;
-
-/// The commands that only the prompt has.
-const OWN: [&str; 5] = ["help", "back", "save", "save!", "quit"];
 
 /// How many letters a name may differ from a word.
 const MOST_EDITS: usize = 2;
@@ -28,11 +26,19 @@ pub(crate) fn hint_of(alloc: Global, line: &str) -> Result<String, AllocError> {
 fn nearest(alloc: Global, word: &str) -> Result<Option<&'static str>, AllocError> {
     let mut found = None;
     let mut least = MOST_EDITS + 1;
-    for name in COMMANDS.iter().chain(OWN.iter()) {
+    for line in HELP.lines() {
+        let name = line.split(' ').next().unwrap_or(line);
         let edits = osa_distance(alloc, word, name)?;
         if edits < least {
             least = edits;
-            found = Some(*name);
+            found = Some(name);
+        }
+    }
+    for own in Own::ALL {
+        let edits = osa_distance(alloc, word, own.name())?;
+        if edits < least {
+            least = edits;
+            found = Some(own.name());
         }
     }
     Ok(found)

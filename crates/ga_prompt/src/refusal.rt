@@ -1,4 +1,4 @@
-ghost use Rattle.std.specs.Prelude.{◌≡◌, ◌≤◌, length};
+ghost use Rattle.std.specs.Prelude.{◌≡◌};
 ghost use Rattle.ga_prompt.specs.Request.{refusal_name};
 
 /// Why a line asks for nothing that can be done.
@@ -10,6 +10,10 @@ pub(crate) enum Refusal {
     BadText,
     /// It isn't a number of commands.
     BadCount,
+    /// A file is to be saved that has no name.
+    NoName,
+    /// Words are left over behind a command.
+    BadCommand,
 }
 
 impl Refusal {
@@ -20,6 +24,8 @@ impl Refusal {
             Refusal::TooLong => "TooLong",
             Refusal::BadText => "BadText",
             Refusal::BadCount => "BadCount",
+            Refusal::NoName => "NoName",
+            Refusal::BadCommand => "BadCommand",
         }
     }
 }

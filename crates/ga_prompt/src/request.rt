@@ -1,8 +1,11 @@
 //! What a line at the prompt asks for.
-ghost use Rattle.std.specs.Prelude.{◌≡◌, ℕ, List};
-ghost use Rattle.ga_prompt.specs.Request.{back_by, back_request, bytes_request, command_request, help_on, help_request, quit_request, request_in, save_request, text_request};
+ghost use Rattle.std.specs.Prelude.{◌≡◌, ℕ, List, if◌then◌else◌, option_map};
+ghost use Rattle.std.specs.Str.{is_utf8};
+ghost use Rattle.ga_prompt.specs.declared.refusal.Refusal.TheVariants.{BadText};
+ghost use Rattle.ga_prompt.specs.Request.{Refused, behind_word, command_request, first_word, named_file, own_request, request_in, text_request};
 ghost use Rattle.ga_prompt.specs.inner.Request.{IsSaidWhole, request};
 
+use crate::own::Own;
 use crate::refusal::Refusal;
 use ga_debug::{count_of, names_command};
 use std::str;
@@ -44,9 +47,9 @@ pub(crate) fn request_in(line: &[u8]) -> Request<'_>
 }
 
 /// What bytes ask for that aren't too long.
-#[tactic(auto, unfolding(crate::specs::Request::bytes_request))]
 fn bytes_request(line: &[u8]) -> Request<'_>
-    ensures request { request result ≡ bytes_request line.now }
+    ensures request { request result
+        ≡ (if is_utf8 line.now then text_request line.now else Refused BadText) }
     ensures whole { IsSaidWhole line.now result }
 {
     match str::from_utf8(line) {
@@ -57,109 +60,60 @@ fn bytes_request(line: &[u8]) -> Request<'_>
 
 /// What a text asks for.
 #[tactic(auto, unfolding(crate::specs::Request::text_request))]
-fn text_request(text: &str) -> Request<'_>
-    ensures request { request result ≡ text_request text.now }
-    ensures whole { IsSaidWhole text.now result }
+fn text_request(line: &str) -> Request<'_>
+    ensures request { request result ≡ text_request line.now }
+    ensures whole { IsSaidWhole line.now result }
 {
-    match text {
-        "" => Request::Nothing,
-        _ => quit_request(text),
+    if line.is_empty() {
+        return Request::Nothing;
+    }
+    let (word, behind) = cut(line);
+    match Own::named(word) {
+        Some(own) => own_request(own, behind),
+        None if names_command(line) => Request::Say(line),
+        None => Request::Unknown(line),
     }
 }
 
-/// What a text asks for by `quit`, or else by another word.
-#[tactic(auto, unfolding(crate::specs::Request::quit_request))]
-fn quit_request(text: &str) -> Request<'_>
-    ensures request { request result ≡ quit_request text.now }
-    ensures whole { IsSaidWhole text.now result }
+/// The first word of a line, and what is behind the first space, if it has one.
+fn cut(line: &str) -> (&str, Option<&str>)
+    ensures word { result.0.now ≡ first_word line.now }
+    ensures behind { option_map (λ behind. behind.now) result.1 ≡ behind_word line.now }
 {
-    if text == "quit" {
-        return Request::Quit;
-    }
-    help_request(text)
-}
-
-/// What a text asks for by `help`, or else by another word.
-#[tactic(auto, unfolding(crate::specs::Request::help_request))]
-fn help_request(text: &str) -> Request<'_>
-    ensures request { request result ≡ help_request text.now }
-    ensures whole { IsSaidWhole text.now result }
-{
-    if text == "help" {
-        return Request::Help("");
-    }
-    help_on(text)
-}
-
-/// What a text asks for by `help` and a name, or else by another word.
-#[tactic(auto, unfolding(crate::specs::Request::help_on))]
-fn help_on(text: &str) -> Request<'_>
-    ensures request { request result ≡ help_on text.now }
-    ensures whole { IsSaidWhole text.now result }
-{
-    match text.strip_prefix("help ") {
-        Some(name) => Request::Help(name),
-        None => back_request(text),
+    match line.split_once(' ') {
+        Some((word, behind)) => (word, Some(behind)),
+        None => (line, None),
     }
 }
 
-/// What a text asks for by `back`, or else by another word.
-#[tactic(auto, unfolding(crate::specs::Request::back_request))]
-fn back_request(text: &str) -> Request<'_>
-    ensures request { request result ≡ back_request text.now }
-    ensures whole { IsSaidWhole text.now result }
+/// What a command of the prompt asks for, by what is behind its name.
+fn own_request(own: Own, behind: Option<&str>) -> Request<'_>
+    ensures request { request result
+        ≡ own_request own (option_map (λ behind. behind.now) behind.entry) }
+    ensures unsaid { (line : List ℕ) → IsSaidWhole line result }
 {
-    if text == "back" {
-        return Request::Back(1);
-    }
-    back_by(text)
-}
-
-/// What a text asks for by `back` and a count, or else by another word.
-#[tactic(auto, unfolding(crate::specs::Request::back_by))]
-fn back_by(text: &str) -> Request<'_>
-    ensures request { request result ≡ back_by text.now }
-    ensures whole { IsSaidWhole text.now result }
-{
-    match text.strip_prefix("back ") {
-        Some(count) => match count_of(count.as_bytes()) {
+    match (own, behind) {
+        (Own::Help, behind) => Request::Help(behind.unwrap_or("")),
+        (Own::Back, None) => Request::Back(1),
+        (Own::Back, Some(count)) => match count_of(count.as_bytes()) {
             Some(count) => Request::Back(count),
             None => Request::Refused(Refusal::BadCount),
         },
-        None => save_request(text),
+        (Own::Save, behind) => named_file(false, behind),
+        (Own::Replace, behind) => named_file(true, behind),
+        (Own::Quit, None) => Request::Quit,
+        (Own::Quit, Some(_)) => Request::Refused(Refusal::BadCommand),
     }
 }
 
-/// What a text asks for by `save` or `save!`, or else by another word.
-#[tactic(auto, unfolding(crate::specs::Request::save_request))]
-fn save_request(text: &str) -> Request<'_>
-    ensures request { request result ≡ save_request text.now }
-    ensures whole { IsSaidWhole text.now result }
+/// The session is to be saved in a file, which needs a name.
+fn named_file(replaces: bool, name: Option<&str>) -> Request<'_>
+    ensures request { request result
+        ≡ named_file replaces (option_map (λ name. name.now) name.entry) }
+    ensures unsaid { (line : List ℕ) → IsSaidWhole line result }
 {
-    if let Some(name) = text.strip_prefix("save ") {
-        return Request::Save {
-            replaces: false,
-            name,
-        };
-    }
-    if let Some(name) = text.strip_prefix("save! ") {
-        return Request::Save {
-            replaces: true,
-            name,
-        };
-    }
-    command_request(text)
-}
-
-/// What a text asks for that is a command of transcripts, or none.
-#[tactic(auto, unfolding(crate::specs::Request::command_request))]
-fn command_request(text: &str) -> Request<'_>
-    ensures request { request result ≡ command_request text.now }
-    ensures whole { IsSaidWhole text.now result }
-{
-    if names_command(text) {
-        Request::Say(text)
-    } else {
-        Request::Unknown(text)
+    match name {
+        None | Some("") => Request::Refused(Refusal::NoName),
+        Some(name) => Request::Save { replaces, name },
     }
 }

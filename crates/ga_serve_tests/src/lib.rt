@@ -1,10 +1,12 @@
-//! The tests of the engine, by readers and writers in memory.
+//! The tests of the engine and of the prompt, by readers and writers in memory.
 #![tactic(auto)]
 
 #[cfg(test)]
 mod answers;
 #[cfg(test)]
 mod pieces;
+#[cfg(test)]
+mod prompt;
 #[cfg(test)]
 mod reading;
 #[cfg(test)]

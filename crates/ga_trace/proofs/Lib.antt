@@ -2,3 +2,4 @@ pub mod LastSteps
 pub mod Tracing
 pub mod Watching
 pub mod Stepping
+pub mod Resting

@@ -3,6 +3,7 @@ pub mod Line
 pub mod Last
 pub mod Stepped
 pub mod Traced
+pub mod Rest
 pub mod What
 pub mod Watched
 pub mod inner

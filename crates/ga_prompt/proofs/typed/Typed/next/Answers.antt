@@ -8,7 +8,7 @@ pub returns-clause-next : goal.returns-clause-next
 returns-clause-next g c =
     let last = c.args.self.now.last.items in
     let asked = c.if-not-is_empty.self.last.items in
-    let kept = c.read_line.new.self.read.items in
+    let kept = c.read_line.new.line.items in
     elim c.if-not-is_empty.branch [
       | then-not-is_empty w ↦
           let some : (length kept == 0) ≡ false = search rules in

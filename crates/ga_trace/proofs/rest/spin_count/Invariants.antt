@@ -1,0 +1,13 @@
+use Rattle.std.proofs.Common.{◌≡◌, ◌≤◌, length}
+use Rattle.std.specs.List.{flat_map, range_with_len}
+use Rattle.ga_place.specs.Cell.{name_at}
+use Rattle.ga_trace.specs.Rest.{if_spins}
+use Rattle.ga_trace.proofs.rest.spin_count.Given as goal
+
+-- as many nodes are counted
+abbrev pub invariant-loop-index : goal.invariant-loop-index
+invariant-loop-index l = record {
+  counted : l.count
+      ≡ length (flat_map (λ index. if_spins l.chip (name_at index)) (range_with_len 0 l.index));
+  few : l.count ≤ l.index;
+}
