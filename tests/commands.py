@@ -31,6 +31,7 @@ SHAPES = {
     "Side": ("SIDE", "S", "side"),
     "Count": ("K", "K", "count"),
     "CountIf": ("[K]", "[K]", "count?"),
+    "AddressIf": ("[HHH]", "[HHH]", "address?"),
     "OneIf": ("[K]", "[K]", "one?"),
     "PassesIf": ("[xN]", "[xN]", "passes?"),
     "RangeIf": ("[HHH [COUNT]]", "[HHH [COUNT]]", "range?"),

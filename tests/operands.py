@@ -15,7 +15,7 @@ COMMANDS = {
 }  # fmt: skip
 IN_TRANSCRIPTS = {
     **COMMANDS, "mem": ["node", "range?"], "node": ["node"], "breaks": [], "where": [], "nodes": [], "sides": ["node"],
-    "until": ["node", "address", "passes?", "count?"], "step": ["node", "one?"], "trace": ["node", "count"],
+    "until": ["node", "address", "passes?", "count?"], "run": ["count?"], "code": ["node", "address?"], "step": ["node", "one?"], "trace": ["node", "count"],
     "watch": ["node", "what", "goal?"], "expect": ["node", "what", "values"],
 }  # fmt: skip
 IN_REPLAYS = {
@@ -99,13 +99,21 @@ def read_passes(words, labels, operands):
     return read_count(words, labels, operands)
 
 
-def read_range(words, labels, operands):
-    """The index of the first word, and how many are shown; (0, 0) are all."""
+def read_from(words, labels, operands):
+    """The index of a word of memory, or None without a word."""
     if not words:
-        return 0, 0
+        return None
     index = memory_in(words.pop(0), labels)
     if index is None:
         raise Refused("BadAddress")
+    return index
+
+
+def read_range(words, labels, operands):
+    """The index of the first word, and how many are shown; (0, 0) are all."""
+    index = read_from(words, labels, operands)
+    if index is None:
+        return 0, 0
     count = count_or(1)(words, labels, operands)
     if count == 0:
         raise Refused("BadCount")
@@ -173,6 +181,7 @@ READERS = {
     "count?": count_or(MOST_TURNS),
     "one?": count_or(1),
     "passes?": read_passes,
+    "address?": read_from,
     "range?": read_range,
     "what": read_what,
     "values": read_values,

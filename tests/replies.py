@@ -32,13 +32,13 @@ CHANGES = (
 STEP = f"{NUMBER} {P}{LABEL}  [^ \n]+{DEED}{CHANGES}\n"
 END = rf"{SIDE} of (?:{NODE.pattern}|nobody)"
 REST = f"(?:waits {END}(?:/{END})*|waits for its stream|works|held|{STOPPED})\n"
+CODE = f"(?:[.] > |  )(0[0-3][0-9A-F])  ({WORD})  (?:code    |follower|data    )  [^ \n][^\n]*\n"
 REPLIES = {
     "clear": "ok\n",
     "pass": "(?:ok|refused NotHeld)\n",
     "try": f"(?:{OUTCOMES})\n",
     "turn": f"moved {NUMBER}\n",
     "until": f"(?:turns {NUMBER} moved {NUMBER}|not reached)\n",
-    "run": f"turns {NUMBER} moved {NUMBER}(?:, at rest)?\n",
     "where": f"(?:{WAITS})*(?:{RING})*",
     "nodes": f"(?:{WAITS})*(?:{IDLE})?(?:{RING})*",
 }
@@ -133,7 +133,19 @@ def sides_form(node):
     return ["".join(lines)]
 
 
+def code_form(node, index):
+    """Twelve words, from the fourth before an index on, as far as memory reaches. Without one the index isn't known."""
+    count = "1,12" if index is None else min(12, 64 - max(index - 4, 0))
+    return [f"(?:(?:{NAME.pattern}:\n)*{CODE}){{{count}}}"]
+
+
+def run_form(count):
+    return [f"turns (?:{NUMBER} moved {NUMBER}, at rest|{count} moved {NUMBER})\n"]
+
+
 FORMS = {
+    "run": run_form,
+    "code": code_form,
     "regs": lambda node: [registers(node)],
     "node": lambda node: [registers(node), STACKS],
     "mem": memory_form,
@@ -282,6 +294,11 @@ def memory_of_debug(reply, node, words):
     return memory_seen(node, {words[0] + i: word for i, word in enumerate(shown)})
 
 
+def code_of_debug(reply, node, index):
+    shown = (compiled(CODE).fullmatch(f"{line}\n") for line in reply)
+    return memory_seen(node, {int(found[1], 16): found[2] for found in shown if found})
+
+
 def sides_of_debug(reply, node):
     """The words that a node and its neighbours have posted, as counts of those pending."""
     lines = [line.split() for line in reply]
@@ -300,6 +317,7 @@ OF_DEBUG = {
     "expect": expect_of_debug,
     "mem": memory_of_debug,
     "sides": sides_of_debug,
+    "code": code_of_debug,
     "node": lambda reply, node: [(f"regs {node:03}", reply[:1])],
 }
 
