@@ -58,6 +58,13 @@ def recorded_runs():
 
 
 RUNS = recorded_runs() + SESSIONS
+SUM = f"{os.path.dirname(FOLDER)}/examples/sum/sum.transcript"
+# Calls of several files: whole reports may come before memory runs out, and the fault may name the file.
+FILES = [
+    (["check", "-", SUM], HEAD + b"> turn 1\nmoved 2\n> where\nold\n> mem 000\n"),
+    (["check", SUM, "-"], HEAD + b"early\n"),
+    (["record", "--write", SUM], b""),
+]
 # Command lines that name no job.
 LINES = [
     (["dis", "--code", "65"], b""),
@@ -148,6 +155,15 @@ def rights_of_run(ample):
     return [ample, (3, b"", b"ga-bench: memory\n")] if ample[0] != 3 else []
 
 
+def rights_of_files(ample):
+    """A prefix of whole lines, and then that memory ran out."""
+    lines = ample[1].splitlines(keepends=True)
+    faults = [b"ga-bench: memory\n", f"ga-bench: {SUM}: memory\n".encode()]
+    early = [(3, b"".join(lines[:count]), fault) for count in range(len(lines), -1, -1) for fault in faults]
+    last = faults[1] if ample[1].endswith(b".transcript: same\n") else faults[0]
+    return [ample, *early, (3, b"", last)] if ample[0] != 3 else []
+
+
 def rights_of_call(ample):
     """With ample memory a call gives its result, or another fault than `Memory`; 3 is for memory refused outside it."""
     is_told = ample in [(0, told, b"") for told in (b"answered\n", b"fault alike\n")]
@@ -160,6 +176,7 @@ def main(program, caller=None):
         compiler = os.environ.get("CC", "cc")
         subprocess.run([compiler, "-shared", "-fPIC", "-O1", "-o", library, f"{FOLDER}/refuse_memory.c", "-ldl"], check=True)
         told = [*pool.map(partial(refuse_each, program, library, rights_of_run), RUNS + LINES)]
+        told += pool.map(partial(refuse_each, program, library, rights_of_files), FILES)
         os.mkdir(f"{folder}/talk")
         told.append(refuse_in_talk(program, library, f"{folder}/talk"))
         if caller:

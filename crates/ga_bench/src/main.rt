@@ -5,15 +5,18 @@ mod saved_files;
 
 ghost use Rattle.std.specs.Prelude.{◌≡◌, IfErr, IfOk, IfSome, map, string_bytes};
 ghost use Rattle.ga_command_line.specs.CommandLine.{InRange, IsJobOf, IsRight};
+ghost use Rattle.ga_transcript.specs.Record.{Holds};
 ghost use Rattle.ga_bench.specs.Status.{HasServed, HasStatus, IsStatusOf};
 
 use crate::saved_files::SavedFiles;
 use clap::error::ErrorKind::InvalidValue;
 use ga_command_line::{LineError, job, refusal};
+use ga_jobs::record::replacement;
 use ga_jobs::{
-    Ending, InputFault, Job, Loading, Reads, ServeError, open_session, read_input, serve, status,
+    Ending, FileReport, InputFault, Job, Loading, Reads, ServeError, Writes, open_session,
+    read_input, serve, status, write_output,
 };
-use ga_prompt::Conversation;
+use ga_prompt::{Conversation, SaveFault, Saves};
 use std::alloc::Global;
 use std::fs::OpenFile;
 use std::io::ErrorKind::{NotFound, OutOfMemory};
@@ -28,9 +31,11 @@ fn main(rt: HostRuntime) -> ExitCode {
         Ok(Job::Talk { loading, file }) => {
             talk_status(&rt, &mut rt.reader(), &loading, file.as_str())
         }
-        Ok(job) => match job.file() {
-            Some(name) => serve_file(&rt, name, &job),
-            None => {
+        Ok(Job::Rewrite { files }) => rewrite_status(&rt, &files),
+        Ok(job) => match (job.several_files(), job.file()) {
+            (Some(files), _) => check_status(&rt, &mut rt.reader(), files),
+            (None, Some(name)) => serve_file(&rt, name, &job),
+            (None, None) => {
                 let mut reader = rt.reader();
                 if job.reads_input() && reader.is_terminal() {
                     let _ = eprintln!(&rt;
@@ -76,11 +81,7 @@ fn talk_about<Rt: AllocGlobal + Print + Files, R: Read + IsTerminal>(
     name: &str,
 ) -> Result<(), ServeError> {
     let alloc = rt.alloc();
-    let input = if name == "-" {
-        read_input(alloc, reader, &mut Reads::default())?
-    } else {
-        read_input(alloc, &mut opened(rt, name)?, &mut Reads::default())?
-    };
+    let input = input_named(rt, reader, name)?;
     let live = open_session(alloc, loading, &input)?;
     let mut conversation = Conversation::new(alloc, live, reader.is_terminal())?;
     let Ok(mut lines) = BufReader::new(alloc, reader) else {
@@ -88,6 +89,126 @@ fn talk_about<Rt: AllocGlobal + Print + Files, R: Read + IsTerminal>(
     };
     let mut saves = SavedFiles { alloc, files: rt };
     conversation.talk(alloc, &mut saves, &mut lines, &mut io::writer(rt))
+}
+
+/// The bytes of the file with a name, or of standard input for `-`.
+fn input_named<Rt: AllocGlobal + Files, R: Read>(
+    rt: &Rt,
+    reader: &mut R,
+    name: &str,
+) -> Result<Vec<u8>, ServeError> {
+    if name == "-" {
+        return read_input(rt.alloc(), reader, &mut Reads::default());
+    }
+    read_input(rt.alloc(), &mut opened(rt, name)?, &mut Reads::default())
+}
+
+/// Checks several files, one after another. Answers the exit status: 1 if one of them failed.
+fn check_status<Rt: AllocGlobal + Print + Eprint + Files, R: Read>(
+    rt: &Rt,
+    reader: &mut R,
+    files: &[String],
+) -> u8 {
+    match check_files(rt, reader, &mut io::writer(rt), files) {
+        Ok(true) => 0,
+        Ok(false) => 1,
+        Err(fault) => {
+            let _ = eprintln!(rt; "ga-bench: {fault}");
+            status(&Err(fault))
+        }
+    }
+}
+
+/// Checks several files, and writes the report on each, and then how many passed and failed.
+/// Answers whether all passed.
+fn check_files<Rt: AllocGlobal + Files, R: Read, W: Write>(
+    rt: &Rt,
+    reader: &mut R,
+    writer: &mut W,
+    files: &[String],
+) -> Result<bool, ServeError> {
+    let mut passed = 0;
+    for file in files {
+        let report = report_on(rt, reader, file.as_str())?;
+        write_output(writer, report.text.as_bytes(), &mut Writes::default())?;
+        if report.passes {
+            passed += 1;
+        }
+    }
+    let failed = files.len() - passed;
+    let counts = format!(in rt.alloc(); "{passed} passed, {failed} failed\n")?;
+    write_output(writer, counts.as_bytes(), &mut Writes::default())?;
+    Ok(failed == 0)
+}
+
+/// The report on the file with a name, also if it can't be read.
+fn report_on<Rt: AllocGlobal + Files, R: Read>(
+    rt: &Rt,
+    reader: &mut R,
+    name: &str,
+) -> Result<FileReport, ServeError> {
+    match input_named(rt, reader, name) {
+        Ok(input) => FileReport::new(rt.alloc(), name, &input),
+        Err(ServeError::Memory) => Err(ServeError::Memory),
+        Err(fault) => Ok(FileReport::refused(rt.alloc(), name, &fault)?),
+    }
+}
+
+/// Replaces files by their recordings, and names each with what was done, or why it is left as it
+/// is. Answers the exit status: 1 if one of them has a fault.
+fn rewrite_status<Rt: AllocGlobal + Print + Eprint + Files>(rt: &Rt, files: &[String]) -> u8 {
+    let mut worst = 0;
+    for file in files {
+        if let Err(fault) = rewrite(rt, &mut io::writer(rt), file.as_str()) {
+            let _ = eprintln!(rt; "ga-bench: {file}: {fault}");
+            worst = status(&Err(fault)).max(worst);
+        }
+    }
+    worst
+}
+
+/// Replaces a file by its recording, and writes what was done. A file that is its own recording is
+/// left as it is.
+fn rewrite<Rt: AllocGlobal + Files, W: Write>(
+    rt: &Rt,
+    writer: &mut W,
+    name: &str,
+) -> Result<(), ServeError> {
+    let alloc = rt.alloc();
+    let input = read_input(alloc, &mut regular(rt, name)?, &mut Reads::default())?;
+    let done = match replacement(alloc, &input)? {
+        Some(recording) => {
+            save(rt, name, recording.as_str())?;
+            "recorded"
+        }
+        None => "same",
+    };
+    let line = format!(in alloc; "{name}: {done}\n")?;
+    write_output(writer, line.as_bytes(), &mut Writes::default())
+}
+
+/// Replaces a file by a transcript, in one step.
+fn save<Rt: AllocGlobal + Files>(rt: &Rt, name: &str, transcript: &str) -> Result<(), ServeError>
+    requires { Holds transcript.now }
+{
+    let alloc = rt.alloc();
+    match (SavedFiles { alloc, files: rt }).save(name, transcript, true) {
+        Ok(()) => Ok(()),
+        Err(SaveFault::Memory) => Err(ServeError::Memory),
+        Err(SaveFault::NotAFile) => Err(ServeError::Input(InputFault::NotAFile)),
+        Err(SaveFault::Exists | SaveFault::Write(_)) => Err(ServeError::Write),
+    }
+}
+
+/// The regular file with a name, to be read. Any other is refused before it is opened, since
+/// opening a pipe waits for its writer.
+fn regular<R: Files>(rt: &R, name: &str) -> Result<R::File, ServeError> {
+    match fs::metadata(rt, name) {
+        Ok(found) if !found.is_file() && !found.is_dir() => {
+            Err(ServeError::Input(InputFault::NotAFile))
+        }
+        _ => opened(rt, name),
+    }
 }
 
 /// Serves a job whose input is the file with a name. Answers the exit status.

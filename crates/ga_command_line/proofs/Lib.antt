@@ -1,3 +1,4 @@
+pub mod Several
 mod Opened
 mod Entered
 mod WorkedLines

@@ -7,7 +7,7 @@ use Rattle.ga_command_line.specs.CommandLine.{bare_command, bench_command}
 use Rattle.ga_command_line.specs.Debug.{debug_command}
 use Rattle.ga_command_line.specs.Dis.{dis_command}
 use Rattle.ga_command_line.specs.Explain.{explain_command}
-use Rattle.ga_command_line.specs.File.{file_command}
+use Rattle.ga_command_line.specs.File.{files_command, writing_command}
 use Rattle.ga_command_line.specs.List.{list_command}
 use Rattle.ga_command_line.specs.Loading as loading
 use Rattle.ga_command_line.specs.One.{one_command}
@@ -18,5 +18,5 @@ unfoldable pub whole_command : App
 unfolding bench_command linked bare_command one_command dis_command boot_command routed_command
     shared_command run_command list_command loading.placed_command
     loading.loading_command debug_command race.turns_command race.witness_command race.race_command
-    file_command explain_command
+    files_command writing_command explain_command
 whole_command = bench_command

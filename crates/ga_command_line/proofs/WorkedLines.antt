@@ -1,9 +1,9 @@
 -- Command lines that were worked out by hand.
-use Rattle.std.proofs.Common.{◌≡◌, Global, String, string_bytes, ap, sym, true, false, [], ◌∷◌, Some, None, refl, lit<, lit≤}
+use Rattle.std.proofs.Common.{◌≡◌, ◌<◌, Global, String, Vec, length, map, string_bytes, ap, sym, true, false, [], ◌∷◌, Some, None, refl, lit<, lit≤}
 use Rattle.std.specs.Prelude.{codes}
 use Rattle.clap.proofs.OnLiterals.{clap_on_literals}
 use Rattle.clap.specs.Words.{takes}
-use Rattle.ga_jobs.specs.declared.Job.TheVariants.{One, Dis, Boot, Race, Check, Record, Explain}
+use Rattle.ga_jobs.specs.declared.Job.TheVariants.{One, Dis, Boot, Race, Check, Record, Rewrite, Explain}
 use Rattle.ga_jobs.specs.declared.race.Loading.TheVariants.{Any}
 use Rattle.ga_explain.specs.declared.topic.Topic.{Topic}
 use Rattle.ga_command_line.specs.Explain.{IsOfTable}
@@ -28,14 +28,23 @@ boot_line : (route : String Global) → string_bytes route ≡ codes "708,709"
 unfolding whole_command clap_on_literals
 boot_line route is = (refl, (refl, ap Some (sym is)), tt)
 
-check_line : (file : String Global) → string_bytes file ≡ codes "ring"
-    → IsRight (codes "ga-bench" ∷ codes "check" ∷ codes "ring" ∷ []) (Check (Some file))
+check_line : (files : Vec (String Global) Global)
+    → map string_bytes files.items ≡ codes "ring" ∷ codes "sum" ∷ []
+    → IsRight (codes "ga-bench" ∷ codes "check" ∷ codes "ring" ∷ codes "sum" ∷ []) (Check files)
 unfolding whole_command clap_on_literals
-check_line file is = (refl, (refl, ap Some is), tt)
+check_line files is = (refl, (refl, is), tt)
 
 record_line : IsRight (codes "ga-bench" ∷ codes "record" ∷ []) (Record None)
 unfolding whole_command clap_on_literals
-record_line = (refl, (refl, refl), tt)
+record_line = (refl, (refl, (refl, refl)), tt)
+
+rewrite_line : (files : Vec (String Global) Global)
+    → map string_bytes files.items ≡ codes "ring" ∷ codes "sum" ∷ [] → 0 < length files.items
+    → IsRight
+    (codes "ga-bench" ∷ codes "record" ∷ codes "--write" ∷ codes "ring" ∷ codes "sum" ∷ [])
+    (Rewrite files)
+unfolding whole_command clap_on_literals
+rewrite_line files is some = (refl, (refl, (refl, is, some)), tt)
 
 names_line : IsRight (codes "ga-bench" ∷ codes "explain" ∷ []) (Explain None)
 unfolding whole_command clap_on_literals

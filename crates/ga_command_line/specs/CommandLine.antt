@@ -1,5 +1,6 @@
 -- The command line: the command as clap's definitions read it, and the job that its words name.
-use Rattle.std.specs.Prelude.{◌≡◌, ◌≤◌, ◌∷◌, [], List, true, codes, fold, map, IfSome, IsSomeAnd, Option, None, Some, option_map, string_bytes}
+use Rattle.std.specs.Prelude.{◌≡◌, ◌<◌, ◌≤◌, ◌∷◌, [], List, true, false, codes, fold, length, map, IfSome, IsSomeAnd, Option, None, Some, option_map, string_bytes}
+use Rattle.std.specs.Option.{option_map_or}
 use Rattle.clap.specs.Words.{App, Row, Text, new_app, subcommand_of, takes}
 use Rattle.ga_jobs.specs.declared.Job.{Job}
 use Rattle.ga_jobs.specs.declared.Job.TheVariants.{One, Asm, Dis, Boot, Run, Debug, Talk, Replay, Explain}
@@ -12,7 +13,7 @@ use Rattle.ga_command_line.specs.Command.{linked}
 use Rattle.ga_command_line.specs.Debug.{debug_command}
 use Rattle.ga_command_line.specs.Dis.{dis_command}
 use Rattle.ga_command_line.specs.Explain.{IsOfTable, IsTopicAt, explain_command}
-use Rattle.ga_command_line.specs.File.{IsFileAt, file_command}
+use Rattle.ga_command_line.specs.File.{IsFileAt, files_at, files_command, writing_command}
 use Rattle.ga_command_line.specs.Flag.{is_set}
 use Rattle.ga_command_line.specs.List.{list_command}
 use Rattle.ga_command_line.specs.Loading.{IsLoadingAt}
@@ -39,8 +40,8 @@ command_of sub.Debug = debug_command
 command_of sub.Replay = new_app (codes "replay")
 command_of sub.List = list_command
 command_of sub.Race = race_command
-command_of sub.Check = file_command (codes "check")
-command_of sub.Record = file_command (codes "record")
+command_of sub.Check = files_command (codes "check")
+command_of sub.Record = writing_command (codes "record")
 command_of sub.Explain = explain_command
 
 -- the subcommands, in the order of help
@@ -65,8 +66,9 @@ job_name (Talk loading file) = codes "debug"
 job_name Replay = codes "replay"
 job_name (job.List labels file) = codes "list"
 job_name (job.Race loading turns witness file) = codes "race"
-job_name (job.Check file) = codes "check"
+job_name (job.Check files) = codes "check"
 job_name (job.Record file) = codes "record"
+job_name (job.Rewrite files) = codes "record"
 job_name (Explain topic) = codes "explain"
 
 -- the arguments that a job is asked for by; other jobs have none
@@ -85,8 +87,13 @@ HasArguments rows (job.List labels file) =
 HasArguments rows (job.Race loading turns witness file) =
     IsLoadingAt rows loading × IsNumberIfAt (codes "N") rows turns
     × (witness ≡ is_set (codes "WITNESS") rows) × IsFileAt rows (option_map string_bytes file)
-HasArguments rows (job.Check file) = IsFileAt rows (option_map string_bytes file)
-HasArguments rows (job.Record file) = IsFileAt rows (option_map string_bytes file)
+HasArguments rows (job.Check files) = map string_bytes files.items ≡ files_at rows
+HasArguments rows (job.Record file) =
+    (is_set (codes "WRITE") rows ≡ false)
+    × (files_at rows ≡ option_map_or (λ name. name ∷ []) (option_map string_bytes file) [])
+HasArguments rows (job.Rewrite files) =
+    (is_set (codes "WRITE") rows ≡ true) × (map string_bytes files.items ≡ files_at rows)
+    × (0 < length files.items)
 HasArguments rows (Explain topic) = IsTopicAt rows topic
 HasArguments rows job = Unit {0}
 

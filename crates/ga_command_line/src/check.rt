@@ -1,11 +1,11 @@
 ghost use Rattle.std.specs.Prelude.{IfOk, codes};
 ghost use Rattle.clap.specs.Words.{found_of, rows_of};
 ghost use Rattle.ga_command_line.specs.CommandLine.{AsksFor, InRange};
-ghost use Rattle.ga_command_line.specs.File.{file_command};
+ghost use Rattle.ga_command_line.specs.File.{files_command};
 ghost use Rattle.ga_command_line.specs.inner.Command.{IsCommandOf};
 
-use crate::file::file_in;
-use clap::{Arg, ArgMatches, Command};
+use crate::files::files_in;
+use clap::{Arg, ArgAction, ArgMatches, Command};
 use ga_jobs::Job;
 use std::alloc::{AllocError, Global};
 
@@ -15,6 +15,9 @@ it up to the line 'go', and then commands and their replies. A line that begins 
 and the lines behind it are its reply. A line that begins with '\\ ' is a comment.
 Writes 'same' and the number of commands if each has the reply in the text. If not, it reports the line
 of the first command that differs, the expected lines with '-', and the actual lines with '+'.
+With two or more FILEs it checks each, and names it: it reports all commands that differ, with at most
+ten lines of each reply, and then writes the numbers of files that passed and failed. The exit status is
+1 if one failed.
 
 The commands are those of debug, and:
   node NNN        the node's registers and stacks
@@ -26,18 +29,18 @@ An address is three hex digits, or a label of its node.
 Example: printf 'profile 2\\nplace\\nnode 000 .\\ngo\\n> turn 4\\nmoved 4\\n' | ga-bench check
 More: Transcripts in docs/FORMATS.md";
 
-/// The subcommand `check [FILE]`.
-#[tactic(auto, unfolding(crate::specs::File::file_command))]
+/// The subcommand `check [FILE]..`.
+#[tactic(auto, unfolding(crate::specs::File::files_command))]
 pub fn command<'a>(alloc: Global) -> Result<Command<'a>, AllocError>
-    ensures { IfOk result (IsCommandOf (file_command (codes "check"))) }
+    ensures { IfOk result (IsCommandOf (files_command (codes "check"))) }
 {
-    let file = Arg::new(alloc, "FILE").help(
-        "The transcript; standard input by default or if it is -",
-    );
+    let files = Arg::new(alloc, "FILE")
+        .action(ArgAction::Append)
+        .help("The transcripts; standard input by default or for -");
     Command::new(alloc, "check")
         .about("Runs the commands of a transcript, and compares the replies with those in it")
         .after_help(HELP)
-        .arg(file)
+        .arg(files)
 }
 
 /// The job for the arguments of `check`.
@@ -45,6 +48,6 @@ pub fn job_of(alloc: Global, found: &ArgMatches<'_>) -> Result<Job, AllocError>
     ensures in_range { IfOk result InRange }
     ensures asked { IfOk result (AsksFor (codes "check", rows_of (found_of found.now))) }
 {
-    let file = file_in(alloc, found)?;
-    Ok(Job::Check { file })
+    let files = files_in(alloc, found)?;
+    Ok(Job::Check { files })
 }

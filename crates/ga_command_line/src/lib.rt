@@ -14,6 +14,7 @@ mod debug;
 mod dis;
 mod explain;
 mod file;
+mod files;
 mod flag;
 mod list;
 mod loading;
@@ -125,7 +126,7 @@ fn job_named(alloc: Global, name: &str, found: &ArgMatches<'_>) -> Result<Job, L
         "list" => Ok(list::job_of(alloc, found)?),
         "race" => race::job_of(alloc, found),
         "check" => Ok(check::job_of(alloc, found)?),
-        "record" => Ok(record::job_of(alloc, found)?),
+        "record" => record::job_of(alloc, found),
         "explain" => explain::job_of(alloc, found),
         _ => Err(missing(alloc)),
     }

@@ -6,5 +6,6 @@ pub mod OneOutput
 pub mod OneRun
 mod OneAnswer
 mod Again
+pub mod Reports
 mod WorkedOutputs
 mod Judged

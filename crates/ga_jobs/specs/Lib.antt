@@ -1,5 +1,5 @@
 -- The jobs: what each reads, and what it may answer to an input, by the page of its name.
-use Rattle.std.specs.Prelude.{◌≡◌, Bool, true, false, List, ℕ, String, codes, Option, Some, None, Result, Ok, string_bytes, if◌then◌else◌}
+use Rattle.std.specs.Prelude.{◌≡◌, Bool, true, false, List, [], ◌∷◌, ℕ, String, codes, Option, Some, None, Result, Ok, length, map, nat_lt, string_bytes, if◌then◌else◌}
 use Rattle.std.specs.Str.{bytes_eq}
 use Rattle.ga_explain.specs.Output.{explain_output}
 use Rattle.ga_jobs.specs.declared.Job.{Job}
@@ -22,6 +22,7 @@ pub mod Meaning
 pub mod TextFault
 pub mod TranscriptFault
 pub mod Transcript
+pub mod Report
 pub mod Listing
 pub mod Text
 pub mod One
@@ -53,8 +54,9 @@ IsJobOutput job.Debug input answer = IsDebugOutput input answer
 IsJobOutput (job.Talk loading file) input answer = IsSessionOutput loading input answer
 IsJobOutput job.Replay input answer = IsReplayOutput input answer
 IsJobOutput (job.List labels file) input answer = IsListOutput labels input answer
-IsJobOutput (job.Check file) input answer = IsCheckOutput input answer
+IsJobOutput (job.Check files) input answer = IsCheckOutput input answer
 IsJobOutput (job.Record file) input answer = IsRecordOutput input answer
+IsJobOutput (job.Rewrite files) input answer = IsRecordOutput input answer
 IsJobOutput (job.Race loading turns witness file) input answer =
     IsRaceOutput loading turns witness input answer
 IsJobOutput (job.Explain topic) input answer = answer ≡ Ok (explain_output topic)
@@ -69,14 +71,24 @@ abbrev pub named_file : {A : Type 0} → String A → Option (List ℕ)
 named_file file =
     if bytes_eq (string_bytes file) (codes "-") then None else Some (string_bytes file)
 
+abbrev pub only_file : {A : Type 0} → List (String A) → Option (List ℕ)
+only_file (file ∷ []) = named_file file
+only_file files = None
+
 -- the file that a job reads in place of standard input
 abbrev pub file_of : Job → Option (List ℕ)
 file_of (job.List labels (Some file)) = named_file file
-file_of (job.Check (Some file)) = named_file file
+file_of (job.Check files) = only_file files.items
 file_of (job.Record (Some file)) = named_file file
 file_of (job.Race loading turns witness (Some file)) = named_file file
 file_of (job.Talk loading file) = named_file file
 file_of job = None
+
+-- the files of a job that names two or more
+abbrev pub several_files_of : Job → Option (List (List ℕ))
+several_files_of (job.Check files) =
+    if nat_lt 1 (length files.items) then Some (map string_bytes files.items) else None
+several_files_of job = None
 
 -- the job that is handed the means to start threads
 abbrev pub needs_threads : Job → Bool

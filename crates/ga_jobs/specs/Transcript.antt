@@ -1,8 +1,10 @@
 -- The jobs `check` and `record`: what they write.
-use Rattle.std.specs.Prelude.{ℕ, List, Result}
+use Rattle.std.specs.Prelude.{◌≡◌, ◌≢◌, ◌≤◌, ◌⊎◌, ℕ, List, length, Option, None, Some, Result, Ok, Err}
 use Rattle.ga_transcript.specs.Check.{IsChecked}
 use Rattle.ga_transcript.specs.Record.{IsRecorded}
 use Rattle.ga_jobs.specs.declared.fault.ServeError.{ServeError}
+use Rattle.ga_jobs.specs.declared.fault.ServeError.TheVariants.{Output}
+use Rattle.ga_jobs.specs.declared.fault.OutputFault.TheVariants.{TooLong}
 use Rattle.ga_jobs.specs.Replay.{IsSame}
 use Rattle.ga_jobs.specs.Text.{IsInText}
 use Rattle.ga_jobs.specs.TranscriptFault.{shown_transcript_fault}
@@ -16,3 +18,13 @@ IsCheckOutput input answer =
 -- what `record` may write for an input, or its first fault
 abbrev pub IsRecordOutput : List ℕ → Result (List ℕ) ServeError → Type 0
 IsRecordOutput input answer = IsInText shown_transcript_fault IsRecorded input answer
+
+-- what replaces an input: nothing, if it is its recording; else its recording, unless that has more
+-- bytes than an input may have; or its first fault
+abbrev pub IsReplacement : List ℕ → Result (Option (List ℕ)) ServeError → Type 0
+IsReplacement input (Ok None) = IsRecordOutput input (Ok input)
+IsReplacement input (Ok (Some text)) =
+    IsRecordOutput input (Ok text) × (text ≢ input) × (length text ≤ 1048576)
+IsReplacement input (Err fault) =
+    IsRecordOutput input (Err fault)
+    ⊎ ((text : List ℕ) × IsRecordOutput input (Ok text) × (fault ≡ Output TooLong))

@@ -33,6 +33,9 @@ pub enum InputFault {
     /// The name is that of a folder.
     #[error("Folder")]
     Folder,
+    /// The name is that of a pipe or a device, which can't be replaced.
+    #[error("NotAFile")]
+    NotAFile,
 }
 
 /// Why an output isn't written.

@@ -3,8 +3,8 @@
 //! file lists the jobs.
 #![tactic(auto)]
 
-ghost use Rattle.std.specs.Prelude.{◌≡◌, IfSome, is_some, not, option_map, string_bytes};
-ghost use Rattle.ga_jobs.specs.{IsJobOutput, file_of, needs_threads, reads_input};
+ghost use Rattle.std.specs.Prelude.{◌≡◌, IfSome, is_some, map, not, option_map, string_bytes};
+ghost use Rattle.ga_jobs.specs.{IsJobOutput, file_of, needs_threads, only_file, reads_input, several_files_of};
 ghost use Rattle.ga_jobs.specs.Fault.{Answers};
 
 mod answering;
@@ -25,6 +25,7 @@ mod reading;
 mod reads;
 pub mod record;
 pub mod replay;
+mod report;
 pub mod run;
 mod session;
 mod shown;
@@ -43,6 +44,7 @@ pub use crate::fault::{InputFault, OutputFault, RouteFault, ServeError, TextFaul
 pub use crate::race::Loading;
 pub use crate::reading::read_input;
 pub use crate::reads::{Reads, tried_again};
+pub use crate::report::FileReport;
 pub use crate::session::open_session;
 pub use crate::shown::ShownText;
 pub use crate::writes::Writes;
@@ -90,13 +92,19 @@ pub enum Job {
         file: Option<String>,
     },
     /// How many commands a transcript has, if each has the expected reply. The transcript is in the
-    /// file, or comes from standard input if there is none.
+    /// file, or comes from standard input if there is none. As a job it has one input: several
+    /// files are inputs of as many jobs, and [`FileReport`] has what is reported of each.
     Check {
-        file: Option<String>,
+        files: Vec<String>,
     },
-    /// A transcript with the replies that come, from there too.
+    /// A transcript with the replies that come, from a file or standard input too.
     Record {
         file: Option<String>,
+    },
+    /// Each file has a transcript, and is replaced by its recording. As a job it has the bytes of
+    /// one of them, and its output is what replaces them.
+    Rewrite {
+        files: Vec<String>,
     },
     /// What one run of a chip shows of all its runs. The session or the source text is in the file,
     /// or comes from standard input if there is none.
@@ -120,17 +128,28 @@ impl Job {
         !matches!(self, Job::Explain { .. })
     }
 
-    /// The name of the file that the job reads in place of standard input, if it names one; `-` is
-    /// standard input too.
+    /// The files that the job checks, one after another, if they are two or more.
+    pub fn several_files(&self) -> Option<&[String]>
+        ensures { option_map (λ files. map string_bytes files.now) result
+            ≡ several_files_of self.now }
+    {
+        match self {
+            Job::Check { files } if files.len() > 1 => Some(files.as_slice()),
+            _ => None,
+        }
+    }
+
+    /// The name of the file that the job reads in place of standard input, if it names one alone;
+    /// `-` is standard input too.
     pub fn file(&self) -> Option<&str>
         ensures { option_map (λ name. name.now) result ≡ file_of self.now }
     {
         match self {
+            Job::Check { files } => only_file(files),
             Job::List {
                 file: Some(file),
                 ..
             }
-            | Job::Check { file: Some(file) }
             | Job::Record { file: Some(file) }
             | Job::Race {
                 file: Some(file),
@@ -140,6 +159,16 @@ impl Job {
                 if file.as_str() != "-" => { Some(file.as_str()) }
             _ => None,
         }
+    }
+}
+
+/// The name of the only file, unless it is `-`.
+fn only_file(files: &[String]) -> Option<&str>
+    ensures { option_map (λ name. name.now) result ≡ only_file files.now }
+{
+    match files {
+        [file] if file.as_str() != "-" => Some(file.as_str()),
+        _ => None,
     }
 }
 
@@ -160,7 +189,7 @@ fn output(alloc: Global, job: &Job, input: &[u8]) -> Option<Result<String, Serve
         Job::Replay => Some(replay::output(alloc, input)),
         Job::List { labels, .. } => Some(list::output(alloc, *labels, input)),
         Job::Check { .. } => Some(check::output(alloc, input)),
-        Job::Record { .. } => Some(record::output(alloc, input)),
+        Job::Record { .. } | Job::Rewrite { .. } => Some(record::output(alloc, input)),
         Job::Race {
             loading,
             turns,

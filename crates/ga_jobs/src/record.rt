@@ -1,9 +1,11 @@
-ghost use Rattle.std.specs.Prelude.{string_bytes};
+ghost use Rattle.std.specs.Prelude.{IfOk, IfSome, option_map, string_bytes};
 ghost use Rattle.ga_asm.specs.Text.{AtMostOne};
 ghost use Rattle.ga_jobs.specs.Fault.{Answers};
-ghost use Rattle.ga_jobs.specs.Transcript.{IsRecordOutput};
+ghost use Rattle.ga_transcript.specs.Record.{Holds};
+ghost use Rattle.ga_jobs.specs.Transcript.{IsRecordOutput, IsReplacement};
 
-use crate::fault::ServeError;
+use crate::answering::INPUT_LIMIT;
+use crate::fault::{OutputFault, ServeError};
 use crate::text::input_text;
 use crate::transcript_fault::shown_transcript_fault;
 use ga_transcript::record;
@@ -22,4 +24,23 @@ pub fn output(alloc: Global, input: &[u8]) -> Result<String, ServeError>
         Ok(recording) => Ok(recording),
         Err(error) => Err(shown_transcript_fault(alloc, text, error)?),
     }
+}
+
+/// What replaces the input, which is a transcript: its recording, or `None` if it is that already.
+/// A recording of more bytes than an input may have is refused as
+/// [`OutputFault::TooLong`]; other faults are those of [`output`].
+pub fn replacement(alloc: Global, input: &[u8]) -> Result<Option<String>, ServeError>
+    ensures replacement { Answers (λ text. option_map string_bytes text)
+        (IsReplacement input.now) result }
+    // `check` accepts it
+    ensures holds { IfOk result (λ text. IfSome text (λ text. Holds (string_bytes text))) }
+{
+    let recording = output(alloc, input)?;
+    if recording.as_bytes() == input {
+        return Ok(None);
+    }
+    if recording.len() > INPUT_LIMIT {
+        return Err(ServeError::Output(OutputFault::TooLong));
+    }
+    Ok(Some(recording))
 }

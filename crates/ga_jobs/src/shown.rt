@@ -126,7 +126,7 @@ fn left_out(column: usize) -> usize
 }
 
 /// A character as it is shown: as a blank if a terminal would obey it, or draw nothing.
-fn shown_char(c: char) -> char
+pub fn shown_char(c: char) -> char
     ensures { result ≡ shown_char c }
 {
     if (c.is_control() && c != '\t') || is_undrawn(c) {
@@ -156,7 +156,7 @@ fn shown_line(alloc: Global, line: &str, skipped: usize) -> Result<String, Alloc
 
 /// Lines with LF between them, each character of them as it is shown.
 #[tactic(auto, unfolding(crate::specs::Shown::shown_lines))]
-fn shown_lines(alloc: Global, lines: &str) -> Result<String, AllocError>
+pub fn shown_lines(alloc: Global, lines: &str) -> Result<String, AllocError>
     ensures { IfOk result (λ shown. string_bytes shown ≡ shown_lines lines.now) }
 {
     lines

@@ -44,7 +44,12 @@ fn jobs(alloc: Global) -> Result<Vec<(Job, &'static str)>, Fail> {
         file: None,
     };
     jobs.push((listed, SOURCE))?;
-    jobs.push((Job::Check { file: None }, TRANSCRIPT))?;
+    jobs.push((
+        Job::Check {
+            files: Vec::new(alloc),
+        },
+        TRANSCRIPT,
+    ))?;
     jobs.push((Job::Record { file: None }, TRANSCRIPT))?;
     let raced = Job::Race {
         loading: Loading::Any,

@@ -7,4 +7,5 @@ pub mod Writing
 pub mod Starting
 pub mod Comparing
 pub mod Lives
+pub mod Comparisons
 mod WorkedTranscripts

@@ -30,7 +30,7 @@ early_recorded text start line early =
     ap (λ found. unless_early found (unless_too_long (recording_of text start))) early
 
 -- what is right of a fault may be said in other words
-fails : {A B : Type 0} (IsRight : Result A Fault → Type 0) (IsAlso : Result B Fault → Type 0)
+pub fails : {A B : Type 0} (IsRight : Result A Fault → Type 0) (IsAlso : Result B Fault → Type 0)
     (fault : Fault) → ((fault : Fault) → IsRight (Err fault) → IsAlso (Err fault))
     → FailsRightly IsRight fault → FailsRightly IsAlso fault
 fails IsRight IsAlso Memory also is = tt

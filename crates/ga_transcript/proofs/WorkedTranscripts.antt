@@ -1,5 +1,6 @@
 -- The results of transcripts, worked out by hand.
-use Rattle.std.proofs.Common.{◌≡◌, ℕ, List, [], ◌∷◌, Result, Ok, Err, refl}
+use Rattle.std.proofs.Common.{◌≡◌, ℕ, List, [], ◌∷◌, ◌++◌, Result, Ok, Err, refl}
+use Rattle.std.specs.Fmt.{digits}
 use Rattle.std.specs.Prelude.{codes}
 use Rattle.ga_place.specs.Cell.{all_cells, cell_of}
 use Rattle.ga_node.specs.Need.{need_of}
@@ -12,6 +13,8 @@ use Rattle.ga_debug.specs.Command.{command_first, command_in}
 use Rattle.ga_debug.specs.Head.{Head, head_in}
 use Rattle.ga_debug.specs.Profile.{SESSION_PROFILE}
 use Rattle.ga_transcript.specs.Check.{Differs, EarlyReply, Fault, Head as BadHead, checked_from}
+use Rattle.ga_transcript.specs.Compare.{View, compared_from, comparison_of, difference_text, excerpt}
+use Rattle.ga_transcript.specs.Following.{Lines}
 use Rattle.ga_transcript.specs.Line.{Command, Note, Reply, as_reply, kind_of}
 use Rattle.ga_transcript.specs.Record.{recorded_from}
 use Rattle.ga_transcript.specs.Reply.{reply_lines}
@@ -84,6 +87,33 @@ early : check_by (head_in SESSION_PROFILE
     (codes "profile 2\nplace\ngo\n\\ a comment\nwaits\n> try 709 r\nwaits")) ≡ Err (EarlyReply 5)
 unfolding check_by start_of checked_from kind_of head_in
 early = refl
+
+compare_by : Result Head ReplayError → Result View Fault
+compare_by (Ok head) = compared_from (codes "t") (start_of head)
+compare_by (Err error) = Err (BadHead error)
+
+-- all differences are reported
+all_differences : compare_by (head_in SESSION_PROFILE
+    (codes "profile 2\nplace\ngo\n> try 709 r\nmoved\n> halt\n> try 709 r\nwaits\n")) ≡ Ok (record {
+      commands = 3;
+      differences = 2;
+      report = codes
+          "t:4: differs: > try 709 r\n-moved\n+waits\nt:6: differs: > halt\n+refused BadCommand\n";
+    })
+unfolding compare_by start_of compared_from comparison_of difference_text kind_of command_in
+    command_first head_in tried after asks need_of reset_chip cell_of all_cells digits
+all_differences = refl
+
+five : Lines
+five = codes "a" ∷ codes "b" ∷ codes "c" ∷ codes "d" ∷ codes "e" ∷ []
+
+-- ten lines are shown whole, and of twelve it is said that there are two more
+excerpts : (excerpt 45 (five ++ five)
+    ≡ codes "-a\n-b\n-c\n-d\n-e\n-a\n-b\n-c\n-d\n-e\n")
+    × (excerpt 43 (five ++ (codes "x" ∷ codes "y" ∷ five))
+    ≡ codes "+a\n+b\n+c\n+d\n+e\n+x\n+y\n+a\n+b\n+c\n  and 2 more\n")
+unfolding five digits
+excerpts = (refl, refl)
 
 -- the replies that stood there are left out
 recorded_once : record_by

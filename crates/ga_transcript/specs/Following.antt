@@ -1,5 +1,5 @@
 -- What is done with the lines behind `go`, by what each command replies and does.
-use Rattle.std.specs.Prelude.{ℕ, suc, Bool, true, false, ◌&&◌, List, [], ◌∷◌, ◌++◌, Option, Some, None, Result, Ok, Err, if◌then◌else◌}
+use Rattle.std.specs.Prelude.{ℕ, suc, Bool, true, false, ◌&&◌, List, [], ◌∷◌, ◌++◌, Option, Some, None, Result, Ok, Err, if◌then◌else◌, not}
 use Rattle.std.specs.Str.{bytes_eq}
 use Rattle.ga_transcript.specs.Line.{by_kind, kind_of}
 
@@ -45,6 +45,31 @@ checked step number count state (line ∷ lines) =
     else Err (record { line = number; wanted = wanted lines; came = (step command state).0 }))
     (checked step (suc number) count state lines)
     (checked step (suc number) count state lines)
+
+-- A command, with the reply behind it and the actual one.
+pub record Compared : Type 0 where
+  -- the number of the command's line
+  pub line : ℕ
+  pub command : List ℕ
+  pub wanted : Lines
+  pub came : Lines
+
+-- each command, compared; whatever reply is expected, the next one finds what this one left
+abbrev pub compared : {S : Type 0} → Step S → ℕ → S → Lines → List Compared
+compared step number state [] = []
+compared step number state (line ∷ lines) =
+    by_kind (kind_of line)
+    (λ command. record {
+      line = number;
+      command = command;
+      wanted = wanted lines;
+      came = (step command state).0;
+    } ∷ compared step (suc number) (step command state).1 lines)
+    (compared step (suc number) state lines)
+    (compared step (suc number) state lines)
+
+abbrev pub differs : Compared → Bool
+differs command = not (same_lines command.wanted command.came)
 
 -- The lines with the actual replies: each is behind its command, in place of the one that was
 -- there.

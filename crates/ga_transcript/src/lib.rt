@@ -2,6 +2,7 @@
 #![tactic(auto)]
 
 mod checking;
+mod differences;
 mod error;
 mod line;
 mod lines;
@@ -10,6 +11,7 @@ mod recording;
 mod reply;
 
 pub use checking::check;
+pub use differences::{Comparison, compare};
 pub use error::TranscriptError;
 pub use live::{Live, without_line_end};
 pub use recording::record;

@@ -63,3 +63,17 @@ pub returns-in-race-clause-right : goal.returns-in-race-clause-right
 returns-in-race-clause-right c =
     race_right c.args.name.now (rows_of (found_of c.args.found.now)) c.job_of-in-race.result
     c.in-race.is c.job_of-in-race.ensures.right
+
+-- and the name `record` for a recording alone
+record_right : (name : Text) (rows : List Row) (result : Result Job LineError)
+    → name ≡ codes "record"
+    → IfErr result (λ error. (job : Job) → AsksFor (codes "record", rows) job → error ≡ Memory)
+    → IfErr result (λ error. (job : Job) → AsksFor (name, rows) job → InRange job → error ≡ Memory)
+record_right name rows (Ok job) is right = right
+record_right name rows (Err error) is right =
+    λ job asks within. right job (sym is ∙ asks.0, asks.1)
+
+pub returns-in-record-clause-right : goal.returns-in-record-clause-right
+returns-in-record-clause-right c =
+    record_right c.args.name.now (rows_of (found_of c.args.found.now)) c.job_of-in-record.result
+    c.in-record.is c.job_of-in-record.ensures.right
