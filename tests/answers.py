@@ -27,12 +27,12 @@ import re
 from collections import namedtuple
 
 from assembler import Fault, images_of
+from operands import COMMANDS, IN_REPLAYS, command_of
 from outputs import (
     asm_output, boot_output, dis_output, judge_reached, labels_output, list_output, routes_of, rows_of, tree_of,
 )  # fmt: skip
-from sessions import (
-    COMMANDS, IN_REPLAYS, STACKS, Transcript, command_of, has_form, head_of, ledgers, registers, text_of,
-)  # fmt: skip
+from replies import STACKS, agree_in_other_words, agrees, has_form, ledgers, other_words, registers
+from sessions import Transcript, head_of, text_of
 
 ROOT = os.path.dirname(os.path.dirname(os.path.abspath(__file__)))
 LIMIT = 1048576
@@ -278,13 +278,32 @@ def record(ask, job, text, answer):
     old, new = Transcript(text), transcript_of(answer.output)
     ask(["check"], answer.output, f"same {len(old.exchanges)}\n")
     ask(["record"], answer.output, answer.output)
-    commands = list(new.as_debug())
-    replies = ask(["debug"], new.head.text + text_of(command for command, _ in commands))
+    judge_by_debug(ask, in_other_words(ask, new))
+    return old.with_replies([it.reply for it in new.exchanges])
+
+
+def in_other_words(ask, transcript):
+    """The transcript in other words, if it has them, after the replies are compared."""
+    commands = [other_words(it) for it in transcript.exchanges]
+    if commands == [it.text for it in transcript.exchanges]:
+        return transcript
+    output = ask(["record"], transcript.head.text + text_of(commands, "> "))
+    if output is None:
+        return transcript
+    other = transcript_of(output)
+    if not all(map(agree_in_other_words, transcript.exchanges, other.exchanges)):
+        raise Wrong("other words have other replies")
+    return other
+
+
+def judge_by_debug(ask, transcript):
+    """Compares the replies of a transcript with those of `debug`."""
+    commands = list(transcript.as_debug())
+    replies = ask(["debug"], transcript.head.text + text_of(command for command, _ in commands))
     if replies is not None:
         wanted, came = [line for _, reply in commands for line in reply], replies.splitlines()
-        if len(came) != len(wanted) or any(one not in (None, other) for one, other in zip(wanted, came)):
+        if len(came) != len(wanted) or not all(map(agrees, wanted, came)):
             raise Wrong("debug has other replies")
-    return old.with_replies([it.reply for it in new.exchanges])
 
 
 @subcommand("FILE")

@@ -5,7 +5,7 @@ The rows of crates/ga_debug/specs/Commands.antt have each command's name, the wo
 
 - `help` at the prompt shows each of them, and a misspelt one is refused with its name.
 - The help of `debug`, `replay` and `check` shows each command that its texts have, with these words, and no other.
-- docs/FORMATS.md has a row of each, under Sessions or Transcripts, and tests/sessions.py reads these words.
+- docs/FORMATS.md has a row of each, under Sessions or Transcripts, and tests/operands.py reads these words.
 - `explain BadCommand` names the commands that a session has and a replay text doesn't.
 
 The last line that is printed is 'N passed, M failed'.
@@ -15,31 +15,46 @@ import re
 import subprocess
 import sys
 import tempfile
+from collections import namedtuple
 
-import sessions
+import operands
 
 ROOT = os.path.dirname(os.path.dirname(os.path.abspath(__file__)))
 ROW = re.compile(r'^\w+_row \w+ =\s+row\s+\(codes "(\w+)"\)\s+(?:\(([^()]*?)\s∷\s\[\]\)|\[\])\s+(\w+)\s+(\w+)$', re.M)
-EQUATION = re.compile(r"^(?:action|view)_row \w+ =", re.M)
-# The words of each shape: in help, in FORMATS, and as tests/sessions.py names them.
+EQUATION = re.compile(r"^(?:action|follow|view)_row \w+ =", re.M)
+# The words of a command that has others in transcripts.
+IN_TRANSCRIPTS = re.compile(r"^shapes_in Transcripts \(\w+ (\w+)\) = (.*?) ∷ \[\]$", re.M)
+# The words of each shape: in help, in FORMATS, and as tests/operands.py names them.
 SHAPES = {
     "Node": ("NNN", "NNN", "node"),
     "Address": ("HHH", "HHH", "address"),
     "Side": ("SIDE", "S", "side"),
     "Count": ("K", "K", "count"),
     "CountIf": ("[K]", "[K]", "count?"),
+    "AddressIf": ("[HHH]", "[HHH]", "address?"),
+    "OneIf": ("[K]", "[K]", "one?"),
+    "PassesIf": ("[xN]", "[xN]", "passes?"),
+    "RangeIf": ("[HHH [COUNT]]", "[HHH [COUNT]]", "range?"),
+    "What": ("WHAT", "WHAT", "what"),
+    "Values": ("VALUE ..", "VALUE ..", "values"),
+    "GoalIf": ("[= VALUE]", "[= VALUE]", "goal?"),
 }
 STATES = {"Nothing": [], "Outcome": ["=", "outcome"], "Steps": ["=", "number"]}
 
 
+# `others` are the shapes in transcripts.
+Row = namedtuple("Row", "name shapes others scope states")
+
+
 def rows():
-    """The name, the shapes, the scope and the statement of each command, one for each equation of the table."""
+    """The row of each command, one for each equation of the table."""
     with open(f"{ROOT}/crates/ga_debug/specs/Commands.antt", encoding="utf-8") as file:
         text = file.read()
-    found = ROW.findall(text)
+    found, others = ROW.findall(text), {name.lower(): words for name, words in IN_TRANSCRIPTS.findall(text)}
     if len(found) != len(EQUATION.findall(text)):
         sys.exit("commands: a row of specs/Commands.antt can't be read")
-    return [(name, re.findall(r"shape\.(\w+)", shapes), scope, states) for name, shapes, scope, states in found]
+    shapes_of = re.compile(r"shape\.(\w+)").findall
+    return [Row(name, shapes_of(it), shapes_of(others.get(name, it)), *rest) for name, it, *rest in found]
 
 
 def form(name, shapes, column):
@@ -76,24 +91,27 @@ def wrong(program):
     told = subprocess.run([program, "explain", "BadCommand"], capture_output=True, text=True, check=True).stdout
     pages = {name: section("FORMATS.md", name) for name in ("Sessions", "Transcripts")}
     table = rows()
-    for name, shapes, scope, states in table:
-        words = [SHAPES[shape][2] for shape in shapes]
-        in_help = form(name, shapes, 0)
+    for name, shapes, others, scope, states in table:
+        in_help, in_check = form(name, shapes, 0), form(name, others, 0)
         yield f"debug --help: {in_help}", shows_rightly(help_of["debug"], in_help, scope != "Transcripts")
         yield f"replay --help: {in_help}", shows_rightly(help_of["replay"], in_help, scope == "Replays")
-        yield f"check --help: {in_help}", shows_rightly(help_of["check"], in_help, scope == "Transcripts")
-        page = pages["Transcripts" if scope == "Transcripts" else "Sessions"]
-        yield f"FORMATS.md: {name}", f"`{form(name, shapes, 1)}`" in page
+        is_of_check = scope == "Transcripts" or others != shapes
+        yield f"check --help: {in_check}", shows_rightly(help_of["check"], in_check, is_of_check)
+        in_pages = {("Transcripts" if scope == "Transcripts" else "Sessions", form(name, shapes, 1))}
+        in_pages |= {("Transcripts", form(name, others, 1))} if others != shapes else set()
+        yield f"FORMATS.md: {name}", all(f"`{wanted}`" in pages[page] for page, wanted in in_pages)
         yield f"explain BadCommand: {name}", (f"'{name}'" in told) >= (scope == "Sessions")
-        yield f"sessions.py: {name}", sessions.IN_TRANSCRIPTS.get(name) == words
-        yield f"sessions.py: {name} of sessions", (name in sessions.COMMANDS) == (scope != "Transcripts")
+        yield f"operands.py: {name}", operands.IN_TRANSCRIPTS.get(name) == [SHAPES[shape][2] for shape in others]
+        words = [SHAPES[shape][2] for shape in shapes]
+        of_sessions = words if scope != "Transcripts" else None
+        yield f"operands.py: {name} of sessions", operands.COMMANDS.get(name) == of_sessions
         of_replays = words + STATES[states] if scope == "Replays" else None
-        yield f"sessions.py: {name} of replays", sessions.IN_REPLAYS.get(name) == of_replays
-    shown = prompt(program, [f"help {name}" for name, *_ in table] + [f"{name}x" for name, *_ in table])
-    for name, shapes, *_ in table:
-        yield f"help {name} at the prompt", any(line.startswith(form(name, shapes, 0) + " ") for line in shown)
+        yield f"operands.py: {name} of replays", operands.IN_REPLAYS.get(name) == of_replays
+    shown = prompt(program, [f"help {it.name}" for it in table] + [f"{it.name}x" for it in table])
+    for name, _, others, *_ in table:
+        yield f"help {name} at the prompt", any(line.startswith(form(name, others, 0) + " ") for line in shown)
         yield f"the nearest to {name}x", f"refused BadCommand, the nearest is {name}" in shown
-    yield "sessions.py has no others", set(sessions.IN_TRANSCRIPTS) == {name for name, *_ in table}
+    yield "operands.py has no others", set(operands.IN_TRANSCRIPTS) == {it.name for it in table}
 
 
 def main(program):

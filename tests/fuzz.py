@@ -46,7 +46,8 @@ ROUTES = ["708,709", "708,709,710/708,608/708,709,609", "708/708", "708,709/000,
 KINDS = [kind.encode().split() for kind in (
     "@p a! ; ex unext @+ @b @ !p !+ !b ! +* 2* 2/ - + and or drop dup pop over a . push b!", "jump call next if -if",
     "right down left up io rdlu warm", "0 1 2 3 5 10 17 $1D5 $3FFFF", "708 709 710 608 609 017 300", "r d l u",
-    "000 001 002 003 008 03F 041 0A9 175", "moved waits held stopped", "regs mem ports node", "break clear until",
+    "000 001 002 003 008 03F 041 0A9 175", "moved waits held stopped", "regs mem ports node sides", "break clear until",
+    "step trace", "where nodes breaks", "P A B R S T C io steps at", "none IoRead Rom Unmapped", "written read",
 )]  # fmt: skip
 
 
@@ -142,7 +143,8 @@ CHANGES = [cut, doubled, other_bytes, swapped_lines, lines_of_another, other_num
 
 
 def few_turns(args, data):
-    """The same with at most MOST_TURNS turns of sessions in all, and 200 of `run`."""
+    """The same with at most MOST_TURNS turns of sessions in all, and 200 of `run`. But `watch` and `trace` make up to 1,000,000
+    turns, if other nodes move, so at most two of them are left."""
     left = MOST_TURNS
 
     def fewer(found):
@@ -151,11 +153,19 @@ def few_turns(args, data):
         left -= count
         return found[1] + str(count).encode()
 
-    def fewer_until(found):
+    def fewer_or_all(found):
         return fewer([b"", found[1] + b" ", found[2] or b"1000000"])
 
-    data = re.sub(rb"(turn[ ])(\d{1,7})(?!\d)", fewer, data)
-    data = re.sub(rb"(until [^ \n]+ [^ \n]+)( \d{1,7})?(?=\n|$)", fewer_until, data)
+    def first_two(found):
+        nonlocal endless
+        endless += 1
+        return found[0] if endless <= 2 else b"> turn 4"
+
+    endless = 0
+    data = re.sub(rb"> (watch|trace) [^\n]*", first_two, data)
+    data = re.sub(rb"((?:turn|step [^ \n]+|trace [^ \n]+) )(\d{1,7})(?!\d)", fewer, data)
+    data = re.sub(rb"(until [^ \n]+ [^ \n]+(?: x\d*)?)( \d{1,7})?(?=\n|$)", fewer_or_all, data)
+    data = re.sub(rb"(> run)( \d{1,7})?(?=\n|$)", fewer_or_all, data)
     if args[:1] == ["race"] and not any(it.startswith("--turns") for it in args):
         args = ["race", "--turns", str(MOST_TURNS), *args[1:]]
     if args[:1] == ["run"] and len(args) > 3 and args[3].isdecimal() and int(args[3]) <= 1000000:

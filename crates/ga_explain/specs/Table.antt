@@ -5,7 +5,7 @@ use Rattle.ga_explain.specs.Topic.{Entry}
 use Rattle.ga_explain.specs.declared.source.TheConstants.{BAD_TOKEN, NUMBER_RANGE, BAD_NODE, DUPLICATE_NODE, DUPLICATE_LABEL, RESERVED_LABEL, OPEN_BRACKET, BAD_WORD, NO_NODE, EMPTY}
 use Rattle.ga_explain.specs.declared.layout.TheConstants.{UNDEFINED_LABEL, OUT_OF_REACH, UNEXT_ALONE, TOO_LONG}
 use Rattle.ga_explain.specs.declared.routes.TheConstants.{BAD_ROUTE, NOT_EDGE, NOT_NEIGHBOUR, REPEATED, OTHER_ROOT, UNREACHED}
-use Rattle.ga_explain.specs.declared.sessions.TheConstants.{BAD_COMMAND, BAD_ADDRESS, BAD_SIDE, BAD_COUNT, NOT_HELD, BAD_PROFILE, NO_GO, SOURCE, ASM, ROUTE, TREE, BOOT, EARLY_REPLY, DIFFERS}
+use Rattle.ga_explain.specs.declared.sessions.TheConstants.{BAD_COMMAND, BAD_ADDRESS, BAD_SIDE, BAD_COUNT, BAD_VALUE, NOT_HELD, BAD_PROFILE, NO_GO, SOURCE, ASM, ROUTE, TREE, BOOT, EARLY_REPLY, DIFFERS}
 use Rattle.ga_explain.specs.declared.input.TheConstants.{READ, NO_FILE, FOLDER, BAD_TEXT, BAD_CODE, WRITE, MEMORY}
 use Rattle.ga_explain.specs.declared.needs.TheConstants.{OWN, TAKE, POST, CHECK, INPUT, STOPPED, COUNTED, IO_READ, ROM, UNMAPPED, MULTI_WRITE}
 use Rattle.ga_explain.specs.declared.terms.TheConstants.{CARRY, MOVED, WAITS, HELD, STUCK, RING, RACE, TURN, PLACE, STEP, SLOT, FOLLOWER, PROFILE}
@@ -82,6 +82,7 @@ sessions_entries =
     (codes "BadAddress", [], BAD_ADDRESS.now) ∷
     (codes "BadSide", [], BAD_SIDE.now) ∷
     (codes "BadCount", [], BAD_COUNT.now) ∷
+    (codes "BadValue", [], BAD_VALUE.now) ∷
     (codes "NotHeld", [], NOT_HELD.now) ∷
     (codes "BadProfile", [], BAD_PROFILE.now) ∷
     (codes "NoGo", codes "no line is 'go'", NO_GO.now) ∷

@@ -6,7 +6,7 @@ use crate::topic::{Topic, topic};
 
 /// The refusals of commands, and faults of replay texts, in the order of the pages.
 #[tactic(auto, unfolding(crate::specs::Table::sessions_entries))]
-pub fn topics() -> [Topic; 14]
+pub fn topics() -> [Topic; 15]
     ensures { map entry_of result ≡ sessions_entries }
 {
     [
@@ -14,6 +14,7 @@ pub fn topics() -> [Topic; 14]
         topic!("BadAddress", "", BAD_ADDRESS),
         topic!("BadSide", "", BAD_SIDE),
         topic!("BadCount", "", BAD_COUNT),
+        topic!("BadValue", "", BAD_VALUE),
         topic!("NotHeld", "", NOT_HELD),
         topic!("BadProfile", "", BAD_PROFILE),
         topic!("NoGo", "no line is 'go'", NO_GO),
@@ -66,8 +67,9 @@ Fixed:
 ";
 
 const BAD_ADDRESS: &str = "\
-BadAddress: the address of a breakpoint isn't three hex digits, without a $, up
-to 1FF. In a transcript it isn't a label of the node either.
+BadAddress: an address isn't three hex digits, without a $, up to 1FF. In a
+transcript it isn't a label of the node either, nor a label, + and a decimal
+number. The address of 'mem' has to be one of memory.
 
   $ printf 'profile 2\\nplace\\nnode 000 .\\ngo\\nbreak 000 3\\n' | ga-bench debug
   refused BadAddress
@@ -92,8 +94,8 @@ Fixed:
 ";
 
 const BAD_COUNT: &str = "\
-BadCount: the number of turns isn't a decimal number up to 1000000, of one to
-seven digits and without a sign.
+BadCount: a count, as the number of turns, isn't a decimal number up to 1000000,
+of one to seven digits and without a sign. The count of 'mem' can't be 0.
 
   $ printf 'profile 2\\nplace\\nnode 000 .\\ngo\\nturn +1\\n' | ga-bench debug
   refused BadCount
@@ -102,6 +104,26 @@ Fixed:
 
   $ printf 'profile 2\\nplace\\nnode 000 .\\ngo\\nturn 1\\n' | ga-bench debug
   moved 1
+";
+
+const BAD_VALUE: &str = "\
+BadValue: 'watch' or 'expect' lacks what to look at (P, A, B, R, S, T, C, io,
+steps, an address of memory or a label, a side, at, or stopped), or has another
+word there; or a value is missing, or has another form. A word is one to five
+hex digits, without a $. C, steps, and the words written or read at a side are
+decimal. Behind 'watch' a value has = in front.
+
+  $ printf 'profile 2\\nplace\\nnode 000 .\\ngo\\n> expect 000 T $0\\nok\\n' |
+    ga-bench check
+  ga-bench: check differs 5
+  -ok
+  +refused BadValue
+
+Fixed:
+
+  $ printf 'profile 2\\nplace\\nnode 000 .\\ngo\\n> expect 000 T 0\\nok\\n' |
+    ga-bench check
+  same 1
 ";
 
 const NOT_HELD: &str = "\
