@@ -32,7 +32,7 @@ CHANGES = (
 STEP = f"{NUMBER} {P}{LABEL}  [^ \n]+{DEED}{CHANGES}\n"
 END = rf"{SIDE} of (?:{NODE.pattern}|nobody)"
 REST = f"(?:waits {END}(?:/{END})*|waits for its stream|works|held|{STOPPED})\n"
-CODE = f"(?:[.] > |  )(0[0-3][0-9A-F])  ({WORD})  (?:code    |follower|data    )  [^ \n][^\n]*\n"
+CODE = f"(?:[*] |  )(0[0-3][0-9A-F])  ({WORD})  (?:code    |follower|data    )  [^ \n][^\n]*\n"
 REPLIES = {
     "clear": "ok\n",
     "pass": "(?:ok|refused NotHeld)\n",

@@ -151,7 +151,7 @@ what_read images given (word ∷ words) =
     then_with (what_first images given.node word words (side_named word))
     (λ what rest. Ok (record given { what = what }, rest))
 
--- Values of what a node shows, and the words behind them: at most so many of them are put into a
+-- Values of what a node shows, and the words behind them: at most `left` of them are put into a
 -- list from a place on. The list has room for eight.
 abbrev pub values_from : Images → ℕ → What → ℕ → ℕ → List (Option Value) → Words
     → Option (List (Option Value) × Words)

@@ -152,7 +152,7 @@ abbrev pub note_of : Images → Action → Arguments → List ℕ
 note_of images Break given = break_note images given.node given.address
 note_of images action given = []
 
--- what is told of the steps that a command makes, and the chip afterwards
+-- the text of the steps that a command makes, and the chip afterwards
 abbrev pub followed : Images → Follow → Arguments → Chip → List ℕ × Chip
 followed images Step given chip = stepped images given.node given.count chip
 followed images Trace given chip = traced images given.node given.count chip

@@ -22,7 +22,7 @@ abbrev pub is_there : ℕ → ℕ → ℕ → Chip → Bool
 is_there node at passes chip = is_held_at chip node at && (passes == 0)
 
 -- At most `left` turns, behind `turn` of them that moved nodes `moved` times: until a node is held
--- at an address, after it has passed it so many times.
+-- at an address, after as many passes as it should make.
 abbrev pub until_from : ℕ → ℕ → ℕ → ℕ → ℕ → ℕ → Chip → Option Reached × Chip
 until_from zero turn moved passes node at chip = (
   if is_there node at passes chip then Some (record { turns = turn; moved = moved }) else None,

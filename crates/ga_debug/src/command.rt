@@ -310,7 +310,7 @@ fn read_goal(
     }
 }
 
-/// At least one value, and at most so many.
+/// At least one value, and at most `most`.
 fn some_values(
     images: Option<&Images>,
     most: usize,
@@ -326,7 +326,7 @@ fn some_values(
     }
 }
 
-/// At least one value of what a node shows, and at most so many.
+/// At least one value of what a node shows, and at most `most`.
 fn values_of(
     images: Option<&Images>,
     most: usize,

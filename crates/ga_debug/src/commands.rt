@@ -43,7 +43,7 @@ pub(crate) enum Action {
     Run,
 }
 
-/// A command that makes steps, and tells them.
+/// A command that makes steps, and shows them.
 #[derive(Clone, Copy)]
 pub(crate) enum Follow {
     /// Steps of one node alone.
@@ -428,7 +428,7 @@ fn drop_line_end(text: &mut String)
     }
 }
 
-/// Makes the steps of a command, and tells them, without the last LF. Fails only when out of
+/// Makes the steps of a command. Answers their text, without the last LF. Fails only when out of
 /// memory; then the chip may have made some of them.
 pub(crate) fn tell(
     alloc: Global,

@@ -10,7 +10,7 @@ use ga_word::{Hex3, Word18};
 use std::alloc::{AllocError, Global};
 use std::fmt::Write;
 
-/// The memory of a node, all of it for the count 0, or so many words from an address on.
+/// The memory of a node, all of it for the count 0, or a number of words from an address on.
 pub(crate) fn memory_shown(
     alloc: Global,
     state: &NodeState,
@@ -25,7 +25,7 @@ pub(crate) fn memory_shown(
     range_shown(alloc, state.ram(), from.get(), count)
 }
 
-/// So many words from an address on, but none behind the last one of memory.
+/// A number of words from an address on, but none behind the last one of memory.
 #[tactic(auto, unfolding(crate::specs::Mem::range_shown))]
 fn range_shown(alloc: Global, ram: &[Word18], from: u16, count: u32) -> Result<String, AllocError>
     requires { length ram.now ≡ 64 }

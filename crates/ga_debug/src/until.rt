@@ -37,7 +37,7 @@ pub(crate) fn until(
     reached
 }
 
-/// Makes turns, `count` at most, until a node is held at an address after so many passes.
+/// Makes turns, `count` at most, until a node is held at an address after this many passes.
 fn turns_until(
     chip: &mut Chip,
     node: Node,

@@ -16,7 +16,7 @@ pub quiet_bound : (name quiet : ℕ) (chip : Chip) → quiet ≤ 4 → is_over n
     → quiet ≤ 3
 quiet_bound name quiet chip most going = grind arith
 
--- what is told behind a text
+-- a text in front of what follows
 abbrev pub behind : List ℕ → List ℕ × Chip → List ℕ × Chip
 behind text rest = (text ++ rest.0, rest.1)
 

@@ -43,7 +43,7 @@ abbrev pub rest_line : ℕ → Chip → List ℕ
 rest_line name chip =
     rest_text (stands_held chip name) name (state_of chip name) ++ codes "\n"
 
--- what is told of a step and of those behind it, by what it was
+-- the text of a step and of those behind it, by what it was
 abbrev pub step_told : List (ℕ × ImageView) → ℕ → Chip → (Chip → List ℕ × Chip)
     → Option Step × Chip → List ℕ × Chip
 step_told images name old rest (None, next) = (rest_line name next, next)
@@ -52,8 +52,8 @@ step_told images name old rest (Some step, next) = (
   (rest next).1,
 )
 
--- The lines of at most so many steps of a node, each by a try at the side that moves it, and behind
--- them why it makes no more, if it makes fewer; and the chip afterwards.
+-- The lines of at most this many steps of a node, each by a try at the side that moves it, and
+-- behind them why it makes no more, if it makes fewer; and the chip afterwards.
 abbrev pub stepped : List (ℕ × ImageView) → ℕ → ℕ → Chip → List ℕ × Chip
 stepped images name zero chip = ([], chip)
 stepped images name (suc left) chip =

@@ -1,4 +1,4 @@
-//! Runs of a chip, told as text: the steps of one node, each as a line.
+//! Runs of a chip as text: the steps of one node, each as a line.
 #![tactic(auto)]
 
 mod at;

@@ -22,8 +22,8 @@ pub struct Ran {
 }
 
 /// Makes turns of all nodes, at most `most`, until four in a row moved only nodes that spin: then
-/// no other node moves any more. A node spins if it is about to fetch a word that jumps to itself, or
-/// to jump to one. It allocates nothing. (Rest is this project's own: profile.)
+/// no other node moves any more. A node spins if it is about to fetch a word that jumps to itself,
+/// or to jump to one. It allocates nothing. (Rest is this project's own: profile.)
 pub fn run(chip: &mut Chip, most: u32) -> Ran
     ensures { (result, chip.new) ≡ ran_from most 0 0 0 chip.old }
 {
@@ -118,7 +118,7 @@ fn loops_at(ram: &[Word18], address: u16) -> bool
     }
 }
 
-/// Where a word jumps to, if a jump in slot 0 is all of it.
+/// The address to which a word jumps, if a jump in slot 0 is all of it.
 fn target_of(word: Word18) -> Option<u16>
     ensures { result ≡ target_of word }
 {

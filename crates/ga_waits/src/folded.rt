@@ -15,7 +15,7 @@ use ga_place::{Node, idle_address};
 use std::alloc::{AllocError, Global};
 use std::fmt::Write;
 
-/// Who waits for whom, as [`crate::waits`] tells it, but with one line for all idle nodes, which
+/// Who waits for whom, as [`crate::waits`] shows it, but with one line for all idle nodes, which
 /// stands in front of the rings. A node is idle if it has made steps and is about to fetch at its
 /// idle address. Fails only when out of memory. (The text is this project's own: profile.)
 #[tactic(auto, unfolding(crate::specs::Folded::nodes_text))]

@@ -3,7 +3,7 @@ use Rattle.std.specs.List.{flat_map, range_with_len}
 use Rattle.ga_trace.specs.Line.{ram_change}
 use Rattle.ga_trace.proofs.changes.push_ram.Given as goal
 
--- as many words are told
+-- as many words are written
 abbrev pub invariant-loop-index : goal.invariant-loop-index
 invariant-loop-index l =
     string_bytes l.text

@@ -4,7 +4,7 @@ use Rattle.ga_trace.specs.Stepped.{stepped}
 use Rattle.ga_trace.proofs.Tracing.{behind}
 use Rattle.ga_trace.proofs.stepped.step.Given as goal
 
--- what is told of the steps that are left makes the whole
+-- the text with that of the steps that are left is the whole
 abbrev pub invariant-loop-done : goal.invariant-loop-done
 invariant-loop-done l =
     behind (string_bytes l.text) (stepped (images_in l.images) l.node (l.count - l.done) l.chip)

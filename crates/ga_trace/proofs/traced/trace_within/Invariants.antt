@@ -4,7 +4,7 @@ use Rattle.ga_trace.specs.Traced.{traced_from}
 use Rattle.ga_trace.proofs.Tracing.{behind}
 use Rattle.ga_trace.proofs.traced.trace_within.Given as goal
 
--- what is told of the turns that are left makes the whole
+-- the text with that of the turns that are left is the whole
 abbrev pub invariant-loop-number : goal.invariant-loop-number
 invariant-loop-number l = record {
   told : behind (string_bytes l.text) (traced_from (images_in l.images) l.node (l.most - l.number)

@@ -4,7 +4,7 @@ use Rattle.ga_trace.specs.Watched.{watched_from}
 use Rattle.ga_trace.specs.What.{value_of}
 use Rattle.ga_trace.proofs.watched.watch_within.Given as goal
 
--- what is told of the turns that are left is the whole
+-- the text of the turns that are left is the whole
 abbrev pub invariant-loop-number : goal.invariant-loop-number
 invariant-loop-number l = record {
   told : watched_from (images_in l.images) l.node l.what l.goal (l.most - l.number) l.number
