@@ -4,7 +4,7 @@
 The rows of crates/ga_debug/specs/Commands.antt have each command's name, the words that follow it and the texts that have it.
 
 - `help` at the prompt shows each of them, and a misspelt one is refused with its name.
-- The help of `debug`, `replay` and `check` shows each command that its texts have, with these words, and no other.
+- The help of `debug` and `replay` shows each command that its texts have, with these words, and no other.
 - docs/FORMATS.md has a row of each, under Sessions or Transcripts, and tests/operands.py reads these words.
 - `explain BadCommand` names the commands that a session has and a replay text doesn't.
 
@@ -86,17 +86,15 @@ def wrong(program):
     """Yields each check and whether it passes."""
     help_of = {
         name: subprocess.run([program, name, "--help"], capture_output=True, text=True, check=True).stdout
-        for name in ("debug", "replay", "check")
+        for name in ("debug", "replay")
     }
     told = subprocess.run([program, "explain", "BadCommand"], capture_output=True, text=True, check=True).stdout
     pages = {name: section("FORMATS.md", name) for name in ("Sessions", "Transcripts")}
     table = rows()
     for name, shapes, others, scope, states in table:
-        in_help, in_check = form(name, shapes, 0), form(name, others, 0)
+        in_help = form(name, shapes, 0)
         yield f"debug --help: {in_help}", shows_rightly(help_of["debug"], in_help, scope != "Transcripts")
         yield f"replay --help: {in_help}", shows_rightly(help_of["replay"], in_help, scope == "Replays")
-        is_of_check = scope == "Transcripts" or others != shapes
-        yield f"check --help: {in_check}", shows_rightly(help_of["check"], in_check, is_of_check)
         in_pages = {("Transcripts" if scope == "Transcripts" else "Sessions", form(name, shapes, 1))}
         in_pages |= {("Transcripts", form(name, others, 1))} if others != shapes else set()
         yield f"FORMATS.md: {name}", all(f"`{wanted}`" in pages[page] for page, wanted in in_pages)

@@ -117,7 +117,7 @@ def pipe(program, folder):
     check("an empty line repeats", said(b"") == first)
     check("nothing to repeat that isn't a command", said(b"trun 4") == b"refused BadCommand, the nearest is turn\n")
     check("back", said(b"back 2") == b"undone regs 708\n" and run.stdout.readline() == b"undone regs 708\n")
-    check("help", said(b"help turn") == b"turn K             K turns of all nodes, up to 1000000\n")
+    check("help", said(b"help turn") == b"turn K                    K turns of all nodes, up to 1000000\n")
     run.stdin.write(b"quit\nregs 708\n")
     run.stdin.close()
     check("quit ends it", run.stdout.read() == b"" and run.wait(20) == 0)
