@@ -3,6 +3,7 @@
 
   story     at a terminal, a deadlock is found by `where`; the screen without its own commands is a transcript that
             `check` accepts, and so is what `save` wrote
+  count     at a terminal, a wrong count is found by `expect` and `watch`, and kept by `back` and `save`
   pipe      replies come one by one: each is read before the next line is written
   recorded  for random commands the replies are those of `record`, `back` leads to where they would have led without the
             commands undone, and `check` accepts what `save` writes
@@ -24,10 +25,14 @@ TWO = "node 708\nmain: right b! 1 2 3 !b !b\ndone: jump done\nnode 709\nmain: ri
 RING = ("node 708\nmain: right b!  5 !b @b  jump warm\nnode 709\nmain: right a! left b!  @ @ + !b  @b !  jump warm\n"
         "node 710\nmain: left a!  @ 2* !  jump warm\n")
 LOOP = "node 000\nmain: 0\nloop: 1 . + jump loop\nnode 001\nmain: right b!\nmore: @b 2* !b jump more\n"
+SEND = ("node 708\nmain:\n  right a! 4 push\nsend:\n  7 ! next send\ndone:\n  jump done\n\n"
+        "node 709\nmain:\n  right a! 0 3 push\nadd:\n  @ + next add\ndone:\n  jump done\n")
 HEAD = "profile 2\nplace\n" + TWO + "go\n"
 COMMANDS = ["turn 4", "turn 1", "regs 708", "regs 709", "node 709", "where", "breaks", "ports 708", "mem 708", "try 709 r",
             "break 709 done", "break 708 001", "clear 709 done", "pass 709", "until 709 done 20", "turn x", "regs 800",
-            "until 708 nowhere", "turn 4 4"]
+            "until 708 nowhere", "turn 4 4", "step 708", "step 709 3", "trace 709 4", "watch 709 T", "watch 708 steps = 9",
+            "run 20", "nodes", "code 708", "sides 709", "mem 708 main+1 3", "expect 708 T 0", "expect 708 Q 1",
+            "until 709 done x1 20", "watch 708", "step", "trace 709 x"]
 failures = []
 passed = 0
 
@@ -59,45 +64,78 @@ def accepted(program, file):
     return run.returncode == 0
 
 
+class Terminal:
+    """A session at a pseudo terminal."""
+
+    def __init__(self, program, source):
+        self.typist, terminal = pty.openpty()
+        self.run = subprocess.Popen([program, "debug", source], stdin=terminal, stdout=terminal, stderr=terminal,
+                                    close_fds=True)
+        os.close(terminal)
+        self.screen = b""
+
+    def until(self, end, since=0):
+        while not self.screen[since:].endswith(end) and select.select([self.typist], [], [], 20)[0]:
+            self.screen += os.read(self.typist, 4096)
+        return self.screen[since:].endswith(end)
+
+    def types(self, line):
+        """Types a line, and waits for the next prompt. Returns the reply, or None."""
+        since, echo = len(self.screen), line.encode() + b"\r\n"
+        os.write(self.typist, line.encode() + b"\n")
+        if not self.until(b"\r\n> ", since) or not self.screen[since:].startswith(echo):
+            return None
+        return self.screen[since + len(echo):-2].decode().replace("\r\n", "\n")
+
+    def ends(self):
+        """Types the end of the input."""
+        os.write(self.typist, b"\x04")
+        ended = self.run.wait(20) == 0
+        os.close(self.typist)
+        return ended
+
+
+def placed(folder, name, text):
+    """A file of source text."""
+    with open(f"{folder}/{name}", "w") as file:
+        file.write(text)
+    return f"{folder}/{name}"
+
+
 def story(program, folder):
-    """At a terminal."""
-    source = f"{folder}/ring.source"
-    with open(source, "w") as file:
-        file.write(RING)
-    typist, terminal = pty.openpty()
-    run = subprocess.Popen([program, "debug", source], stdin=terminal, stdout=terminal, stderr=terminal, close_fds=True)
-    os.close(terminal)
-    screen = b""
-
-    def until(end, since=0):
-        nonlocal screen
-        while not screen[since:].endswith(end) and select.select([typist], [], [], 20)[0]:
-            screen += os.read(typist, 4096)
-        return screen[since:].endswith(end)
-
-    def types(line):
-        since = len(screen)
-        os.write(typist, line.encode() + b"\n")
-        return until(b"\r\n> ", since) and screen[since:].startswith(line.encode() + b"\r\n")
-
-    check("a prompt comes first", until(b"> ") and screen == b"> ")
-    check("a reply, and a prompt again", types("turn 40") and b"\r\nmoved " in screen)
-    check("the deadlock", types("where") and b"ring 708 709\r\n" in screen)
-    before = len(screen)
-    types("break 709 main")
-    check("what is undone", types("back") and screen.endswith(b"back\r\nundone break 709 main\r\n> "))
-    kept = screen[:before]
-    before = len(screen)
-    check("no breakpoint is left", types("breaks") and screen.endswith(b"> breaks\r\n> "))
-    kept += screen[before:]
-    check("it is saved", types(f"save {folder}/kept") and screen.endswith(f"saved {folder}/kept\r\n> ".encode()))
-    os.write(typist, b"\x04")
-    check("the end of the input ends it", run.wait(20) == 0)
-    os.close(typist)
+    """A deadlock, at a terminal."""
+    terminal = Terminal(program, placed(folder, "ring.source", RING))
+    check("a prompt comes first", terminal.until(b"> ") and terminal.screen == b"> ")
+    check("a reply, and a prompt again", (terminal.types("turn 40") or "").startswith("moved "))
+    check("the deadlock", (terminal.types("where") or "").endswith("\nring 708 709\n"))
+    before = len(terminal.screen)
+    terminal.types("break 709 main")
+    check("what is undone", terminal.types("back") == "undone break 709 main\n")
+    kept = terminal.screen[:before]
+    before = len(terminal.screen)
+    check("no breakpoint is left", terminal.types("breaks") == "")
+    kept += terminal.screen[before:]
+    check("it is saved", terminal.types(f"save {folder}/kept") == f"saved {folder}/kept\n")
+    check("the end of the input ends it", terminal.ends())
     check("what was saved is accepted", accepted(program, f"{folder}/kept"))
     with open(f"{folder}/kept") as file:
         saved = file.read()
     check("the screen is the session", saved == "profile 2\nplace\n" + RING + "go\n" + kept.replace(b"\r\n", b"\n").decode().removesuffix("> "))
+
+
+def count(program, folder):
+    """A loop that goes round once too often, at a terminal."""
+    terminal = Terminal(program, placed(folder, "send.source", SEND))
+    terminal.until(b"> ")
+    check("it comes to rest", (terminal.types("run") or "").endswith(", at rest\n"))
+    check("the sum is right", terminal.types("expect 709 T 1C") == "ok\n")
+    check("the count is wrong", terminal.types("expect 708 right written 4") == "expected 4, is 5\n")
+    check("all is undone", (terminal.types("back 3") or "").startswith("undone run\n"))
+    seen = [(terminal.types("watch 708 R") or "\n").splitlines()[-1][:14] for _ in range(5)]
+    check("R counts down from 4", seen == [f"0000{n + 1} -> 0000{n}" if n < 4 else "00000 -> 00004" for n in (4, 3, 2, 1, 0)])
+    check("it is saved", terminal.types(f"save {folder}/count") == f"saved {folder}/count\n")
+    check("the end of the input ends it", terminal.ends())
+    check("the count that was saved is accepted", accepted(program, f"{folder}/count"))
 
 
 def pipe(program, folder):
@@ -292,6 +330,7 @@ def main():
     program = os.path.abspath(sys.argv[1])
     with tempfile.TemporaryDirectory() as folder:
         story(program, folder)
+        count(program, folder)
         pipe(program, folder)
         for seed in range(60):
             compare(program, folder, seed)
