@@ -2,13 +2,15 @@
 """Compares the texts of `explain` with the pages and with the recorded cases: tests/explain.py PROGRAM
 
 - Its names are those of the tables of faults, needs, stops, outcomes and the carry in docs/FORMATS.md and docs/CHIP.md,
-  and the TERMS, which are entries of docs/GLOSSARY.md. No name of the tables is missing.
+  and the TERMS, which are entries of docs/GLOSSARY.md. No name of the tables is missing, nor any that the code has for
+  a reply or a message (NAMING).
 - A fault of source text or of layout has a meaning, which a recorded case of `list` shows.
 - A text has at most 24 lines of 80 columns (that of BadToken is longer), and begins with its name.
 - A text has an example that shows its name, or what is SHOWN for it, and a fixed one that doesn't. Exceptions are
   names without an example (UNRECORDED) and those that aren't faults (HARMLESS).
 - Each example in a text is a recorded case in tests/cases/explain.jsonl, with the same input, arguments and output, and
-  each case is an example, except those of `explain` itself. tests/run_cases.py runs the cases.
+  each case is an example, except those of `explain` itself. tests/run_cases.py runs the cases. An example that uses the
+  file my.source is run here instead.
 
 An example is a command that begins with '  $ ' and ends in ga-bench and its arguments. It continues on the next line
 if the line ends in '|' or a backslash. The lines behind it are its output; a line that begins with three blanks
@@ -21,6 +23,7 @@ import re
 import shlex
 import subprocess
 import sys
+import tempfile
 
 from answers import MEANINGS
 
@@ -32,18 +35,35 @@ LINES, COLUMNS = 24, 80
 TERMS = {"stuck", "ring", "race", "turn", "place", "step", "slot", "follower", "profile"}
 # No recorded case can make a read, a write or an allocation fail, or a node step 2^64 times. The example of `ring` is
 # that of `stuck`.
-UNRECORDED = {"read", "write", "memory", "Counted", "ring"}
+UNRECORDED = {"read", "write", "memory", "Memory", "Counted", "ring"}
 HARMLESS = {"own", "moved"} | TERMS
 # What an output has in place of a name.
+# The files of crates/ that have the names of replies and messages.
+NAMING = [
+    "ga_debug/src/error.rt", "ga_debug/src/replay_error.rt", "ga_jobs/src/fault.rt", "ga_prompt/src/answer.rt",
+    "ga_prompt/src/refusal.rt", "ga_transcript/src/error.rt",
+]  # fmt: skip
 SHOWN = {"carry": "C 1", "turn": "moved", "place": "at fetch", "step": "steps", "slot": "slot2"}
+
+
+def section(page, heading):
+    with open(f"{ROOT}/docs/{page}", encoding="utf-8") as text:
+        sections = re.split(r"^#+ (.*)$", text.read(), flags=re.M)
+    return dict(zip(sections[1::2], sections[2::2]))[heading]
 
 
 def rows(page, heading):
     """Yields the first cell of each row of the tables in one section of a page."""
-    with open(f"{ROOT}/docs/{page}", encoding="utf-8") as text:
-        sections = re.split(r"^#+ (.*)$", text.read(), flags=re.M)
-    body = dict(zip(sections[1::2], sections[2::2]))[heading]
-    yield from re.findall(r"^\| *(.*?) *\|.*\|$", body, flags=re.M)
+    yield from re.findall(r"^\| *(.*?) *\|.*\|$", section(page, heading), flags=re.M)
+
+
+def names_of_code():
+    """Returns the names that the code has for replies and messages."""
+    names = set()
+    for file in NAMING:
+        with open(f"{ROOT}/crates/{file}", encoding="utf-8") as text:
+            names.update(re.findall(r'"(?:[^"\n]* )?([A-Z][a-z]\w*)[",]', text.read()))
+    return names
 
 
 def names_of_pages():
@@ -55,8 +75,9 @@ def names_of_pages():
             names.update(re.findall(r"^`([A-Z][a-z]\w*)(?: [A-Z]+)?`$", cell))
             names.update(re.findall(r"^`([a-z]+)` L$", cell))
     for cell in rows("FORMATS.md", "Faults"):
-        names.update(re.findall(r"^`ga-bench: (?:\w+ )*?([A-Z][a-z]\w*)(?: [A-Z]+)?`", cell))
+        names.update(re.findall(r"^`ga-bench: (?:\w+:? )*?([A-Z][a-z]\w*)(?: [A-Z]+)?`", cell))
         names.update(re.findall(r"^`ga-bench: (\w+)`$", cell))
+    names.update(re.findall(r"`(?:refused )?([A-Z][a-z]\w*)`", section("FORMATS.md", "`debug FILE`")))
     heads = {"Need", "Outcome", "Stop", "Bit"}
     for heading in ["Needs", "Tries", "Stops", "Extended arithmetic"]:
         for cell in rows("CHIP.md", heading):
@@ -111,7 +132,18 @@ def explain(program, *names):
     return ran.stdout.decode()
 
 
-def faults_of_text(name, text, recorded, shown):
+def run_beside_source(program, command):
+    """Returns what an example prints in a folder with the file my.source."""
+    with tempfile.TemporaryDirectory() as folder:
+        os.symlink(program, f"{folder}/ga-bench")
+        with open(f"{folder}/my.source", "w", encoding="utf-8") as source:
+            source.write("node 000 .\n")
+        found = {**os.environ, "PATH": f"{folder}:{os.environ['PATH']}"}
+        ran = subprocess.run(["bash", "-c", f"{command} 2>&1"], cwd=folder, env=found, capture_output=True, timeout=SECONDS)
+    return ran.stdout.decode()
+
+
+def faults_of_text(program, name, text, recorded, shown):
     """Returns the faults of a text. Its examples are added to those that are shown."""
     wrong = [line for line in text.split("\n") if len(line) > COLUMNS]
     if name != "BadToken" and text.count("\n") > LINES:
@@ -121,6 +153,10 @@ def faults_of_text(name, text, recorded, shown):
     has_name = set()
     for command, printed in examples(text):
         has_name.add(re.search(rf"\b{SHOWN.get(name, name)}\b", printed) is not None)
+        if "my.source" in command:
+            if run_beside_source(program, command) != printed:
+                wrong.append(f"prints something else: {command}")
+            continue
         try:
             it = key_of_example(command, printed)
         except (AttributeError, subprocess.TimeoutExpired) as error:
@@ -144,6 +180,7 @@ def main():
     names, expected = explain(program).split(), names_of_pages() | TERMS
     checks.append(("names that no page has", sorted(set(names) - expected)))
     checks.append(("names of the pages that are missing", sorted(expected - set(names))))
+    checks.append(("names of the code that are missing", sorted(names_of_code() - set(names))))
     checks.append(("terms that the glossary lacks", sorted(TERMS - glossary())))
     of_texts = {*rows("FORMATS.md", "Faults of source text"), *rows("FORMATS.md", "Faults of layout")}
     of_texts = {cell.strip("`") for cell in of_texts if re.fullmatch(r"`[A-Z]\w+`", cell)}
@@ -153,7 +190,7 @@ def main():
     recorded = {key_of_case(case): case["name"] for case in cases if case["args"][0] != "explain"}
     shown = set()
     for name in names:
-        checks.append((f"explain {name}", faults_of_text(name, explain(program, name), recorded, shown)))
+        checks.append((f"explain {name}", faults_of_text(program, name, explain(program, name), recorded, shown)))
     checks.append(("cases that no text shows", sorted(recorded[it] for it in recorded if it not in shown)))
     for what, wrong in checks:
         if wrong:

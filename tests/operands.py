@@ -14,7 +14,7 @@ COMMANDS = {
     "turn": ["count"], "regs": ["node"], "mem": ["node"], "ports": ["node"],
 }  # fmt: skip
 IN_TRANSCRIPTS = {
-    **COMMANDS, "mem": ["node", "range?"], "node": ["node"], "breaks": [], "where": [], "nodes": [], "sides": ["node"],
+    **COMMANDS, "mem": ["node", "range?"], "node": ["node"], "breaks": [], "where": [], "nodes": [], "sides": ["node"], "depth": ["node"],
     "until": ["node", "address", "passes?", "count?"], "run": ["count?"], "code": ["node", "address?"], "step": ["node", "one?"], "trace": ["node", "count"],
     "watch": ["node", "what", "goal?"], "expect": ["node", "what", "values"],
 }  # fmt: skip
@@ -161,7 +161,8 @@ def values_read(most, words, labels, operands):
 
 
 def read_values(words, labels, operands):
-    return values_read(8 if operands[-1].kind == "memory" else 1, words, labels, operands)
+    what = operands[-1]
+    return values_read(min(8, 64 - what.of) if what.kind == "memory" else 1, words, labels, operands)
 
 
 def read_goal(words, labels, operands):

@@ -41,7 +41,7 @@ SESSIONS = [
     (["check"], TREE + b"> turn 1\nmoved 1\n"),
     (["record"], HEAD + b"> break 000 002\n> until 000 x 9\n> breaks\n> where\n> pass 000\n> regs 000\nold\n\\ end\n"),
     (["record"], HEAD + b"> step 000 3\n> step 001\n> trace 000 2\n> watch 000 P\n> watch 000 steps = 9\n> run 9\n> nodes\n"),
-    (["record"], HEAD + b"> code 000\n> code 001\n> sides 000\n> mem 000 x+1 3\n> expect 000 T 1\n> expect 000 x 0 0\n"),
+    (["record"], HEAD + b"> code 000\n> code 001\n> sides 000\n> depth 000\n> mem 000 x+1 3\n> expect 000 T 1\n> expect 000 x 0 0\n"),
     (["record"], ROUTE + b"> turn 40\n> until 709 1D5\n> where\n> try 709 r\n"),
     (["record"], TREE + b"> turn 40\n> until 608 115\n> where\n"),
 ]
@@ -153,6 +153,16 @@ def refuse_in_talk(program, library, folder):
     return passed, wrong
 
 
+def named_runs(folder):
+    """Runs of a transcript whose head names its source."""
+    os.mkdir(folder)
+    for name, text in [("x.source", b"node 000 . align 5 x: jump x\n"),
+                       ("x.transcript", b"profile 2\nplace\nsource x.source\ngo\n> turn 1\nmoved 1\n")]:
+        with open(f"{folder}/{name}", "wb") as file:
+            file.write(text)
+    return [([job, f"{folder}/x.transcript"], b"") for job in ("check", "record", "debug")]
+
+
 def rights_of_run(ample):
     return [ample, (3, b"", b"ga-bench: memory\n")] if ample[0] != 3 else []
 
@@ -179,6 +189,7 @@ def main(program, caller=None):
         subprocess.run([compiler, "-shared", "-fPIC", "-O1", "-o", library, f"{FOLDER}/refuse_memory.c", "-ldl"], check=True)
         told = [*pool.map(partial(refuse_each, program, library, rights_of_run), RUNS + LINES)]
         told += pool.map(partial(refuse_each, program, library, rights_of_files), FILES)
+        told += pool.map(partial(refuse_each, program, library, rights_of_run), named_runs(f"{folder}/named"))
         os.mkdir(f"{folder}/talk")
         told.append(refuse_in_talk(program, library, f"{folder}/talk"))
         if caller:

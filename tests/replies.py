@@ -133,6 +133,13 @@ def sides_form(node):
     return ["".join(lines)]
 
 
+def depth_form(node):
+    """The most words on both stacks, and why they may not be those of the steps that the node has made."""
+    passed = f"(?:, passed at {P}{LABEL})?\n"
+    remark = f"(?:in the first {NUMBER} of {NUMBER} steps\n|in another schedule\n)?"
+    return [f"data {NUMBER} of 10{passed}return {NUMBER} of 9{passed}{remark}"]
+
+
 def code_form(node, index):
     """Twelve words, from the fourth before an index on, as far as memory reaches. Without one the index isn't known."""
     count = "1,12" if index is None else min(12, 64 - max(index - 4, 0))
@@ -155,6 +162,7 @@ FORMS = {
     "watch": watch_form,
     "expect": expect_form,
     "sides": sides_form,
+    "depth": depth_form,
 }
 
 
@@ -206,7 +214,7 @@ def is_idle(line):
 def same_of_debug(it, breakpoints):
     """The commands of `debug` that do what an exchange does, or show the same. None, if they can't."""
     verb, operands, refusal = it.command
-    if refusal or verb in ("breaks", "where", "nodes"):
+    if refusal or verb in ("breaks", "where", "nodes", "depth"):
         return []
     if verb in ("break", "clear"):
         return change_of_breaks(verb, operands, breakpoints)

@@ -6,6 +6,7 @@ mod saved_files;
 ghost use Rattle.std.specs.Prelude.{◌≡◌, IfErr, IfOk, IfSome, map, string_bytes};
 ghost use Rattle.ga_command_line.specs.CommandLine.{InRange, IsJobOf, IsRight};
 ghost use Rattle.ga_transcript.specs.Record.{Holds};
+ghost use Rattle.ga_jobs.specs.Engine.{status_of};
 ghost use Rattle.ga_bench.specs.Status.{HasServed, HasStatus, IsStatusOf};
 
 use crate::saved_files::SavedFiles;
@@ -13,8 +14,9 @@ use clap::error::ErrorKind::InvalidValue;
 use ga_command_line::{LineError, job, refusal};
 use ga_jobs::record::replacement;
 use ga_jobs::{
-    Ending, FileReport, InputFault, Job, Loading, Reads, ServeError, Writes, open_session,
-    read_input, serve, status, write_output,
+    Ending, FileReport, InputFault, Job, Loading, Reads, ServeError, ShownText, Sourced, Writes,
+    answer, fault_in_source, open_session, read_input, serve, session_source, source_named,
+    source_path, status, write_output,
 };
 use ga_prompt::{Conversation, SaveFault, Saves};
 use std::alloc::Global;
@@ -24,7 +26,7 @@ use std::io::{BufReader, IsTerminal, Read, Write};
 use std::process::ExitCode;
 use std::rt::{Env, Files};
 use std::thread::Threads;
-use std::{env, fs, io};
+use std::{env, fs, io, str};
 
 fn main(rt: HostRuntime) -> ExitCode {
     let status = match job_of_arguments(&rt) {
@@ -82,7 +84,14 @@ fn talk_about<Rt: AllocGlobal + Print + Files, R: Read + IsTerminal>(
 ) -> Result<(), ServeError> {
     let alloc = rt.alloc();
     let input = input_named(rt, reader, name)?;
-    let live = open_session(alloc, loading, &input)?;
+    let named = match name {
+        "-" => None,
+        _ => session_source(loading, &input),
+    };
+    let live = match sourced(rt, name, named, &input)? {
+        Some(transcript) => transcript.open_session(alloc)?,
+        None => open_session(alloc, loading, &input)?,
+    };
     let mut conversation = Conversation::new(alloc, live, reader.is_terminal())?;
     let Ok(mut lines) = BufReader::new(alloc, reader) else {
         return Err(ServeError::Memory);
@@ -101,6 +110,25 @@ fn input_named<Rt: AllocGlobal + Files, R: Read>(
         return read_input(rt.alloc(), reader, &mut Reads::default());
     }
     read_input(rt.alloc(), &mut opened(rt, name)?, &mut Reads::default())
+}
+
+/// The transcript of an input that comes from the file with a name, and whose head names a source;
+/// or none, if it names none.
+fn sourced<Rt: AllocGlobal + Files>(
+    rt: &Rt,
+    file: &str,
+    named: Option<&str>,
+    input: &[u8],
+) -> Result<Option<Sourced>, ServeError> {
+    let alloc = rt.alloc();
+    let (Some(name), Ok(text)) = (named, str::from_utf8(input)) else {
+        return Ok(None);
+    };
+    let path = source_path(alloc, file, name)?;
+    match regular_input(rt, path.as_str()) {
+        Ok(source) => Ok(Some(Sourced::new(alloc, text, path.as_str(), &source)?)),
+        Err(fault) => Err(fault_in_source(alloc, path.as_str(), fault)?),
+    }
 }
 
 /// Checks several files, one after another. Answers the exit status: 1 if one of them failed.
@@ -147,10 +175,27 @@ fn report_on<Rt: AllocGlobal + Files, R: Read>(
     reader: &mut R,
     name: &str,
 ) -> Result<FileReport, ServeError> {
-    match input_named(rt, reader, name) {
-        Ok(input) => FileReport::new(rt.alloc(), name, &input),
+    match read_report(rt, reader, name) {
+        Ok(report) => Ok(report),
         Err(ServeError::Memory) => Err(ServeError::Memory),
         Err(fault) => Ok(FileReport::refused(rt.alloc(), name, &fault)?),
+    }
+}
+
+/// The report on the file with a name, or why it or its source can't be read.
+fn read_report<Rt: AllocGlobal + Files, R: Read>(
+    rt: &Rt,
+    reader: &mut R,
+    name: &str,
+) -> Result<FileReport, ServeError> {
+    let input = input_named(rt, reader, name)?;
+    let named = match name {
+        "-" => None,
+        _ => source_named(&input),
+    };
+    match sourced(rt, name, named, &input)? {
+        Some(transcript) => FileReport::of_sourced(rt.alloc(), name, &transcript),
+        None => FileReport::new(rt.alloc(), name, &input),
     }
 }
 
@@ -160,7 +205,14 @@ fn rewrite_status<Rt: AllocGlobal + Print + Eprint + Files>(rt: &Rt, files: &[St
     let mut worst = 0;
     for file in files {
         if let Err(fault) = rewrite(rt, &mut io::writer(rt), file.as_str()) {
-            let _ = eprintln!(rt; "ga-bench: {file}: {fault}");
+            match ShownText::of_name(rt.alloc(), file.as_str()) {
+                Ok(shown) => {
+                    let _ = eprintln!(rt; "ga-bench: {shown}: {fault}");
+                }
+                Err(_) => {
+                    let _ = eprintln!(rt; "ga-bench: {fault}");
+                }
+            }
             worst = status(&Err(fault)).max(worst);
         }
     }
@@ -175,29 +227,51 @@ fn rewrite<Rt: AllocGlobal + Files, W: Write>(
     name: &str,
 ) -> Result<(), ServeError> {
     let alloc = rt.alloc();
-    let input = read_input(alloc, &mut regular(rt, name)?, &mut Reads::default())?;
-    let done = match replacement(alloc, &input)? {
-        Some(recording) => {
-            save(rt, name, recording.as_str())?;
-            "recorded"
-        }
-        None => "same",
-    };
-    let line = format!(in alloc; "{name}: {done}\n")?;
+    let shown = ShownText::of_name(alloc, name)?;
+    let is_replaced = replaced(rt, name)?;
+    let done = if is_replaced { "recorded" } else { "same" };
+    let line = format!(in alloc; "{shown}: {done}\n")?;
     write_output(writer, line.as_bytes(), &mut Writes::default())
+}
+
+/// Replaces a file by its recording. Answers whether it isn't its recording already.
+fn replaced<Rt: AllocGlobal + Files>(rt: &Rt, name: &str) -> Result<bool, ServeError> {
+    let alloc = rt.alloc();
+    let input = regular_input(rt, name)?;
+    match sourced(rt, name, source_named(&input), &input)? {
+        Some(transcript) => match transcript.replacement(alloc)? {
+            Some(recording) => put(rt, name, recording.as_str())?,
+            None => return Ok(false),
+        },
+        None => match replacement(alloc, &input)? {
+            Some(recording) => save(rt, name, recording.as_str())?,
+            None => return Ok(false),
+        },
+    }
+    Ok(true)
 }
 
 /// Replaces a file by a transcript, in one step.
 fn save<Rt: AllocGlobal + Files>(rt: &Rt, name: &str, transcript: &str) -> Result<(), ServeError>
     requires { Holds transcript.now }
 {
+    put(rt, name, transcript)
+}
+
+/// Replaces a file by a text, in one step.
+fn put<Rt: AllocGlobal + Files>(rt: &Rt, name: &str, text: &str) -> Result<(), ServeError> {
     let alloc = rt.alloc();
-    match (SavedFiles { alloc, files: rt }).save(name, transcript, true) {
+    match (SavedFiles { alloc, files: rt }).put(name, text) {
         Ok(()) => Ok(()),
         Err(SaveFault::Memory) => Err(ServeError::Memory),
         Err(SaveFault::NotAFile) => Err(ServeError::Input(InputFault::NotAFile)),
         Err(SaveFault::Exists | SaveFault::Write(_)) => Err(ServeError::Write),
     }
+}
+
+/// The bytes of the regular file with a name.
+fn regular_input<Rt: AllocGlobal + Files>(rt: &Rt, name: &str) -> Result<Vec<u8>, ServeError> {
+    read_input(rt.alloc(), &mut regular(rt, name)?, &mut Reads::default())
 }
 
 /// The regular file with a name, to be read. Any other is refused before it is opened, since
@@ -219,13 +293,42 @@ fn serve_file<Rt: AllocGlobal + Print + Eprint + Threads + Sync + Files>(
 ) -> u8
     ensures { HasStatus result }
 {
+    if let Job::Check { .. } | Job::Record { .. } = job {
+        let outcome = serve_transcript(rt, &mut io::writer(rt), name, job);
+        return reported(rt, &outcome);
+    }
     match opened(rt, name) {
         Ok(mut reader) => serve_job(rt, &mut reader, &mut io::writer(rt), job),
-        Err(fault) => {
-            let _ = eprintln!(rt; "ga-bench: {fault}");
-            status(&Err(fault))
-        }
+        Err(fault) => reported(rt, &Err(fault)),
     }
+}
+
+/// Serves the job `check` or `record` for the file with a name, whose head may name its source.
+fn serve_transcript<Rt: AllocGlobal + Threads + Sync + Files, W: Write>(
+    rt: &Rt,
+    writer: &mut W,
+    name: &str,
+    job: &Job,
+) -> Result<Ending, ServeError> {
+    let input = read_input(rt.alloc(), &mut opened(rt, name)?, &mut Reads::default())?;
+    let text = match (sourced(rt, name, source_named(&input), &input)?, job) {
+        (Some(transcript), Job::Record { .. }) => transcript.record(rt.alloc())?,
+        (Some(transcript), _) => transcript.check(rt.alloc())?,
+        (None, _) => answer(rt, job, &input)?,
+    };
+    write_output(writer, text.as_bytes(), &mut Writes::default())?;
+    Ok(Ending::Done)
+}
+
+/// Reports the fault of an outcome, if it has one. Answers the exit status.
+fn reported<Rt: Eprint>(rt: &Rt, outcome: &Result<Ending, ServeError>) -> u8
+    ensures { result ≡ status_of outcome.now }
+{
+    if let Err(fault) = outcome {
+        // If this can't be written either, the status still reports it.
+        let _ = eprintln!(rt; "ga-bench: {fault}");
+    }
+    status(outcome)
 }
 
 /// The file with a name, to be read.
@@ -257,11 +360,7 @@ fn serve_job<Rt: AllocGlobal + Eprint + Threads + Sync, R: Read, W: Write>(
         HasServed job.now input (W.contents writer.old) (W.contents writer.new) result) }
 {
     let outcome = serve(rt, reader, writer, job);
-    if let Err(fault) = &outcome {
-        // If this can't be written either, the status still reports it.
-        let _ = eprintln!(rt; "ga-bench: {fault}");
-    }
-    status(&outcome)
+    reported(rt, &outcome)
 }
 
 /// Reports why a command line names no job, or prints the help or version that it asks for. Answers

@@ -27,17 +27,22 @@ impl<F: Files> Saves for SavedFiles<'_, F> {
         if !replaces {
             return self.write_new(name, transcript);
         }
-        match fs::symlink_metadata(self.files, name) {
-            Ok(found) if found.is_file() => self.replace(name, transcript, found.permissions()),
-            Ok(found) if found.is_symlink() => self.replace_linked(name, transcript),
-            Ok(_) => Err(SaveFault::NotAFile),
-            Err(error) if error.kind() == NotFound => self.write_new(name, transcript),
-            Err(error) => Err(fault_of(error)),
-        }
+        self.put(name, transcript)
     }
 }
 
 impl<F: Files> SavedFiles<'_, F> {
+    /// Writes a text into a file, which it replaces if it is there.
+    pub fn put(&self, name: &str, text: &str) -> Result<(), SaveFault> {
+        match fs::symlink_metadata(self.files, name) {
+            Ok(found) if found.is_file() => self.replace(name, text, found.permissions()),
+            Ok(found) if found.is_symlink() => self.replace_linked(name, text),
+            Ok(_) => Err(SaveFault::NotAFile),
+            Err(error) if error.kind() == NotFound => self.write_new(name, text),
+            Err(error) => Err(fault_of(error)),
+        }
+    }
+
     /// Writes a text into a new file, or leaves none.
     fn write_new(&self, name: &str, text: &str) -> Result<(), SaveFault> {
         let mut file = File::create_new(self.files, name).map_err(fault_of)?;

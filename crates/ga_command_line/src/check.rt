@@ -13,6 +13,7 @@ const HELP: &str = "\
 Reads a transcript from FILE, or from standard input if FILE is left out or is -: a text as debug reads
 it up to the line 'go', and then commands and their replies. A line that begins with '> ' is a command,
 and the lines behind it are its reply. A line that begins with '\\ ' is a comment.
+In a FILE the source text may be one line 'source NAME', which names a file beside it.
 Writes 'same' and the number of commands if each has the reply in the text. If not, it reports the line
 of the first command that differs, the expected lines with '-', and the actual lines with '+'.
 With two or more FILEs it checks each, and names it: it reports all commands that differ, with at most

@@ -71,8 +71,12 @@ pub record Start : Type 0 where
   pub commands : List (List ℕ)
 
 abbrev pub start_view : Loaded → Start
-start_view loaded = record
-    { chip = loaded.chip; images = loaded.images; line = loaded.line; commands = loaded.lines }
+start_view loaded = record {
+  chip = loaded.program.start;
+  images = loaded.program.images;
+  line = loaded.line;
+  commands = loaded.lines;
+}
 
 -- the chip after the head of a text of profile 2, with its images; or the first fault
 abbrev pub IsLoaded : List ℕ → Result Start ReplayError → Type 0

@@ -1,5 +1,5 @@
 -- Which words are which command, or else which word is the first bad one.
-use Rattle.std.specs.Prelude.{ℕ, zero, suc, ◌==◌, Bool, false, List, [], ◌∷◌, codes, drop, eqb, replicate, set, Option, Some, None, is_some, ok_or, option_map, Result, Ok, Err, if◌then◌else◌}
+use Rattle.std.specs.Prelude.{ℕ, zero, suc, ◌-◌, ◌==◌, Bool, false, List, [], ◌∷◌, codes, drop, eqb, min, replicate, set, Option, Some, None, is_some, ok_or, option_map, Result, Ok, Err, if◌then◌else◌}
 use Rattle.std.specs.List.{starts_with}
 use Rattle.std.specs.Option.{option_and_then, option_or}
 use Rattle.std.specs.Str.{bytes_eq}
@@ -167,9 +167,9 @@ values_in images node what most [] = None
 values_in images node what most words =
     values_from images node what most 0 (replicate 8 None) words
 
--- up to eight words of memory, or one value of all else
+-- up to eight words of memory, but none behind the last one, or one value of all else
 abbrev pub most_values : What → ℕ
-most_values (Memory address) = 8
+most_values (Memory address) = min 8 (64 - address)
 most_values what = 1
 
 abbrev pub some_values : Images → ℕ → Arguments → Words → First Arguments

@@ -12,10 +12,12 @@ use Rattle.ga_dump.specs.Node.{node_dump}
 use Rattle.ga_path.specs.Stream.{Images}
 use Rattle.ga_waits.specs.Folded.{nodes_text}
 use Rattle.ga_waits.specs.Waits.{waits_text}
+use Rattle.ga_trace.specs.Depth.{depth_text}
 use Rattle.ga_trace.specs.Rest.{ran_from}
 use Rattle.ga_trace.specs.Stepped.{stepped}
 use Rattle.ga_trace.specs.Traced.{traced}
 use Rattle.ga_trace.specs.Watched.{watched}
+use Rattle.ga_debug.specs.declared.beginning.Program.{Program}
 use Rattle.ga_debug.specs.declared.command.Arguments.{Arguments}
 use Rattle.ga_debug.specs.declared.commands.Action.{Action}
 use Rattle.ga_debug.specs.declared.commands.Action.TheVariants.{Break, Clear, Pass, Try, Turn, Until, Run}
@@ -26,7 +28,7 @@ use Rattle.ga_debug.specs.declared.commands.Answer.TheVariants.{Done, Tried, Mov
 use Rattle.ga_debug.specs.declared.commands.Verb.{Verb}
 use Rattle.ga_debug.specs.declared.commands.Verb.TheVariants.{Act, Show, Tell}
 use Rattle.ga_debug.specs.declared.commands.View.{View}
-use Rattle.ga_debug.specs.declared.commands.View.TheVariants.{Regs, Mem, Ports, Node, Code, Sides, Expect, Breaks, Where, Nodes}
+use Rattle.ga_debug.specs.declared.commands.View.TheVariants.{Regs, Mem, Ports, Node, Code, Sides, Depth, Expect, Breaks, Where, Nodes}
 use Rattle.ga_debug.specs.declared.error.DebugError.{DebugError}
 use Rattle.ga_debug.specs.declared.error.DebugError.TheVariants.{NotHeld}
 use Rattle.ga_debug.specs.declared.row.Scope.{Scope}
@@ -72,6 +74,7 @@ view_row Ports = row (codes "ports") (shape.Node ∷ []) Sessions Nothing
 view_row Node = row (codes "node") (shape.Node ∷ []) Transcripts Nothing
 view_row Code = row (codes "code") (shape.Node ∷ shape.AddressIf ∷ []) Transcripts Nothing
 view_row Sides = row (codes "sides") (shape.Node ∷ []) Transcripts Nothing
+view_row Depth = row (codes "depth") (shape.Node ∷ []) Transcripts Nothing
 view_row Expect =
     row (codes "expect") (shape.Node ∷ shape.What ∷ shape.Values ∷ []) Transcripts Nothing
 view_row Breaks = row (codes "breaks") [] Transcripts Nothing
@@ -100,7 +103,7 @@ follow_named word =
 abbrev pub view_named : List ℕ → Option View
 view_named word =
     find (λ view. bytes_eq (view_row view).name word)
-    (Regs ∷ Mem ∷ Ports ∷ Node ∷ Code ∷ Sides ∷ Expect ∷ Breaks ∷ Where ∷ Nodes ∷ [])
+    (Regs ∷ Mem ∷ Ports ∷ Node ∷ Code ∷ Sides ∷ Depth ∷ Expect ∷ Breaks ∷ Where ∷ Nodes ∷ [])
 
 -- the command of this name,
 abbrev pub any_verb : List ℕ → Option Verb
@@ -160,17 +163,28 @@ followed images Watch given chip = watched images given.node given.what (goal_of
 
 -- ---- what they show
 
--- of a chip into which these images were loaded
-abbrev pub shown : Images → View → Arguments → Chip → List ℕ
-shown images Regs given chip = option_map_or line_of (state_of chip given.node) []
-shown images Mem given chip =
+-- the images of a transcript; a session has none
+abbrev pub images_of : Option Program → Images
+images_of None = []
+images_of (Some program) = program.images
+
+-- how deep the stacks of a node were since the head of a transcript
+abbrev pub depth_shown : Option Program → ℕ → Chip → List ℕ
+depth_shown None node chip = []
+depth_shown (Some program) node chip = depth_text program.images node program.start chip
+
+-- of a chip that began with this program
+abbrev pub shown : Option Program → View → Arguments → Chip → List ℕ
+shown of Regs given chip = option_map_or line_of (state_of chip given.node) []
+shown of Mem given chip =
     option_map_or (memory_shown given.address given.count) (state_of chip given.node) []
-shown images Ports given chip = ledger_dump chip given.node
-shown images Node given chip = option_map_or node_dump (state_of chip given.node) []
-shown images Code given chip =
-    option_map_or (code_shown images given.from) (state_of chip given.node) []
-shown images Sides given chip = sides_text chip given.node
-shown images Expect given chip = expected_text given.node given.what given.values chip
-shown images Breaks given chip = breaks_text images chip
-shown images Where given chip = waits_text images chip
-shown images Nodes given chip = nodes_text images chip
+shown of Ports given chip = ledger_dump chip given.node
+shown of Node given chip = option_map_or node_dump (state_of chip given.node) []
+shown of Code given chip =
+    option_map_or (code_shown (images_of of) given.from) (state_of chip given.node) []
+shown of Sides given chip = sides_text chip given.node
+shown of Depth given chip = depth_shown of given.node chip
+shown of Expect given chip = expected_text given.node given.what given.values chip
+shown of Breaks given chip = breaks_text (images_of of) chip
+shown of Where given chip = waits_text (images_of of) chip
+shown of Nodes given chip = nodes_text (images_of of) chip

@@ -1,12 +1,12 @@
 -- What is replied to a line, and the chip afterwards.
-use Rattle.std.specs.Prelude.{Option, ℕ, ◌-◌, ◌==◌, List, [], ◌++◌, codes, get_or, length, take, unwrap_or, Result, Ok, Err, if◌then◌else◌}
+use Rattle.std.specs.Prelude.{Option, ℕ, ◌-◌, ◌==◌, List, ◌++◌, codes, get_or, length, option_map, take, Result, Ok, Err, if◌then◌else◌}
 use Rattle.ga_chip.specs.Chip.{Chip}
-use Rattle.ga_path.specs.Stream.{Images}
+use Rattle.ga_debug.specs.declared.beginning.Program.{Program}
 use Rattle.ga_debug.specs.declared.error.DebugError.{DebugError}
 use Rattle.ga_debug.specs.declared.command.Arguments.{Arguments}
 use Rattle.ga_debug.specs.declared.commands.Verb.{Verb}
 use Rattle.ga_debug.specs.declared.commands.Verb.TheVariants.{Act, Show, Tell}
-use Rattle.ga_debug.specs.Commands.{answer_text, did, followed, note_of, shown}
+use Rattle.ga_debug.specs.Commands.{answer_text, did, followed, images_of, note_of, shown}
 use Rattle.ga_debug.specs.Command.{command_in}
 use Rattle.ga_debug.specs.Error.{fault_name}
 
@@ -16,27 +16,27 @@ without_line_end text =
     if get_or text (length text - 1) 0 == 10 then take (length text - 1) text else text
 
 -- the reply to a command, without an LF at its end, or why it is refused; and the chip afterwards
-abbrev pub done_by : Images → Verb → Arguments → Chip → Result (List ℕ) DebugError × Chip
-done_by images (Show view) given chip =
-    (Ok (without_line_end (shown images view given chip)), chip)
-done_by images (Tell follow) given chip =
-    let told = followed images follow given chip in (Ok (without_line_end told.0), told.1)
-done_by images (Act action) given chip =
+abbrev pub done_by : Option Program → Verb → Arguments → Chip → Result (List ℕ) DebugError × Chip
+done_by of (Show view) given chip = (Ok (without_line_end (shown of view given chip)), chip)
+done_by of (Tell follow) given chip =
+    let told = followed (images_of of) follow given chip in
+    (Ok (without_line_end told.0), told.1)
+done_by of (Act action) given chip =
     let done = did action given chip in (
       elim done.0 [
-        | Ok answer ↦ Ok (answer_text answer ++ note_of images action given)
+        | Ok answer ↦ Ok (answer_text answer ++ note_of (images_of of) action given)
         | Err fault ↦ Err fault
       ],
       done.1,
     )
 
 -- The reply to a line, and the chip afterwards. A command that is refused changes nothing. With
--- images, those of its head, the line is one of a transcript, else of a session.
-abbrev pub replied : Option Images → List ℕ → Chip → Result (List ℕ) DebugError × Chip
+-- the program of its head, the line is one of a transcript, else of a session.
+abbrev pub replied : Option Program → List ℕ → Chip → Result (List ℕ) DebugError × Chip
 replied of line chip =
-    elim (command_in of line) [
+    elim (command_in (option_map (λ program. program.images) of) line) [
       | Err fault ↦ (Err fault, chip)
-      | Ok command ↦ done_by (unwrap_or of []) command.verb command.given chip
+      | Ok command ↦ done_by of command.verb command.given chip
     ]
 
 -- a refusal as text

@@ -1,21 +1,27 @@
 -- Turns until a node is held at an address.
-use Rattle.std.specs.Prelude.{ℕ, zero, suc, ◌+◌, ◌-◌, ◌==◌, Bool, ◌&&◌, length, Option, Some, None, if◌then◌else◌}
+use Rattle.std.specs.Prelude.{ℕ, zero, suc, ◌+◌, ◌-◌, ◌==◌, Bool, ◌&&◌, not, Option, Some, None, if◌then◌else◌}
 use Rattle.ga_chip.specs.Chip.{Chip}
-use Rattle.ga_chip.specs.Run.{ClearBreak, PassBreak, SetBreak, happened, has_break, moves, ran, side_of_turn, turn_of}
+use Rattle.ga_chip.specs.Run.{ClearBreak, SetBreak, happened, has_break}
+use Rattle.ga_trace.specs.Traced.{moved_in, turned}
 use Rattle.ga_debug.specs.declared.until.Reached.{Reached}
 use Rattle.ga_debug.specs.Breaks.{is_held_at}
 
--- the chip after the turn of a number, and how many steps it makes
-abbrev pub turned : ℕ → Chip → Chip
-turned turn chip = ran chip (turn_of (side_of_turn turn))
+-- a node that is held at an address isn't held there any more
+abbrev pub let_go : ℕ → ℕ → Chip → Chip
+let_go node at chip = if is_held_at chip node at then happened chip (ClearBreak node at) else chip
 
-abbrev pub moved_in : ℕ → Chip → ℕ
-moved_in turn chip = length (moves chip (turn_of (side_of_turn turn)))
+-- a node that was held at an address and went on has one pass less
+abbrev pub passes_left : ℕ → ℕ → ℕ → Chip → Chip → ℕ
+passes_left node at passes old new =
+    if is_held_at old node at && not (is_held_at new node at) then passes - 1 else passes
 
--- a node that is held at an address goes on, and has one pass less
-abbrev pub pass_at : ℕ → ℕ → ℕ → Chip → ℕ × Chip
-pass_at node at passes chip =
-    if is_held_at chip node at then (passes - 1, happened chip (PassBreak node)) else (passes, chip)
+-- The turn of a number, in which a node isn't held at an address, which is a breakpoint behind it:
+-- how many passes are left and how many steps it makes, and the chip afterwards.
+abbrev pub turn_past : ℕ → ℕ → ℕ → ℕ → Chip → (ℕ × ℕ) × Chip
+turn_past node at passes turn chip =
+    let free = let_go node at chip in
+    let next = happened (turned turn free) (SetBreak node at) in
+    ((passes_left node at passes chip next, moved_in turn free), next)
 
 -- it is held there, and has passed as often as it should
 abbrev pub is_there : ℕ → ℕ → ℕ → Chip → Bool
@@ -29,10 +35,9 @@ until_from zero turn moved passes node at chip = (
   chip,
 )
 until_from (suc left) turn moved passes node at chip =
-    let next = pass_at node at passes chip in
+    let next = turn_past node at passes turn chip in
     if is_there node at passes chip then (Some (record { turns = turn; moved = moved }), chip)
-    else until_from left (suc turn) (moved + moved_in turn next.1) next.0 node at
-    (turned turn next.1)
+    else until_from left (suc turn) (moved + next.0.1) next.0.0 node at next.1
 
 -- How many turns it took and how often they moved nodes, if the node was held there; and the chip
 -- afterwards. The address is a breakpoint for that time, and afterwards if it was one before.

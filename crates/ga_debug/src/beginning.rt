@@ -20,13 +20,19 @@ use ga_path::{Boot, BootError, Tree, boot_tree, routes_along};
 use ga_place::Node;
 use std::alloc::{AllocError, Global};
 
-/// The chip, the images and the lines of a replay text.
+/// What the head of a replay text loads.
+#[derive(Drop)]
+pub struct Program {
+    /// The images of its source text.
+    pub images: Images,
+    /// The chip into which they are loaded, before all commands.
+    pub start: Chip,
+}
+
+/// What the head of a replay text loads, and the lines behind the head.
 #[derive(Drop)]
 pub struct Loaded<'a> {
-    /// The chip, into which the images are loaded.
-    pub chip: Chip,
-    /// The images of the source text of the head.
-    pub images: Images,
+    pub program: Program,
     /// The number of the line `go`, counted from 1.
     pub line: u64,
     /// The lines behind it.
@@ -48,8 +54,10 @@ pub fn load<'a>(alloc: Global, text: &'a str) -> Result<Loaded<'a>, ReplayError>
     let images = assemble_text(alloc, head.source.as_str())?;
     let chip = loaded_chip(alloc, head.routes.as_deref(), &images)?;
     Ok(Loaded {
-        chip,
-        images,
+        program: Program {
+            images,
+            start: chip,
+        },
         line: head.line,
         lines: head.lines,
     })

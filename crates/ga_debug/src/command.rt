@@ -280,7 +280,8 @@ fn port_what(side: Side, words: &mut Pieces<'_>) -> What
     what
 }
 
-/// Values of what a node shows: up to eight words of memory, or one of all else.
+/// Values of what a node shows: up to eight words of memory, but none behind the last one, or one
+/// value of all else.
 fn read_values(
     images: Option<&Images>,
     given: Arguments,
@@ -289,7 +290,7 @@ fn read_values(
     ensures { Reads (values_read (images_in images.entry) given words.old) result words.new }
 {
     let most = match given.what {
-        What::Memory(_) => 8,
+        What::Memory(address) => 8.min(64_usize.saturating_sub(usize::from(address))),
         _ => 1,
     };
     some_values(images, most, given, words)

@@ -1,12 +1,13 @@
 //! The commands: the row of each, what it does and what it shows.
-ghost use Rattle.std.specs.Prelude.{◌≡◌, ◌+◌, ◌++◌, ◌≤◌, [], IfOk, OnErr, OnOk, string_bytes, length};
+ghost use Rattle.std.specs.Prelude.{◌≡◌, ◌+◌, ◌++◌, ◌≤◌, [], IfOk, OnErr, OnOk, option_map, string_bytes, length};
 ghost use Rattle.std.specs.Fmt.{decimal};
 ghost use Rattle.std.specs.String.{string_capacity};
-ghost use Rattle.ga_debug.specs.Commands.{action_named, action_row, answer_text, any_verb, did, follow_named, follow_row, followed, note_of, shapes_in, shown, verb_named, verb_row, view_named, view_row};
+ghost use Rattle.ga_debug.specs.Commands.{action_named, action_row, answer_text, any_verb, depth_shown, did, follow_named, follow_row, followed, images_of, note_of, shapes_in, shown, verb_named, verb_row, view_named, view_row};
 ghost use Rattle.ga_debug.specs.Session.{without_line_end};
 ghost use Rattle.ga_debug.specs.Word.{outcome_text};
 ghost use Rattle.ga_waits.specs.Label.{images_in};
 
+use crate::beginning::Program;
 use crate::breaks::{break_note, breaks_text};
 use crate::code::code_text;
 use crate::command::Arguments;
@@ -19,7 +20,8 @@ use crate::until::{Reached, until};
 use ga_asm::Images;
 use ga_chip::{Chip, Outcome, Try};
 use ga_dump::{ledger_text, node_text};
-use ga_trace::{Ran, run, step, trace, watch};
+use ga_place::Node;
+use ga_trace::{Ran, depths, run, step, trace, watch};
 use ga_waits::{nodes, waits};
 use itoa::Buffer;
 use std::alloc::{AllocError, Global};
@@ -69,6 +71,8 @@ pub(crate) enum View {
     Code,
     /// The neighbours of a node, and what lies at its ports.
     Sides,
+    /// How deep the stacks of a node were.
+    Depth,
     /// Whether a node shows some values.
     Expect,
     /// The breakpoints.
@@ -150,6 +154,7 @@ fn view_named(word: &[u8]) -> Option<View>
         b"node" => View::Node,
         b"code" => View::Code,
         b"sides" => View::Sides,
+        b"depth" => View::Depth,
         b"expect" => View::Expect,
         b"breaks" => View::Breaks,
         b"where" => View::Where,
@@ -246,7 +251,7 @@ impl View {
     {
         let (shapes, scope): (&'static [Shape], Scope) = match self {
             View::Regs | View::Mem | View::Ports => (&[Shape::Node], Scope::Sessions),
-            View::Node | View::Sides => (&[Shape::Node], Scope::Transcripts),
+            View::Node | View::Sides | View::Depth => (&[Shape::Node], Scope::Transcripts),
             View::Code => (&[Shape::Node, Shape::AddressIf], Scope::Transcripts),
             View::Expect => (
                 &[Shape::Node, Shape::What, Shape::Values],
@@ -391,18 +396,20 @@ pub(crate) fn note_of(
     }
 }
 
-/// What a view shows of a chip into which these images were loaded, without the last LF.
+/// What a view shows of a chip that began with this program, without the last LF.
 pub(crate) fn show(
     alloc: Global,
     chip: &Chip,
-    images: Option<&Images>,
+    program: Option<&Program>,
     view: View,
     given: &Arguments,
 ) -> Result<String, AllocError>
     ensures { IfOk result (λ text. string_bytes text
-        ≡ without_line_end (shown (images_in images.entry) view given.now chip.now)) }
+        ≡ without_line_end (shown (option_map (λ program. program.now) program.entry) view
+        given.now chip.now)) }
 {
     let node = given.node;
+    let images = images_of(program);
     let mut text = match view {
         View::Regs => chip.state(node).line(alloc)?,
         View::Mem => memory_shown(alloc, chip.state(node), given.address, given.count)?,
@@ -410,6 +417,7 @@ pub(crate) fn show(
         View::Node => node_text(alloc, chip.state(node))?,
         View::Code => code_text(alloc, chip.state(node), images, given.from)?,
         View::Sides => sides_text(alloc, chip, node)?,
+        View::Depth => depth_shown(alloc, chip, program, node)?,
         View::Expect => expected_text(alloc, chip, node, given.what, &given.values)?,
         View::Breaks => breaks_text(alloc, chip, images)?,
         View::Where => waits(alloc, chip, images)?,
@@ -417,6 +425,34 @@ pub(crate) fn show(
     };
     drop_line_end(&mut text);
     Ok(text)
+}
+
+/// The images of a transcript; a session has none.
+pub(crate) fn images_of(program: Option<&Program>) -> Option<&Images>
+    ensures images { option_map (λ images. images.now) result ≡ option_map
+        (λ program. program.images) (option_map (λ program. program.now) program.entry) }
+    ensures all { images_in result ≡ images_of (option_map (λ program. program.now) program.entry) }
+{
+    match program {
+        Some(program) => Some(&program.images),
+        None => None,
+    }
+}
+
+/// How deep the stacks of a node were since the head of a transcript.
+fn depth_shown(
+    alloc: Global,
+    chip: &Chip,
+    program: Option<&Program>,
+    node: Node,
+) -> Result<String, AllocError>
+    ensures { IfOk result (λ text. string_bytes text
+        ≡ depth_shown (option_map (λ program. program.now) program.entry) node chip.now) }
+{
+    match program {
+        Some(program) => depths(alloc, &program.start, chip, Some(&program.images), node),
+        None => Ok(String::new(alloc)),
+    }
 }
 
 /// Takes away the LF at the end of a text.

@@ -12,12 +12,13 @@ until NNN HHH [xN] [K]    turns, K or 1000000 at most, until the node is about t
 run [K]                   turns, K or 1000000 at most, until no node moves but those that spin
 step NNN [K]              K steps of the node alone, or one: what each does and changes
 trace NNN K               turns of all nodes until the node has made K steps: what each does and changes
-watch NNN WHAT [= VALUE]  turns until WHAT changes, or is VALUE: a register, an address, at, stopped, right read ..
+watch NNN WHAT [= VALUE]  turns until WHAT changes, or becomes VALUE: a register, an address, at, stopped, right read ..
 regs NNN                  the node's registers
 mem NNN [HHH [COUNT]]     its memory, or COUNT words from HHH on, or one
 ports NNN                 how many words it wrote at each port, and how many of them were read
 node NNN                  its registers and stacks
 code NNN [HHH]            the listing around HHH, or around the word in execution, which has a mark
+depth NNN                 the most words on each of its stacks since the start, and where a stack had no room
 sides NNN                 its neighbours, and the word that each of the two has posted there
 expect NNN WHAT VALUE ..  ok if WHAT is VALUE, else both; words of memory up to eight. WHAT as for watch
 breaks                    the breakpoints, and which node is held there

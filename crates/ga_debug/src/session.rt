@@ -1,12 +1,11 @@
 ghost use Rattle.std.specs.Prelude.{◌≡◌, ◌⊎◌, IfErr, IfOk, None, OnErr, OnOk, Err, Ok, option_map, string_bytes};
 ghost use Rattle.ga_debug.specs.Session.{done_by, replied, text_or_refusal};
-ghost use Rattle.ga_waits.specs.Label.{images_in};
 ghost use Rattle.ga_debug.specs.declared.error.DebugError.TheVariants.{Memory};
 
+use crate::beginning::Program;
 use crate::command::{Command, command_in};
-use crate::commands::{ANSWER_LENGTH, Verb, note_of, perform, push_answer, show, tell};
+use crate::commands::{ANSWER_LENGTH, Verb, images_of, note_of, perform, push_answer, show, tell};
 use crate::error::DebugError;
-use ga_asm::Images;
 use ga_chip::Chip;
 use std::alloc::{AllocError, Global};
 use std::fmt::Write;
@@ -51,27 +50,27 @@ impl Session {
     }
 }
 
-/// Replaces a text by the reply of a chip to a command, without an LF at its end. With images the
-/// command is one of a transcript, whose head they are of; without, one of a session. Fails with
+/// Replaces a text by the reply of a chip to a command, without an LF at its end. With a program
+/// the command is one of a transcript, whose head loads it; without, one of a session. Fails with
 /// [`DebugError::Memory`] only when out of memory; then chip and text are as they were.
 pub fn reply_into(
     alloc: Global,
     text: &mut String,
     chip: &mut Chip,
-    images: Option<&Images>,
+    program: Option<&Program>,
     line: &str,
 ) -> Result<(), DebugError>
     ensures replied { OnOk result (
-        replied (option_map (λ images. images.now) images.entry) line.now chip.old
+        replied (option_map (λ program. program.now) program.entry) line.now chip.old
         ≡ (Ok (string_bytes text.new), chip.new)) }
     ensures refused { IfErr result (λ error. (error ≡ Memory)
-        ⊎ (replied (option_map (λ images. images.now) images.entry) line.now chip.old
+        ⊎ (replied (option_map (λ program. program.now) program.entry) line.now chip.old
         ≡ (Err error, chip.old))) }
     ensures same { OnErr result (chip.new ≡ chip.old) }
     ensures same_text { OnErr result (string_bytes text.new ≡ string_bytes text.old) }
 {
-    match command_in(images, line) {
-        Ok(command) => reply_to(alloc, text, chip, images, &command),
+    match command_in(images_of(program), line) {
+        Ok(command) => reply_to(alloc, text, chip, program, &command),
         Err(fault) => Err(fault),
     }
 }
@@ -81,14 +80,16 @@ fn reply_to(
     alloc: Global,
     text: &mut String,
     chip: &mut Chip,
-    images: Option<&Images>,
+    program: Option<&Program>,
     command: &Command,
 ) -> Result<(), DebugError>
     ensures replied { OnOk result (
-        done_by (images_in images.entry) command.now.verb command.now.given chip.old
+        done_by (option_map (λ program. program.now) program.entry) command.now.verb
+        command.now.given chip.old
         ≡ (Ok (string_bytes text.new), chip.new)) }
     ensures refused { IfErr result (λ error. (error ≡ Memory)
-        ⊎ (done_by (images_in images.entry) command.now.verb command.now.given chip.old
+        ⊎ (done_by (option_map (λ program. program.now) program.entry) command.now.verb
+        command.now.given chip.old
         ≡ (Err error, chip.old))) }
     ensures same { OnErr result (chip.new ≡ chip.old) }
     ensures same_text { OnErr result (string_bytes text.new ≡ string_bytes text.old) }
@@ -97,7 +98,7 @@ fn reply_to(
     match command.verb {
         Verb::Act(action) => {
             // Before the action, so that it is refused as a whole.
-            let note = note_of(alloc, images, action, given)?;
+            let note = note_of(alloc, images_of(program), action, given)?;
             text.reserve(ANSWER_LENGTH)?;
             let answer = perform(chip, action, given)?;
             text.clear();
@@ -107,10 +108,10 @@ fn reply_to(
         Verb::Tell(follow) => {
             // On a copy, so that the command is refused as a whole.
             let mut next = chip.copied(alloc)?;
-            *text = tell(alloc, &mut next, images, follow, given)?;
+            *text = tell(alloc, &mut next, images_of(program), follow, given)?;
             *chip = next;
         }
-        Verb::Show(view) => *text = show(alloc, chip, images, view, given)?,
+        Verb::Show(view) => *text = show(alloc, chip, program, view, given)?,
     }
     Ok(())
 }
@@ -121,16 +122,16 @@ pub fn reply_or_refusal(
     alloc: Global,
     text: &mut String,
     chip: &mut Chip,
-    images: Option<&Images>,
+    program: Option<&Program>,
     line: &str,
 ) -> Result<(), AllocError>
     ensures text { OnOk result (string_bytes text.new ≡ text_or_refusal
-        (replied (option_map (λ images. images.now) images.entry) line.now chip.old).0) }
+        (replied (option_map (λ program. program.now) program.entry) line.now chip.old).0) }
     ensures chip { OnOk result (chip.new
-        ≡ (replied (option_map (λ images. images.now) images.entry) line.now chip.old).1) }
+        ≡ (replied (option_map (λ program. program.now) program.entry) line.now chip.old).1) }
     ensures same { OnErr result (chip.new ≡ chip.old) }
 {
-    match reply_into(alloc, text, chip, images, line) {
+    match reply_into(alloc, text, chip, program, line) {
         Ok(()) => Ok(()),
         Err(DebugError::Memory) => Err(AllocError),
         Err(fault) => refusal(text, fault),

@@ -1,5 +1,5 @@
-ghost use Rattle.std.specs.Prelude.{◌≡◌, ◌<◌};
-ghost use Rattle.ga_debug.specs.Until.{is_there, pass_at, until_done, until_from};
+ghost use Rattle.std.specs.Prelude.{◌≡◌, ◌<◌, ◌-◌, ◌^◌, ◌&&◌, not, if◌then◌else◌};
+ghost use Rattle.ga_debug.specs.Until.{is_there, let_go, turn_past, until_done, until_from};
 
 use crate::address::Address;
 use crate::breaks::is_held_at;
@@ -45,6 +45,7 @@ fn turns_until(
     passes: u32,
     count: u32,
 ) -> Option<Reached>
+    requires { address < 2 ^ 9 }
     ensures { (result, chip.new) ≡ until_from count 0 0 passes node address chip.old }
 {
     let mut moved = 0;
@@ -53,9 +54,9 @@ fn turns_until(
         if is_there(chip, node, address, left) {
             return Some(Reached { turns, moved });
         }
-        left = pass_at(chip, node, address, left);
-        let side = side_of_turn(u64::from(turns));
-        moved += u64::from(chip.turn(side));
+        let (behind, steps) = turn_past(chip, node, address, left, turns);
+        left = behind;
+        moved += u64::from(steps);
     }
     if is_there(chip, node, address, left) {
         return Some(Reached {
@@ -73,13 +74,36 @@ fn is_there(chip: &Chip, node: Node, address: u16, passes: u32) -> bool
     is_held_at(chip, node, address) && passes == 0
 }
 
-/// Lets a node that is held at an address go on. Answers how many passes are left.
-fn pass_at(chip: &mut Chip, node: Node, address: u16, passes: u32) -> u32
-    ensures { (result, chip.new) ≡ pass_at node address passes chip.old }
+/// Makes the turn of a number, in which a node isn't held at an address, which is a breakpoint
+/// behind it. Answers how many passes are left, and how many steps it made.
+fn turn_past(chip: &mut Chip, node: Node, address: u16, passes: u32, number: u32) -> (u32, u8)
+    requires { address < 2 ^ 9 }
+    ensures { (result, chip.new) ≡ turn_past node address passes number chip.old }
 {
-    if !is_held_at(chip, node, address) {
-        return passes;
+    let was_held = is_held_at(chip, node, address);
+    let_go(chip, node, address);
+    let steps = chip.turn(side_of_turn(u64::from(number)));
+    chip.set_break(node, address);
+    let is_held = is_held_at(chip, node, address);
+    (passes_left(passes, was_held, is_held), steps)
+}
+
+/// A node that is held at an address isn't held there any more.
+fn let_go(chip: &mut Chip, node: Node, address: u16)
+    ensures { chip.new ≡ let_go node address chip.old }
+{
+    if is_held_at(chip, node, address) {
+        chip.clear_break(node, address);
     }
-    let _passed = chip.pass_break(node);
-    passes.saturating_sub(1)
+}
+
+/// A node that was held and went on has one pass less.
+fn passes_left(passes: u32, was_held: bool, is_held: bool) -> u32
+    ensures { result ≡ (if was_held && not is_held then passes - 1 else passes) }
+{
+    if was_held && !is_held {
+        passes.saturating_sub(1)
+    } else {
+        passes
+    }
 }

@@ -56,7 +56,10 @@ go
 /// The chip of a session.
 fn chip_of(alloc: Global, text: &str) -> Result<Chip, Fail> {
     match load(alloc, text) {
-        Ok(loaded) => Ok(loaded.chip),
+        Ok(loaded) => {
+            let program = loaded.program;
+            Ok(program.start)
+        }
         Err(_) => Err("the head is wrong")?,
     }
 }

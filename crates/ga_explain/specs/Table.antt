@@ -6,7 +6,7 @@ use Rattle.ga_explain.specs.declared.source.TheConstants.{BAD_TOKEN, NUMBER_RANG
 use Rattle.ga_explain.specs.declared.layout.TheConstants.{UNDEFINED_LABEL, OUT_OF_REACH, UNEXT_ALONE, TOO_LONG}
 use Rattle.ga_explain.specs.declared.routes.TheConstants.{BAD_ROUTE, NOT_EDGE, NOT_NEIGHBOUR, REPEATED, OTHER_ROOT, UNREACHED}
 use Rattle.ga_explain.specs.declared.sessions.TheConstants.{BAD_COMMAND, BAD_ADDRESS, BAD_SIDE, BAD_COUNT, BAD_VALUE, NOT_HELD, BAD_PROFILE, NO_GO, SOURCE, ASM, ROUTE, TREE, BOOT, EARLY_REPLY, DIFFERS}
-use Rattle.ga_explain.specs.declared.input.TheConstants.{READ, NO_FILE, FOLDER, BAD_TEXT, BAD_CODE, WRITE, MEMORY}
+use Rattle.ga_explain.specs.declared.input.TheConstants.{READ, NO_FILE, FOLDER, NOT_A_FILE, EXISTS, NO_NAME, BAD_TEXT, BAD_CODE, WRITE, REFUSED_WRITE, MEMORY, REFUSED_MEMORY}
 use Rattle.ga_explain.specs.declared.needs.TheConstants.{OWN, TAKE, POST, CHECK, INPUT, STOPPED, COUNTED, IO_READ, ROM, UNMAPPED, MULTI_WRITE}
 use Rattle.ga_explain.specs.declared.terms.TheConstants.{CARRY, MOVED, WAITS, HELD, STUCK, RING, RACE, TURN, PLACE, STEP, SLOT, FOLLOWER, PROFILE}
 
@@ -110,10 +110,15 @@ input_entries =
     (codes "read", [], READ.now) ∷
     (codes "NoFile", [], NO_FILE.now) ∷
     (codes "Folder", [], FOLDER.now) ∷
+    (codes "NotAFile", [], NOT_A_FILE.now) ∷
+    (codes "Exists", [], EXISTS.now) ∷
+    (codes "NoName", [], NO_NAME.now) ∷
     (codes "BadText", [], BAD_TEXT.now) ∷
     (codes "BadCode", [], BAD_CODE.now) ∷
     (codes "write", [], WRITE.now) ∷
+    (codes "Write", [], REFUSED_WRITE.now) ∷
     (codes "memory", [], MEMORY.now) ∷
+    (codes "Memory", [], REFUSED_MEMORY.now) ∷
     []
 
 -- the needs and the stops of a node

@@ -6,17 +6,22 @@ use crate::topic::{Topic, topic};
 
 /// The faults of the input and of the output, in the order of the pages.
 #[tactic(auto, unfolding(crate::specs::Table::input_entries))]
-pub fn topics() -> [Topic; 7]
+pub fn topics() -> [Topic; 12]
     ensures { map entry_of result ≡ input_entries }
 {
     [
         topic!("read", "", READ),
         topic!("NoFile", "", NO_FILE),
         topic!("Folder", "", FOLDER),
+        topic!("NotAFile", "", NOT_A_FILE),
+        topic!("Exists", "", EXISTS),
+        topic!("NoName", "", NO_NAME),
         topic!("BadText", "", BAD_TEXT),
         topic!("BadCode", "", BAD_CODE),
         topic!("write", "", WRITE),
+        topic!("Write", "", REFUSED_WRITE),
         topic!("memory", "", MEMORY),
+        topic!("Memory", "", REFUSED_MEMORY),
     ]
 }
 
@@ -58,9 +63,50 @@ Fixed, with the text on standard input (- means the same as no name):
   000  2C9B2  code         1  [ . . . . ]
 ";
 
+const NOT_A_FILE: &str = "\
+NotAFile: 'save!' at the prompt and 'record --write' replace only regular files,
+and this name is that of a pipe or a device. 'save!' also reports it for a
+folder, and for a link that leads to no file.
+
+  $ echo 'save! .' | ga-bench debug my.source
+  refused NotAFile
+
+Fixed, with the name of a file, or one that is free:
+
+  $ echo 'save! my.transcript' | ga-bench debug my.source
+  saved my.transcript
+";
+
+const EXISTS: &str = "\
+Exists: 'save' at the prompt replaces nothing, and there is a file or a folder
+with this name. 'save! NAME' replaces a file. It needs a free name beside the
+file, one of NAME.new0 to NAME.new99, and reports Exists if there is none.
+
+  $ echo 'save my.source' | ga-bench debug my.source
+  refused Exists
+
+Fixed, with another name:
+
+  $ echo 'save my.transcript' | ga-bench debug my.source
+  saved my.transcript
+";
+
+const NO_NAME: &str = "\
+NoName: 'save' and 'save!' at the prompt need the name of a file behind them.
+
+  $ echo 'save' | ga-bench debug my.source
+  refused NoName
+
+Fixed:
+
+  $ echo 'save my.transcript' | ga-bench debug my.source
+  saved my.transcript
+";
+
 const BAD_TEXT: &str = "\
-BadText: the input isn't text in UTF-8. Convert other encodings, for example
-with 'iconv -f latin1 -t utf-8'. Comments may have letters beyond ASCII.
+BadText: the input, or a line at the prompt, isn't text in UTF-8. Convert other
+encodings, for example with 'iconv -f latin1 -t utf-8'. Comments may have
+letters beyond ASCII.
 
   $ printf 'node 709 . \\\\ f\\374nf\\n' | ga-bench asm
   ga-bench: input BadText
@@ -90,11 +136,32 @@ const WRITE: &str = "\
 write: a write to standard output failed or took no byte, or the output could
 not be flushed. A prefix of the output may be written. For example, a disk is
 full: 'ga-bench asm < my.source > /dev/full' reports 'ga-bench: write'. Free
-some space, or write elsewhere.
+some space, or write elsewhere. From 'record --write': the file named in front
+could not be replaced, and is as it was.
+";
+
+const REFUSED_WRITE: &str = "\
+Write: 'save' or 'save!' at the prompt couldn't write the file, for the reason
+behind it, which is the system's. The session goes on. A file with this name is
+as it was.
+
+  $ echo 'save no/my.transcript' | ga-bench debug my.source
+  refused Write, No such file or directory (os error 2)
+
+Fixed, in a folder that is there:
+
+  $ echo 'save my.transcript' | ga-bench debug my.source
+  saved my.transcript
 ";
 
 const MEMORY: &str = "\
 memory: the program ran out of memory. Nothing is written, and the status is 3.
 The system is out of memory, or a limit, such as one set by 'ulimit -v', is too
 low. Raise the limit, or use a smaller input.
+";
+
+const REFUSED_MEMORY: &str = "\
+Memory: the program ran out of memory at a line of the prompt. The session is as
+it was before the line, and nothing was saved. The system is out of memory, or a
+limit, such as one set by 'ulimit -v', is too low.
 ";

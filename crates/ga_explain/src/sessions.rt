@@ -94,8 +94,9 @@ Fixed:
 ";
 
 const BAD_COUNT: &str = "\
-BadCount: a count, as the number of turns, isn't a decimal number up to 1000000,
-of one to seven digits and without a sign. The count of 'mem' can't be 0.
+BadCount: a count, as the number of turns or of commands that 'back' undoes,
+isn't a decimal number up to 1000000, of one to seven digits and without a sign.
+The count of 'mem' can't be 0.
 
   $ printf 'profile 2\\nplace\\nnode 000 .\\ngo\\nturn +1\\n' | ga-bench debug
   refused BadCount

@@ -8,4 +8,6 @@ mod OneAnswer
 mod Again
 pub mod Reports
 mod WorkedOutputs
+mod WorkedSources
 mod Judged
+mod Sourcing

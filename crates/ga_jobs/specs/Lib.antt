@@ -35,6 +35,8 @@ pub mod Run
 pub mod Replay
 pub mod Race
 pub mod Session
+pub mod SourceName
+pub mod Sourced
 pub mod Debug
 pub mod Answering
 pub mod Reading

@@ -1,17 +1,13 @@
 -- What `check` of several files reports of one of them.
-use Rattle.std.specs.Prelude.{◌≡◌, ◌⊎◌, ◌==◌, ℕ, List, ◌++◌, codes, false, map, string_bytes, Result, Ok, Err, if◌then◌else◌}
+use Rattle.std.specs.Prelude.{◌≡◌, ◌⊎◌, ◌==◌, ℕ, List, [], ◌++◌, codes, false, string_bytes, Result, Ok, Err, if◌then◌else◌}
 use Rattle.std.specs.Fmt.{decimal}
-use Rattle.std.specs.Str.{chars, encode_utf8_all}
 use Rattle.ga_transcript.specs.Compare.{IsCompared, View}
 use Rattle.ga_jobs.specs.declared.fault.ServeError.{ServeError}
 use Rattle.ga_jobs.specs.declared.report.FileReport.{FileReport}
-use Rattle.ga_jobs.specs.Shown.{shown_char, shown_lines}
+use Rattle.ga_jobs.specs.Shown.{shown_lines, shown_name}
+use Rattle.ga_jobs.specs.Sourced.{SourcedView, report_in_file}
 use Rattle.ga_jobs.specs.Text.{IsInText}
 use Rattle.ga_jobs.specs.TranscriptFault.{shown_transcript_fault}
-
--- the name of a file, each character of it as it is shown
-abbrev pub shown_name : List ℕ → List ℕ
-shown_name name = encode_utf8_all (map shown_char (chars name))
 
 -- what is found of all commands of an input in a file of this name, or the input's first fault
 abbrev pub IsComparedIn : List ℕ → List ℕ → Result View ServeError → Type 0
@@ -41,3 +37,15 @@ IsFileReport name input (Ok report) =
     ⊎ ((fault : ServeError) × IsComparedIn (shown_name name) input (Err fault)
     × IsRefused name report)
 IsFileReport name input (Err fault) = ⊥
+
+-- The same for a file whose head names its source: the comparison of the whole text, with the name
+-- and the lines of the file.
+abbrev pub IsSourcedReport : List ℕ → SourcedView → Result FileReport ServeError → Type 0
+IsSourcedReport name sourced (Ok report) =
+    ((found : View) × IsComparedIn [] sourced.whole (Ok found)
+    × (string_bytes report.text
+    ≡ found_text (shown_name name)
+    (record found { report = report_in_file sourced.count (shown_name name) found.report }))
+    × (report.passes ≡ (found.differences == 0)))
+    ⊎ ((fault : ServeError) × IsComparedIn [] sourced.whole (Err fault) × IsRefused name report)
+IsSourcedReport name sourced (Err fault) = ⊥

@@ -53,3 +53,7 @@ shown_text text line (Some column) meaning =
 -- lines with an LF between two, each character of them as it is shown
 unfoldable pub shown_lines : List ℕ → List ℕ
 shown_lines text = encode_utf8_all (map (λ c. if c == 10 then 10 else shown_char c) (chars text))
+
+-- the name of a file, each character of it as it is shown
+abbrev pub shown_name : List ℕ → List ℕ
+shown_name name = encode_utf8_all (map shown_char (chars name))

@@ -18,7 +18,8 @@ pub fn output(alloc: Global, input: &[u8]) -> Result<String, ServeError>
     ensures only { AtMostOne (IsDebugOutput input.now) }
 {
     let loaded = load(alloc, input_text(input)?)?;
-    let replies = replies_to(alloc, loaded.chip, loaded.lines)?;
+    let program = loaded.program;
+    let replies = replies_to(alloc, program.start, loaded.lines)?;
     Ok(replies)
 }
 

@@ -82,6 +82,12 @@ pub enum TextFault {
     Source(SourceError),
     #[error("asm {0}")]
     Asm(AsmError),
+    /// The fault of a source in a file with a name of its own.
+    #[error("source {0}:{1}")]
+    SourceOf(ShownText, SourceError),
+    /// The fault of the program of such a source.
+    #[error("asm {node} {0}:{line}:{column} {kind}", node = .1.node, line = .1.line, column = .1.column, kind = .1.kind)]
+    AsmOf(ShownText, AsmError),
     #[error("replay {0}")]
     Replay(ReplayError),
     /// A line of a reply comes before all commands of a transcript.
@@ -97,6 +103,9 @@ pub enum TextFault {
 pub enum ServeError {
     #[error("input {0}")]
     Input(InputFault),
+    /// The same of a file that another file names.
+    #[error("input {0} {1}")]
+    InputOf(ShownText, InputFault),
     #[error("words {0}")]
     Words(WordsFault),
     #[error("source {0}")]

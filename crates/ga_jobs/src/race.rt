@@ -126,7 +126,10 @@ fn head_chip(alloc: Global, text: &str) -> Result<(Chip, Images), ServeError>
     ensures { Answers (λ loaded. loaded.0) (IsHeadChip text.now) result }
 {
     match load(alloc, text) {
-        Ok(loaded) => Ok((loaded.chip, loaded.images)),
+        Ok(loaded) => {
+            let program = loaded.program;
+            Ok((program.start, program.images))
+        }
         Err(ReplayError::Memory) => Err(ServeError::Memory),
         Err(error) => {
             let error = TranscriptError::Head(error);

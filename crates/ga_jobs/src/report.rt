@@ -2,10 +2,12 @@
 ghost use Rattle.std.specs.Prelude.{◌≡◌, IfOk, string_bytes};
 ghost use Rattle.ga_transcript.specs.Compare.{comparison_view};
 ghost use Rattle.ga_jobs.specs.Fault.{Answers};
-ghost use Rattle.ga_jobs.specs.Report.{IsComparedIn, IsFileReport, IsRefused, found_text, shown_name};
+ghost use Rattle.ga_jobs.specs.Report.{IsComparedIn, IsFileReport, IsRefused, IsSourcedReport, found_text};
+ghost use Rattle.ga_jobs.specs.Shown.{shown_name};
 
 use crate::fault::ServeError;
-use crate::shown::{shown_char, shown_lines};
+use crate::shown::{shown_lines, shown_name};
+use crate::sourced::Sourced;
 use crate::text::input_text;
 use crate::transcript_fault::shown_transcript_fault;
 use ga_transcript::{Comparison, compare};
@@ -36,6 +38,31 @@ impl FileReport {
             Err(fault) => match fault {
                 ServeError::Memory => Err(ServeError::Memory),
                 _ => Ok(FileReport::refused(alloc, name, &fault)?),
+            },
+        }
+    }
+
+    /// The same report on a file with a name whose head names its source: lines are those of the
+    /// file.
+    pub fn of_sourced(
+        alloc: Global,
+        name: &str,
+        sourced: &Sourced,
+    ) -> Result<FileReport, ServeError>
+        ensures { Answers (λ report. report) (IsSourcedReport name.now sourced.now) result }
+    {
+        let shown = shown_name(alloc, name)?;
+        match compared(alloc, "", sourced.whole().as_bytes()) {
+            Ok(mut found) => {
+                found.report = sourced.report_in_file(alloc, &shown, &found.report)?;
+                Ok(FileReport {
+                    text: found_text(alloc, shown.as_str(), &found)?,
+                    passes: found.differences == 0,
+                })
+            }
+            Err(fault) => match fault {
+                ServeError::Memory => Err(ServeError::Memory),
+                _ => Ok(FileReport::refused(alloc, name, &sourced.fault_in_file(fault))?),
             },
         }
     }
@@ -81,11 +108,4 @@ fn found_text(alloc: Global, name: &str, found: &Comparison) -> Result<String, A
     }
     let report = shown_lines(alloc, report.as_str())?;
     format!(in alloc; "{report}{name}: {differences} of {commands} differ\n")
-}
-
-/// The name of a file as it is shown, in one line.
-fn shown_name(alloc: Global, name: &str) -> Result<String, AllocError>
-    ensures { IfOk result (λ shown. string_bytes shown ≡ shown_name name.now) }
-{
-    name.chars().map(shown_char).collect(alloc)
 }

@@ -78,7 +78,7 @@ pub(crate) fn push_source_head(
 }
 
 /// Adds lines of a source text, each ended by LF. A line `go` would end it: it gets a space.
-fn push_lines(text: &mut String, lines: Pieces<'_>) -> Result<(), AllocError>
+pub(crate) fn push_lines(text: &mut String, lines: Pieces<'_>) -> Result<(), AllocError>
     ensures { OnOk result (string_bytes text.new
         ≡ string_bytes text.old ++ ended_lines lines.entry) }
 {

@@ -1,7 +1,7 @@
 ghost use Rattle.std.specs.Prelude.{◌≡◌, ℕ, IfOk, List, Some, bytes_eq, string_bytes};
 ghost use Rattle.std.proofs.Common.{rules};
 ghost use Rattle.std.specs.Cmp.Rules.{comparing};
-ghost use Rattle.ga_jobs.specs.Shown.{is_undrawn, left_out, numbered_line, line_under, shown_char, shown_line, shown_lines, shown_text, whole_line};
+ghost use Rattle.ga_jobs.specs.Shown.{is_undrawn, left_out, numbered_line, line_under, shown_char, shown_line, shown_lines, shown_name, shown_text, whole_line};
 
 use std::alloc::{AllocError, Global};
 use std::fmt;
@@ -38,6 +38,14 @@ impl ShownText {
         ensures { IfOk result (λ shown. shown ≡ shown_lines lines.now) }
     {
         let text = shown_lines(alloc, lines)?;
+        Ok(ShownText { text })
+    }
+
+    /// The name of a file, in one line. Fails only when out of memory.
+    pub fn of_name(alloc: Global, name: &str) -> Result<ShownText, AllocError>
+        ensures { IfOk result (λ shown. shown ≡ shown_name name.now) }
+    {
+        let text = shown_name(alloc, name)?;
         Ok(ShownText { text })
     }
 
@@ -163,6 +171,13 @@ pub fn shown_lines(alloc: Global, lines: &str) -> Result<String, AllocError>
         .chars()
         .map(|c| if c == '\n' { c } else { shown_char(c) })
         .collect(alloc)
+}
+
+/// The name of a file as it is shown, in one line. Fails only when out of memory.
+pub fn shown_name(alloc: Global, name: &str) -> Result<String, AllocError>
+    ensures { IfOk result (λ shown. string_bytes shown ≡ shown_name name.now) }
+{
+    name.chars().map(shown_char).collect(alloc)
 }
 
 /// The blanks and tabs under these characters before the caret.

@@ -39,7 +39,7 @@ abbrev pub IsDone : LiveView → Request → LiveView → List ℕ → Type 0
 IsDone live Nothing next text = (next ≡ live) × (text ≡ [])
 -- the reply, as a transcript has it
 IsDone live (Say command) next text =
-    (next ≡ said command live) × (text ≡ ended (step_of live.images command live.chip).0)
+    (next ≡ said command live) × (text ≡ ended (step_of live.program command live.chip).0)
 IsDone live (Help name) next text = next ≡ live
 IsDone live (Back count) next text =
     IsBack count live next × (text ≡ undone_text live.text next.text)

@@ -1,5 +1,5 @@
 ghost use Rattle.std.specs.Prelude.{None, Option};
-ghost use Rattle.ga_prompt.specs.Saving.{Files, SavesOne};
+ghost use Rattle.ga_prompt.specs.Saving.{Files, SavesOne, saved_file};
 ghost use Rattle.ga_transcript.specs.Record.{Holds};
 
 use std::io;
@@ -29,5 +29,6 @@ pub trait Saves {
     fn save(&mut self, name: &str, transcript: &str, replaces: bool) -> Result<(), SaveFault>
         // `check` accepts it
         requires { Holds transcript.now }
-        ensures { SavesOne (saved self.old) (saved self.new) name.now transcript.now result };
+        ensures { SavesOne (saved self.old) (saved self.new)
+            (saved_file replaces name.now transcript.now) result };
 }

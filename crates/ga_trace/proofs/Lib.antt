@@ -3,4 +3,5 @@ pub mod Tracing
 pub mod Watching
 pub mod Stepping
 pub mod Resting
+pub mod Deepening
 mod Worked

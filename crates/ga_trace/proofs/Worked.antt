@@ -4,14 +4,17 @@ use Rattle.std.specs.Prelude.{None, Some}
 use Rattle.ga_node.specs.State.{reset_state}
 use Rattle.ga_node.specs.declared.place.Place.TheVariants.{Fetch, Slot0, Slot1, Slot3}
 use Rattle.ga_pack.specs.Decoded.{reading_of}
-use Rattle.ga_place.specs.declared.side.Side.TheVariants.{Right}
+use Rattle.ga_place.specs.declared.side.Side.TheVariants.{Down, Right}
 use Rattle.ga_word.specs.Hex.{hex_digits}
 use Rattle.ga_word.specs.Op.{op_with}
+use Rattle.ga_word.specs.declared.op.Op.TheVariants as op
 use Rattle.ga_observe.specs.declared.step.Deed.TheVariants.{Own, Posted, SawRead}
 use Rattle.ga_trace.specs.At.{at_word, retreat}
 use Rattle.ga_trace.specs.Line.{changes, deed_text, ram_changes}
 use Rattle.ga_trace.specs.Rest.{target_of}
-use Rattle.ga_trace.specs.Watched.{changes_to}
+use Rattle.ga_trace.specs.Depth.{EMPTY, deeper, return_change}
+use Rattle.ga_trace.specs.declared.depth.Change.TheVariants as change
+use Rattle.ga_trace.specs.Watched.{changes_to, posted_at}
 use Rattle.ga_trace.specs.What.{same_value}
 use Rattle.ga_trace.specs.declared.what.Value.TheVariants.{Nothing, Word, Count}
 
@@ -47,3 +50,17 @@ becomes : (changes_to (Some (Word 5)) (Word 4) (Word 5) ≡ true)
     × (changes_to (Some (Word 5)) (Word 5) (Word 5) ≡ false)
     × (changes_to None Nothing (Word 5) ≡ true) × (same_value (Word 1) (Count 1) ≡ false)
 becomes = (refl, refl, refl, refl)
+
+-- only the side that is watched counts
+posts : (posted_at Right (Posted Right 0x1C) ≡ Some 0x1C)
+    × (posted_at Down (Posted Right 0x1C) ≡ None) × (posted_at Right (SawRead Right) ≡ None)
+posts = (refl, refl, refl)
+
+-- two pushes on a stack with room for one: the second is too many, and stays noted behind a pop
+pushes : deeper 1 7 change.Pop (deeper 1 5 change.Push (deeper 1 3 change.Push EMPTY))
+    ≡ record { words = 1; most = 2; passed = Some 5 }
+pushes = refl
+
+-- a loop pops its counter at its end alone
+loops : (return_change op.Micronext 0 ≡ change.Pop) × (return_change op.Micronext 2 ≡ change.Keep)
+loops = (refl, refl)

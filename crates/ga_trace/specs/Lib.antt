@@ -6,4 +6,5 @@ pub mod Traced
 pub mod Rest
 pub mod What
 pub mod Watched
+pub mod Depth
 pub mod inner

@@ -64,7 +64,7 @@ abbrev pub calm_after : ℕ → ℕ → ℕ → ℕ
 calm_after calm moved spinning = if moved == spinning then calm + 1 else 0
 
 -- At most `left` turns, behind `turn` of them that moved nodes `moved` times, until four in a row
--- moved only nodes that spin: they have looked at all ports, so no other node moves any more.
+-- moved only nodes that spin. Four turns look at all ports.
 unfoldable pub ran_from : ℕ → ℕ → ℕ → ℕ → Chip → Ran × Chip
 ran_from zero turn moved calm chip =
     (record { turns = turn; moved = moved; rests = calm == 4 }, chip)

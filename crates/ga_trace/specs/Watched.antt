@@ -1,13 +1,33 @@
 -- Turns until a value of a node changes.
 use Rattle.std.specs.Prelude.{ℕ, zero, suc, ◌+◌, ◌==◌, Bool, ◌&&◌, not, List, ◌++◌, codes, Option, Some, None, if◌then◌else◌}
 use Rattle.std.specs.Fmt.{decimal}
+use Rattle.std.specs.Option.{option_map_or}
 use Rattle.ga_asm.specs.Image.{ImageView}
 use Rattle.ga_chip.specs.Chip.{Chip}
+use Rattle.ga_place.specs.Side.{side_bit}
+use Rattle.ga_place.specs.declared.side.Side.{Side}
+use Rattle.ga_observe.specs.declared.step.Deed.{Deed}
+use Rattle.ga_observe.specs.declared.step.Deed.TheVariants.{Posted}
+use Rattle.ga_observe.specs.declared.step.Step.{Step}
 use Rattle.ga_trace.specs.declared.what.Value.{Value}
+use Rattle.ga_trace.specs.declared.what.Value.TheVariants.{Word}
 use Rattle.ga_trace.specs.declared.what.What.{What}
+use Rattle.ga_trace.specs.declared.what.What.TheVariants.{Pending}
 use Rattle.ga_trace.specs.Stepped.{rest_line}
-use Rattle.ga_trace.specs.Traced.{moved_in, quiet_after, turn_line, turned}
+use Rattle.ga_trace.specs.Traced.{moved_in, quiet_after, step_in, turn_line, turned}
 use Rattle.ga_trace.specs.What.{same_value, value_of, value_text}
+
+-- the word that a deed posts at a side
+abbrev pub posted_at : Side → Deed → Option ℕ
+posted_at side (Posted at word) = if side_bit at == side_bit side then Some word else None
+posted_at side deed = None
+
+-- What a turn shows: the value behind it; but of a side the word that the node posted there in this
+-- turn, even if it was read in it.
+abbrev pub value_in_turn : What → Option Step → Value → Value
+value_in_turn (Pending side) (Some step) value =
+    option_map_or Word (posted_at side step.deed) value
+value_in_turn what step value = value
 
 -- a value changes, or it becomes the one that is waited for
 abbrev pub changes_to : Option Value → Value → Value → Bool
@@ -33,7 +53,7 @@ watched_from images name what goal zero turn quiet chip = (no_change_line name c
 watched_from images name what goal (suc left) turn quiet chip =
     let next = turned turn chip in
     let old = value_of what name chip in
-    let new = value_of what name next in
+    let new = value_in_turn what (step_in name turn chip) (value_of what name next) in
     if quiet == 4 then (no_change_line name chip, chip)
     else if changes_to goal old new
     then (turn_line images name turn chip ++ change_line old new (suc turn), next)

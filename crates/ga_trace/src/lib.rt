@@ -1,8 +1,10 @@
-//! Runs of a chip as text: the steps of one node, each as a line.
+//! Runs of a chip as text: the steps of one node, each as a line; its values; how deep its stacks
+//! were.
 #![tactic(auto)]
 
 mod at;
 mod changes;
+mod depth;
 mod last;
 mod line;
 mod rest;
@@ -12,6 +14,7 @@ mod watched;
 mod what;
 
 pub use at::at_word;
+pub use depth::depths;
 pub use rest::{Ran, run};
 pub use stepped::step;
 pub use traced::trace;

@@ -17,13 +17,13 @@ pub struct Ran {
     pub turns: u32,
     /// How many steps they made.
     pub moved: u64,
-    /// Whether no node moves any more but those that spin.
+    /// Whether the last four of them moved only nodes that spin.
     pub rests: bool,
 }
 
-/// Makes turns of all nodes, at most `most`, until four in a row moved only nodes that spin: then
-/// no other node moves any more. A node spins if it is about to fetch a word that jumps to itself,
-/// or to jump to one. It allocates nothing. (Rest is this project's own: profile.)
+/// Makes turns of all nodes, at most `most`, until four in a row moved only nodes that spin. A node
+/// spins if it is about to fetch a word that jumps to itself, or to jump to one, and isn't held. A
+/// held node counts as resting. It allocates nothing. (Rest is this project's own: profile.)
 pub fn run(chip: &mut Chip, most: u32) -> Ran
     ensures { (result, chip.new) ≡ ran_from most 0 0 0 chip.old }
 {

@@ -19,7 +19,7 @@ use Rattle.ga_transcript.specs.Compare.{IsCompared, View, compared_from, compari
 use Rattle.ga_transcript.specs.Following.{Compared, Difference, Lines, Step, checked, compared, differs, early_reply, same_lines, wanted}
 use Rattle.ga_transcript.specs.Line.{Kind, Command, Note, Reply, kind_of}
 use Rattle.ga_transcript.specs.Record.{Holds}
-use Rattle.ga_transcript.specs.Reply.{lines_in, step_of}
+use Rattle.ga_transcript.specs.Reply.{lines_in, step_from}
 use Rattle.ga_transcript.specs.inner.Excerpt.{shown_behind, shown_line}
 use Rattle.ga_transcript.proofs.OneTranscript.{one_behind}
 use Rattle.ga_transcript.proofs.Recordings.{not_early}
@@ -242,7 +242,7 @@ too_long name done rest whole found is all long =
 -- ---- a whole transcript
 
 abbrev all_of : Start → List Compared
-all_of start = compared (step_of start.images) (start.line + 1) start.chip start.commands
+all_of start = compared (step_from start) (start.line + 1) start.chip start.commands
 
 pub early_compared : (name : List ℕ) (start : Start) (line : ℕ)
     → early_reply (start.line + 1) start.commands ≡ Some line
@@ -415,23 +415,23 @@ unfolding comparison_of
 counted name commands = refl
 
 checked_whole : (start : Start) (all : ℕ) → early_reply (start.line + 1) start.commands ≡ None
-    → checked (step_of start.images) (start.line + 1) 0 start.chip start.commands ≡ Ok all
+    → checked (step_from start) (start.line + 1) 0 start.chip start.commands ≡ Ok all
     → checked_from start ≡ Ok all
 unfolding checked_from
 checked_whole start all none is =
     ap (λ early. unless_early early (checked_by
-    (checked (step_of start.images) (start.line + 1) 0 start.chip start.commands))) none
+    (checked (step_from start) (start.line + 1) 0 start.chip start.commands))) none
     ∙ ap checked_by is
 
 checked_parts : (start : Start) (all : ℕ) → early_reply (start.line + 1) start.commands ≡ None
     → checked_from start ≡ Ok all
-    → checked (step_of start.images) (start.line + 1) 0 start.chip start.commands ≡ Ok all
+    → checked (step_from start) (start.line + 1) 0 start.chip start.commands ≡ Ok all
 unfolding checked_from
 checked_parts start all none is =
-    by (checked (step_of start.images) (start.line + 1) 0 start.chip start.commands) refl
+    by (checked (step_from start) (start.line + 1) 0 start.chip start.commands) refl
   where
     whole : Result ℕ Difference
-    whole = checked (step_of start.images) (start.line + 1) 0 start.chip start.commands
+    whole = checked (step_from start) (start.line + 1) 0 start.chip start.commands
 
     same : checked_by whole ≡ Ok all
     same = sym (ap (λ early. unless_early early (checked_by whole)) none) ∙ is
@@ -446,7 +446,7 @@ holds_if_same name text found (start, loaded, is) none =
     let (early, made) = found_by name start found is in
     let empty = empty_by (filter differs (all_of start)) (sym (counted name (all_of start))
     ∙ ap (λ (v : View). v.differences) (sym made) ∙ none) in
-    let (all, holds) = all_same (step_of start.images) start.commands (start.line + 1) 0 start.chip
+    let (all, holds) = all_same (step_from start) start.commands (start.line + 1) 0 start.chip
     empty in
     (all, (start, loaded, checked_whole start all early holds))
 
@@ -457,7 +457,7 @@ same_if_holds name text found (start, loaded, is) (all, (start', loaded', holds)
     let (early, made) = found_by name start found is in
     let whole = checked_parts start all early (ap checked_from (sym same) ∙ holds) in
     let empty =
-    none_other (step_of start.images) start.commands (start.line + 1) 0 start.chip all whole in
+    none_other (step_from start) start.commands (start.line + 1) 0 start.chip all whole in
     ap (λ (v : View). v.differences) made ∙ counted name (all_of start) ∙ ap length empty
 
 -- nothing differs exactly if the check accepts the text

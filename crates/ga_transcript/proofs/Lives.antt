@@ -18,7 +18,7 @@ use Rattle.ga_transcript.specs.Following.{Lines, Step, early_reply, recorded}
 use Rattle.ga_transcript.specs.Line.{Kind, Command, Note, Reply, by_kind, kind_of}
 use Rattle.ga_transcript.specs.Live.{IsBefore, IsOpened, LiveView, before_command, command_count, live_from, opened_from, said, state_behind}
 use Rattle.ga_transcript.specs.Record.{IsRecorded, behind_ends, lines_text, recorded_from, recording_of, unless_too_long}
-use Rattle.ga_transcript.specs.Reply.{step_of}
+use Rattle.ga_transcript.specs.Reply.{program_of, step_from, step_of}
 use Rattle.ga_transcript.proofs.Following.{at_command, at_note, at_reply, early_by}
 use Rattle.ga_transcript.proofs.Fronts.{head_front, with_commands}
 use Rattle.ga_transcript.proofs.Joined.{AreClean, IsClean, lines_of_text, split_clean}
@@ -222,7 +222,7 @@ pub said_opened : (live : LiveView) (command : List ℕ) → IsOpened live.text 
     → IsClean command → IsOpened (said command live).text (Ok (said command live))
 said_opened live command opened clean =
     let o = parts_of live.text live opened in
-    let step = step_of o.start.images in
+    let step = step_from o.start in
     let behind : state_behind step o.start.chip
     (o.start.commands ++ (codes "> " ++ command) ∷ [])
     ≡ (step command (state_behind step o.start.chip o.start.commands)).1 =
@@ -233,7 +233,7 @@ said_opened live command opened clean =
     (early_more o.start.commands command (o.start.line + 1) o.none)
     (ap (λ chip. record {
       text = text_said live.text command;
-      images = o.start.images;
+      program = program_of o.start;
       chip = chip;
     }) behind ∙ ap (said command) o.is)
 
@@ -292,10 +292,10 @@ whole_said : (live : LiveView) (command : List ℕ) (start : Start) → IsLoaded
     → IsClean command → live_from live.text start ≡ live
     → recording_of (text_said live.text command) (start_said start command)
     ≡ recording_of live.text start
-    ++ behind_ends ((codes "> " ++ command) ∷ (step_of live.images command live.chip).0)
+    ++ behind_ends ((codes "> " ++ command) ∷ (step_of live.program command live.chip).0)
 whole_said live command start loaded clean is =
     let line = codes "> " ++ command in
-    let step = step_of start.images in
+    let step = step_from start in
     let cut = cut_of live.text start loaded in
     let end = state_behind step start.chip start.commands in
     let old = recorded step start.chip start.commands in
@@ -314,12 +314,12 @@ whole_said live command start loaded clean is =
     ∙ sym (ap (λ (ls : Lines). lines_text (ls ++ old) ++ behind_ends (line ∷ (step command end).0))
     (taken live.text start cut live.text start.commands cut.is))
     ∙ ap (λ (v : LiveView). recording_of live.text start
-    ++ behind_ends (line ∷ (step_of v.images command v.chip).0)) is
+    ++ behind_ends (line ∷ (step_of v.program command v.chip).0)) is
 
 pub said_recorded : (live : LiveView) (command recording : List ℕ) → IsOpened live.text (Ok live)
     → IsClean command → IsRecorded live.text (Ok recording)
     → IsRecorded (said command live).text (unless_too_long (recording
-    ++ behind_ends ((codes "> " ++ command) ∷ (step_of live.images command live.chip).0)))
+    ++ behind_ends ((codes "> " ++ command) ∷ (step_of live.program command live.chip).0)))
 unfolding recorded_from
 said_recorded live command recording opened clean (start, loaded, is) =
     let o = parts_of live.text live opened in
@@ -332,7 +332,7 @@ said_recorded live command recording opened clean (start, loaded, is) =
     let text = text_said live.text command in
     let after = start_said o.start command in
     let replies = behind_ends
-    ((codes "> " ++ command) ∷ (step_of live.images command live.chip).0) in
+    ((codes "> " ++ command) ∷ (step_of live.program command live.chip).0) in
     recorded_by text after (unless_too_long (recording ++ replies))
     (loaded_said live.text command o.start o.loaded clean)
     (ap (λ found. unless_early found (unless_too_long (recording_of text after)))

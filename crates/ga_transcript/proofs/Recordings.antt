@@ -4,7 +4,7 @@ use Rattle.std.specs.Prelude.{map, nat_lt, if◌then◌else◌}
 use Rattle.std.proofs.lemmas.List.Elements.{All-append, All-cons, All-head, All-nil, All-tail}
 use Rattle.ga_pack.specs.Model.Text.{lines_of}
 use Rattle.ga_chip.specs.Chip.{Chip}
-use Rattle.ga_path.specs.Stream.{Images}
+use Rattle.ga_debug.specs.declared.beginning.Program.{Program}
 use Rattle.ga_debug.specs.Beginning.{IsLoaded, Start}
 use Rattle.ga_debug.specs.Session.{replied, text_or_refusal}
 use Rattle.ga_transcript.specs.Check.{Fault, TooLong, checked_by, checked_from, unless_early}
@@ -12,7 +12,7 @@ use Rattle.ga_transcript.specs.Following.{Lines, Step, checked, early_reply, rec
 use Rattle.ga_transcript.specs.Live.{command_count}
 use Rattle.ga_transcript.specs.Line.{Kind, Command, Note, Reply, as_reply, kind_of}
 use Rattle.ga_transcript.specs.Record.{Holds, IsRecorded, lines_text, recorded_from, recording_of, unless_too_long}
-use Rattle.ga_transcript.specs.Reply.{lines_in, step_of}
+use Rattle.ga_transcript.specs.Reply.{lines_in, program_of, step_from, step_of}
 use Rattle.ga_transcript.proofs.Following.{AreReplies, RepliesOnly, recorded_again, recorded_holds, recorded_not_early}
 use Rattle.ga_transcript.proofs.Fronts.{head_front, with_commands}
 use Rattle.ga_transcript.proofs.Joined.{AreClean, IsClean, lines_clean, lines_of_text, read_as_reply, reply_clean, split_clean}
@@ -24,14 +24,14 @@ all_replies (line ∷ lines) =
     All-cons (λ line. kind_of line ≡ Reply) (as_reply line) (map as_reply lines)
     (read_as_reply line) (all_replies lines)
 
-replies_only : (images : Images) → RepliesOnly (step_of images)
-replies_only images command chip =
-    all_replies (lines_in (text_or_refusal (replied (Some images) command chip).0))
+replies_only : (program : Program) → RepliesOnly (step_of program)
+replies_only program command chip =
+    all_replies (lines_in (text_or_refusal (replied (Some program) command chip).0))
 
-replies_clean : (images : Images) (command : List ℕ) (chip : Chip)
-    → AreClean (step_of images command chip).0
-replies_clean images command chip =
-    let text = text_or_refusal (replied (Some images) command chip).0 in
+replies_clean : (program : Program) (command : List ℕ) (chip : Chip)
+    → AreClean (step_of program command chip).0
+replies_clean program command chip =
+    let text = text_or_refusal (replied (Some program) command chip).0 in
     reply_clean (lines_in text) (lines_clean text)
 
 -- nor is one in what is recorded
@@ -82,7 +82,7 @@ pub record Recording (text recording : List ℕ) : Type 0 where
   -- it isn't too long, and nothing is left to be recorded
   pub short : unless_too_long recording ≡ Ok recording
   pub settled : (lines : Lines)
-      × (start.commands ≡ recorded (step_of start.images) start.chip lines)
+      × (start.commands ≡ recorded (step_from start) start.chip lines)
   pub is : recording_of recording start ≡ recording
 
 pub not_too_long : (made recording : List ℕ) → unless_too_long made ≡ Ok recording
@@ -102,7 +102,7 @@ recording_leads : (text recording : List ℕ) → IsRecorded text (Ok recording)
     → Recording text recording
 unfolding recorded_from
 recording_leads text recording (start, (head, head_is, images, chip_is, line_is, commands_is), is) =
-    let step = step_of start.images in
+    let step = step_from start in
     let rec = recorded step start.chip start.commands in
     let f = head_front text head head_is in
     let kept : unless_too_long (recording_of text start) ≡ Ok recording =
@@ -117,7 +117,7 @@ recording_leads text recording (start, (head, head_is, images, chip_is, line_is,
     let parts = clean_parts (f.first ∷ f.front) start.commands all_clean in
     let rest_clean : AreClean (f.front ++ rec) =
     All-append IsClean f.front rec (All-tail IsClean f.first f.front parts.0)
-    (recorded_clean step (replies_clean start.images) start.commands parts.1 start.chip) in
+    (recorded_clean step (replies_clean (program_of start)) start.commands parts.1 start.chip) in
     let whole : recording ≡ lines_text (f.first ∷ (f.front ++ rec)) =
     sym made ∙ ap (λ ls. lines_text (take start.line ls ++ rec)) lines
     ∙ ap (λ (ls : Lines). lines_text (ls ++ rec))
@@ -126,7 +126,7 @@ recording_leads text recording (start, (head, head_is, images, chip_is, line_is,
     ap lines_of whole ∙ lines_of_text f.first
     (f.front ++ rec) (All-head IsClean f.first f.front parts.0) rest_clean in
     let again : recorded step start.chip rec ≡ rec =
-    recorded_again step (replies_only start.images) start.commands start.chip in
+    recorded_again step (replies_only (program_of start)) start.commands start.chip in
     record {
       start = record start { commands = rec };
       loaded = (with_commands head rec, f.others recording rec cut, images, chip_is, line_is, refl);
@@ -144,14 +144,14 @@ unfolding checked_from
 recording_holds text recording recorded_is =
     let r = recording_leads text recording recorded_is in
     let start = r.start in
-    let step = step_of start.images in
+    let step = step_from start in
     let (lines, is) = r.settled in
     let none : early_reply (start.line + 1) start.commands ≡ None = ap
     (early_reply (start.line + 1)) is ∙ recorded_not_early step start.chip lines (start.line + 1) in
     let holds : checked step (start.line + 1) 0 start.chip start.commands
     ≡ Ok (0 + command_count lines) =
     ap (checked step (start.line + 1) 0 start.chip) is
-    ∙ recorded_holds step (replies_only start.images) lines 0 start.chip (start.line + 1) in
+    ∙ recorded_holds step (replies_only (program_of start)) lines 0 start.chip (start.line + 1) in
     let same : checked_from start ≡ Ok (0 + command_count lines) =
     ap (λ e. unless_early e
     (checked_by (checked step (start.line + 1) 0 start.chip start.commands))) none
@@ -164,7 +164,7 @@ unfolding recorded_from
 recording_again text recording recorded_is =
     let r = recording_leads text recording recorded_is in
     let start = r.start in
-    let step = step_of start.images in
+    let step = step_from start in
     let (lines, is) = r.settled in
     let none : early_reply (start.line + 1) start.commands ≡ None = ap
     (early_reply (start.line + 1)) is ∙ recorded_not_early step start.chip lines (start.line + 1) in

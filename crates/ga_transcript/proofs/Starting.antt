@@ -8,7 +8,7 @@ use Rattle.ga_transcript.specs.declared.error.TranscriptError.{TranscriptError}
 use Rattle.ga_transcript.specs.Check.{Answers, EarlyReply, FailsRightly, Fault, Memory, IsChecked, checked_by, checked_from, fault_of, unless_early}
 use Rattle.ga_transcript.specs.Following.{Lines, checked, early_reply, recorded}
 use Rattle.ga_transcript.specs.Record.{IsRecorded, behind_ends, lines_text, recorded_from, recording_of, unless_too_long}
-use Rattle.ga_transcript.specs.Reply.{step_of}
+use Rattle.ga_transcript.specs.Reply.{step_from}
 use Rattle.ga_transcript.proofs.Fronts.{head_front}
 use Rattle.ga_transcript.proofs.Recordings.{take_front}
 
@@ -19,7 +19,7 @@ pub early_checked : (start : Start) (line : ℕ)
 unfolding checked_from
 early_checked start line early =
     ap (λ found. unless_early found
-    (checked_by (checked (step_of start.images) (start.line + 1) 0 start.chip start.commands)))
+    (checked_by (checked (step_from start) (start.line + 1) 0 start.chip start.commands)))
     early
 
 pub early_recorded : (text : List ℕ) (start : Start) (line : ℕ)
@@ -40,18 +40,18 @@ fails IsRight IsAlso fault also is = also fault is
 pub checked_behind : (text : List ℕ) (start : Start) (result : Result ℕ TranscriptError)
     → IsLoaded text (Ok start) → early_reply (start.line + 1) start.commands ≡ None
     → Answers (λ count. count) (λ answer. checked_by
-    (checked (step_of start.images) (start.line + 1) 0 start.chip start.commands) ≡ answer) result
+    (checked (step_from start) (start.line + 1) 0 start.chip start.commands) ≡ answer) result
     → Answers (λ count. count) (IsChecked text) result
 unfolding checked_from
 checked_behind text start (Ok count) loaded none is = (
   start,
   loaded,
   ap (λ found. unless_early found (checked_by
-      (checked (step_of start.images) (start.line + 1) 0 start.chip start.commands))) none ∙ is,
+      (checked (step_from start) (start.line + 1) 0 start.chip start.commands))) none ∙ is,
 )
 checked_behind text start (Err error) loaded none is =
     let whole =
-    checked_by (checked (step_of start.images) (start.line + 1) 0 start.chip start.commands) in
+    checked_by (checked (step_from start) (start.line + 1) 0 start.chip start.commands) in
     fails (λ answer. whole ≡ answer) (IsChecked text) (fault_of error)
     (λ fault same. inr (start, loaded, ap (λ found. unless_early found whole) none ∙ same)) is
 
@@ -68,7 +68,7 @@ lines_text_append line lines more =
     ∙ sym (append_assoc line (behind_ends lines) (behind_ends more))
 
 abbrev behind_go : Start → List ℕ
-behind_go start = behind_ends (recorded (step_of start.images) start.chip start.commands)
+behind_go start = behind_ends (recorded (step_from start) start.chip start.commands)
 
 abbrev IsFront : List ℕ → Start → List ℕ → Type 0
 IsFront text start front = front ≡ lines_text (take start.line (lines_of text))
@@ -79,7 +79,7 @@ recording_made : (text : List ℕ) (start : Start) (front : List ℕ) → IsLoad
 recording_made text start front (head, is, images, chip, line, commands) front_is =
     let f = head_front text head is in
     let first = f.first ∷ f.front in
-    let rec = recorded (step_of start.images) start.chip start.commands in
+    let rec = recorded (step_from start) start.chip start.commands in
     let lines : lines_of text ≡ first ++ start.commands =
     f.is ∙ ap (λ (cs : Lines). f.first ∷ (f.front ++ cs)) commands in
     let size : length first ≡ start.line = omega (arith, f.size, line) in

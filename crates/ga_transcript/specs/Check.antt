@@ -8,7 +8,7 @@ use Rattle.ga_debug.specs.declared.replay_error.ReplayError.{ReplayError}
 use Rattle.ga_transcript.specs.declared.error.TranscriptError.{TranscriptError}
 use Rattle.ga_transcript.specs.declared.error.TranscriptError.TheVariants as error
 use Rattle.ga_transcript.specs.Following.{Difference, Lines, checked, early_reply}
-use Rattle.ga_transcript.specs.Reply.{step_of}
+use Rattle.ga_transcript.specs.Reply.{step_from}
 
 -- What is wrong with a transcript.
 pub data Fault : Type 0 where
@@ -52,7 +52,7 @@ unfoldable pub checked_from : Start → Result ℕ Fault
 checked_from start =
     let first = start.line + 1 in
     unless_early (early_reply first start.commands)
-    (checked_by (checked (step_of start.images) first 0 start.chip start.commands))
+    (checked_by (checked (step_from start) first 0 start.chip start.commands))
 
 -- a value made by `from` of the start that a head gives, or the first fault
 abbrev pub IsBehindHead : {A : Type 0} → List ℕ → (Start → Result A Fault) → Result A Fault → Type 0

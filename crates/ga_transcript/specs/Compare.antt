@@ -6,7 +6,7 @@ use Rattle.ga_debug.specs.Beginning.{Start}
 use Rattle.ga_transcript.specs.declared.differences.Comparison.{Comparison}
 use Rattle.ga_transcript.specs.Check.{Fault, TooLong, IsBehindHead, signed, unless_early}
 use Rattle.ga_transcript.specs.Following.{Compared, Lines, compared, differs, early_reply}
-use Rattle.ga_transcript.specs.Reply.{step_of}
+use Rattle.ga_transcript.specs.Reply.{step_from}
 
 -- how many lines there are beyond the ten that are shown, if there are more
 abbrev pub more_lines : ℕ → List ℕ
@@ -55,7 +55,7 @@ compared_from name start =
     let first = start.line + 1 in
     unless_early (early_reply first start.commands)
     (unless_long_report (comparison_of name
-    (compared (step_of start.images) first start.chip start.commands)))
+    (compared (step_from start) first start.chip start.commands)))
 
 -- What is found of all commands of a transcript; or its first fault: of its head, a reply before
 -- all commands, or a report that would be too long.

@@ -3,18 +3,18 @@
 use Rattle.std.specs.Prelude.{◌≡◌, ◌==◌, ℕ, suc, ◌+◌, ◌-◌, List, [], ◌∷◌, ◌++◌, codes, take, Result, Ok, if◌then◌else◌}
 use Rattle.ga_pack.specs.Model.Text.{lines_of}
 use Rattle.ga_chip.specs.Chip.{Chip}
-use Rattle.ga_path.specs.Stream.{Images}
+use Rattle.ga_debug.specs.declared.beginning.Program.{Program}
 use Rattle.ga_debug.specs.Beginning.{IsLoaded, Start}
 use Rattle.ga_transcript.specs.Check.{Fault, IsBehindHead, unless_early}
 use Rattle.ga_transcript.specs.Following.{Lines, Step, early_reply}
 use Rattle.ga_transcript.specs.Line.{by_kind, kind_of}
 use Rattle.ga_transcript.specs.Record.{lines_text}
-use Rattle.ga_transcript.specs.Reply.{step_of}
+use Rattle.ga_transcript.specs.Reply.{program_of, step_from, step_of}
 
--- A transcript, the images of its head, and the chip behind its last command.
+-- A transcript, the program of its head, and the chip behind its last command.
 pub record LiveView : Type 0 where
   pub text : List ℕ
-  pub images : Images
+  pub program : Program
   pub chip : Chip
 
 -- what is behind the commands of lines
@@ -30,8 +30,8 @@ state_behind step state (line ∷ lines) =
 abbrev pub live_from : List ℕ → Start → LiveView
 live_from text start = record {
   text = text;
-  images = start.images;
-  chip = state_behind (step_of start.images) start.chip start.commands;
+  program = program_of start;
+  chip = state_behind (step_from start) start.chip start.commands;
 }
 
 abbrev pub opened_from : List ℕ → Start → Result LiveView Fault
@@ -47,8 +47,8 @@ IsOpened text answer = IsBehindHead text (opened_from text) answer
 abbrev pub said : List ℕ → LiveView → LiveView
 said command live = record {
   text = live.text ++ 10 ∷ (codes "> " ++ command);
-  images = live.images;
-  chip = (step_of live.images command live.chip).1;
+  program = live.program;
+  chip = (step_of live.program command live.chip).1;
 }
 
 -- how many lines are commands

@@ -5,7 +5,7 @@ use Rattle.ga_pack.specs.Model.Text.{lines_of}
 use Rattle.ga_debug.specs.Beginning.{Start}
 use Rattle.ga_transcript.specs.Check.{Fault, TooLong, IsBehindHead, IsChecked, unless_early}
 use Rattle.ga_transcript.specs.Following.{Lines, early_reply, recorded}
-use Rattle.ga_transcript.specs.Reply.{step_of}
+use Rattle.ga_transcript.specs.Reply.{step_from}
 
 abbrev pub behind_ends : Lines → List ℕ
 behind_ends lines = flat_map (λ line. 10 ∷ line) lines
@@ -19,7 +19,7 @@ lines_text (line ∷ lines) = line ++ behind_ends lines
 abbrev pub recording_of : List ℕ → Start → List ℕ
 recording_of text start =
     lines_text
-    (take start.line (lines_of text) ++ recorded (step_of start.images) start.chip start.commands)
+    (take start.line (lines_of text) ++ recorded (step_from start) start.chip start.commands)
 
 -- a recording has 268,435,456 bytes at most
 abbrev pub unless_too_long : List ℕ → Result (List ℕ) Fault

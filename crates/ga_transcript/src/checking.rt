@@ -9,9 +9,7 @@ use crate::error::TranscriptError;
 use crate::line::{Line, line_of};
 use crate::lines::{LinesLeft, command_behind, early_reply};
 use crate::reply::{lines_in, push_as_reply};
-use ga_asm::Images;
-use ga_chip::Chip;
-use ga_debug::{Pieces, load, reply_or_refusal};
+use ga_debug::{Pieces, Program, load, reply_or_refusal};
 use std::alloc::{AllocError, Global};
 use std::fmt::Write;
 
@@ -33,24 +31,20 @@ pub fn check(alloc: Global, text: &str) -> Result<u64, TranscriptError>
         lines: loaded.lines,
     };
     match early_reply(left.again()) {
-        None => follow(alloc, loaded.chip, &loaded.images, left),
+        None => follow(alloc, &loaded.program, left),
         Some(line) => Err(TranscriptError::EarlyReply(line)),
     }
 }
 
 /// Runs the commands of lines, and compares the reply to each with the lines behind it. No line of
 /// a reply comes before the first one.
-fn follow(
-    alloc: Global,
-    mut chip: Chip,
-    images: &Images,
-    mut left: LinesLeft<'_>,
-) -> Result<u64, TranscriptError>
+fn follow(alloc: Global, program: &Program, mut left: LinesLeft<'_>) -> Result<u64, TranscriptError>
     requires room { left.number + length left.lines < 2 ^ 64 }
     requires none { early_reply (left.number + 1) left.lines ≡ None }
-    ensures { Answers (λ count. count) (λ answer. checked_by (checked (step_of images.now)
-        (left.entry.number + 1) 0 chip left.entry.lines) ≡ answer) result }
+    ensures { Answers (λ count. count) (λ answer. checked_by (checked (step_of program.now)
+        (left.entry.number + 1) 0 program.now.start left.entry.lines) ≡ answer) result }
 {
+    let mut chip = program.start.copied(alloc)?;
     let mut count = 0;
     let mut came = String::new(alloc);
     loop {
@@ -61,7 +55,7 @@ fn follow(
         let Some(command) = next else {
             return Ok(count);
         };
-        reply_or_refusal(alloc, &mut came, &mut chip, Some(images), command)?;
+        reply_or_refusal(alloc, &mut came, &mut chip, Some(program), command)?;
         count += 1;
     }
 }

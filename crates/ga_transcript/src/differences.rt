@@ -14,9 +14,7 @@ use crate::error::TranscriptError;
 use crate::line::{Line, line_of};
 use crate::lines::{LinesLeft, command_behind, early_reply};
 use crate::reply::{lines_in, push_as_reply};
-use ga_asm::Images;
-use ga_chip::Chip;
-use ga_debug::{Pieces, load, reply_or_refusal};
+use ga_debug::{Pieces, Program, load, reply_or_refusal};
 use std::alloc::{AllocError, Global};
 use std::fmt::Write;
 
@@ -59,7 +57,7 @@ pub fn compare(alloc: Global, name: &str, text: &str) -> Result<Comparison, Tran
         lines: loaded.lines,
     };
     match early_reply(left.again()) {
-        None => compared(alloc, name, loaded.chip, &loaded.images, left),
+        None => compared(alloc, name, &loaded.program, left),
         Some(line) => Err(TranscriptError::EarlyReply(line)),
     }
 }
@@ -68,15 +66,16 @@ pub fn compare(alloc: Global, name: &str, text: &str) -> Result<Comparison, Tran
 fn compared(
     alloc: Global,
     name: &str,
-    mut chip: Chip,
-    images: &Images,
+    program: &Program,
     mut left: LinesLeft<'_>,
 ) -> Result<Comparison, TranscriptError>
     requires { left.number + length left.lines < 2 ^ 64 }
     ensures { Answers comparison_view (λ answer. unless_long_report (comparison_of name.now
-        (spec.compared (step_of images.now) (left.entry.number + 1) chip left.entry.lines))
+        (spec.compared (step_of program.now) (left.entry.number + 1) program.now.start
+        left.entry.lines))
         ≡ answer) result }
 {
+    let mut chip = program.start.copied(alloc)?;
     let mut found = Comparison {
         commands: 0,
         differences: 0,
@@ -89,7 +88,7 @@ fn compared(
         };
         left.number += 1;
         if let Line::Command(command) = line_of(line) {
-            reply_or_refusal(alloc, &mut came, &mut chip, Some(images), command)?;
+            reply_or_refusal(alloc, &mut came, &mut chip, Some(program), command)?;
             add_command(&mut found, name, command, left.again(), &came)?;
         }
     }

@@ -13,19 +13,18 @@ use crate::error::TranscriptError;
 use crate::line::{Line, line_of};
 use crate::lines::{LinesLeft, early_reply};
 use crate::recording::{front, push_line, record};
-use ga_asm::Images;
 use ga_chip::Chip;
-use ga_debug::{Pieces, ReplayError, load, reply_or_refusal};
+use ga_debug::{Pieces, Program, ReplayError, load, reply_or_refusal};
 use std::alloc::{AllocError, Global};
 use std::marker::Model;
 use std::mem::replace;
 
 /// A session that goes on: a transcript, and the chip behind its last command. A contract sees
-/// both, and the images of the head.
+/// both, and the program of the head.
 #[derive(Drop)]
 pub struct Live {
     text: String,
-    images: Images,
+    program: Program,
     chip: Chip,
 }
 
@@ -37,13 +36,13 @@ impl Model for Live {
 
     ghost view = { λ live. record {
       text = string_bytes live.text;
-      images = live.images;
+      program = live.program;
       chip = live.chip;
     } };
 
     ghost invariant = { λ live. IsOpened (string_bytes live.text) (Ok (record {
       text = string_bytes live.text;
-      images = live.images;
+      program = live.program;
       chip = live.chip;
     })) };
 }
@@ -61,8 +60,12 @@ impl Live {
         ensures only { AtMostOne (IsOpened (without_line_end text.now)) }
     {
         let text = without_line_end(alloc, text)?;
-        let (images, chip) = opened(alloc, text.as_str())?;
-        Ok(Live { text, images, chip })
+        let (program, chip) = opened(alloc, text.as_str())?;
+        Ok(Live {
+            text,
+            program,
+            chip,
+        })
     }
 
     /// Does one more command, and replaces a text by its reply, or by `refused` and the name of a
@@ -76,7 +79,7 @@ impl Live {
         // it is one line of the transcript
         requires { All (λ c. (c == 10) ≡ false) command.now }
         ensures reply { OnOk result (string_bytes reply.new
-            ≡ text_or_refusal (replied (Some self.old.images) command.now self.old.chip).0) }
+            ≡ text_or_refusal (replied (Some self.old.program) command.now self.old.chip).0) }
         ensures said { OnOk result (self.new ≡ said command.now self.old) }
         // `record` writes what it wrote before, the command, and this reply
         ensures shown { OnOk result ((recording : List ℕ) → IsRecorded self.old.text (Ok recording)
@@ -86,7 +89,7 @@ impl Live {
     {
         // Before the command, so that nothing is refused behind it.
         self.text.reserve(command.len() + 3)?;
-        reply_or_refusal(alloc, reply, &mut self.chip, Some(&self.images), command)?;
+        reply_or_refusal(alloc, reply, &mut self.chip, Some(&self.program), command)?;
         push_command(&mut self.text, command);
         Ok(())
     }
@@ -101,7 +104,17 @@ impl Live {
     {
         let text = text_before(alloc, self.text.as_str(), count)?;
         match opened(alloc, text.as_str()) {
-            Ok((images, chip)) => Ok(replace(self, Live { text, images, chip }).text),
+            Ok((program, chip)) => Ok(
+                replace(
+                    self,
+                    Live {
+                        text,
+                        program,
+                        chip,
+                    },
+                )
+                .text,
+            ),
             Err(error) => match error {
                 TranscriptError::Memory => Err(AllocError),
                 _ => unreachable!(),
@@ -147,10 +160,10 @@ fn ended(alloc: Global, text: &str) -> Result<String, AllocError>
     Ok(ended)
 }
 
-/// The images of a transcript and the chip behind its last command, or the first fault.
-fn opened(alloc: Global, text: &str) -> Result<(Images, Chip), TranscriptError>
+/// The program of a transcript and the chip behind its last command, or the first fault.
+fn opened(alloc: Global, text: &str) -> Result<(Program, Chip), TranscriptError>
     ensures { Answers (λ opened. record
-        { text = text.now; images = opened.0; chip = opened.1 }) (IsOpened text.now) result }
+        { text = text.now; program = opened.0; chip = opened.1 }) (IsOpened text.now) result }
 {
     let loaded = load(alloc, text)?;
     let left = LinesLeft {
@@ -160,24 +173,21 @@ fn opened(alloc: Global, text: &str) -> Result<(Images, Chip), TranscriptError>
     if let Some(line) = early_reply(left) {
         return Err(TranscriptError::EarlyReply(line));
     }
-    let images = loaded.images;
-    let chip = chip_behind(alloc, loaded.chip, &images, loaded.lines)?;
-    Ok((images, chip))
+    let program = loaded.program;
+    let chip = chip_behind(alloc, &program, loaded.lines)?;
+    Ok((program, chip))
 }
 
 /// The chip behind the commands of lines.
-fn chip_behind(
-    alloc: Global,
-    mut chip: Chip,
-    images: &Images,
-    lines: Pieces<'_>,
-) -> Result<Chip, AllocError>
-    ensures { IfOk result (λ end. end ≡ state_behind (step_of images.now) chip lines.entry) }
+fn chip_behind(alloc: Global, program: &Program, lines: Pieces<'_>) -> Result<Chip, AllocError>
+    ensures { IfOk result (λ end. end ≡ state_behind (step_of program.now)
+        program.now.start lines.entry) }
 {
+    let mut chip = program.start.copied(alloc)?;
     let mut came = String::new(alloc);
     for line in lines {
         if let Line::Command(command) = line_of(line) {
-            reply_or_refusal(alloc, &mut came, &mut chip, Some(images), command)?;
+            reply_or_refusal(alloc, &mut came, &mut chip, Some(program), command)?;
         }
     }
     Ok(chip)

@@ -10,9 +10,8 @@ use crate::error::TranscriptError;
 use crate::line::{Line, line_of};
 use crate::lines::{LinesLeft, early_reply};
 use crate::reply::{lines_in, push_as_reply};
-use ga_asm::Images;
 use ga_chip::Chip;
-use ga_debug::{Pieces, load, reply_or_refusal};
+use ga_debug::{Pieces, Program, load, reply_or_refusal};
 use std::alloc::{AllocError, Global};
 
 /// The most bytes that a recording may have.
@@ -46,7 +45,7 @@ pub fn record(alloc: Global, text: &str) -> Result<String, TranscriptError>
         return Err(TranscriptError::EarlyReply(line));
     }
     let mut recording = front(alloc, text, loaded.line)?;
-    push_recorded(alloc, &mut recording, loaded.chip, &loaded.images, lines)?;
+    push_recorded(alloc, &mut recording, &loaded.program, lines)?;
     Ok(recording)
 }
 
@@ -54,14 +53,15 @@ pub fn record(alloc: Global, text: &str) -> Result<String, TranscriptError>
 fn push_recorded(
     alloc: Global,
     text: &mut String,
-    mut chip: Chip,
-    images: &Images,
+    program: &Program,
     mut lines: Pieces<'_>,
 ) -> Result<(), TranscriptError>
     ensures { Answers (λ done. string_bytes text.new) (λ answer. unless_too_long
-        (string_bytes text.old ++ behind_ends (recorded (spec.step_of images.now) chip lines.entry))
+        (string_bytes text.old ++ behind_ends (recorded (spec.step_of program.now)
+        program.now.start lines.entry))
         ≡ answer) result }
 {
+    let mut chip = program.start.copied(alloc)?;
     let mut came = String::new(alloc);
     while text.len() <= RECORDING_LIMIT {
         let Some(line) = lines.next() else {
@@ -70,7 +70,7 @@ fn push_recorded(
         match line_of(line) {
             Line::Command(command) => {
                 push_line(text, line)?;
-                push_came(alloc, text, &mut came, &mut chip, images, command)?;
+                push_came(alloc, text, &mut came, &mut chip, program, command)?;
             }
             Line::Note => push_line(text, line)?,
             Line::Reply => {}
@@ -86,14 +86,14 @@ fn push_came(
     text: &mut String,
     came: &mut String,
     chip: &mut Chip,
-    images: &Images,
+    program: &Program,
     command: &str,
 ) -> Result<(), AllocError>
     ensures text { OnOk result (string_bytes text.new ≡ string_bytes text.old
-        ++ behind_ends (spec.step_of images.now command.now chip.old).0) }
-    ensures chip { OnOk result (chip.new ≡ (spec.step_of images.now command.now chip.old).1) }
+        ++ behind_ends (spec.step_of program.now command.now chip.old).0) }
+    ensures chip { OnOk result (chip.new ≡ (spec.step_of program.now command.now chip.old).1) }
 {
-    reply_or_refusal(alloc, came, chip, Some(images), command)?;
+    reply_or_refusal(alloc, came, chip, Some(program), command)?;
     push_reply(text, came)
 }
 

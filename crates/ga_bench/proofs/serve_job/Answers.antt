@@ -13,4 +13,4 @@ serves None old new job answer status is same = tt
 serves (Some input) old new job answer status is same = (answer, is, same)
 
 pub returns-clause-served : goal.returns-clause-served
-returns-clause-served g c = serves _ _ _ _ _ _ c.serve-outcome.ensures.served c.status.ensures
+returns-clause-served g c = serves _ _ _ _ _ _ c.serve-outcome.ensures.served c.reported.ensures

@@ -4,8 +4,8 @@ use Rattle.ga_transcript.specs.Following.{early_reply}
 use Rattle.ga_transcript.proofs.Starting.{checked_behind, early_checked}
 use Rattle.ga_transcript.proofs.checking.check.Goals as goal
 
-pub returns-in-Some-clause-checked : goal.returns-in-Some-clause-checked
-returns-in-Some-clause-checked c =
+pub returns-clause-checked : goal.returns-clause-checked
+returns-clause-checked c =
     let start = start_view c.in_ok-loaded.loaded in
     let early : early_reply (start.line + 1) start.commands ≡ Some c.in-Some.line =
     ap (λ left. early_reply (left.number + 1) left.lines) (sym c.again.ensures)

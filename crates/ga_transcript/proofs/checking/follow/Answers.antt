@@ -1,6 +1,6 @@
 use Rattle.std.proofs.Common.{rules, ◌≡◌, ◌∙◌, ◌+◌, None, ap, arith, string_bytes, sym, true}
 use Rattle.ga_transcript.specs.Check.{checked_by}
-use Rattle.ga_transcript.specs.Following.{same_lines, wanted}
+use Rattle.ga_transcript.specs.Following.{checked, same_lines, wanted}
 use Rattle.ga_transcript.specs.Reply.{reply_lines, step_of}
 use Rattle.ga_transcript.specs.inner.Next.{checked_behind, checked_next, lines_from, next_of}
 use Rattle.ga_transcript.proofs.Comparing.{checked_first, checked_on}
@@ -9,13 +9,15 @@ use Rattle.ga_transcript.proofs.checking.follow.Goals as goal
 pub loop-next-init : goal.loop-next-init
 loop-next-init c =
     let left = c.args.left in
-    let first = checked_first (step_of c.args.images.now) left.number c.args.chip left.lines
-    (string_bytes c.new-came.result) c.requires.none c.new-came.ensures.bytes in
+    let step = step_of c.args.program.now in
+    let first = checked_first step left.number c.in_ok-chip.chip left.lines
+    (string_bytes c.new-came.result) c.requires.none c.new-came.ensures.bytes
+    ∙ ap (λ chip. checked step (left.number + 1) 0 chip left.lines) c.in_ok-chip.ensures in
     (ap checked_by first, c.requires.room, omega (arith, c.requires.room))
 
 pub returns-in_default-next : goal.returns-in_default-next
 returns-in_default-next c =
-    let step = step_of c.args.images.now in
+    let step = step_of c.args.program.now in
     let left = c.loop-next.left in
     let new = c.command_behind.new.left in
     let none : c.in-Ok.next ≡ None = search rules in
@@ -28,7 +30,7 @@ returns-in_default-next c =
 
 pub loop-next-preserved : goal.loop-next-preserved
 loop-next-preserved c =
-    let step = step_of c.args.images.now in
+    let step = step_of c.args.program.now in
     let left = c.loop-next.left in
     let new = c.command_behind.new.left in
     let count = c.loop-next.count in

@@ -8,9 +8,10 @@ use Rattle.ga_transcript.proofs.checking.follow.Given as goal
 -- it rests with the lines that are left, and the last reply
 abbrev pub invariant-loop-next : goal.invariant-loop-next
 invariant-loop-next l =
-    (checked_by (checked_behind (step_of l.images) l.left.number l.count l.chip l.left.lines
+    (checked_by (checked_behind (step_of l.program) l.left.number l.count l.chip l.left.lines
     (reply_lines (string_bytes l.came)))
-    ≡ checked_by (checked (step_of l.images) (l.fn.left.number + 1) 0 l.fn.chip l.fn.left.lines))
+    ≡ checked_by (checked (step_of l.program) (l.fn.left.number + 1) 0 l.program.start
+    l.fn.left.lines))
     × (l.left.number + length l.left.lines < 2 ^ 64)
     × (l.count + length l.left.lines < 2 ^ 64)
 

@@ -4,8 +4,8 @@ use Rattle.ga_transcript.specs.Following.{early_reply}
 use Rattle.ga_transcript.proofs.Comparisons.{compared_behind, early_compared, same_exactly}
 use Rattle.ga_transcript.proofs.differences.compare.Goals as goal
 
-pub returns-in-Some-clause-compared : goal.returns-in-Some-clause-compared
-returns-in-Some-clause-compared c =
+pub returns-clause-compared : goal.returns-clause-compared
+returns-clause-compared c =
     let start = start_view c.in_ok-loaded.loaded in
     let early : early_reply (start.line + 1) start.commands ≡ Some c.in-Some.line =
     ap (λ left. early_reply (left.number + 1) left.lines) (sym c.again.ensures)

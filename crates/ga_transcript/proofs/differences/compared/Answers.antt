@@ -1,4 +1,4 @@
-use Rattle.std.proofs.Common.{rules, ◌≡◌, ◌∙◌, ◌+◌, ◌++◌, ◌∷◌, ℕ, List, [], ap, arith, length, refl, string_bytes, sym}
+use Rattle.std.proofs.Common.{rules, ◌≡◌, ◌∙◌, ◌+◌, ◌++◌, ◌∷◌, ℕ, List, [], ap, arith, length, string_bytes, sym}
 use Rattle.ga_transcript.specs.declared.lines.LinesLeft.{LinesLeft}
 use Rattle.ga_transcript.specs.Compare.{comparison_of, comparison_view}
 use Rattle.ga_transcript.specs.Following.{Compared, compared, wanted}
@@ -10,15 +10,20 @@ use Rattle.ga_transcript.proofs.differences.compared.Goals as goal
 
 pub loop-left-init : goal.loop-left-init
 loop-left-init c = (
-  ([], none_found c.args.name.now (string_bytes c.new.result) c.new.ensures.bytes, refl),
+  (
+    [],
+    none_found c.args.name.now (string_bytes c.new.result) c.new.ensures.bytes,
+    ap (λ chip. compared (step_of c.args.program.now) (c.args.left.number + 1) chip
+        c.args.left.lines) c.in_ok-chip.ensures,
+  ),
   c.requires,
   omega arith,
   omega arith,
 )
 
-pub loop-left-preserved-in-Continue-branch-2 : goal.loop-left-preserved-in-Continue-branch-2
-loop-left-preserved-in-Continue-branch-2 c =
-    let step = step_of c.args.images.now in
+pub loop-left-preserved-in-Continue-branch-3 : goal.loop-left-preserved-in-Continue-branch-3
+loop-left-preserved-in-Continue-branch-3 c =
+    let step = step_of c.args.program.now in
     let (done, is, all) = c.loop-left.invariant.0 in
     let command = c.in-Command.command.now in
     let text = string_bytes c.reply_or_refusal.new.text in
@@ -39,7 +44,8 @@ loop-left-preserved-in-Continue-branch-2 c =
     ∙ ap (λ text. comparison_of c.args.name.now (done ++ one left text ∷ [])) c.deref.ensures in
     let more = compared_more step left.number c.loop-left.chip c.reply_or_refusal.new.chip
     c.in-Some.line.now c.loop-left.left.lines c.next.new.self command (reply_lines text) done
-    (compared step (c.args.left.number + 1) c.args.chip c.args.left.lines) lines is_command
+    (compared step (c.args.left.number + 1) c.args.program.now.start c.args.left.lines) lines
+    is_command
     (ap reply_lines c.in_ok-reply_or_refusal.ensures.text)
     c.in_ok-reply_or_refusal.ensures.chip all in (
       (done ++ one left text ∷ [], added, more),
@@ -52,8 +58,9 @@ pub returns : goal.returns
 returns c =
     let (done, is, all) = c.loop-left.invariant.0 in
     too_long c.args.name.now done
-    (compared (step_of c.args.images.now) (c.loop-left.left.number + 1) c.loop-left.chip
+    (compared (step_of c.args.program.now) (c.loop-left.left.number + 1) c.loop-left.chip
     c.loop-left.left.lines)
-    (compared (step_of c.args.images.now) (c.args.left.number + 1) c.args.chip c.args.left.lines)
+    (compared (step_of c.args.program.now) (c.args.left.number + 1) c.args.program.now.start
+    c.args.left.lines)
     (comparison_view c.loop-left.found) is all
     (omega (arith, c.loop-left-test.false, c.len.ensures))

@@ -8,8 +8,8 @@ use Rattle.ga_transcript.proofs.differences.compared.Given as goal
 abbrev pub invariant-loop-left : goal.invariant-loop-left
 invariant-loop-left l =
     ((done : List Compared) × (comparison_view l.found ≡ comparison_of l.name done)
-    × (done ++ compared (step_of l.images) (l.left.number + 1) l.chip l.left.lines
-    ≡ compared (step_of l.images) (l.fn.left.number + 1) l.fn.chip l.fn.left.lines))
+    × (done ++ compared (step_of l.program) (l.left.number + 1) l.chip l.left.lines
+    ≡ compared (step_of l.program) (l.fn.left.number + 1) l.program.start l.fn.left.lines))
     × (l.left.number + length l.left.lines < 2 ^ 64)
     × (l.found.commands ≤ l.left.number)
     × (l.found.differences ≤ l.found.commands)

@@ -6,5 +6,5 @@ use Rattle.ga_transcript.proofs.live.chip_behind.Given as goal
 -- what the lines that are left lead to
 abbrev pub invariant-loop-line : goal.invariant-loop-line
 invariant-loop-line l =
-    state_behind (step_of l.images) l.chip l.line-iterator
-    ≡ state_behind (step_of l.images) l.fn.chip l.fn.lines
+    state_behind (step_of l.program) l.chip l.line-iterator
+    ≡ state_behind (step_of l.program) l.program.start l.fn.lines

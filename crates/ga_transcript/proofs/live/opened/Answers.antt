@@ -2,6 +2,7 @@ use Rattle.std.proofs.Common.{rules, ◌≡◌, ◌∙◌, ◌+◌, None, Some, 
 use Rattle.ga_debug.specs.Beginning.{start_view}
 use Rattle.ga_transcript.specs.Following.{early_reply}
 use Rattle.ga_transcript.specs.Live.{LiveView}
+use Rattle.ga_transcript.specs.Reply.{program_of}
 use Rattle.ga_transcript.proofs.Lives.{early_opened, opened_by}
 use Rattle.ga_transcript.proofs.live.opened.Goals as goal
 
@@ -20,9 +21,9 @@ returns c =
     ap (early_reply (start.line + 1)) (sym c.again.ensures) ∙ found in
     let live : LiveView = record {
       text = c.args.text.now;
-      images = start.images;
+      program = program_of start;
       chip = c.in_ok-chip.chip;
     } in
     opened_by c.args.text.now start live c.in_ok-loaded.ensures.loaded none
-    (ap (λ chip. record { text = c.args.text.now; images = start.images; chip = chip })
+    (ap (λ chip. record { text = c.args.text.now; program = program_of start; chip = chip })
     (sym c.in_ok-chip.ensures))

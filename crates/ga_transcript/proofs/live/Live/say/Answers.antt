@@ -9,19 +9,19 @@ pub invariant_of-self-2 : goal.invariant_of-self-2
 invariant_of-self-2 c =
     let live : LiveView = record {
       text = string_bytes c.self.inside.text;
-      images = c.self.inside.images;
+      program = c.self.inside.program;
       chip = c.self.inside.chip;
     } in
     let said : string_bytes c.push_command.new.text
     ≡ live.text ++ 10 ∷ (codes "> " ++ c.args.command.now) = search rules in
     subst (λ text. IsOpened text (Ok (record {
       text = text;
-      images = live.images;
+      program = live.program;
       chip = c.reply_or_refusal.new.chip;
     }))) (sym said) (subst (λ chip. IsOpened (live.text ++ 10 ∷ (codes "> " ++ c.args.command.now))
     (Ok (record {
       text = live.text ++ 10 ∷ (codes "> " ++ c.args.command.now);
-      images = live.images;
+      program = live.program;
       chip = chip;
     }))) (sym c.in_ok-reply_or_refusal.ensures.chip)
     (said_opened live c.args.command.now c.self.invariant c.requires))
@@ -30,7 +30,7 @@ pub returns-clause-shown : goal.returns-clause-shown
 returns-clause-shown c = λ recording is.
     let live : LiveView = record {
       text = string_bytes c.self.inside.text;
-      images = c.self.inside.images;
+      program = c.self.inside.program;
       chip = c.self.inside.chip;
     } in
     let command = c.args.command.now in
