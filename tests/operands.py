@@ -120,18 +120,25 @@ def read_range(words, labels, operands):
     return index, count
 
 
-def read_what(words, labels, operands):
-    word = words.pop(0) if words else ""
+def what_in(word, labels):
+    """What a node shows that a word names, or None."""
     if word in PORTS:
-        return What(words.pop(0) if words[:1] in (["written"], ["read"]) else "pending", word)
+        return What("pending", word)
     if word in REGISTERS:
         return What("register", word)
     if word in ("at", "stopped"):
         return What(word, None)
     index = memory_in(word, labels)
-    if index is None:
+    return None if index is None else What("memory", index)
+
+
+def read_what(words, labels, operands):
+    what = what_in(words.pop(0) if words else "", labels)
+    if what is None:
         raise Refused("BadValue")
-    return What("memory", index)
+    if what.kind == "pending" and words[:1] in (["written"], ["read"]):
+        return What(words.pop(0), what.of)
+    return what
 
 
 def value_in(what, word, labels):

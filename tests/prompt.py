@@ -192,8 +192,9 @@ def compare(program, folder, seed):
     again = f"{folder}/again"
     with open(again, "w") as text:
         text.write(session(plain[:3]))
-    rest = talk(program, [again], "".join(f"{line}\n" for line in plain[3:]).encode()).stdout
-    check(f"random {seed}: a transcript goes on", run.stdout.endswith(rest))
+    rest = talk(program, [again], "".join(f"{line}\n" for line in plain[3:]).encode())
+    early = talk(program, [file], "".join(f"{line}\n" for line in plain[:3]).encode())
+    check(f"random {seed}: a transcript goes on", rest.returncode == 0 and run.stdout == early.stdout + rest.stdout)
 
 
 def hostile(program, folder):

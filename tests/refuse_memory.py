@@ -157,7 +157,7 @@ def named_runs(folder):
     """Runs of a transcript whose head names its source."""
     os.mkdir(folder)
     for name, text in [("x.source", b"node 000 . align 5 x: jump x\n"),
-                       ("x.transcript", b"profile 2\nplace\nsource x.source\ngo\n> turn 1\nmoved 1\n")]:
+                       ("x.transcript", b"profile 2\nplace\nsource x.source\ngo\n> turn 1\nmoved 1\n> break 000 xx\nrefused BadAddress, the nearest label is x\n")]:
         with open(f"{folder}/{name}", "wb") as file:
             file.write(text)
     return [([job, f"{folder}/x.transcript"], b"") for job in ("check", "record", "debug")]

@@ -3,7 +3,8 @@ import functools
 import re
 
 from assembler import NAME, NODE
-from operands import MOST_TURNS, OUTCOMES, STOPS
+from nearest import nearest
+from operands import MOST_TURNS, OUTCOMES, STOPS, address_in, what_in
 from schedules import PORTS, neighbours
 
 WORD, P, NUMBER = "[0-3][0-9A-F]{4}", "[0-3][0-9A-F]{2}", "(?:0|[1-9][0-9]*)"
@@ -65,11 +66,11 @@ def ledgers(node):
     return "".join(f"{node:03} {side} {LEDGER}" for side in PORTS if side in neighbours(node))
 
 
-def form_of(command, images, breakpoints):
+def form_of(text, command, images, breakpoints):
     """The form of the reply to a command, in parts. The command may change the set of breakpoints."""
     verb, operands, refusal = command
     if refusal:
-        return [f"refused {refusal}\n"]
+        return [re.escape(f"refused {refusal}{hint_of(text, command, images)}\n")]
     if verb == "breaks":
         return [break_form(node, address, images) for node, address in sorted(breakpoints)]
     if verb == "break":
@@ -78,6 +79,21 @@ def form_of(command, images, breakpoints):
     if verb == "clear":
         breakpoints.discard(tuple(operands))
     return FORMS[verb](*operands) if verb in FORMS else [REPLIES[verb]]
+
+
+def hint_of(text, command, images):
+    """What a refusal says of a label."""
+    _, operands, refusal = command
+    words = text.split(" ")[2:]
+    if refusal == "BadValue" and words[:1] == ["at"]:
+        words = words[2:] if words[1:2] == ["="] else words[1:]
+    if refusal not in ("BadAddress", "BadValue") or not words or operands[0] not in images:
+        return ""
+    labels = images[operands[0]].labels
+    known = address_in(words[0], {}) if refusal == "BadAddress" else what_in(words[0], labels)
+    label = words[0].partition("+")[0]
+    near = nearest(label, labels) if known is None and label not in labels else None
+    return f", the nearest label is {near}" if near else ""
 
 
 def may_begin_code(node, address, images):

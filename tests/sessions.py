@@ -75,7 +75,7 @@ class Transcript:
     def has_forms(self):
         """Whether each reply has the form that its command gives it."""
         breakpoints = set()
-        forms = [form_of(it.command, self.head.images, breakpoints) for it in self.exchanges]
+        forms = [form_of(it.text, it.command, self.head.images, breakpoints) for it in self.exchanges]
         pairs = zip(self.exchanges, forms)
         return all(has_form(text_of(it.reply), form) and steps_are_numbered(it.reply) for it, form in pairs)
 

@@ -9,7 +9,7 @@
   ever      what names no source is answered as ever, and so is standard input
   random    random sources, with lines of any bytes, and random commands: `check` and `record` answer what they answer for the text with
             the source in its head, by the lines of the file
-  ends      each allocation, read and write of a call fails in turn by an output that is full
+  ends      an output that is full, a source that may not be read (but not for root, who may read all), FILE as a pipe
 The last line that is printed is 'sources: N passed, M failed', and the exit status is 0 if M is 0.
 """
 import os

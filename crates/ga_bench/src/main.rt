@@ -228,9 +228,10 @@ fn rewrite<Rt: AllocGlobal + Files, W: Write>(
 ) -> Result<(), ServeError> {
     let alloc = rt.alloc();
     let shown = ShownText::of_name(alloc, name)?;
-    let is_replaced = replaced(rt, name)?;
-    let done = if is_replaced { "recorded" } else { "same" };
-    let line = format!(in alloc; "{shown}: {done}\n")?;
+    // Before the file is replaced, so that nothing is refused behind it.
+    let recorded = format!(in alloc; "{shown}: recorded\n")?;
+    let same = format!(in alloc; "{shown}: same\n")?;
+    let line = if replaced(rt, name)? { recorded } else { same };
     write_output(writer, line.as_bytes(), &mut Writes::default())
 }
 

@@ -15,12 +15,13 @@ use std::alloc::{AllocError, Global};
 const HELP: &str = "\
 With FILE: the prompt. Loads the chip from FILE, and then reads commands from standard input, line by line.
 Each is done at once, and its reply is written before the next is read. FILE is a transcript, whose commands
-are done first; the head of a session; or source text, whose words are placed in their nodes.
+are done first; the head of a session, which may name its source as for check; or source text, whose words are
+placed in their nodes.
 
   help [COMMAND]  the commands
   back [K]        undoes the last K commands, or the last one
   save FILE       writes the session as a transcript, to be kept as a test; save! replaces a file
-  quit            the end
+  quit            ends the program, as does the end of the input
 
 Without FILE: reads a session from standard input: the line 'profile 2'; the line 'place', or 'route' and a
 ROUTE as for boot; source text; the line 'go'; and commands.
@@ -37,7 +38,7 @@ Writes the reply to each command, or 'refused' and the reason, and goes on.
                   port, and how many of them were read
 
 Example: printf 'profile 2\\nplace\\nnode 000 .\\ngo\\nturn 4\\nregs 000\\n' | ga-bench debug
-More: docs/GUIDE.md, and Sessions and The prompt in docs/FORMATS.md";
+More: docs/GUIDE.md, and 'debug FILE' and Sessions in docs/FORMATS.md";
 
 /// The subcommand `debug [--place | --route ROUTE] [FILE]`.
 #[tactic(auto, unfolding(crate::specs::Debug::debug_command))]
@@ -45,7 +46,7 @@ pub fn command<'a>(alloc: Global) -> Result<Command<'a>, AllocError>
     ensures { IfOk result (IsCommandOf debug_command) }
 {
     let file = Arg::new(alloc, "FILE").help(
-        "The session or the source text to talk with; without it a session is read",
+        "The transcript, session or source text for the prompt; without it a session is read",
     );
     let command = loading_command(
         alloc,

@@ -15,6 +15,7 @@ use std::alloc::{AllocError, Global};
 const HELP: &str = "\
 Reads a transcript, as check does, and writes it with the actual replies in place of those in it. Write
 commands, each behind '> ', record them, read the replies, and keep the output as a test for check.
+In a FILE the source text may be one line 'source NAME', as for check; the recording keeps that line.
 With --write each FILE is replaced by its recording, in one step, or left as it is.
 
 Example: printf 'profile 2\\nplace\\nnode 000 .\\ngo\\n> turn 4\\n' | ga-bench record
@@ -29,9 +30,9 @@ pub fn command<'a>(alloc: Global) -> Result<Command<'a>, AllocError>
         .long("write")
         .action(ArgAction::SetTrue)
         .help("Replaces each FILE by its recording");
-    let files = Arg::new(alloc, "FILE")
-        .action(ArgAction::Append)
-        .help("The transcript; standard input by default or if it is -");
+    let files = Arg::new(alloc, "FILE").action(ArgAction::Append).help(
+        "The transcript; without --write standard input by default or if it is -",
+    );
     let command = Command::new(alloc, "record")
         .about("Runs the commands of a transcript, and writes it with their replies")
         .after_help(HELP)

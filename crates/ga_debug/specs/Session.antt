@@ -9,6 +9,7 @@ use Rattle.ga_debug.specs.declared.commands.Verb.TheVariants.{Act, Show, Tell}
 use Rattle.ga_debug.specs.Commands.{answer_text, did, followed, images_of, note_of, shown}
 use Rattle.ga_debug.specs.Command.{command_in}
 use Rattle.ga_debug.specs.Error.{fault_name}
+use Rattle.ga_debug.specs.Hint.{hint_of}
 
 -- a text without the LF at its end
 abbrev pub without_line_end : List ℕ → List ℕ
@@ -39,7 +40,8 @@ replied of line chip =
       | Ok command ↦ done_by of command.verb command.given chip
     ]
 
--- a refusal as text
-abbrev pub text_or_refusal : Result (List ℕ) DebugError → List ℕ
-text_or_refusal (Ok text) = text
-text_or_refusal (Err fault) = codes "refused " ++ fault_name fault
+-- the reply to a line as text; a refusal may name the label that was meant
+abbrev pub text_or_refusal : Option Program → List ℕ → Result (List ℕ) DebugError → List ℕ
+text_or_refusal of line (Ok text) = text
+text_or_refusal of line (Err fault) =
+    codes "refused " ++ fault_name fault ++ hint_of of line fault

@@ -14,7 +14,7 @@ pub enum DebugError {
     /// A word isn't the three digits of a node's name.
     #[error("BadNode")]
     BadNode,
-    /// A word isn't three hex digits, or the address is over 1FF.
+    /// A word isn't three hex digits up to 1FF, nor in a transcript a label of the node.
     #[error("BadAddress")]
     BadAddress,
     /// A word isn't one of `r`, `d`, `l` and `u`.

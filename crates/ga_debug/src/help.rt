@@ -8,7 +8,7 @@ clear NNN HHH             it isn't held there any more
 pass NNN                  a node that is held isn't held at its next fetch
 try NNN SIDE              one try of the node; in a multiport read it takes from the side r, d, l or u
 turn K                    K turns of all nodes, up to 1000000
-until NNN HHH [xN] [K]    turns, K or 1000000 at most, until the node is about to fetch at HHH; it passes it N times
+until NNN HHH [xN] [K]    turns, K or 1000000 at most, until the node is about to fetch at HHH, after N times before
 run [K]                   turns, K or 1000000 at most, until no node moves but those that spin
 step NNN [K]              K steps of the node alone, or one: what each does and changes
 trace NNN K               turns of all nodes until the node has made K steps: what each does and changes

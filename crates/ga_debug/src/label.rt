@@ -42,7 +42,7 @@ pub(crate) fn address_in(images: Option<&Images>, node: Node, word: &str) -> Opt
 }
 
 /// The address of a label of the node.
-fn label_in(images: Option<&Images>, node: Node, label: &str) -> Option<u16>
+pub(crate) fn label_in(images: Option<&Images>, node: Node, label: &str) -> Option<u16>
     ensures { result ≡ label_in (images_in images.entry) node label.now }
 {
     let address = images?.image_of(node)?.address_of(label)?;

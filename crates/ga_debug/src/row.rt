@@ -51,7 +51,7 @@ pub(crate) enum States {
 }
 
 /// The row of a command: which words follow its name, which texts have it, and what a replay states
-/// of it. The names themselves are in `action_named` and `view_named`.
+/// of it. The names themselves are in `action_named`, `follow_named` and `view_named`.
 #[derive(Clone, Copy)]
 pub(crate) struct Row {
     pub(crate) shapes: &'static [Shape],

@@ -6,6 +6,7 @@ use crate::beginning::Program;
 use crate::command::{Command, command_in};
 use crate::commands::{ANSWER_LENGTH, Verb, images_of, note_of, perform, push_answer, show, tell};
 use crate::error::DebugError;
+use crate::hint::push_hint;
 use ga_chip::Chip;
 use std::alloc::{AllocError, Global};
 use std::fmt::Write;
@@ -117,7 +118,8 @@ fn reply_to(
 }
 
 /// Replaces a text by the reply to a command, as [`reply_into`], and by `refused` and the fault's
-/// name if it is refused. Fails only when out of memory, and the chip is then as it was.
+/// name if it is refused. A transcript's refusal names the nearest label, if one may be meant.
+/// Fails only when out of memory, and the chip is then as it was.
 pub fn reply_or_refusal(
     alloc: Global,
     text: &mut String,
@@ -125,7 +127,8 @@ pub fn reply_or_refusal(
     program: Option<&Program>,
     line: &str,
 ) -> Result<(), AllocError>
-    ensures text { OnOk result (string_bytes text.new ≡ text_or_refusal
+    ensures text { OnOk result (string_bytes text.new
+        ≡ text_or_refusal (option_map (λ program. program.now) program.entry) line.now
         (replied (option_map (λ program. program.now) program.entry) line.now chip.old).0) }
     ensures chip { OnOk result (chip.new
         ≡ (replied (option_map (λ program. program.now) program.entry) line.now chip.old).1) }
@@ -134,15 +137,23 @@ pub fn reply_or_refusal(
     match reply_into(alloc, text, chip, program, line) {
         Ok(()) => Ok(()),
         Err(DebugError::Memory) => Err(AllocError),
-        Err(fault) => refusal(text, fault),
+        Err(fault) => refusal(alloc, text, program, line, fault),
     }
 }
 
 /// Replaces a text by a refusal.
-fn refusal(text: &mut String, fault: DebugError) -> Result<(), AllocError>
-    ensures { OnOk result (string_bytes text.new ≡ text_or_refusal (Err fault)) }
+fn refusal(
+    alloc: Global,
+    text: &mut String,
+    program: Option<&Program>,
+    line: &str,
+    fault: DebugError,
+) -> Result<(), AllocError>
+    ensures { OnOk result (string_bytes text.new
+        ≡ text_or_refusal (option_map (λ program. program.now) program.entry) line.now
+        (Err fault)) }
 {
     text.clear();
     write!(text, "refused {}", fault.name())?;
-    Ok(())
+    push_hint(alloc, text, program, line, fault)
 }

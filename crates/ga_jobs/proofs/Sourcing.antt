@@ -1,11 +1,11 @@
 -- What is right of the whole text is right of the file, seen through the way back.
-use Rattle.std.proofs.Common.{◌≡◌, ℕ, List, Option, Some, Result, Ok, Err, ap, inr, option_map, refl, subst, sym}
+use Rattle.std.proofs.Common.{◌≡◌, ◌<◌, ℕ, List, Option, Some, Result, Ok, Err, ap, inl, inr, length, option_map, refl, subst, sym}
 use Rattle.ga_jobs.specs.declared.fault.ServeError.{ServeError}
 use Rattle.ga_jobs.specs.declared.fault.ServeError.TheVariants.{Memory, Output, Read, Shown, Write}
 use Rattle.ga_jobs.specs.declared.fault.OutputFault.TheVariants.{TooLong}
 use Rattle.ga_jobs.specs.Fault.{FailsRightly}
-use Rattle.ga_jobs.specs.Sourced.{IsInFile, SourcedView, fault_in_file, recording_in_file}
-use Rattle.ga_jobs.specs.Transcript.{IsRecordOutput, IsReplacement}
+use Rattle.ga_jobs.specs.Sourced.{IsInFile, IsReplacementInFile, SourcedView, fault_in_file, recording_in_file}
+use Rattle.ga_jobs.specs.Transcript.{IsReplacement}
 
 pub fails_in_file : {A B : Type 0} (sourced : SourcedView) (back : A → B)
     (IsRight : Result A ServeError → Type 0) (fault : ServeError) → FailsRightly IsRight fault
@@ -30,13 +30,21 @@ replaces_file sourced input recording text whole is same = (
 
 pub too_long_in_file : (sourced : SourcedView) (input recording : List ℕ) → input ≡ sourced.whole
     → IsReplacement input (Ok (Some recording))
+    → 1048576 < length (recording_in_file sourced recording)
+    → FailsRightly (IsReplacementInFile sourced) (Output TooLong)
+too_long_in_file sourced input recording whole is long =
+    inr (recording, subst (λ t. IsReplacement t (Ok (Some recording))) whole is, refl, long)
+
+-- a fault of the whole text's replacement is one of the file's
+pub fault_of_replacement : (sourced : SourcedView) (fault : ServeError)
     → FailsRightly (IsInFile sourced (option_map (recording_in_file sourced))
-    (IsReplacement sourced.whole)) (Output TooLong)
-too_long_in_file sourced input recording whole is = (
-  Output TooLong,
-  inr (recording, subst (λ t. IsRecordOutput t (Ok recording)) whole is.0, refl),
-  refl,
-)
+    (IsReplacement sourced.whole)) fault
+    → FailsRightly (IsReplacementInFile sourced) fault
+fault_of_replacement sourced Read is = absurd is
+fault_of_replacement sourced Write is = absurd is
+fault_of_replacement sourced Memory is = tt
+fault_of_replacement sourced (Shown fault shown) is = inl is
+fault_of_replacement sourced fault is = inl is
 
 -- a fault of an input that is the whole text, as it is seen in the file
 pub seen_in_file : {A B : Type 0} (sourced : SourcedView) (back : A → B)

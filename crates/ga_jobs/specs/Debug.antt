@@ -14,7 +14,7 @@ replies_to chip [] = []
 replies_to chip ([] ∷ lines) = replies_to chip lines
 replies_to chip ((c ∷ line) ∷ lines) =
     let next = replied None (c ∷ line) chip in
-    (text_or_refusal next.0 ++ 10 ∷ []) ++ replies_to next.1 lines
+    (text_or_refusal None (c ∷ line) next.0 ++ 10 ∷ []) ++ replies_to next.1 lines
 
 -- the replies to the commands of a text, which follow its head, or the first fault of the head
 abbrev pub IsReplies : List ℕ → Result (List ℕ) ReplayError → Type 0

@@ -1,5 +1,5 @@
 -- Transcripts whose head names its source: the whole text, and the way back to the file's lines.
-use Rattle.std.specs.Prelude.{◌≡◌, ◌≤◌, ◌⊎◌, ◌<◌, ◌==◌, ℕ, ◌+◌, ◌-◌, ◌*◌, ◌%◌, ◌^◌, List, [], ◌∷◌, ◌++◌, Result, Ok, Err, codes, drop, fold, length, map, nat_eq, take, if◌then◌else◌}
+use Rattle.std.specs.Prelude.{◌≡◌, ◌≤◌, ◌⊎◌, ◌<◌, ◌==◌, ℕ, ◌+◌, ◌-◌, ◌*◌, ◌%◌, ◌^◌, List, [], ◌∷◌, ◌++◌, IfSome, Option, Some, option_map, Result, Ok, Err, codes, drop, fold, length, map, nat_eq, take, if◌then◌else◌}
 use Rattle.std.specs.Fmt.{decimal}
 use Rattle.std.specs.List.{after_first, before_first, flat_map, starts_with}
 use Rattle.ga_asm.specs.Text.{IsImagesOf}
@@ -9,7 +9,8 @@ use Rattle.ga_debug.specs.Pieces.{pieces}
 use Rattle.ga_debug.specs.Session.{without_line_end}
 use Rattle.ga_transcript.specs.Record.{lines_text}
 use Rattle.ga_jobs.specs.declared.fault.ServeError.{ServeError}
-use Rattle.ga_jobs.specs.declared.fault.ServeError.TheVariants.{Input, Shown}
+use Rattle.ga_jobs.specs.declared.fault.OutputFault.TheVariants as OutputFault
+use Rattle.ga_jobs.specs.declared.fault.ServeError.TheVariants.{Input, Output, Shown}
 use Rattle.ga_jobs.specs.declared.fault.InputFault.TheVariants.{TooLong}
 use Rattle.ga_jobs.specs.declared.fault.TextFault.{TextFault}
 use Rattle.ga_jobs.specs.declared.fault.TextFault.TheVariants.{Differs, EarlyReply}
@@ -18,6 +19,7 @@ use Rattle.ga_jobs.specs.Shown.{whole_line}
 use Rattle.ga_jobs.specs.SourceName.{fault_in_source}
 use Rattle.ga_jobs.specs.Text.{IsInText, text_in}
 use Rattle.ga_jobs.specs.TextFault.{shown_fault}
+use Rattle.ga_jobs.specs.Transcript.{IsReplacement}
 
 -- A text with these lines in the place of as many as a count says, from the third line on.
 unfoldable pub with_lines : List ℕ → ℕ → List (List ℕ) → List ℕ
@@ -95,6 +97,19 @@ IsInFile {A = A} sourced back IsRight (Ok value) =
     (found : A) × IsRight (Ok found) × (back found ≡ value)
 IsInFile sourced back IsRight (Err fault) =
     (found : ServeError) × IsRight (Err found) × (fault_in_file sourced.count found ≡ fault)
+
+-- what replaces the file; its recording may have too many bytes, too, since it has a name in the
+-- place of the source
+abbrev pub IsReplacementInFile : SourcedView → Result (Option (List ℕ)) ServeError → Type 0
+IsReplacementInFile sourced (Ok text) =
+    IsInFile sourced (option_map (recording_in_file sourced)) (IsReplacement sourced.whole)
+    (Ok text) × IfSome text (λ text. length text ≤ 1048576)
+IsReplacementInFile sourced (Err fault) =
+    IsInFile sourced (option_map (recording_in_file sourced)) (IsReplacement sourced.whole)
+    (Err fault)
+    ⊎ ((recording : List ℕ) × IsReplacement sourced.whole (Ok (Some recording))
+    × (fault ≡ Output OutputFault.TooLong)
+    × (1048576 < length (recording_in_file sourced recording)))
 
 -- the number that decimal digits write; one of 2 ^ 64 or more wraps
 abbrev pub number_of : List ℕ → ℕ

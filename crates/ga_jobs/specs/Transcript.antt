@@ -1,5 +1,5 @@
 -- The jobs `check` and `record`: what they write.
-use Rattle.std.specs.Prelude.{◌≡◌, ◌≢◌, ◌≤◌, ◌⊎◌, ℕ, List, length, Option, None, Some, Result, Ok, Err}
+use Rattle.std.specs.Prelude.{◌≡◌, ◌≢◌, ◌<◌, ◌≤◌, ◌⊎◌, ℕ, List, length, Option, None, Some, Result, Ok, Err}
 use Rattle.ga_transcript.specs.Check.{IsChecked}
 use Rattle.ga_transcript.specs.Record.{IsRecorded}
 use Rattle.ga_jobs.specs.declared.fault.ServeError.{ServeError}
@@ -27,4 +27,5 @@ IsReplacement input (Ok (Some text)) =
     IsRecordOutput input (Ok text) × (text ≢ input) × (length text ≤ 1048576)
 IsReplacement input (Err fault) =
     IsRecordOutput input (Err fault)
-    ⊎ ((text : List ℕ) × IsRecordOutput input (Ok text) × (fault ≡ Output TooLong))
+    ⊎ ((text : List ℕ) × IsRecordOutput input (Ok text) × (fault ≡ Output TooLong)
+    × (1048576 < length text))

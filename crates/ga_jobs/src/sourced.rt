@@ -6,8 +6,8 @@ ghost use Rattle.ga_transcript.specs.Record.{behind_ends, lines_text};
 ghost use Rattle.ga_jobs.specs.Fault.{Answers};
 ghost use Rattle.ga_jobs.specs.Session.{IsSession};
 ghost use Rattle.ga_jobs.specs.Shown.{shown_name};
-ghost use Rattle.ga_jobs.specs.Sourced.{IsFaultless, IsInFile, IsJoined, IsSourced, fault_in_file, line_in_file, line_of_report, named_line, number_of, recording_in_file, report_in_file, text_fault_in_file, with_lines};
-ghost use Rattle.ga_jobs.specs.Transcript.{IsCheckOutput, IsRecordOutput, IsReplacement};
+ghost use Rattle.ga_jobs.specs.Sourced.{IsFaultless, IsInFile, IsJoined, IsReplacementInFile, IsSourced, fault_in_file, line_in_file, line_of_report, named_line, number_of, recording_in_file, report_in_file, text_fault_in_file, with_lines};
+ghost use Rattle.ga_jobs.specs.Transcript.{IsCheckOutput, IsRecordOutput};
 ghost use Rattle.ga_jobs.specs.declared.race.Loading.TheVariants.{Any};
 
 use crate::answering::INPUT_LIMIT;
@@ -96,9 +96,8 @@ impl Sourced {
 
     /// What replaces the file: its recording, or `None` if it is that already.
     pub fn replacement(&self, alloc: Global) -> Result<Option<String>, ServeError>
-        ensures { Answers (λ text. option_map string_bytes text)
-            (IsInFile self.now (option_map (recording_in_file self.now))
-            (IsReplacement self.now.whole)) result }
+        ensures { Answers (λ text. option_map string_bytes text) (IsReplacementInFile self.now)
+            result }
     {
         match record::replacement(alloc, self.whole.as_bytes()) {
             Ok(Some(recording)) => {

@@ -1,45 +1,29 @@
 //! The command whose name is nearest to a word.
 use crate::own::Own;
-use ga_debug::HELP;
+use ga_debug::{HELP, Nearest};
 use std::alloc::{AllocError, Global};
-use strsim::osa_distance;
-
-/// How many letters a name may differ from a word.
-const MOST_EDITS: usize = 2;
-
-/// The longest word that is compared.
-const MOST_BYTES: usize = 16;
 
 /// What names the command that is nearest to the first word of a line, if one is near.
 pub(crate) fn hint_of(alloc: Global, line: &str) -> Result<String, AllocError> {
-    let word = line.split(' ').next().unwrap_or(line);
-    if word.len() > MOST_BYTES {
-        return Ok(String::new(alloc));
+    let mut nearest = Nearest::to(first_word(line));
+    for line in HELP.lines() {
+        nearest.offer(alloc, first_word(line))?;
     }
-    match nearest(alloc, word)? {
+    offer_own(alloc, &mut nearest)?;
+    match nearest.name() {
         Some(name) => format!(in alloc; ", the nearest is {name}"),
         None => Ok(String::new(alloc)),
     }
 }
 
-/// The name that is nearest to a word, if one is near.
-fn nearest(alloc: Global, word: &str) -> Result<Option<&'static str>, AllocError> {
-    let mut found = None;
-    let mut least = MOST_EDITS + 1;
-    for line in HELP.lines() {
-        let name = line.split(' ').next().unwrap_or(line);
-        let edits = osa_distance(alloc, word, name)?;
-        if edits < least {
-            least = edits;
-            found = Some(name);
-        }
-    }
+fn first_word(line: &str) -> &str {
+    line.split(' ').next().unwrap_or(line)
+}
+
+/// Offers the commands that only the prompt has.
+fn offer_own(alloc: Global, nearest: &mut Nearest<'_>) -> Result<(), AllocError> {
     for own in Own::ALL {
-        let edits = osa_distance(alloc, word, own.name())?;
-        if edits < least {
-            least = edits;
-            found = Some(own.name());
-        }
+        nearest.offer(alloc, own.name())?;
     }
-    Ok(found)
+    Ok(())
 }

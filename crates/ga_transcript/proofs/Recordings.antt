@@ -26,12 +26,14 @@ all_replies (line ∷ lines) =
 
 replies_only : (program : Program) → RepliesOnly (step_of program)
 replies_only program command chip =
-    all_replies (lines_in (text_or_refusal (replied (Some program) command chip).0))
+    all_replies (lines_in (text_or_refusal (Some program) command
+    (replied (Some program) command chip).0))
 
 replies_clean : (program : Program) (command : List ℕ) (chip : Chip)
     → AreClean (step_of program command chip).0
 replies_clean program command chip =
-    let text = text_or_refusal (replied (Some program) command chip).0 in
+    let text = text_or_refusal (Some program) command
+    (replied (Some program) command chip).0 in
     reply_clean (lines_in text) (lines_clean text)
 
 -- nor is one in what is recorded

@@ -23,7 +23,8 @@ program_of start = record { images = start.images; start = start.chip }
 -- what the commands of a transcript reply and do, whose head loads this program
 abbrev pub step_of : Program → Step Chip
 step_of program line chip =
-    let next = replied (Some program) line chip in (reply_lines (text_or_refusal next.0), next.1)
+    let next = replied (Some program) line chip in
+    (reply_lines (text_or_refusal (Some program) line next.0), next.1)
 
 -- the same of a transcript with this start
 abbrev pub step_from : Start → Step Chip

@@ -79,7 +79,8 @@ impl Live {
         // it is one line of the transcript
         requires { All (λ c. (c == 10) ≡ false) command.now }
         ensures reply { OnOk result (string_bytes reply.new
-            ≡ text_or_refusal (replied (Some self.old.program) command.now self.old.chip).0) }
+            ≡ text_or_refusal (Some self.old.program) command.now
+            (replied (Some self.old.program) command.now self.old.chip).0) }
         ensures said { OnOk result (self.new ≡ said command.now self.old) }
         // `record` writes what it wrote before, the command, and this reply
         ensures shown { OnOk result ((recording : List ℕ) → IsRecorded self.old.text (Ok recording)

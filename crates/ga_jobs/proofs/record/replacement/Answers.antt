@@ -1,11 +1,16 @@
-use Rattle.std.proofs.Common.{inr, refl, string_bytes}
+use Rattle.std.proofs.Common.{rules, inr, refl, string_bytes}
 use Rattle.ga_transcript.proofs.Recordings.{recording_holds}
 use Rattle.ga_jobs.proofs.record.replacement.Goals as goal
 
 pub returns-then-len-gt-INPUT_LIMIT-clause-replacement :
     goal.returns-then-len-gt-INPUT_LIMIT-clause-replacement
 returns-then-len-gt-INPUT_LIMIT-clause-replacement c =
-    inr (string_bytes c.in_ok-recording.recording, c.in_ok-recording.ensures.output, refl)
+    inr (
+      string_bytes c.in_ok-recording.recording,
+      c.in_ok-recording.ensures.output,
+      refl,
+      search rules,
+    )
 
 pub returns-clause-holds : goal.returns-clause-holds
 returns-clause-holds c =
