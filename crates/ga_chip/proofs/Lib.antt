@@ -1,6 +1,8 @@
 pub mod Lists
+pub mod Counting
 pub mod Parts
 pub mod Asked
+pub mod Partner
 pub mod Found
 pub mod Events
 pub mod Kept
@@ -32,5 +34,12 @@ pub mod Feeding
 pub mod Holds
 pub mod Joining
 pub mod Differing
+pub mod AheadOwn
+pub mod AheadParts
+pub mod AheadSteps
+pub mod AheadLoop
+pub mod AheadNode
+pub mod AheadGoing
+pub mod AheadAsleep
 mod WorkedChip
 mod WorkedStuck

@@ -15,8 +15,7 @@ use Rattle.ga_node.specs.declared.need.Need.{Need}
 use Rattle.ga_node.specs.declared.need.Need.TheVariants as need
 use Rattle.ga_place.specs.Cell.{cell_of, read_cell}
 use Rattle.ga_chip.specs.declared.outcome.Outcome.TheVariants.{Moved}
-use Rattle.ga_chip.specs.declared.counts.Counts.{Counts}
-use Rattle.ga_chip.specs.Part.{Part, Asks, Nothing, Own, Feed, Post, Check, Take, after, after_asked, asks, asks_by, asks_if, at_cell, count_at, counted, held_by, input_of, is_held, looked_at, picked_by, picked_of, rest_of, take_from}
+use Rattle.ga_chip.specs.Part.{Counts, Part, Asks, Nothing, Own, Feed, Post, Check, Take, after, after_asked, asks, asks_by, asks_if, at_cell, count_at, counted, held_by, input_of, is_held, looked_at, picked_by, picked_of, rest_of, take_from}
 use Rattle.ga_chip.specs.Run.{input_by, posted_by, taken_by, words_left}
 use Rattle.ga_place.proofs.Cells.{one_writer, one_reader, same_bit}
 use Rattle.ga_node.proofs.Rows.{step_node, step_steps}

@@ -16,7 +16,8 @@ use Rattle.ga_chip.specs.declared.outcome.Outcome.{Outcome}
 use Rattle.ga_chip.specs.declared.outcome.Outcome.TheVariants.{Held}
 use Rattle.ga_chip.specs.Part.{Part, Asks, Nothing, Own, Take, Post, Check, after, after_asked, asks, asks_by, asks_if, at_cell, held_by, input_of, is_held, looked_at, stepped, take_from}
 use Rattle.ga_chip.specs.Run.{is_hold}
-use Rattle.ga_chip.proofs.Within.{own_is, own_step, own_still}
+use Rattle.ga_node.proofs.OwnSteps.{own_is, own_step}
+use Rattle.ga_chip.proofs.Within.{own_still}
 use Rattle.ga_chip.specs.Chip.{found_by, cells_after}
 
 -- if nothing is set, nothing is held and no pass ends
@@ -111,14 +112,14 @@ need_free need.Input name stream side = input_free stream
 need_free (need.Stopped stop) name stream side = refl
 
 -- a quick step of the node's own: it is no fetch, or nothing is held and there is no pass to end
-quick_free : (fetch quick pass : Bool) (breaks : List Bool) (at : ℕ) → not fetch || quick ≡ true
+pub quick_free : (fetch quick pass : Bool) (breaks : List Bool) (at : ℕ) → not fetch || quick ≡ true
     → (quick ≡ true → breaks ≡ replicate 512 false)
     → fetch && (not pass && get_or breaks at false) ≡ false
 quick_free false quick pass breaks at e none = refl
 quick_free true quick pass breaks at e none = unset_free true pass breaks at (none e)
 
-quick_kept : (fetch quick pass : Bool) → not fetch || quick ≡ true → (quick ≡ true → pass ≡ false)
-    → pass && not fetch ≡ pass
+pub quick_kept : (fetch quick pass : Bool) → not fetch || quick ≡ true
+    → (quick ≡ true → pass ≡ false) → pass && not fetch ≡ pass
 quick_kept false quick true e none = refl
 quick_kept false quick false e none = refl
 quick_kept true quick pass e none = ap (λ b. b && false) (none e) ∙ sym (none e)

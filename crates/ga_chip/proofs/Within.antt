@@ -10,11 +10,11 @@ use Rattle.ga_node.specs.Slot.{if_own, step, step_if_own}
 use Rattle.ga_node.specs.declared.need.Need.{Need}
 use Rattle.ga_node.specs.declared.need.Need.TheVariants.{Own, Take, Post, Check, Input, Stopped}
 use Rattle.ga_node.proofs.Rows.{is_running, running_below, step_node, step_steps}
-use Rattle.ga_chip.specs.declared.counts.Counts.{Counts}
-use Rattle.ga_chip.specs.Part.{count_at, counted}
+use Rattle.ga_chip.specs.Part.{Counts, count_at, counted}
 use Rattle.ga_chip.specs.declared.port.Ports.{Ports}
 use Rattle.ga_chip.specs.inner.Port.{FitsPorts}
 use Rattle.ga_chip.specs.inner.Within.{IsWithin, StepsBound}
+use Rattle.ga_node.proofs.OwnSteps.{own_is, own_step}
 
 -- one step more leaves the counts within
 pub step_within : (counts : Counts) (before now : ℕ) → now ≡ before + 1 → IsWithin counts before
@@ -82,14 +82,6 @@ take_runs side (Stopped stop) e = absurd (false≢true e)
 pub input_runs : (n : Need) → n ≡ Input → is_running n ≡ true
 input_runs n is = ap is_running is
 
-pub own_is : (n : Need) → is_own n ≡ true → n ≡ Own
-own_is Own e = refl
-own_is (Take sides) e = absurd (false≢true e)
-own_is (Post side word) e = absurd (false≢true e)
-own_is (Check side) e = absurd (false≢true e)
-own_is Input e = absurd (false≢true e)
-own_is (Stopped stop) e = absurd (false≢true e)
-
 -- the bounds after a step, after one that posts, and after one that takes
 pub step_bound : (state : State) (now : ℕ) (written read : Counts)
     → is_running (need_of state) ≡ true → now ≡ state.steps + 1
@@ -119,12 +111,6 @@ take_bound side state now written read runs e bound =
       writes = stepped.writes;
       reads = count_within side read state.steps now e bound.reads;
     }
-
--- what a try of the node's own leaves, if its need is its own
-pub own_step : (state next : State) → is_own (need_of state) ≡ true
-    → next ≡ step_if_own (need_of state) state → next ≡ step state None
-own_step state next own e =
-    e ∙ ap (λ n. if_own n (step state None) state) (own_is (need_of state) own)
 
 pub own_bound : (state next : State) (written read : Counts) → is_own (need_of state) ≡ true
     → next ≡ step_if_own (need_of state) state → StepsBound state.steps written read

@@ -7,12 +7,11 @@ use Rattle.ga_place.specs.Cell.{index_of, name_at}
 use Rattle.ga_place.specs.Node.{is_edge}
 use Rattle.ga_place.specs.declared.side.Side.{Side}
 use Rattle.ga_node.specs.State.{State, booting_state, loaded_state, reset_state}
-use Rattle.ga_chip.specs.declared.counts.Counts.{Counts}
 use Rattle.ga_chip.specs.declared.error.ChipError.{ChipError}
 use Rattle.ga_chip.specs.declared.error.ChipError.TheVariants.{AlreadyGiven, Begun, NotEdge, NotHeld}
 use Rattle.ga_chip.specs.declared.outcome.Outcome.{Outcome}
 use Rattle.ga_chip.specs.declared.outcome.Outcome.TheVariants.{Held, Waits}
-use Rattle.ga_chip.specs.Part.{Part, Asks, Nothing, Own, Feed, Post, Check, Take, StandsAtBreak, asks, after}
+use Rattle.ga_chip.specs.Part.{Counts, Part, Asks, Nothing, Own, Feed, Post, Check, Take, StandsAtBreak, asks, after}
 
 -- 144 parts and 524 cells; a cell holds its pending word, or none
 pub record Chip : Type 0 where

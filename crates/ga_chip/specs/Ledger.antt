@@ -6,8 +6,7 @@ use Rattle.ga_place.specs.Cell.{cell_of}
 use Rattle.ga_place.specs.Side.{neighbour_of}
 use Rattle.ga_place.specs.declared.side.Side.{Side}
 use Rattle.ga_chip.specs.declared.ledger.Ledger.{Ledger}
-use Rattle.ga_chip.specs.declared.counts.Counts.{Counts}
-use Rattle.ga_chip.specs.Part.{Part, count_at}
+use Rattle.ga_chip.specs.Part.{Counts, Part, count_at}
 use Rattle.ga_chip.specs.Chip.{Chip, part_of, pending}
 
 -- how many words a node has written or read at a side, by its own counts

@@ -7,6 +7,7 @@ pub mod Run
 pub mod Stream
 pub mod Grow
 pub mod Legal
+pub mod Ahead
 pub mod Laws
 pub mod Joining
 pub mod Stuck

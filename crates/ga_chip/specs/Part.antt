@@ -11,9 +11,15 @@ use Rattle.ga_node.specs.Slot.{step}
 use Rattle.ga_node.specs.declared.need.Need.{Need}
 use Rattle.ga_node.specs.declared.need.Need.TheVariants as need
 use Rattle.ga_node.specs.declared.place.Place.TheVariants.{Fetch}
-use Rattle.ga_chip.specs.declared.counts.Counts.{Counts}
 use Rattle.ga_chip.specs.declared.outcome.Outcome.{Outcome}
 use Rattle.ga_chip.specs.declared.outcome.Outcome.TheVariants.{Moved, Waits, Held, Stopped}
+
+-- a number for each side
+pub record Counts : Type 0 where
+  pub right : ℕ
+  pub down : ℕ
+  pub left : ℕ
+  pub up : ℕ
 
 -- the number at a side
 abbrev pub count_at : Side → Counts → ℕ

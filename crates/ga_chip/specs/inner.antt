@@ -4,3 +4,6 @@ pub mod Watch
 pub mod Within
 pub mod Port
 pub mod Awake
+pub mod Partner
+pub mod Counts
+pub mod Ahead

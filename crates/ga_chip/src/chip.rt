@@ -12,10 +12,13 @@ ghost use Rattle.ga_chip.specs.Stuck.{HoldsEachClosed, IsClosed, has_node};
 ghost use Rattle.ga_chip.specs.Run.{ClearBreak, PassBreak, Piece, SetBreak, happened, has_break, moves, ran, stands_held, tries_of, turn_of, turns_of};
 ghost use Rattle.ga_chip.specs.Outcome.{moved_by};
 
+mod ahead;
+
+use crate::chip::ahead::{Pace, block_end};
 use crate::error::ChipError;
 use crate::ledger::Ledger;
 use crate::node_set::NodeSet;
-use crate::outcome::{Outcome, Try, side_of_turn};
+use crate::outcome::{Outcome, Try};
 use crate::part::NodePart;
 use crate::row::CellRow;
 use crate::stuck::{StuckNodes, stuck_nodes};
@@ -333,11 +336,16 @@ impl Chip {
         ensures ledgers { LedgersGrow self.old self.new (turns_of count) }
     {
         self.legal();
+        let count = u64::from(count);
+        let mut pace = Pace::new();
+        let mut turn = 0;
         let mut moved = 0;
-        for turn in 0..u64::from(count) {
-            let steps = self.turn(side_of_turn(turn));
-            moved += u64::from(steps);
-            if steps == 0 && self.is_still() {
+        while turn < count {
+            let end = block_end(turn, count);
+            let made = self.make_block(&mut pace, turn, end);
+            moved += made;
+            turn = end;
+            if made == 0 && self.is_still() {
                 return moved;
             }
         }

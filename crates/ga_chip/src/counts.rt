@@ -3,14 +3,25 @@ ghost use Rattle.ga_chip.specs.Part.{count_at, counted};
 ghost use Rattle.ga_chip.specs.Chip.{no_counts};
 
 use ga_place::Side;
+use std::marker::Model;
 
-/// A number for each side.
-#[derive(Clone, Copy)]
+/// A number for each side. A contract sees them by side.
+#[derive(Drop)]
 pub(crate) struct Counts {
-    pub right: u64,
-    pub down: u64,
-    pub left: u64,
-    pub up: u64,
+    // In the order of the sides.
+    by_side: [u64; 4],
+}
+
+impl Model for Counts {
+    ghost use Rattle.std.specs.Prelude.{⊤};
+    ghost use Rattle.ga_chip.specs.Part as model;
+    ghost use Rattle.ga_chip.specs.inner.Counts.{by_sides};
+
+    ghost Value = { model.Counts };
+
+    ghost view = { λ counts. by_sides counts.by_side };
+
+    ghost invariant = { λ counts. ⊤ };
 }
 
 impl Counts {
@@ -18,35 +29,31 @@ impl Counts {
     pub(crate) fn new() -> Self
         ensures { result ≡ no_counts }
     {
+        Counts { by_side: [0; 4] }
+    }
+
+    pub(crate) fn copied(&self) -> Self
+        ensures { result ≡ self.now }
+    {
         Counts {
-            right: 0,
-            down: 0,
-            left: 0,
-            up: 0,
+            by_side: self.by_side,
         }
     }
 
-    pub(crate) fn at(self, side: Side) -> u64
-        ensures { result ≡ count_at side self }
+    #[tactic(auto, using(crate::proofs::Counting::one_at))]
+    pub(crate) fn at(&self, side: Side) -> u64
+        ensures { result ≡ count_at side self.now }
     {
-        match side {
-            Side::Right => self.right,
-            Side::Down => self.down,
-            Side::Left => self.left,
-            Side::Up => self.up,
-        }
+        self.by_side[side as usize]
     }
 
     /// One more at a side, unless the number there is the largest.
+    #[inline(always)]
+    #[tactic(auto, using(crate::proofs::Counting::one_at, crate::proofs::Counting::one_more))]
     pub(crate) fn count(&mut self, side: Side)
         requires { count_at side self.old < 2 ^ 64 - 1 }
         ensures { self.new ≡ counted side self.old }
     {
-        match side {
-            Side::Right => self.right += 1,
-            Side::Down => self.down += 1,
-            Side::Left => self.left += 1,
-            Side::Up => self.up += 1,
-        }
+        self.by_side[side as usize] += 1;
     }
 }

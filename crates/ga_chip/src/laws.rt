@@ -1,4 +1,5 @@
 //! Laws of the definitions. They do nothing when run.
+ghost use Rattle.ga_chip.specs.Ahead.{OwnCommutes, OwnTry};
 ghost use Rattle.ga_chip.specs.Grow.{Growing, StreamsGo};
 ghost use Rattle.ga_chip.specs.Joining.{OnePortNamesNoSide, OpenedIsOpen, RunsAreLegal, RunsJoin, TriesFeedNothing, TriesJoin};
 ghost use Rattle.ga_chip.specs.Laws.{Commuting, Confluence};
@@ -10,6 +11,14 @@ ghost use Rattle.ga_chip.specs.Stuck.{Stuck};
 pub fn confluence()
     ensures agree { Confluence }
     ensures commuting { Commuting }
+{}
+
+/// If the next step of a node is its own, and no breakpoint holds it, each try makes that step,
+/// whatever side it names, and changes nothing but the node. The step, and a try of another node
+/// with whatever outcome, come to the same in either order.
+pub fn own_steps()
+    ensures tries { OwnTry }
+    ensures commutes { OwnCommutes }
 {}
 
 /// The nodes of a closed set are stuck. A set is closed if each of its nodes has stopped; or takes

@@ -33,6 +33,7 @@ impl NodeSet {
     }
 
     /// Puts the node at an index into the set.
+    #[inline(always)]
     pub(crate) fn insert(&mut self, index: usize)
         requires { index < 144 }
         ensures { (other : ℕ)
@@ -42,6 +43,7 @@ impl NodeSet {
     }
 
     /// Takes the node at an index out of the set.
+    #[inline(always)]
     pub(crate) fn remove(&mut self, index: usize)
         requires { index < 144 }
         ensures { (other : ℕ)

@@ -13,6 +13,7 @@ ghost use Rattle.ga_chip.specs.Run.{break_cleared, break_passed, break_set, is_h
 ghost use Rattle.ga_chip.specs.declared.outcome.Outcome.{Outcome};
 ghost use Rattle.ga_chip.specs.declared.outcome.Outcome.TheVariants.{Held, Moved, Waits};
 
+mod ahead;
 mod by_hand;
 mod streams;
 
@@ -57,6 +58,14 @@ pub(crate) struct Far {
     pub wakes: Option<usize>,
     /// Whether a try would move at no side.
     pub sleeps: bool,
+}
+
+/// The outcome of a try that meets a need, and if it moved, the place in order of name of the
+/// neighbour whose word it took, or to which it posted one.
+#[derive(Clone, Copy)]
+struct Met {
+    outcome: Outcome,
+    wakes: Option<usize>,
 }
 
 impl Model for NodePart {
@@ -111,8 +120,8 @@ impl NodePart {
         Ok(NodePart {
             watch: self.watch.copied(),
             state: self.state.copied(),
-            written: self.written,
-            read: self.read,
+            written: self.written.copied(),
+            read: self.read.copied(),
             stream,
             opened: self.opened,
             ports: self.ports,
@@ -160,6 +169,7 @@ impl NodePart {
     }
 
     /// A try of a node, over the chip's cells.
+    #[inline(always)]
     pub(crate) fn attempt_far(&mut self, cells: &mut CellRow, side: Side) -> Far
         ensures part { (result.outcome, self.new)
             ≡ after self.old side (found_by (asks self.old side) cells.old) }
@@ -171,17 +181,16 @@ impl NodePart {
         ensures sleeps { result.sleeps ≡ true → (other : Side)
             → (after self.old other (found_by (asks self.old other) cells.old)).0 ≢ Moved }
     {
-        let need = self.state.need();
-        if self.is_held(&need) {
+        if self.is_held_now() {
             return Far {
                 outcome: Outcome::Held,
                 wakes: None,
                 sleeps: true,
             };
         }
-        let outcome = self.meet(&need, cells, side);
+        let need = self.state.need();
+        let Met { outcome, wakes } = self.meet(&need, cells, side);
         if let Outcome::Moved = outcome {
-            let wakes = self.partner(&need, side);
             return Far {
                 outcome,
                 wakes,
@@ -194,6 +203,16 @@ impl NodePart {
             wakes: None,
             sleeps,
         }
+    }
+
+    /// Whether a try of the node would be held.
+    #[inline(always)]
+    fn is_held_now(&self) -> bool
+        ensures held { result ≡ true → (side : Side) → asks self.now side ≡ Nothing Held }
+        ensures free { result ≡ false → (side : Side) → asks self.now side
+            ≡ asks_by (need_of self.now.state) self.now.state.node self.now.stream side }
+    {
+        self.watch.is_on() && self.is_held(&self.state.need())
     }
 
     /// Whether a try of the node would be held: it isn't stopped, and is about to fetch at a
@@ -259,45 +278,56 @@ impl NodePart {
     }
 
     /// Meets a need of a node that isn't held, if it can be met now.
-    fn meet(&mut self, need: &Need, cells: &mut CellRow, side: Side) -> Outcome
+    #[inline(always)]
+    fn meet(&mut self, need: &Need, cells: &mut CellRow, side: Side) -> Met
         requires need { need.now ≡ need_of self.old.state }
         requires free { asks self.old side
             ≡ asks_by need.now self.old.state.node self.old.stream side }
-        ensures part { (result, self.new)
+        ensures part { (result.outcome, self.new)
             ≡ after self.old side (found_by (asks self.old side) cells.old) }
         ensures cells { cells.new ≡ cells_after (asks self.old side) cells.old }
+        ensures wakes { result.outcome ≡ Moved → result.wakes
+            ≡ option_map index_of (partner_of self.old.state.node need.now side) }
+        ensures place { IfSome result.wakes (λ place. place < 144) }
     {
         match self.asked_by(need, side) {
-            Asks::Own => self.work(need),
+            Asks::Own => Met {
+                outcome: self.work(need),
+                wakes: None,
+            },
             Asks::Post(to, cell, word) => {
+                let wakes = self.neighbour(to);
                 cells.post(cell, word);
-                self.post(to, word)
+                let outcome = self.post(to, word);
+                Met { outcome, wakes }
             }
             Asks::Take(from, cell) => {
+                let wakes = self.neighbour(from);
                 let found = cells.take(cell);
-                self.take(from, found)
+                let outcome = self.take(from, found);
+                Met { outcome, wakes }
             }
             Asks::Check(to, cell) => {
                 let empty = cells.pending(cell).is_none();
-                self.check(empty)
+                Met {
+                    outcome: self.check(empty),
+                    wakes: None,
+                }
             }
-            Asks::Nothing(outcome) => outcome,
+            Asks::Nothing(outcome) => Met {
+                outcome,
+                wakes: None,
+            },
         }
     }
 
-    /// The place in order of name of the neighbour to which a step that meets the need posts a
-    /// word, or from which it takes one.
-    fn partner(&self, need: &Need, side: Side) -> Option<usize>
-        ensures value { result
-            ≡ option_map index_of (partner_of self.now.state.node need.now side) }
+    /// The place in order of name of the neighbour at a side.
+    #[inline(always)]
+    fn neighbour(&self, side: Side) -> Option<usize>
+        ensures value { result ≡ option_map index_of (neighbour_of self.now.state.node side) }
         ensures bound { IfSome result (λ place. place < 144) }
     {
-        let at = match *need {
-            Need::Take(sides) => looked_at(sides, side)?,
-            Need::Post(to, _) => to,
-            _ => return None,
-        };
-        Some(usize::from(self.ports.at(at)?.neighbour))
+        Some(usize::from(self.ports.at(side)?.neighbour))
     }
 
     /// Whether a try would move at no side, after a try at one side didn't. `false` if it isn't
@@ -350,6 +380,7 @@ impl NodePart {
     }
 
     /// The cell that the node reads at a side.
+    #[inline(always)]
     fn reads(&self, side: Side) -> Option<CellId>
         ensures { result ≡ read_cell self.now.state.node side }
     {
@@ -357,6 +388,7 @@ impl NodePart {
     }
 
     /// The cell that the node writes at a side.
+    #[inline(always)]
     fn writes(&self, side: Side) -> Option<CellId>
         ensures { result ≡ cell_of self.now.state.node side }
     {
@@ -365,6 +397,7 @@ impl NodePart {
 
     /// Makes a try that touches no cell: the node does its own work, or takes the next word of its
     /// stream.
+    #[inline(always)]
     fn work(&mut self, need: &Need) -> Outcome
         requires need { need.now ≡ need_of self.old.state }
         requires own { (side : Side)
@@ -379,6 +412,7 @@ impl NodePart {
         }
     }
 
+    #[inline(always)]
     fn own(&mut self) -> Outcome
         requires { need_of self.old.state ≡ need.Own }
         ensures { (result, self.new) ≡ after_asked Own None self.old }
@@ -389,6 +423,7 @@ impl NodePart {
     }
 
     /// The loader takes the next word of the node's stream, if one is left.
+    #[inline(always)]
     fn input(&mut self) -> Outcome
         requires { need_of self.old.state ≡ need.Input }
         ensures { (result, self.new) ≡ after_asked (input_of self.old.stream) None self.old }
@@ -405,6 +440,7 @@ impl NodePart {
     }
 
     /// The node has posted its word at a side.
+    #[inline(always)]
     fn post(&mut self, to: Side, word: Word18) -> Outcome
         requires { need_of self.old.state ≡ need.Post to word }
         ensures { (cell : ℕ) → (result, self.new) ≡ after_asked (Post to cell word) None self.old }
@@ -416,6 +452,7 @@ impl NodePart {
     }
 
     /// The node takes the word that was found at a side, if one was.
+    #[inline(always)]
     fn take(&mut self, from: Side, found: Option<Word18>) -> Outcome
         requires { takes_at from (need_of self.old.state) ≡ true }
         ensures { (cell : ℕ) → (result, self.new) ≡ after_asked (Take from cell) found self.old }
@@ -430,6 +467,7 @@ impl NodePart {
     }
 
     /// The node goes on if the word that it posted was read.
+    #[inline(always)]
     fn check(&mut self, empty: bool) -> Outcome
         requires { is_check (need_of self.old.state) ≡ true }
         ensures read { empty ≡ true → (side : Side) (cell : ℕ)

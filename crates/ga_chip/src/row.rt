@@ -60,12 +60,14 @@ impl CellRow {
     }
 
     /// The word pending in a cell, if one is.
+    #[inline(always)]
     pub fn pending(&self, cell: CellId) -> Option<Word18>
         ensures { result ≡ pending_in self.now cell }
     {
         self.words[cell.index()]
     }
 
+    #[inline(always)]
     pub(crate) fn post(&mut self, cell: CellId, word: Word18)
         ensures { self.new ≡ set self.old cell (Some word) }
     {
@@ -73,6 +75,7 @@ impl CellRow {
     }
 
     /// Takes the word pending in a cell, if one is, and leaves the cell empty.
+    #[inline(always)]
     pub(crate) fn take(&mut self, cell: CellId) -> Option<Word18>
         ensures word { result ≡ pending_in self.old cell }
         ensures row { self.new ≡ set self.old cell None }

@@ -59,6 +59,7 @@ impl Watch {
 
     /// Whether a step from this place is held: it is a fetch, the low nine bits of P are a
     /// breakpoint, and there is no pass.
+    #[inline(always)]
     pub(crate) fn holds(&self, place: Place, p: u16) -> bool
         ensures { result
             ≡ (is_fetch place && (not self.now.pass && get_or self.now.breaks (p % 2 ^ 9) false)) }
@@ -97,6 +98,7 @@ impl Watch {
     }
 
     /// What is left at a step from this place: a fetch ends a pass.
+    #[inline(always)]
     pub(crate) fn step(&mut self, place: Place)
         ensures { self.new ≡ record self.old { pass = self.old.pass && not (is_fetch place) } }
     {

@@ -1,6 +1,7 @@
 mod Needs
 pub mod Rows
 pub mod Loading
+pub mod OwnSteps
 mod Works
 mod StackRing
 mod WorkedNodes

@@ -4,4 +4,5 @@ pub mod Fetch
 pub mod Loader
 pub mod Slot
 pub mod Line
+pub mod Running
 pub mod inner

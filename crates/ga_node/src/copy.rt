@@ -2,7 +2,7 @@
 ghost use Rattle.std.specs.Prelude.{◌≡◌, true};
 ghost use Rattle.ga_node.specs.inner.Again.{HasSameLists, HasSameMode, HasSameRegisters};
 
-use crate::decoded::Decoded;
+use crate::decoded::{Decoded, Execution};
 use crate::loader::Loader;
 use crate::state::NodeState;
 use ga_word::Word18;
@@ -14,7 +14,7 @@ impl NodeState {
     {
         NodeState {
             place: self.place,
-            word: Decoded::new(self.word.word()),
+            word: Execution::of(Decoded::new(self.word.word())),
             p: self.p,
             b: self.b,
             t: self.t,
@@ -30,6 +30,7 @@ impl NodeState {
             carry: self.carry,
             node: self.node,
             loader: self.loader.copied(),
+            cache: self.cache,
         }
     }
 

@@ -9,6 +9,7 @@ mod loader;
 mod moves;
 mod need;
 mod place;
+mod running;
 mod slot;
 mod stack;
 mod state;

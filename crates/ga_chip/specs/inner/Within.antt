@@ -1,8 +1,7 @@
 -- Counts of words are bounded by the steps.
 use Rattle.std.specs.Prelude.{ℕ, ◌≤◌, ◌<◌, ◌^◌}
 use Rattle.ga_place.specs.declared.side.Side.{Side}
-use Rattle.ga_chip.specs.declared.counts.Counts.{Counts}
-use Rattle.ga_chip.specs.Part.{count_at}
+use Rattle.ga_chip.specs.Part.{Counts, count_at}
 
 -- no count is above the number
 abbrev pub IsWithin : Counts → ℕ → Type 0
