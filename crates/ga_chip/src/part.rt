@@ -181,15 +181,63 @@ impl NodePart {
         ensures sleeps { result.sleeps ≡ true → (other : Side)
             → (after self.old other (found_by (asks self.old other) cells.old)).0 ≢ Moved }
     {
-        if self.is_held_now() {
+        if self.is_unwatched() {
+            if let Some(to) = self.state.checks() {
+                return self.attempt_need(&Need::Check(to), cells, side);
+            }
+            if let Some(sides) = self.state.takes() {
+                return self.attempt_need(&Need::Take(sides), cells, side);
+            }
+            if let Some(to) = self.state.posts() {
+                let word = self.state.t();
+                return self.attempt_need(&Need::Post(to, word), cells, side);
+            }
+        }
+        self.attempt_other(cells, side)
+    }
+
+    /// The same, by all that a node may need.
+    #[cold]
+    #[inline(never)]
+    fn attempt_other(&mut self, cells: &mut CellRow, side: Side) -> Far
+        ensures part { (result.outcome, self.new)
+            ≡ after self.old side (found_by (asks self.old side) cells.old) }
+        ensures cells { cells.new ≡ cells_after (asks self.old side) cells.old }
+        ensures wakes { result.outcome ≡ Moved
+            → result.wakes ≡ option_map index_of
+            (partner_of self.old.state.node (need_of self.old.state) side) }
+        ensures place { IfSome result.wakes (λ place. place < 144) }
+        ensures sleeps { result.sleeps ≡ true → (other : Side)
+            → (after self.old other (found_by (asks self.old other) cells.old)).0 ≢ Moved }
+    {
+        let need = self.state.need();
+        if self.is_held(&need) {
             return Far {
                 outcome: Outcome::Held,
                 wakes: None,
                 sleeps: true,
             };
         }
-        let need = self.state.need();
-        let Met { outcome, wakes } = self.meet(&need, cells, side);
+        self.attempt_need(&need, cells, side)
+    }
+
+    /// A try of a node that isn't held, by what it needs.
+    #[inline(always)]
+    fn attempt_need(&mut self, need: &Need, cells: &mut CellRow, side: Side) -> Far
+        requires need { need.now ≡ need_of self.old.state }
+        requires free { (other : Side) → asks self.old other
+            ≡ asks_by need.now self.old.state.node self.old.stream other }
+        ensures part { (result.outcome, self.new)
+            ≡ after self.old side (found_by (asks self.old side) cells.old) }
+        ensures cells { cells.new ≡ cells_after (asks self.old side) cells.old }
+        ensures wakes { result.outcome ≡ Moved
+            → result.wakes ≡ option_map index_of
+            (partner_of self.old.state.node (need_of self.old.state) side) }
+        ensures place { IfSome result.wakes (λ place. place < 144) }
+        ensures sleeps { result.sleeps ≡ true → (other : Side)
+            → (after self.old other (found_by (asks self.old other) cells.old)).0 ≢ Moved }
+    {
+        let Met { outcome, wakes } = self.meet(need, cells, side);
         if let Outcome::Moved = outcome {
             return Far {
                 outcome,
@@ -197,7 +245,7 @@ impl NodePart {
                 sleeps: false,
             };
         }
-        let sleeps = self.is_still(&need, cells);
+        let sleeps = self.is_still(need, cells);
         Far {
             outcome,
             wakes: None,
@@ -205,14 +253,13 @@ impl NodePart {
         }
     }
 
-    /// Whether a try of the node would be held.
+    /// Whether no try of the node is held, since it has no breakpoint. `false` if it isn't known.
     #[inline(always)]
-    fn is_held_now(&self) -> bool
-        ensures held { result ≡ true → (side : Side) → asks self.now side ≡ Nothing Held }
-        ensures free { result ≡ false → (side : Side) → asks self.now side
+    fn is_unwatched(&self) -> bool
+        ensures { result ≡ true → (side : Side) → asks self.now side
             ≡ asks_by (need_of self.now.state) self.now.state.node self.now.stream side }
     {
-        self.watch.is_on() && self.is_held(&self.state.need())
+        !self.watch.is_on()
     }
 
     /// Whether a try of the node would be held: it isn't stopped, and is about to fetch at a

@@ -102,6 +102,17 @@ impl Watch {
     pub(crate) fn step(&mut self, place: Place)
         ensures { self.new ≡ record self.old { pass = self.old.pass && not (is_fetch place) } }
     {
+        if self.on {
+            self.step_on(place);
+        }
+    }
+
+    /// The same, if there is a breakpoint or a pass.
+    #[cold]
+    #[inline(never)]
+    fn step_on(&mut self, place: Place)
+        ensures { self.new ≡ record self.old { pass = self.old.pass && not (is_fetch place) } }
+    {
         if self.pass && place == Place::Fetch {
             self.pass = false;
             self.on = !self.breaks.is_empty();

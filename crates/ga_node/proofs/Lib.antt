@@ -2,6 +2,7 @@ mod Needs
 pub mod Rows
 pub mod Loading
 pub mod OwnSteps
+mod Apart
 mod Works
 mod StackRing
 mod WorkedNodes

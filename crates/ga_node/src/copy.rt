@@ -2,7 +2,7 @@
 ghost use Rattle.std.specs.Prelude.{◌≡◌, true};
 ghost use Rattle.ga_node.specs.inner.Again.{HasSameLists, HasSameMode, HasSameRegisters};
 
-use crate::decoded::{Decoded, Execution};
+use crate::decoded::Decoded;
 use crate::loader::Loader;
 use crate::state::NodeState;
 use ga_word::Word18;
@@ -14,7 +14,7 @@ impl NodeState {
     {
         NodeState {
             place: self.place,
-            word: Execution::of(Decoded::new(self.word.word())),
+            word: self.word,
             p: self.p,
             b: self.b,
             t: self.t,

@@ -1,13 +1,14 @@
-ghost use Rattle.std.specs.Prelude.{◌≡◌, None, Some};
+ghost use Rattle.std.specs.Prelude.{◌≡◌, ℕ, IfSome, None, Some};
 ghost use Rattle.ga_node.specs.Line.{need_text, stop_text};
 ghost use Rattle.ga_node.specs.Need.{body_need, fetch_need, held_need, input_need, need_of, read_need, write_need};
 ghost use Rattle.ga_node.specs.inner.Work.{load_need, wants_by_work};
+ghost use Rattle.ga_node.specs.declared.need.Need.TheVariants.{Check, Post, Take};
 ghost use Rattle.ga_place.specs.Address.{where_is};
 
 use crate::place::Place;
 use crate::state::NodeState;
 use crate::work::Work;
-use ga_place::{Side, Sides, Where, locate};
+use ga_place::{Side, Sides, Where, locate, ports_at};
 use ga_word::Word18;
 use std::fmt;
 
@@ -93,6 +94,56 @@ impl NodeState {
         }
     }
 
+    /// The side of the post that the node needs to have been read. `None` if it needs something
+    /// else, or has made the largest number of steps.
+    #[inline(always)]
+    #[tactic(auto, using(crate::proofs::Works::posted_wants), unfolding(crate::specs::Need::need_of))]
+    pub fn checks(&self) -> Option<Side>
+        ensures { IfSome result (λ side. need_of self.now ≡ Check side) }
+    {
+        if self.steps == u64::MAX {
+            return None;
+        }
+        let (side, _) = self.posted?;
+        Some(side)
+    }
+
+    /// The sides at which the opcode in the node's slot needs a word. `None` if the node needs
+    /// something else, or has made the largest number of steps.
+    #[inline(always)]
+    #[tactic(auto, using(crate::proofs::Works::unposted_wants), unfolding(crate::specs::Need::need_of))]
+    pub fn takes(&self) -> Option<Sides>
+        ensures { IfSome result (λ sides. need_of self.now ≡ Take sides) }
+    {
+        if self.steps == u64::MAX {
+            return None;
+        }
+        match self.work() {
+            Work::FetchP => ports_at(self.p),
+            Work::FetchB => ports_at(self.b),
+            Work::FetchPlus | Work::Fetch => ports_at(address_in(self.a)),
+            _ => None,
+        }
+    }
+
+    /// The side at which the opcode in the node's slot needs room for T. `None` if the node needs
+    /// something else, or has made the largest number of steps.
+    #[inline(always)]
+    #[tactic(auto, using(crate::proofs::Works::unposted_wants), unfolding(crate::specs::Need::need_of))]
+    pub fn posts(&self) -> Option<Side>
+        ensures { IfSome result (λ side. need_of self.now ≡ Post side self.now.t) }
+    {
+        if self.steps == u64::MAX || self.posted.is_some() {
+            return None;
+        }
+        match self.work() {
+            Work::StoreP => port_at(self.p),
+            Work::StoreB => port_at(self.b),
+            Work::StorePlus | Work::Store => port_at(address_in(self.a)),
+            _ => None,
+        }
+    }
+
     /// What a node that has posted nothing needs, by the work at its place.
     #[inline(always)]
     fn work_need(&self) -> Need
@@ -100,13 +151,12 @@ impl NodeState {
         ensures { result ≡ wants_by_work self.now }
     {
         match self.work() {
-            Work::FetchP => read_need(locate(self.p)),
+            Work::FetchP | Work::Refetch => read_need(locate(self.p)),
             Work::FetchB => read_need(locate(self.b)),
             Work::FetchPlus | Work::Fetch => read_need(locate(address_in(self.a))),
             Work::StoreP => write_need(locate(self.p), self.t),
             Work::StoreB => write_need(locate(self.b), self.t),
             Work::StorePlus | Work::Store => write_need(locate(address_in(self.a)), self.t),
-            Work::Refetch => fetch_need(self.p),
             Work::Load => self.load_need(),
             _ => Need::Own,
         }
@@ -136,6 +186,15 @@ impl NodeState {
             None => input_need(at),
         }
     }
+}
+
+/// The side whose port alone an address reaches, if it does.
+#[inline(always)]
+fn port_at(address: u16) -> Option<Side>
+    ensures { IfSome result (λ side. (word : ℕ)
+        → write_need (where_is address) word ≡ Post side word) }
+{
+    ports_at(address)?.only()
 }
 
 /// What a fetch needs, by P.

@@ -46,7 +46,7 @@ impl Stack {
     pub fn push(&mut self, word: Word18)
         ensures { self.new ≡ word ∷ take 7 self.old }
     {
-        self.first = if self.first == 0 { 7 } else { self.first - 1 };
+        self.first = (self.first + 7) % 8;
         self.words[usize::from(self.first)] = word;
     }
 
@@ -57,7 +57,7 @@ impl Stack {
         ensures rest { self.new ≡ rotated self.old }
     {
         let word = self.words[usize::from(self.first)];
-        self.first = if self.first == 7 { 0 } else { self.first + 1 };
+        self.first = (self.first + 1) % 8;
         word
     }
 

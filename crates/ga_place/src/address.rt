@@ -1,5 +1,5 @@
 ghost use Rattle.std.specs.Prelude.{◌≡◌, ◌+◌, ◌/◌, ◌^◌, ◌<◌, bit_xor};
-ghost use Rattle.ga_place.specs.Address.{advance_of, idle_address_of, io_where, port_address_of, where_is};
+ghost use Rattle.ga_place.specs.Address.{advance_of, idle_address_of, io_where, port_address_of, ports_in, where_is};
 ghost use Rattle.ga_place.specs.Side.{bits_of, side_bit, sides_bits, sides_by_edge, sides_with};
 
 use crate::{Node, Side, Sides};
@@ -98,6 +98,22 @@ pub fn locate(address: u16) -> Where
     }
 }
 
+/// The sides whose ports an address reaches, or `None` if it reaches none, as by [`locate`].
+#[inline(always)]
+pub fn ports_at(address: u16) -> Option<Sides>
+    ensures { result ≡ ports_in (where_is address) }
+{
+    let low = address & 0x1FF;
+    if low < 0x100 {
+        return None;
+    }
+    match locate_io((low - 0x100) as u8) {
+        Where::Ports(sides) => Some(sides),
+        _ => None,
+    }
+}
+
+#[inline(always)]
 fn locate_io(low: u8) -> Where
     ensures { result ≡ io_where (bit_xor (0x100 + low) 0x155) }
 {

@@ -1,34 +1,16 @@
-use Rattle.std.proofs.Common.{ap, ◌∙◌, refl, subst, sym}
+use Rattle.std.proofs.Common.{ap, ◌∙◌, subst, sym}
 use Rattle.ga_node.specs.Need.{need_of}
 use Rattle.ga_chip.specs.inner.Awake.{partner_of}
 use Rattle.ga_place.specs.Cell.{index_of}
 use Rattle.std.specs.Prelude.{option_map}
-use Rattle.ga_chip.specs.Part.{Nothing}
-use Rattle.ga_chip.specs.declared.outcome.Outcome.TheVariants.{Held}
-use Rattle.ga_chip.proofs.Plain.{after_by, cells_by}
-use Rattle.ga_chip.proofs.Stays.{Stays, held_stays, still_all}
-use Rattle.ga_chip.proofs.part.NodePart.attempt_far.Goals as goal
-
-pub returns-then-is_held_now-clause-part : goal.returns-then-is_held_now-clause-part
-returns-then-is_held_now-clause-part c =
-    after_by c.args.self.now c.args.side c.args.cells.now (Nothing Held)
-    (Held, c.args.self.now) (c.is_held_now.ensures.held c.if-is_held_now.true c.args.side) refl
-
-pub returns-then-is_held_now-clause-cells : goal.returns-then-is_held_now-clause-cells
-returns-then-is_held_now-clause-cells c =
-    cells_by c.args.self.now c.args.side c.args.cells.now c.args.cells.now (Nothing Held)
-    (c.is_held_now.ensures.held c.if-is_held_now.true c.args.side) refl
-
-pub returns-then-is_held_now-clause-sleeps : goal.returns-then-is_held_now-clause-sleeps
-returns-then-is_held_now-clause-sleeps c =
-    λ yes other. held_stays c.args.self.now c.args.cells.now other
-    (c.is_held_now.ensures.held c.if-is_held_now.true other)
+use Rattle.ga_chip.proofs.Stays.{Stays, still_all}
+use Rattle.ga_chip.proofs.part.NodePart.attempt_need.Goals as goal
 
 pub returns-in-Moved-clause-wakes : goal.returns-in-Moved-clause-wakes
 returns-in-Moved-clause-wakes c = λ moved.
     c.meet-outcome.ensures.wakes moved
     ∙ ap (λ n. option_map index_of (partner_of c.args.self.now.state.node n c.args.side))
-    (c.need-need.ensures ∙ ap (λ p. need_of p.state) c.self.view_is)
+    c.requires.need
 
 pub is_still-sleeps-requires : goal.is_still-sleeps-requires
 is_still-sleeps-requires c =
@@ -36,7 +18,7 @@ is_still-sleeps-requires c =
     c.meet-outcome.new.cells c.args.side c.meet-outcome.result.outcome c.meet-outcome.ensures.part
     c.meet-outcome.ensures.cells c.in_default.not-Moved in
     record {
-      need = c.need-need.ensures ∙ ap (λ p. need_of p.state) (c.self.view_is ∙ sym same.0);
+      need = c.requires.need ∙ ap (λ p. need_of p.state) (sym same.0);
       still = (
         c.args.side,
         subst (λ p. Stays p c.meet-outcome.new.cells c.args.side) (sym same.0)
