@@ -23,6 +23,19 @@ fn registers(rt: HostRuntime) -> Result<(), Fail> {
 }
 
 #[test]
+fn own_steps_in_a_row(rt: HostRuntime) -> Result<(), Fail> {
+    let mut state = NodeState::loaded(node(0)?, &array::<64>(&WRITE_12_RIGHT)?, 0);
+    assert!(rt; state.run_own(false, 9) == 0 && state.steps() == 0);
+    assert!(rt; state.run_own(true, 3) == 3 && state.place() == Place::Slot2);
+    // `b!` and `.`, up to the next fetch
+    assert!(rt; state.run_own(false, 9) == 2 && state.place() == Place::Fetch);
+    // the fetch; then the word is to be posted
+    assert!(rt; state.run_own(true, 9) == 1 && state.steps() == 6);
+    assert!(rt; state.need() == Need::Post(Side::Right, word(0x12)?) && state.b() == 0x1D5);
+    Ok(())
+}
+
+#[test]
 fn posts(rt: HostRuntime) -> Result<(), Fail> {
     let post = word(0x12)?;
     let mut state = about_to_post()?;
