@@ -8,10 +8,12 @@ mod halves;
 pub mod laws;
 mod order;
 mod plan;
+mod together;
 mod work;
 mod workers;
 
 pub use error::{PlanError, RunError};
 pub use gate::{Gate, Open};
 pub use plan::Plan;
+pub use together::Together;
 pub use workers::run_workers;
