@@ -14,9 +14,9 @@ COMMANDS = {
     "turn": ["count"], "regs": ["node"], "mem": ["node"], "ports": ["node"],
 }  # fmt: skip
 IN_TRANSCRIPTS = {
-    **COMMANDS, "mem": ["node", "range?"], "node": ["node"], "breaks": [], "where": [], "nodes": [], "sides": ["node"], "depth": ["node"],
-    "until": ["node", "address", "passes?", "count?"], "run": ["count?"], "code": ["node", "address?"], "step": ["node", "one?"], "trace": ["node", "count"],
-    "watch": ["node", "what", "goal?"], "expect": ["node", "what", "values"],
+    **COMMANDS, "mem": ["node", "range?"], "node": ["node"], "breaks": [], "where": [], "nodes": [], "map": [], "sides": ["node"],
+    "depth": ["node"], "until": ["node", "address", "passes?", "count?"], "run": ["count?"], "code": ["node", "address?"],
+    "step": ["node", "one?"], "trace": ["node", "count"], "watch": ["node", "what", "goal?"], "expect": ["node", "what", "values"],
 }  # fmt: skip
 IN_REPLAYS = {
     "break": ["node", "address"], "clear": ["node", "address"], "pass": ["node"],

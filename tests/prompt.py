@@ -31,7 +31,7 @@ HEAD = "profile 2\nplace\n" + TWO + "go\n"
 COMMANDS = ["turn 4", "turn 1", "regs 708", "regs 709", "node 709", "where", "breaks", "ports 708", "mem 708", "try 709 r",
             "break 709 done", "break 708 001", "clear 709 done", "pass 709", "until 709 done 20", "turn x", "regs 800",
             "until 708 nowhere", "turn 4 4", "step 708", "step 709 3", "trace 709 4", "watch 709 T", "watch 708 steps = 9",
-            "run 20", "nodes", "code 708", "sides 709", "depth 708", "mem 708 main+1 3", "expect 708 T 0", "expect 708 Q 1",
+            "run 20", "nodes", "map", "code 708", "sides 709", "depth 708", "mem 708 main+1 3", "expect 708 T 0", "expect 708 Q 1",
             "until 709 done x1 20", "watch 708", "step", "trace 709 x"]
 failures = []
 passed = 0

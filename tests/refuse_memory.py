@@ -41,7 +41,7 @@ SESSIONS = [
     (["check"], TREE + b"> turn 1\nmoved 1\n"),
     (["record"], HEAD + b"> break 000 002\n> until 000 x 9\n> breaks\n> where\n> pass 000\n> regs 000\nold\n\\ end\n"),
     (["record"], HEAD + b"> step 000 3\n> step 001\n> trace 000 2\n> watch 000 P\n> watch 000 steps = 9\n> run 9\n> nodes\n"),
-    (["record"], HEAD + b"> code 000\n> code 001\n> sides 000\n> depth 000\n> mem 000 x+1 3\n> expect 000 T 1\n> expect 000 x 0 0\n"),
+    (["record"], HEAD + b"> code 000\n> code 001\n> sides 000\n> depth 000\n> map\n> mem 000 x+1 3\n> expect 000 T 1\n> expect 000 x 0 0\n"),
     (["record"], ROUTE + b"> turn 40\n> until 709 1D5\n> where\n> try 709 r\n"),
     (["record"], TREE + b"> turn 40\n> until 608 115\n> where\n"),
 ]

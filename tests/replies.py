@@ -25,13 +25,28 @@ WAITS = (
 )
 RING = f"ring(?: {NODE.pattern}){{2,}}\n"
 IDLE = f"idle:(?: {NODE.pattern})+\n"
+END = rf"{SIDE} of (?:{NODE.pattern}|nobody)"
+# The picture of `map` and what stands below it.
+MARK = r"(?: \. |\[[=~# ?!x]\])"
+COLUMNS = " " + "".join(f"{column:4}" for column in range(18))
+PICTURE = "".join(
+    rf"{row}  (?:{MARK}[-<>X ]){{17}}(?: \.|\[[=~# ?!x]\])\n(?:   (?: [ |^vX]  )*? [|^vX]\n)?" for row in range(7, -1, -1)
+)
+LEGEND = (
+    "[#] works  [?] waits for a word  [!] waits for its word to be read\n"
+    "[ ] idle  [~] spins  [=] held  [x] stopped   .  not started\n"
+    "- | words went here  > < v ^ a word is pending and goes this way  X two words\n"
+)
+DOING = f"(?:is held|works|is stopped|awaits its stream|(?:takes|posts|checks) {END}(?:/{END})*)"
+POSITION = f"{NODE.pattern} at {P}{LABEL} {DOING}\n"
+PENDING = f"pending {NODE.pattern} to {NODE.pattern} {WORD}  {POSITION}"
+STUCK = f"stuck:(?: {NODE.pattern})+\n"
 DEED = f"(?:  posts {SIDE} {WORD}|  takes (?:{SIDE}|input) {WORD}|  sees {SIDE} read)?"
 CHANGES = (
     "".join(f"(?:  {name} {WORD})?" for name in "TSRA")
     + f"(?:  B {NINE_BITS})?(?:  C [01])?(?:  io {WORD})?(?:  0[0-3][0-9A-F] {WORD})*"
 )
 STEP = f"{NUMBER} {P}{LABEL}  [^ \n]+{DEED}{CHANGES}\n"
-END = rf"{SIDE} of (?:{NODE.pattern}|nobody)"
 REST = f"(?:waits {END}(?:/{END})*|waits for its stream|works|held|{STOPPED})\n"
 CODE = f"(?:[*] |  )(0[0-3][0-9A-F])  ({WORD})  (?:code    |follower|data    )  [^ \n][^\n]*\n"
 REPLIES = {
@@ -42,6 +57,7 @@ REPLIES = {
     "until": f"(?:turns {NUMBER} moved {NUMBER}|not reached)\n",
     "where": f"(?:{WAITS})*(?:{RING})*",
     "nodes": f"(?:{WAITS})*(?:{IDLE})?(?:{RING})*",
+    "map": f"{COLUMNS}\n{PICTURE}{re.escape(LEGEND)}(?:{PENDING})*(?:{RING})*(?:  {POSITION})*(?:{STUCK})?",
 }
 compiled = functools.lru_cache(maxsize=4096)(re.compile)
 
@@ -230,7 +246,7 @@ def is_idle(line):
 def same_of_debug(it, breakpoints):
     """The commands of `debug` that do what an exchange does, or show the same. None, if they can't."""
     verb, operands, refusal = it.command
-    if refusal or verb in ("breaks", "where", "nodes", "depth"):
+    if refusal or verb in ("breaks", "where", "nodes", "map", "depth"):
         return []
     if verb in ("break", "clear"):
         return change_of_breaks(verb, operands, breakpoints)

@@ -10,6 +10,7 @@ use Rattle.ga_chip.specs.Run.{ClearBreak, PassBreak, SetBreak, happened, moves, 
 use Rattle.ga_dump.specs.Ledger.{ledger_dump}
 use Rattle.ga_dump.specs.Node.{node_dump}
 use Rattle.ga_path.specs.Stream.{Images}
+use Rattle.ga_map.specs.Map.{map_text}
 use Rattle.ga_waits.specs.Folded.{nodes_text}
 use Rattle.ga_waits.specs.Waits.{waits_text}
 use Rattle.ga_trace.specs.Depth.{depth_text}
@@ -28,7 +29,7 @@ use Rattle.ga_debug.specs.declared.commands.Answer.TheVariants.{Done, Tried, Mov
 use Rattle.ga_debug.specs.declared.commands.Verb.{Verb}
 use Rattle.ga_debug.specs.declared.commands.Verb.TheVariants.{Act, Show, Tell}
 use Rattle.ga_debug.specs.declared.commands.View.{View}
-use Rattle.ga_debug.specs.declared.commands.View.TheVariants.{Regs, Mem, Ports, Node, Code, Sides, Depth, Expect, Breaks, Where, Nodes}
+use Rattle.ga_debug.specs.declared.commands.View.TheVariants.{Regs, Mem, Ports, Node, Code, Sides, Depth, Expect, Breaks, Where, Nodes, Map}
 use Rattle.ga_debug.specs.declared.error.DebugError.{DebugError}
 use Rattle.ga_debug.specs.declared.error.DebugError.TheVariants.{NotHeld}
 use Rattle.ga_debug.specs.declared.row.Scope.{Scope}
@@ -80,6 +81,7 @@ view_row Expect =
 view_row Breaks = row (codes "breaks") [] Transcripts Nothing
 view_row Where = row (codes "where") [] Transcripts Nothing
 view_row Nodes = row (codes "nodes") [] Transcripts Nothing
+view_row Map = row (codes "map") [] Transcripts Nothing
 
 abbrev pub verb_row : Verb → Row
 verb_row (Act action) = action_row action
@@ -103,7 +105,8 @@ follow_named word =
 abbrev pub view_named : List ℕ → Option View
 view_named word =
     find (λ view. bytes_eq (view_row view).name word)
-    (Regs ∷ Mem ∷ Ports ∷ Node ∷ Code ∷ Sides ∷ Depth ∷ Expect ∷ Breaks ∷ Where ∷ Nodes ∷ [])
+    (Regs ∷ Mem ∷ Ports ∷ Node ∷ Code ∷ Sides ∷ Depth ∷ Expect ∷ Breaks ∷ Where ∷ Nodes ∷ Map
+    ∷ [])
 
 -- the command of this name,
 abbrev pub any_verb : List ℕ → Option Verb
@@ -188,3 +191,4 @@ shown of Expect given chip = expected_text given.node given.what given.values ch
 shown of Breaks given chip = breaks_text (images_of of) chip
 shown of Where given chip = waits_text (images_of of) chip
 shown of Nodes given chip = nodes_text (images_of of) chip
+shown of Map given chip = map_text (images_of of) chip

@@ -20,6 +20,7 @@ use crate::until::{Reached, until};
 use ga_asm::Images;
 use ga_chip::{Chip, Outcome, Try};
 use ga_dump::{ledger_text, node_text};
+use ga_map::map;
 use ga_place::Node;
 use ga_trace::{Ran, depths, run, step, trace, watch};
 use ga_waits::{nodes, waits};
@@ -81,6 +82,8 @@ pub(crate) enum View {
     Where,
     /// The same, with the idle ones in one line.
     Nodes,
+    /// The chip as a picture.
+    Map,
 }
 
 /// What the first word of a line names.
@@ -159,6 +162,7 @@ fn view_named(word: &[u8]) -> Option<View>
         b"breaks" => View::Breaks,
         b"where" => View::Where,
         b"nodes" => View::Nodes,
+        b"map" => View::Map,
         _ => return None,
     };
     Some(view)
@@ -257,7 +261,7 @@ impl View {
                 &[Shape::Node, Shape::What, Shape::Values],
                 Scope::Transcripts,
             ),
-            View::Breaks | View::Where | View::Nodes => (&[], Scope::Transcripts),
+            View::Breaks | View::Where | View::Nodes | View::Map => (&[], Scope::Transcripts),
         };
         Row {
             shapes,
@@ -422,6 +426,7 @@ pub(crate) fn show(
         View::Breaks => breaks_text(alloc, chip, images)?,
         View::Where => waits(alloc, chip, images)?,
         View::Nodes => nodes(alloc, chip, images)?,
+        View::Map => map(alloc, chip, images)?,
     };
     drop_line_end(&mut text);
     Ok(text)

@@ -24,4 +24,5 @@ expect NNN WHAT VALUE ..  ok if WHAT is VALUE, else both; words of memory up to 
 breaks                    the breakpoints, and which node is held there
 where                     the nodes that have started: where each is, for whom it waits, which are stuck
 nodes                     the same, with one line for all idle nodes
+map                       the chip as a picture: what each node does, the words that are pending, who is stuck
 ";

@@ -15,7 +15,7 @@ mod what;
 
 pub use at::at_word;
 pub use depth::depths;
-pub use rest::{Ran, run};
+pub use rest::{Ran, run, spins};
 pub use stepped::step;
 pub use traced::trace;
 pub use watched::watch;

@@ -86,8 +86,9 @@ fn count_if(chip: &Chip, node: Node) -> u8
     u8::from(spins(chip, node))
 }
 
-/// Whether a node spins.
-fn spins(chip: &Chip, node: Node) -> bool
+/// Whether a node spins: it is about to fetch a word that jumps to itself, or to jump to one, and
+/// isn't held. (Rest is this project's own: profile.)
+pub fn spins(chip: &Chip, node: Node) -> bool
     ensures { result ≡ spins chip.now node }
 {
     !chip.is_held(node) && is_spin(chip.state(node))

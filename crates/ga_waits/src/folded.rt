@@ -103,7 +103,9 @@ fn push_idle(text: &mut String, names: &str) -> Result<(), AllocError>
     Ok(())
 }
 
-fn is_idle(chip: &Chip, node: Node) -> bool
+/// Whether a node is idle: it has made steps, is about to fetch at its idle address, and isn't
+/// held.
+pub fn is_idle(chip: &Chip, node: Node) -> bool
     ensures { result ≡ is_idle chip.now node }
 {
     !chip.is_held(node) && is_idle_state(node, chip.state(node))

@@ -9,7 +9,9 @@ mod ring;
 mod sides;
 mod text;
 
-pub use folded::nodes;
+pub use folded::{is_idle, nodes};
 pub use label::push_label;
-pub use sides::push_rest;
-pub use text::waits;
+pub use line::has_begun;
+pub use ring::next_of;
+pub use sides::{push_doing, push_rest};
+pub use text::{push_rings, waits};

@@ -36,8 +36,8 @@ pub fn push_line(
     Ok(())
 }
 
-/// Whether a node has made a step, or was given words or a stream.
-fn has_begun(node: Node, state: &NodeState) -> bool
+/// Whether a node has started: it has made a step, or was given words or a stream.
+pub fn has_begun(node: Node, state: &NodeState) -> bool
     ensures { result ≡ spec.has_begun node state.now }
 {
     state.steps() != 0 || state.place() != Place::Fetch || state.p() != idle_address(node)

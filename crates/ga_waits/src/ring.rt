@@ -94,9 +94,10 @@ fn next_in(nexts: &[Option<Node>], node: Node) -> Option<Node>
     nexts[node.index()]
 }
 
-/// The node for which a node waits, if it waits for only one.
+/// The node for which a node waits, if it waits for only one: at a take of one side, until a word
+/// is pending there, and at a check, until its word is read. A held node waits for nobody.
 #[tactic(auto, unfolding(crate::specs::Ring::next_of))]
-fn next_of(chip: &Chip, node: Node) -> Option<Node>
+pub fn next_of(chip: &Chip, node: Node) -> Option<Node>
     ensures { result ≡ spec.next_of chip.now node }
 {
     if chip.is_held(node) {

@@ -76,8 +76,9 @@ fn push_told_end(text: &mut String, chip: &Chip, node: Node, side: Side) -> Resu
     }
 }
 
-/// Adds what a node does.
-fn push_doing(text: &mut String, chip: &Chip, node: Node) -> Result<(), AllocError>
+/// Adds what a node does: that it is held, or what it needs and from whom, as `takes right of 709`.
+/// (The text is this project's own: profile.)
+pub fn push_doing(text: &mut String, chip: &Chip, node: Node) -> Result<(), AllocError>
     ensures { OnOk result (string_bytes text.new ≡ string_bytes text.old
         ++ doing_text (stands_held chip.now node) node (state_of chip.now node)) }
 {

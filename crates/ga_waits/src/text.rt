@@ -61,8 +61,8 @@ fn push_nodes(
     Ok(())
 }
 
-/// Adds the lines of all rings.
-pub(crate) fn push_rings(text: &mut String, chip: &Chip) -> Result<(), AllocError>
+/// Adds a line for each ring, as [`waits`] shows it.
+pub fn push_rings(text: &mut String, chip: &Chip) -> Result<(), AllocError>
     ensures { OnOk result (string_bytes text.new
         ≡ string_bytes text.old ++ text_of (all_ring_lines chip.now)) }
 {

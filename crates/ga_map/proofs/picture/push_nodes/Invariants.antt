@@ -1,0 +1,13 @@
+use Rattle.std.proofs.Common.{◌≡◌, ◌+◌, ◌*◌, ◌++◌, string_bytes}
+use Rattle.std.specs.List.{flat_map, range_with_len}
+use Rattle.ga_place.specs.Cell.{name_at}
+use Rattle.ga_map.specs.Picture.{node_cell}
+use Rattle.ga_map.proofs.picture.push_nodes.Given as goal
+
+-- as many columns are written
+abbrev pub invariant-loop-column : goal.invariant-loop-column
+invariant-loop-column l =
+    string_bytes l.line
+    ≡ string_bytes l.initial.line
+    ++ flat_map (λ column. node_cell l.chip (name_at (l.row * 18 + column)))
+    (range_with_len 0 l.column)

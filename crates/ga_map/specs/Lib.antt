@@ -1,0 +1,9 @@
+pub mod Posted
+pub mod Mark
+pub mod Link
+pub mod Picture
+pub mod Position
+pub mod Pending
+pub mod Rings
+pub mod Behind
+pub mod Map
