@@ -26,6 +26,7 @@ use std::io::{BufReader, IsTerminal, Read, Write};
 use std::process::ExitCode;
 use std::rt::{Env, Files};
 use std::thread::Threads;
+use std::time::Clock;
 use std::{env, fs, io, str};
 
 fn main(rt: HostRuntime) -> ExitCode {
@@ -287,7 +288,7 @@ fn regular<R: Files>(rt: &R, name: &str) -> Result<R::File, ServeError> {
 }
 
 /// Serves a job whose input is the file with a name. Answers the exit status.
-fn serve_file<Rt: AllocGlobal + Print + Eprint + Threads + Sync + Files>(
+fn serve_file<Rt: AllocGlobal + Print + Eprint + Threads + Clock + Sync + Files>(
     rt: &Rt,
     name: &str,
     job: &Job,
@@ -305,7 +306,7 @@ fn serve_file<Rt: AllocGlobal + Print + Eprint + Threads + Sync + Files>(
 }
 
 /// Serves the job `check` or `record` for the file with a name, whose head may name its source.
-fn serve_transcript<Rt: AllocGlobal + Threads + Sync + Files, W: Write>(
+fn serve_transcript<Rt: AllocGlobal + Threads + Clock + Sync + Files, W: Write>(
     rt: &Rt,
     writer: &mut W,
     name: &str,
@@ -348,7 +349,7 @@ fn opened<R: Files>(rt: &R, name: &str) -> Result<R::File, ServeError> {
 }
 
 /// Serves a job, and reports its fault if it fails. Answers the exit status.
-fn serve_job<Rt: AllocGlobal + Eprint + Threads + Sync, R: Read, W: Write>(
+fn serve_job<Rt: AllocGlobal + Eprint + Threads + Clock + Sync, R: Read, W: Write>(
     rt: &Rt,
     reader: &mut R,
     writer: &mut W,

@@ -9,6 +9,7 @@ use crate::fault::{InputFault, ServeError};
 use crate::{Job, output, run};
 use std::alloc::Global;
 use std::thread::Threads;
+use std::time::Clock;
 
 /// The most bytes that an input may have.
 pub const INPUT_LIMIT: usize = 1_048_576;
@@ -18,7 +19,7 @@ pub const INPUT_LIMIT: usize = 1_048_576;
 /// nothing and writes nothing, so it never fails with `Read` or `Write`, and with `Memory` only
 /// when out of memory. (The jobs are this project's own: profile.)
 #[tactic(auto, using(crate::proofs::OneAnswer::one_output))]
-pub fn answer<Rt: AllocGlobal + Threads + Sync>(
+pub fn answer<Rt: AllocGlobal + Threads + Clock + Sync>(
     rt: &Rt,
     job: &Job,
     input: &[u8],

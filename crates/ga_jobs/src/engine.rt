@@ -14,6 +14,7 @@ use crate::writes::Writes;
 use crate::writing::write_output;
 use std::io::{Read, Write};
 use std::thread::Threads;
+use std::time::Clock;
 
 /// How a job ended whose output was written.
 #[derive(Debug, Clone, Copy, PartialEq, Eq)]
@@ -31,7 +32,7 @@ pub enum Ending {
 /// faults of the input in the order of the job's output, and `Write` last; a prefix of the output
 /// may then have been written. `Memory` comes when out of memory, before anything is written.
 #[tactic(auto, using(crate::proofs::OneAnswer::one_output))]
-pub fn serve<Rt: AllocGlobal + Threads + Sync, R: Read, W: Write>(
+pub fn serve<Rt: AllocGlobal + Threads + Clock + Sync, R: Read, W: Write>(
     rt: &Rt,
     reader: &mut R,
     writer: &mut W,
@@ -64,7 +65,7 @@ pub fn serve<Rt: AllocGlobal + Threads + Sync, R: Read, W: Write>(
 }
 
 /// Makes the whole output for an input, and then writes it.
-fn respond<Rt: AllocGlobal + Threads + Sync, W: Write>(
+fn respond<Rt: AllocGlobal + Threads + Clock + Sync, W: Write>(
     rt: &Rt,
     writer: &mut W,
     job: &Job,

@@ -14,14 +14,15 @@ use ga_asm::Images;
 use ga_chip::Chip;
 use ga_debug::booted_tree;
 use ga_dump::{ledger_text, node_text};
-use ga_group::{Open, Plan, RunError, run_workers};
+use ga_group::{Plan, RunError, Together, run_workers};
 use ga_place::Node;
 use std::alloc::{AllocError, Global};
 use std::thread::Threads;
+use std::time::Clock;
 
 /// The nodes of a tree of routes after a run, as text: they boot from the input, which is source
 /// text, and `workers` workers make `turns` turns.
-pub fn output<Rt: AllocGlobal + Threads + Sync>(
+pub fn output<Rt: AllocGlobal + Threads + Clock + Sync>(
     rt: &Rt,
     routes: &str,
     workers: u32,
@@ -37,7 +38,7 @@ pub fn output<Rt: AllocGlobal + Threads + Sync>(
 }
 
 /// The same of images.
-fn run_text<Rt: AllocGlobal + Threads + Sync>(
+fn run_text<Rt: AllocGlobal + Threads + Clock + Sync>(
     rt: &Rt,
     routes: &str,
     workers: u32,
@@ -53,7 +54,7 @@ fn run_text<Rt: AllocGlobal + Threads + Sync>(
 }
 
 /// Nodes of a chip as text, after workers, who share them, have made `turns` turns.
-fn run_chip<Rt: AllocGlobal + Threads + Sync>(
+fn run_chip<Rt: AllocGlobal + Threads + Clock + Sync>(
     rt: &Rt,
     chip: Chip,
     nodes: &[Node],
@@ -108,7 +109,7 @@ fn nodes_for(
 }
 
 /// The chip after `turns` turns of workers.
-fn after_run<Rt: AllocGlobal + Threads + Sync>(
+fn after_run<Rt: AllocGlobal + Threads + Clock + Sync>(
     rt: &Rt,
     chip: Chip,
     plan: &Plan,
@@ -119,7 +120,9 @@ fn after_run<Rt: AllocGlobal + Threads + Sync>(
         → next ≡ ran chip (tries_of (rounds_of group turns))) }
     ensures memory { IfErr result (λ fault. fault ≡ Memory) }
 {
-    match run_workers(rt, rt.alloc(), chip, plan, u64::from(turns), &Open) {
+    let turns = u64::from(turns);
+    let gate = Together::new(rt, rt.alloc(), plan, turns)?;
+    match run_workers(rt, rt.alloc(), chip, plan, turns, &gate) {
         Ok(chip) => Ok(chip),
         Err((RunError::Memory, _)) => Err(ServeError::Memory),
         Err((RunError::TooManyTurns, _)) => unreachable!(),

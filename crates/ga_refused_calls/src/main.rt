@@ -27,6 +27,7 @@ use std::io::Read;
 use std::process::ExitCode;
 use std::rt::Env;
 use std::thread::Threads;
+use std::time::Clock;
 
 fn main(rt: HostRuntime) -> ExitCode {
     match told_of_arguments(&rt, &mut rt.reader()) {
@@ -40,7 +41,7 @@ fn main(rt: HostRuntime) -> ExitCode {
 }
 
 /// The result of the call that the arguments name.
-fn told_of_arguments<Rt: Env + AllocGlobal + Threads + Sync, R: Read>(
+fn told_of_arguments<Rt: Env + AllocGlobal + Threads + Clock + Sync, R: Read>(
     rt: &Rt,
     reader: &mut R,
 ) -> Result<Option<Told>, AllocError> {
@@ -59,7 +60,7 @@ fn told_of_arguments<Rt: Env + AllocGlobal + Threads + Sync, R: Read>(
 }
 
 /// The result of a call, which has a name and may have words behind it.
-fn told_of<Rt: AllocGlobal + Threads + Sync, R: Read>(
+fn told_of<Rt: AllocGlobal + Threads + Clock + Sync, R: Read>(
     rt: &Rt,
     reader: &mut R,
     words: &[&str],
@@ -75,7 +76,7 @@ fn told_of<Rt: AllocGlobal + Threads + Sync, R: Read>(
 }
 
 /// The same of a call with no word behind its name.
-fn told_alone<Rt: AllocGlobal + Threads + Sync>(
+fn told_alone<Rt: AllocGlobal + Threads + Clock + Sync>(
     rt: &Rt,
     name: &str,
 ) -> Result<Option<Told>, AllocError> {

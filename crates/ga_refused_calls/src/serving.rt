@@ -5,6 +5,7 @@ use ga_jobs::{Job, ServeError, serve};
 use std::alloc::{AllocError, Global};
 use std::io::Read;
 use std::thread::Threads;
+use std::time::Clock;
 
 /// What the writer holds before.
 const BEFORE: &[u8] = b"before";
@@ -13,7 +14,7 @@ const BEFORE: &[u8] = b"before";
 const ROOM: usize = 1 << 16;
 
 /// Serves the job that the words of a command line name.
-pub fn serve_told<Rt: AllocGlobal + Threads + Sync, R: Read>(
+pub fn serve_told<Rt: AllocGlobal + Threads + Clock + Sync, R: Read>(
     rt: &Rt,
     reader: &mut R,
     words: &[&str],

@@ -6,11 +6,12 @@ use crate::streams::{LINE, WORDS, run_of};
 use ga_jobs::{Ending, Job, ServeError, answer, answer_alone, serve, status};
 use std::test::Fail;
 use std::thread::Threads;
+use std::time::Clock;
 
 /// Serves a job over bytes in memory. Its clause is the composition: the bytes written are an
 /// output of the job for the bytes read.
 fn served(
-    rt: &(impl AllocGlobal + Threads + Sync),
+    rt: &(impl AllocGlobal + Threads + Clock + Sync),
     job: &Job,
     input: &[u8],
     output: &mut Vec<u8>,

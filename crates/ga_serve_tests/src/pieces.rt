@@ -6,6 +6,7 @@ use ga_jobs::{Ending, Job, Loading, ServeError, serve};
 use std::alloc::Global;
 use std::test::Fail;
 use std::thread::Threads;
+use std::time::Clock;
 
 /// Two nodes of which the second adds 5 and 7.
 const SOURCE: &str = "node 709 main: $5 $7 + @b";
@@ -65,7 +66,7 @@ fn jobs(alloc: Global) -> Result<Vec<(Job, &'static str)>, Fail> {
 /// What a job writes for an input, by reads and writes of at most this many bytes, and how many
 /// reads and calls of the writer that takes.
 fn served(
-    rt: &(impl AllocGlobal + Threads + Sync),
+    rt: &(impl AllocGlobal + Threads + Clock + Sync),
     job: &Job,
     input: &str,
     most: usize,
@@ -80,7 +81,7 @@ fn served(
 
 /// The result of a job if one read fails, and whether nothing was written.
 fn read_fails(
-    rt: &(impl AllocGlobal + Threads + Sync),
+    rt: &(impl AllocGlobal + Threads + Clock + Sync),
     job: &Job,
     input: &str,
     call: u32,
@@ -94,7 +95,7 @@ fn read_fails(
 
 /// The result of a job if one write fails, or the flush, and what was written.
 fn write_fails(
-    rt: &(impl AllocGlobal + Threads + Sync),
+    rt: &(impl AllocGlobal + Threads + Clock + Sync),
     job: &Job,
     input: &str,
     call: u32,

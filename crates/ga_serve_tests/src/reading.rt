@@ -5,6 +5,7 @@ use std::alloc::{AllocError, Global};
 use std::io::ErrorKind;
 use std::test::Fail;
 use std::thread::Threads;
+use std::time::Clock;
 
 /// The four words, filled with spaces to `len` bytes.
 fn padded(alloc: Global, len: usize) -> Result<Vec<u8>, AllocError> {
@@ -15,7 +16,7 @@ fn padded(alloc: Global, len: usize) -> Result<Vec<u8>, AllocError> {
 
 /// Whether `one 5` writes the line of the four words for an input, by reads of at most `most`
 /// bytes.
-fn is_served(rt: &(impl AllocGlobal + Threads + Sync), input: &[u8], most: usize) -> bool {
+fn is_served(rt: &(impl AllocGlobal + Threads + Clock + Sync), input: &[u8], most: usize) -> bool {
     let mut reader = source_of(input, most);
     let mut writer = sink_of(rt.alloc(), 8192);
     let outcome = serve(rt, &mut reader, &mut writer, &Job::One { tries: 5 });
@@ -23,7 +24,11 @@ fn is_served(rt: &(impl AllocGlobal + Threads + Sync), input: &[u8], most: usize
 }
 
 /// How many bytes of an input that `one 5` refuses aren't read.
-fn left_of(rt: &(impl AllocGlobal + Threads + Sync), input: &[u8], most: usize) -> Option<usize> {
+fn left_of(
+    rt: &(impl AllocGlobal + Threads + Clock + Sync),
+    input: &[u8],
+    most: usize,
+) -> Option<usize> {
     let mut reader = source_of(input, most);
     let mut writer = sink_of(rt.alloc(), 8192);
     match serve(rt, &mut reader, &mut writer, &Job::One { tries: 5 }) {

@@ -3,9 +3,10 @@ use crate::streams::{LINE, WORDS, sink_of, source_of};
 use ga_jobs::{Ending, Job, ServeError, serve};
 use std::io::ErrorKind;
 use std::thread::Threads;
+use std::time::Clock;
 
 /// Whether `one 5` writes its line if one call of the writer is interrupted.
-fn writes_on(rt: &(impl AllocGlobal + Threads + Sync), call: u32) -> bool {
+fn writes_on(rt: &(impl AllocGlobal + Threads + Clock + Sync), call: u32) -> bool {
     let mut writer = sink_of(rt.alloc(), 40);
     writer.fails_at = Some(call);
     writer.kind = ErrorKind::Interrupted;
