@@ -158,6 +158,8 @@ def hostile(program, folder):
         expect(f"hostile name {name!r}", came.stdout.decode().split("\n") == ["good.transcript: same 1", end, counts, ""])
     came = subprocess.run([program.encode(), b"check", b"good.transcript", b"\xff"], cwd=folder, capture_output=True)
     expect("hostile: a name that is no text", came.returncode == 2 and came.stdout == b"")
+    came = subprocess.run([b"\xff/ga-bench", b"check", b"good.transcript"], executable=program, cwd=folder, capture_output=True)
+    expect("hostile: called by a path that is no text", came.returncode == 0 and came.stdout == b"same 1\n")
     came = run(program, ["check", good, "-", "-"], holds.encode(), cwd=folder)
     wanted = ["good.transcript: same 1", "-: same 1", "-: replay BadProfile"]
     expect("hostile: standard input, and nothing left of it", came.stdout.decode().split("\n")[:3] == wanted)

@@ -1,6 +1,7 @@
 //! The bench of the GA144: each subcommand writes one text, and all but `explain` read one input.
 #![tactic(auto)]
 
+mod named;
 mod saved_files;
 
 ghost use Rattle.std.specs.Prelude.{◌≡◌, IfErr, IfOk, IfSome, map, string_bytes};
@@ -9,6 +10,7 @@ ghost use Rattle.ga_transcript.specs.Record.{Holds};
 ghost use Rattle.ga_jobs.specs.Engine.{status_of};
 ghost use Rattle.ga_bench.specs.Status.{HasServed, HasStatus, IsStatusOf};
 
+use crate::named::Named;
 use crate::saved_files::SavedFiles;
 use clap::error::ErrorKind::InvalidValue;
 use ga_command_line::{LineError, job, refusal};
@@ -388,7 +390,7 @@ fn job_of_arguments<R: Env + AllocGlobal>(rt: &R) -> Result<Job, LineError>
     ensures { IfOk result InRange }
 {
     let alloc = rt.alloc();
-    match env::args(rt) {
+    match env::args(&(Named { environment: rt }, alloc)) {
         Ok(arguments) => {
             let words: Vec<String> = arguments.collect(alloc)?;
             job_of_words(alloc, &words)
