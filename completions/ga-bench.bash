@@ -1,0 +1,85 @@
+# Made by scripts/from_help.py from the program's help; change that, and not this file.
+
+_ga_bench_route() {
+    local head=${1%"${1##*[,/]}"} route=${1##*/} last nodes=() row column node
+    last=${head##*/}
+    last=${last%,}
+    last=${last##*,}
+    if [[ $route == *,* ]]; then
+        [[ $last =~ ^[0-7](0[0-9]|1[0-7])$ ]] || return
+        row=${last:0:1} column=$((10#${last:1}))
+        ((column == 17)) || nodes+=("$row$(printf %02d $((column + 1)))")
+        ((column == 0)) || nodes+=("$row$(printf %02d $((column - 1)))")
+        ((row == 7)) || nodes+=("$((row + 1))${last:1}")
+        ((row == 0)) || nodes+=("$((row - 1))${last:1}")
+    elif [[ $head ]]; then
+        nodes=("${head%%[,/]*}") last=
+    else
+        nodes=({0,7}{00..17} {1..6}{00,17})
+    fi
+    for node in "${nodes[@]}"; do
+        [[ $last && ,${head//\//,} == *,$node,* ]] || printf '%s%s\n' "$head" "$node"
+    done
+}
+
+_ga_bench() {
+    local word=${COMP_WORDS[COMP_CWORD]} before=${COMP_WORDS[COMP_CWORD - 1]} options operands kind at words
+    COMPREPLY=()
+    case $((COMP_CWORD > 1))${COMP_WORDS[1]} in
+    0*) options='-h --help -V --version' operands=(COMMAND) ;;
+    1one) options='-h --help' operands=(TRIES) ;;
+    1asm) options='-h --help' operands=() ;;
+    1dis) options='--code -h --help' operands=() ;;
+    1boot) options='-h --help' operands=(ROUTE) ;;
+    1run) options='-h --help' operands=(ROUTE WORKERS TURNS) ;;
+    1debug) options='--place --route -h --help' operands=(FILE) ;;
+    1replay) options='-h --help' operands=() ;;
+    1list) options='--labels -h --help' operands=(FILE) ;;
+    1race) options='--place --route --turns --witness -h --help' operands=(FILE) ;;
+    1check) options='-h --help' operands=(FILE...) ;;
+    1record) options='--write -h --help' operands=(FILE...) ;;
+    1explain) options='-h --help' operands=(NAME) ;;
+    1help) options='' operands=(COMMAND) ;;
+    *) return ;;
+    esac
+    # The operands before this word, without options and their values, show which one it is.
+    for ((at = 2; at < COMP_CWORD; at++)); do
+        case ${COMP_WORDS[at]} in
+        --code | --route | --turns) ((at++)) ;;
+        -?*) ;;
+        *) [[ ${operands[0]-} == *... ]] || operands=("${operands[@]:1}") ;;
+        esac
+    done
+    kind=${operands[0]-}
+    [[ $word != -* ]] || kind=options
+    case $before in
+    --code) kind=N ;;
+    --route) kind=ROUTE ;;
+    --turns) kind=N ;;
+    esac
+    case $kind in
+    FILE*)
+        mapfile -t COMPREPLY < <(compgen -f -- "$word")
+        compopt -o filenames 2>/dev/null
+        return
+        ;;
+    ROUTE)
+        words=$(_ga_bench_route "$word")
+        compopt -o nospace 2>/dev/null
+        ;;
+    COMMAND) words='one asm dis boot run debug replay list race check record explain help' ;;
+    NAME)
+        words='BadToken NumberRange BadNode DuplicateNode DuplicateLabel ReservedLabel OpenBracket
+            BadWord NoNode Empty UndefinedLabel OutOfReach UnextAlone TooLong BadRoute
+            NotEdge NotNeighbour Repeated OtherRoot Unreached BadCommand BadAddress
+            BadSide BadCount BadValue NotHeld BadProfile NoGo Source Asm Route Tree Boot
+            EarlyReply differs read NoFile Folder NotAFile Exists NoName BadText BadCode
+            write Write memory Memory own take post check input stopped Counted IoRead Rom
+            Unmapped MultiWrite carry moved waits held stuck ring race turn place step
+            slot follower profile'
+        ;;
+    options) words=$options ;;
+    *) return ;;
+    esac
+    mapfile -t COMPREPLY < <(compgen -W "$words" -- "$word")
+} && complete -F _ga_bench ga-bench

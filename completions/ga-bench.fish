@@ -1,0 +1,74 @@
+# Made by scripts/from_help.py from the program's help; change that, and not this file.
+
+function __ga_bench_route
+    set -l word (commandline -ct)
+    set -l head (string match -r '^.*[,/]' -- $word)
+    set -l taken (string split -n , (string replace -a / , -- "$head"))
+    set -l nodes
+    if string match -q '*,' -- "$head"
+        set -l last $taken[-1]
+        string match -qr '^[0-7](0[0-9]|1[0-7])$' -- $last; or return
+        set -l row (string sub -l 1 $last)
+        set -l column (string sub -s 2 $last)
+        test $column = 17; or set -a nodes $row(printf %02d (math $column + 1))
+        test $column = 00; or set -a nodes $row(printf %02d (math $column - 1))
+        test $row = 7; or set -a nodes (math $row + 1)$column
+        test $row = 0; or set -a nodes (math $row - 1)$column
+    else if test -n "$head"
+        set nodes $taken[1]
+        set taken
+    else
+        set -l columns (printf '%02d\n' (seq 0 17))
+        set nodes {0,7}$columns {1,2,3,4,5,6}{00,17}
+    end
+    for node in $nodes
+        contains $node $taken; or echo "$head"$node
+    end
+end
+
+complete -c ga-bench -f
+complete -c ga-bench -n '__fish_use_subcommand' -s h -l help -d 'Print help'
+complete -c ga-bench -n '__fish_use_subcommand' -s V -l version -d 'Print version'
+complete -c ga-bench -n __fish_use_subcommand -a one -d 'Runs words in the memory of one node, and prints the node'
+complete -c ga-bench -n __fish_use_subcommand -a asm -d 'Assembles source text, and prints the words of each node'
+complete -c ga-bench -n __fish_use_subcommand -a dis -d 'Prints words as source text'
+complete -c ga-bench -n __fish_use_subcommand -a boot -d 'Assembles source text, and prints the words that boot a route or a tree'
+complete -c ga-bench -n __fish_use_subcommand -a run -d 'Boots a route or a tree, runs its nodes in threads, and prints them'
+complete -c ga-bench -n __fish_use_subcommand -a debug -d 'Loads source text into a chip, runs commands on it, and prints the replies'
+complete -c ga-bench -n __fish_use_subcommand -a replay -d 'Runs the commands of a replay text, and compares their results'
+complete -c ga-bench -n __fish_use_subcommand -a list -d 'Lists the words of a source text, with their instructions and their lines in the text'
+complete -c ga-bench -n __fish_use_subcommand -a race -d 'Decides whether the schedule can change what a program does'
+complete -c ga-bench -n __fish_use_subcommand -a check -d 'Runs the commands of a transcript, and compares the replies with those in it'
+complete -c ga-bench -n __fish_use_subcommand -a record -d 'Runs the commands of a transcript, and writes it with their replies'
+complete -c ga-bench -n __fish_use_subcommand -a explain -d 'Explains an error, a state or a term'
+complete -c ga-bench -n __fish_use_subcommand -a help -d 'Print this message or the help of the given subcommand(s)'
+complete -c ga-bench -n '__fish_seen_subcommand_from one' -s h -l help -d 'Print help'
+complete -c ga-bench -n '__fish_seen_subcommand_from asm' -s h -l help -d 'Print help'
+complete -c ga-bench -n '__fish_seen_subcommand_from dis' -l code -x -d 'How many words are code, from 0 to 64; the rest are data. By default all are code'
+complete -c ga-bench -n '__fish_seen_subcommand_from dis' -s h -l help -d 'Print help'
+complete -c ga-bench -n '__fish_seen_subcommand_from boot' -s h -l help -d 'Print help'
+complete -c ga-bench -n '__fish_seen_subcommand_from boot; and test (count (commandline -opc)) = 2' -a '(__ga_bench_route)'
+complete -c ga-bench -n '__fish_seen_subcommand_from run' -s h -l help -d 'Print help'
+complete -c ga-bench -n '__fish_seen_subcommand_from run; and test (count (commandline -opc)) = 2' -a '(__ga_bench_route)'
+complete -c ga-bench -n '__fish_seen_subcommand_from debug' -l place -d 'The input is source text, even if it begins with \'profile\'; its words are placed'
+complete -c ga-bench -n '__fish_seen_subcommand_from debug' -l route -x -a '(__ga_bench_route)' -d 'The input is source text, which boots along this route, or a tree of routes'
+complete -c ga-bench -n '__fish_seen_subcommand_from debug' -s h -l help -d 'Print help'
+complete -c ga-bench -n '__fish_seen_subcommand_from debug' -F
+complete -c ga-bench -n '__fish_seen_subcommand_from replay' -s h -l help -d 'Print help'
+complete -c ga-bench -n '__fish_seen_subcommand_from list' -l labels -d 'Writes only the labels: the node, the label and its address, a line each'
+complete -c ga-bench -n '__fish_seen_subcommand_from list' -s h -l help -d 'Print help'
+complete -c ga-bench -n '__fish_seen_subcommand_from list' -F
+complete -c ga-bench -n '__fish_seen_subcommand_from race' -l place -d 'The input is source text, even if it begins with \'profile\'; its words are placed'
+complete -c ga-bench -n '__fish_seen_subcommand_from race' -l route -x -a '(__ga_bench_route)' -d 'The input is source text, which boots along this route, or a tree of routes'
+complete -c ga-bench -n '__fish_seen_subcommand_from race' -l turns -x -d 'How many turns are made at most, from 0 to 1000000; by default 1000000'
+complete -c ga-bench -n '__fish_seen_subcommand_from race' -l witness -d 'For a race, writes a transcript up to the moment at which both words are pending'
+complete -c ga-bench -n '__fish_seen_subcommand_from race' -s h -l help -d 'Print help'
+complete -c ga-bench -n '__fish_seen_subcommand_from race' -F
+complete -c ga-bench -n '__fish_seen_subcommand_from check' -s h -l help -d 'Print help'
+complete -c ga-bench -n '__fish_seen_subcommand_from check' -F
+complete -c ga-bench -n '__fish_seen_subcommand_from record' -l write -d 'Replaces each FILE by its recording'
+complete -c ga-bench -n '__fish_seen_subcommand_from record' -s h -l help -d 'Print help'
+complete -c ga-bench -n '__fish_seen_subcommand_from record' -F
+complete -c ga-bench -n '__fish_seen_subcommand_from explain' -s h -l help -d 'Print help'
+complete -c ga-bench -n '__fish_seen_subcommand_from explain' -a 'BadToken NumberRange BadNode DuplicateNode DuplicateLabel ReservedLabel OpenBracket BadWord NoNode Empty UndefinedLabel OutOfReach UnextAlone TooLong BadRoute NotEdge NotNeighbour Repeated OtherRoot Unreached BadCommand BadAddress BadSide BadCount BadValue NotHeld BadProfile NoGo Source Asm Route Tree Boot EarlyReply differs read NoFile Folder NotAFile Exists NoName BadText BadCode write Write memory Memory own take post check input stopped Counted IoRead Rom Unmapped MultiWrite carry moved waits held stuck ring race turn place step slot follower profile'
+complete -c ga-bench -n '__fish_seen_subcommand_from help' -a 'one asm dis boot run debug replay list race check record explain help'

@@ -1,0 +1,166 @@
+#!/usr/bin/env python3
+"""Compares the manual page and the completions with the program's help, and tries them: tests/manual.py PROGRAM
+
+- Each file that scripts/from_help.py makes is the one in the repository, to the byte.
+- The page formats without a warning.
+- bash, zsh and fish complete COMPLETED's lines as it has them. A shell or tool that isn't there is named, and not tried.
+
+The last line that is printed is 'N passed, M failed'.
+"""
+import os
+import shutil
+import subprocess
+import sys
+import tempfile
+
+ROOT = os.path.dirname(os.path.dirname(os.path.abspath(__file__)))
+sys.dont_write_bytecode = True
+sys.path.insert(0, f"{ROOT}/scripts")
+import from_help  # noqa: E402
+
+EDGE = {f"{row}{column:02}" for row in range(8) for column in range(18) if row in (0, 7) or column in (0, 17)}
+COMMANDS = "one asm dis boot run debug replay list race check record explain help".split()
+# What is completed for a line: all of it, and for a file the names in a folder with these.
+FILES = ["first.source", "two words.source", "other.text"]
+COMPLETED = {
+    "ga-bench ": set(COMMANDS),
+    "ga-bench re": {"replay", "record"},
+    "ga-bench help di": {"dis"},
+    "ga-bench race --p": {"--place"},
+    "ga-bench record --": {"--write", "--help"},
+    "ga-bench list fi": {"first.source"},
+    "ga-bench check first.source o": {"other.text"},
+    "ga-bench debug --place t": {"two words.source"},
+    "ga-bench explain NotN": {"NotNeighbour"},
+    "ga-bench explain sl": {"slot"},
+    "ga-bench boot ": EDGE,
+    "ga-bench boot 70": {name for name in EDGE if name.startswith("70")},
+    "ga-bench boot 717,": {"717,716", "717,617"},
+    "ga-bench run 708,": {"708,707", "708,709", "708,608"},
+    "ga-bench run 708,709,": {"708,709,710", "708,709,609"},
+    "ga-bench run 708,709,609,6": {"708,709,609,608", "708,709,609,610"},
+    "ga-bench run 708,709/": {"708,709/708"},
+    "ga-bench run 708,709/708,": {"708,709/708,707", "708,709/708,608"},
+    "ga-bench run 000,100,": {"000,100,101", "000,100,200"},
+    "ga-bench run 708,199,": set(),
+    "ga-bench run 708 ": set(),
+    "ga-bench race --route 708,608,": {"708,608,607", "708,608,609", "708,608,508"},
+    "ga-bench race --turns ": set(),
+    "ga-bench asm ": set(),
+}  # fmt: skip
+
+BASH = """source "$1"
+shift
+COMP_WORDS=("$@") COMP_CWORD=$(($# - 1)) COMPREPLY=()
+_ga_bench
+((${#COMPREPLY[@]} == 0)) || printf '%s\\n' "${COMPREPLY[@]}"
+"""
+# Runs a shell at a terminal of its own, in which what `compadd` would show is printed, each behind its part before.
+ZSH = r"""
+zmodload zsh/zpty
+zpty inner zsh -f -i
+zpty -w inner "PS1= PS2=; stty -echo 2>/dev/null; fpath=($1 \$fpath); autoload -Uz compinit; compinit -u -D"
+zpty -w inner '
+    compadd() {
+        local -a hits
+        if [[ ${@[1,(i)(-|--)]} == *-(O|A|D)\ * ]]; then builtin compadd "$@"; return; fi
+        builtin compadd -A hits "$@"
+        print -l -- "" "HIT "$^IPREFIX$^hits
+        builtin compadd "$@"
+    }
+    ended() { print ENDED; exit }
+    comppostfuncs=(ended)
+    bindkey "^I" complete-word
+    setopt rcexpandparam
+    zstyle ":completion:*" insert-tab false
+    print READY
+'
+zpty -r -m inner line '*READY*'
+zpty -w -n inner "$2"$'\t'
+zpty -r -m inner line '*ENDED*'
+print -r -- "$line"
+"""
+
+
+def run(*command, folder):
+    return subprocess.run(command, stdin=subprocess.DEVNULL, capture_output=True, text=True, cwd=folder, timeout=60)
+
+
+def by_bash(line, folder):
+    words = line.split(" ")
+    script = run("bash", "-c", BASH, "bash", f"{ROOT}/completions/ga-bench.bash", *words, folder=folder)
+    return script.stdout.splitlines() if not script.stderr else [script.stderr]
+
+
+def by_fish(line, folder):
+    script = f"source {ROOT}/completions/ga-bench.fish; complete -C '{line}'"
+    found = run("fish", "-N", "-c", script, folder=folder)
+    shown = [it.split("\t")[0] for it in found.stdout.splitlines()]
+    return [it.replace("\\ ", " ") for it in shown] if not found.stderr else [found.stderr]
+
+
+def by_zsh(line, folder):
+    found = run("zsh", "-f", "-c", ZSH, "zsh", f"{ROOT}/completions", line, folder=folder)
+    hits = [it.strip()[4:] for it in found.stdout.splitlines() if it.strip().startswith("HIT ")]
+    # It shows options where nothing else is to be completed.
+    return hits if line.split(" ")[-1].startswith("-") else [it for it in hits if not it.startswith("-")]
+
+
+SHELLS = {"bash": by_bash, "zsh": by_zsh, "fish": by_fish}
+
+
+def pages():
+    """Yields the check of the page by each tool that is there."""
+    page = f"{ROOT}/man/ga-bench.1"
+    tools = {
+        "groff": ["groff", "-man", "-Tutf8", "-ww", "-z", page],
+        "mandoc": ["mandoc", "-Tlint", "-Wwarning", page],
+        "man": ["man", "--warnings", "-P", "cat", "-l", page],
+    }
+    for name, command in tools.items():
+        if not shutil.which(name):
+            print(f"not tried, since {name} isn't on PATH: the page")
+            continue
+        shown = run(*command, folder=ROOT)
+        faults = shown.stderr if name != "mandoc" else shown.stdout
+        # The page has no date: nothing that it is made of has one.
+        faults = [line for line in faults.splitlines() if "missing date" not in line]
+        yield f"the page by {name}: {faults}", not faults and (name != "man" or "GA-BENCH(1)" in shown.stdout)
+
+
+def completions():
+    """Yields the check of each line in each shell that is there."""
+    with tempfile.TemporaryDirectory() as folder:
+        for name in FILES:
+            with open(f"{folder}/{name}", "w"):
+                pass
+        for shell, complete in SHELLS.items():
+            if not shutil.which(shell):
+                print(f"not tried, since {shell} isn't on PATH: its completion")
+                continue
+            for line, wanted in COMPLETED.items():
+                found = complete(line, folder)
+                yield f"{shell}: {line!r}: {found}", set(found) == wanted
+
+
+def wrong(program):
+    """Yields each check and whether it passes."""
+    for path, text in from_help.made(program).items():
+        with open(f"{ROOT}/{path}", encoding="utf-8") as file:
+            yield f"{path} isn't of this help: run scripts/from_help.py {program}", file.read() == text
+    yield from pages()
+    yield from completions()
+
+
+def main(program):
+    results = list(wrong(program))
+    failed = [name for name, passes in results if not passes]
+    print("".join(f"FAILED {name}\n" for name in failed), end="")
+    print(f"manual: {len(results) - len(failed)} passed, {len(failed)} failed")
+    return 1 if failed else 0
+
+
+if __name__ == "__main__":
+    if len(sys.argv) != 2:
+        sys.exit(__doc__)
+    sys.exit(main(os.path.abspath(sys.argv[1])))
