@@ -146,7 +146,7 @@ def texts_of(file, text):
 def files():
     patterns = [
         "README.md", "docs/*.md", "crates/*/README.md", "crates/*/src/**/*.rt", "crates/*/specs/**/*.antt",
-        "crates/*/proofs/**/*.antt", "tests/*.py", "tests/*.c", "tests/try_release", "scripts/*", "test", "ga-bench",
+        "crates/*/proofs/**/*.antt", "tests/*.py", "tests/*.c", "tests/*.sh", "tests/try_*", "scripts/*", "test", "ga-bench",
     ]  # fmt: skip
     found = {path for pattern in patterns for path in glob.glob(f"{ROOT}/{pattern}", recursive=True)}
     names = {os.path.relpath(path, ROOT) for path in found if os.path.isfile(path)}
