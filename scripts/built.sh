@@ -78,15 +78,15 @@ writes() {
     return 1
 }
 
-create() { true >>"$1"; }
-clear() { true >"$1"; }
+make_file() { true >>"$1"; }
+empty_file() { true >"$1"; }
 write_line() { printf '%s\n' "$2" >"$1"; }
 unzip_into() { gzip -dc <"$release.gz" >"$1"; }
 
 # Waits until no other call makes the program here. The lock goes when this process ends, however it ends. Whoever has
 # it removes what a killed call left. Fails if nothing can be written here; then `reason` has why.
 lock() {
-    writes mkdir -p "$out" && writes create "$out/lock" || return 1
+    writes mkdir -p "$out" && writes make_file "$out/lock" || return 1
     exec 9>>"$out/lock"
     command -v flock >/dev/null 2>&1 || return 0
     if ! flock -n 9; then
@@ -103,7 +103,7 @@ unlock() {
 # Before the program is made: records the time and the sources. The caller holds the lock. Status 1 if the sources
 # can't be read, 2 if nothing can be written here; then `reason` has why.
 begin() {
-    writes clear "$out/begun" || return 2
+    writes empty_file "$out/begun" || return 2
     begun_sum=$(sources_sum) && return 0
     say 'the sources cannot be read: this needs the command sha256sum on PATH'
     return 1
@@ -179,7 +179,9 @@ unpack() {
         return 2
     fi
     started=$( (start "$1" --version) 2>&1 </dev/null)
-    case $? in
+    status=$?
+    started=$(printf '%s\n' "$started" | sed q)
+    case $status in
     0) return 0 ;;
     126) reason='programs cannot run there (is it mounted with noexec?)' ;;
     *) reason= ;;
@@ -191,7 +193,7 @@ unpack() {
         here=$(getconf GNU_LIBC_VERSION 2>/dev/null) || here='another C library'
         why="for glibc $(released glibc) or later, and this machine has $here"
         ;;
-    *) why="not one that starts on this machine: $started" ;;
+    *) why="not one that starts on this machine${started:+: $started}" ;;
     esac
     return 1
 }
@@ -218,6 +220,7 @@ make_current() {
         unlock
         ;;
     2)
+        unlock
         say "cannot make the program in $out: $reason"
         unpack_elsewhere
         ;;
@@ -241,7 +244,7 @@ use_release() {
     fi
     fits "$begun_sum" || return 1
     unpack "$out/unpacking.$$" || return
-    writes clear "$out/unpacked" || return 2
+    writes empty_file "$out/unpacked" || return 2
     put_in_place "$out/unpacking.$$"
     made=$?
     rm -f "$out/unpacking.$$" "$out/new.$$"
