@@ -171,6 +171,11 @@ fits() {
     return 1
 }
 
+# Whether this machine is why the release can't be used. Then no more needs to be said.
+is_of_machine() {
+    [ "${why#for }" != "$why" ]
+}
+
 # Unpacks a release that fits into this file, and starts it once. Status 1 if it doesn't start on this machine, and
 # then `why` has the reason; 2 if this file can't be written or started, and then `reason` has why.
 unpack() {
@@ -300,14 +305,14 @@ use_another() {
         say 'this answer is from the release all the same; another command proves and builds the program'
         return 0
     fi
-    say 'no program is here yet: --help and --version build none, another command does'
+    is_of_machine || say 'no program is here yet: --help and --version build none, another command does'
     return 69
 }
 
 # Proves and builds the program. The caller holds the lock.
 build() {
     if ! command -v rt >/dev/null 2>&1; then
-        if [ "${why#for }" = "$why" ]; then
+        if ! is_of_machine; then
             say 'proving and building the program needs rt, the command of the Rattle toolchain, which is not on PATH'
             say 'only changed sources need it: with the sources of the release its program runs as it is'
         fi

@@ -3,7 +3,8 @@
 
 - Each file that scripts/from_help.py makes is the one in the repository, to the byte.
 - The page formats without a warning.
-- bash, zsh and fish complete COMPLETED's lines as it has them. A shell or tool that isn't there is named, and not tried.
+- bash, zsh and fish complete the lines of COMPLETED as it has them. A shell or tool that isn't there is named, and
+  not tried.
 
 The last line that is printed is 'N passed, M failed'.
 """
