@@ -110,6 +110,11 @@ def by_zsh(line, folder):
 SHELLS = {"bash": by_bash, "zsh": by_zsh, "fish": by_fish}
 
 
+def is_man():
+    """Whether man is what its name says. Small systems have a stub in its place."""
+    return run("man", "--version", folder=ROOT).stdout.startswith("man ")
+
+
 def pages():
     """Yields the check of the page by each tool that is there."""
     page = f"{ROOT}/man/ga-bench.1"
@@ -119,7 +124,7 @@ def pages():
         "man": ["man", "--warnings", "-P", "cat", "-l", page],
     }
     for name, command in tools.items():
-        if not shutil.which(name):
+        if not shutil.which(name) or name == "man" and not is_man():
             print(f"not tried, since {name} isn't on PATH: the page")
             continue
         shown = run(*command, folder=ROOT)
