@@ -157,18 +157,35 @@ fits() {
         why='not used, since GA_BENCH_BUILD is 1'
     elif [ ! -f "$release.gz" ] || [ ! -f "$release.txt" ]; then
         why='missing'
+    elif [ -z "$(released sources)" ] || [ -z "$(released program)" ]; then
+        why='damaged'
     elif [ "$1" != "$(released sources)" ]; then
         why='of other sources'
     elif [ "$(uname -sm)" != 'Linux x86_64' ]; then
         why="for Linux on x86-64, and this is $(uname -sm)"
     elif ! command -v gzip >/dev/null 2>&1; then
-        why='not unpacked, since no command gzip is on PATH'
+        why='packed, and no command gzip is on PATH: install gzip'
     elif [ "$(gzip -dc <"$release.gz" 2>/dev/null | sum_of)" != "$(released program)" ]; then
         why='damaged'
     else
         return 0
     fi
     return 1
+}
+
+# If a release of these sources is damaged or can't be unpacked, a build isn't what is needed: says what is. Status 70
+# or 69 then.
+name_obstacle() {
+    case $why in
+    damaged)
+        say 'release/ga-bench.gz is damaged: get it back (git checkout release), or build with GA_BENCH_BUILD=1'
+        return 70
+        ;;
+    packed*)
+        say "the release is $why"
+        return 69
+        ;;
+    esac
 }
 
 # Whether this machine is why the release can't be used. Then no more needs to be said.
@@ -221,7 +238,7 @@ make_current() {
     begin && use_release
     case $? in
     0)
-        say 'this is the release of these sources; to prove and build them, run GA_BENCH_BUILD=1 ./ga-bench'
+        say 'unpacked the release'
         unlock
         ;;
     2)
@@ -231,6 +248,7 @@ make_current() {
         ;;
     *)
         [ -n "${begun_sum:-}" ] || return 70
+        name_obstacle || return
         say "the release is $why"
         if is_question "$@"; then
             use_another
@@ -260,6 +278,7 @@ use_release() {
 # If nothing can be written here: unpacks the release into a temporary folder, which is removed before it starts.
 unpack_elsewhere() {
     if ! fits "$(sources_sum)"; then
+        name_obstacle || return
         say "cannot write to $out: $reason; the release is $why: copy this folder to where it can be written"
         return 70
     fi
@@ -309,16 +328,25 @@ use_another() {
     return 69
 }
 
+# Names the first source that git finds changed, and how to get it back.
+name_changed() {
+    changed=$(git -C "$root" diff --name-only HEAD -- \
+        crates.txt 'crates/*/src/*' 'crates/*/specs/*' 'crates/*/proofs/*' \
+        2>/dev/null | sed q)
+    [ -z "$changed" ] || say "$changed has changed: git checkout $changed gets it back"
+}
+
 # Proves and builds the program. The caller holds the lock.
 build() {
     if ! command -v rt >/dev/null 2>&1; then
         if ! is_of_machine; then
             say 'proving and building the program needs rt, the command of the Rattle toolchain, which is not on PATH'
             say 'only changed sources need it: with the sources of the release its program runs as it is'
+            name_changed
         fi
         return 69
     fi
-    say 'proving and building the program, since it is new or its sources changed: this takes minutes, once'
+    say 'proving and building the program: this takes minutes, once'
     while :; do
         begin && python3 "$root/scripts/prove.py" "$root" || return 70
         put_in_place "$root/crates/ga_bench/out/ga_bench"

@@ -15,11 +15,14 @@ import hashlib
 import os
 import re
 import shutil
+import signal
 import subprocess
 import sys
 import time
 from concurrent.futures import FIRST_COMPLETED, ThreadPoolExecutor, wait
 
+# Ctrl-C ends this like any command, without a trace.
+signal.signal(signal.SIGINT, signal.SIG_DFL)
 BEGAN = time.time()
 PROGRAM = 'ga_bench'
 # The cost of a crate before its first function, with that of the crates that it uses, in bytes of code; and the cost
