@@ -25,6 +25,12 @@ _ga_bench_route() {
 _ga_bench() {
     local word=${COMP_WORDS[COMP_CWORD]} before=${COMP_WORDS[COMP_CWORD - 1]} options operands kind at words
     COMPREPLY=()
+    # Of --route=708 bash makes three words.
+    if [[ $before == = ]]; then
+        before=${COMP_WORDS[COMP_CWORD - 2]}
+    elif [[ $word == = ]]; then
+        word=
+    fi
     case $((COMP_CWORD > 1))${COMP_WORDS[1]} in
     0*) options='-h --help -V --version' operands=(COMMAND) ;;
     1one) options='-h --help' operands=(TRIES) ;;
@@ -45,13 +51,19 @@ _ga_bench() {
     # The operands before this word, without options and their values, show which one it is.
     for ((at = 2; at < COMP_CWORD; at++)); do
         case ${COMP_WORDS[at]} in
-        --code | --route | --turns) ((at++)) ;;
+        --code | --route | --turns) [[ ${COMP_WORDS[at + 1]} != = ]] && ((at++)) || ((at += 2)) ;;
+        *[\<\>]*) ((at++)) ;;
         -?*) ;;
         *) [[ ${operands[0]-} == *... ]] || operands=("${operands[@]:1}") ;;
         esac
     done
     kind=${operands[0]-}
     [[ $word != -* ]] || kind=options
+    if [[ $word == *[\<\>] ]]; then
+        kind=FILE word=
+    elif [[ $before == *[\<\>]* ]]; then
+        kind=FILE
+    fi
     case $before in
     --code) kind=N ;;
     --route) kind=ROUTE ;;
@@ -60,7 +72,7 @@ _ga_bench() {
     case $kind in
     FILE*)
         mapfile -t COMPREPLY < <(compgen -f -- "$word")
-        compopt -o filenames 2>/dev/null
+        compopt -o filenames -o default 2>/dev/null
         return
         ;;
     ROUTE)
@@ -82,4 +94,4 @@ _ga_bench() {
     *) return ;;
     esac
     mapfile -t COMPREPLY < <(compgen -W "$words" -- "$word")
-} && complete -F _ga_bench ga-bench
+} && complete -o bashdefault -F _ga_bench ga-bench

@@ -1,9 +1,9 @@
 # Made by scripts/from_help.py from the program's help; change that, and not this file.
 
 function __ga_bench_route
-    set -l word (commandline -ct)
+    set -l word (string replace -r -- '^-[^=]*=' '' (commandline -ct))
     set -l head (string match -r '^.*[,/]' -- $word)
-    set -l taken (string split -n , (string replace -a / , -- "$head"))
+    set -l taken (string split -n -- , (string replace -a -- / , "$head"))
     set -l nodes
     if string match -q '*,' -- "$head"
         set -l last $taken[-1]

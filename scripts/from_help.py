@@ -165,6 +165,12 @@ _ga_bench_route() {
 _ga_bench() {
     local word=${COMP_WORDS[COMP_CWORD]} before=${COMP_WORDS[COMP_CWORD - 1]} options operands kind at words
     COMPREPLY=()
+    # Of --route=708 bash makes three words.
+    if [[ $before == = ]]; then
+        before=${COMP_WORDS[COMP_CWORD - 2]}
+    elif [[ $word == = ]]; then
+        word=
+    fi
     case $((COMP_CWORD > 1))${COMP_WORDS[1]} in
     0*) options='@TOP@' operands=(COMMAND) ;;
 @COMMANDS@
@@ -173,20 +179,26 @@ _ga_bench() {
     # The operands before this word, without options and their values, show which one it is.
     for ((at = 2; at < COMP_CWORD; at++)); do
         case ${COMP_WORDS[at]} in
-        @VALUED@) ((at++)) ;;
+        @VALUED@) [[ ${COMP_WORDS[at + 1]} != = ]] && ((at++)) || ((at += 2)) ;;
+        *[\<\>]*) ((at++)) ;;
         -?*) ;;
         *) [[ ${operands[0]-} == *... ]] || operands=("${operands[@]:1}") ;;
         esac
     done
     kind=${operands[0]-}
     [[ $word != -* ]] || kind=options
+    if [[ $word == *[\<\>] ]]; then
+        kind=FILE word=
+    elif [[ $before == *[\<\>]* ]]; then
+        kind=FILE
+    fi
     case $before in
 @VALUES@
     esac
     case $kind in
     FILE*)
         mapfile -t COMPREPLY < <(compgen -f -- "$word")
-        compopt -o filenames 2>/dev/null
+        compopt -o filenames -o default 2>/dev/null
         return
         ;;
     ROUTE)
@@ -201,7 +213,7 @@ _ga_bench() {
     *) return ;;
     esac
     mapfile -t COMPREPLY < <(compgen -W "$words" -- "$word")
-} && complete -F _ga_bench ga-bench
+} && complete -o bashdefault -F _ga_bench ga-bench
 """
 
 
@@ -290,7 +302,8 @@ def zsh_option(it):
     about = re.sub(r"([\[\]:])", r"\\\1", in_quotes(it.about))
     value = f":{it.value}:{ZSH_KINDS.get(it.value, '')}" if it.value else ""
     others = f"'({' '.join(it.names)})'" if len(it.names) > 1 else ""
-    names = f"{{{','.join(it.names)}}}" if len(it.names) > 1 else it.names[0]
+    names = [name + "=" * (it.value is not None and name.startswith("--")) for name in it.names]
+    names = f"{{{','.join(names)}}}" if len(names) > 1 else names[0]
     return f"{others}{names}'[{about}]{value}'"
 
 
@@ -316,9 +329,9 @@ def zsh(top, commands, names):
 
 FISH = r"""
 function __ga_bench_route
-    set -l word (commandline -ct)
+    set -l word (string replace -r -- '^-[^=]*=' '' (commandline -ct))
     set -l head (string match -r '^.*[,/]' -- $word)
-    set -l taken (string split -n , (string replace -a / , -- "$head"))
+    set -l taken (string split -n -- , (string replace -a -- / , "$head"))
     set -l nodes
     if string match -q '*,' -- "$head"
         set -l last $taken[-1]

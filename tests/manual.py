@@ -9,6 +9,8 @@
 The last line that is printed is 'N passed, M failed'.
 """
 import os
+import pty
+import re
 import shutil
 import subprocess
 import sys
@@ -46,9 +48,25 @@ COMPLETED = {
     "ga-bench run 708,199,": set(),
     "ga-bench run 708 ": set(),
     "ga-bench race --route 708,608,": {"708,608,607", "708,608,609", "708,608,508"},
+    "ga-bench race --route=708,608,": {"708,608,607", "708,608,609", "708,608,508"},
+    "ga-bench race --route=708,608 fi": {"first.source"},
+    "ga-bench race --route=": EDGE,
     "ga-bench race --turns ": set(),
+    "ga-bench asm < fi": {"first.source"},
+    "ga-bench asm <fi": {"first.source"},
+    "ga-bench asm <": {*FILES},
+    "ga-bench check first.source > o": {"other.text"},
     "ga-bench asm ": set(),
 }  # fmt: skip
+
+# What bash runs for a line that ends in a Tab: its arguments, and the name of its input.
+TYPED = {
+    "ga-bench list $HOM": "list /somewhere",
+    "ga-bench list $HOME/": "list /somewhere/",
+    "ga-bench asm < fir": "asm first.source",
+    "ga-bench race --route=717,6": "race --route=717,617",
+    "ga-bench boot < first.source 717,6": "boot 717,617 first.source",
+}
 
 BASH = """source "$1"
 shift
@@ -88,7 +106,7 @@ def run(*command, folder):
 
 
 def by_bash(line, folder):
-    words = line.split(" ")
+    words = re.findall(r"[<>=]+|[^ <>=]+|(?<= )$", line)
     script = run("bash", "-c", BASH, "bash", f"{ROOT}/completions/ga-bench.bash", *words, folder=folder)
     return script.stdout.splitlines() if not script.stderr else [script.stderr]
 
@@ -96,15 +114,31 @@ def by_bash(line, folder):
 def by_fish(line, folder):
     script = f"source {ROOT}/completions/ga-bench.fish; complete -C '{line}'"
     found = run("fish", "-N", "-c", script, folder=folder)
-    shown = [it.split("\t")[0] for it in found.stdout.splitlines()]
+    shown = [it.split("\t")[0].removeprefix("--route=") for it in found.stdout.splitlines()]
     return [it.replace("\\ ", " ") for it in shown] if not found.stderr else [found.stderr]
 
 
 def by_zsh(line, folder):
     found = run("zsh", "-f", "-c", ZSH, "zsh", f"{ROOT}/completions", line, folder=folder)
     hits = [it.strip()[4:] for it in found.stdout.splitlines() if it.strip().startswith("HIT ")]
+    hits = [it.removeprefix("--route=") for it in hits]
     # It shows options where nothing else is to be completed.
     return hits if line.split(" ")[-1].startswith("-") else [it for it in hits if not it.startswith("-")]
+
+
+def typed_in_bash(line, folder):
+    """What a line and a Tab run, in bash at a terminal."""
+    typist, terminal = pty.openpty()
+    shows = 'ga-bench() { input=$(readlink /proc/self/fd/0); echo "$*" ${input##/dev/*}; }'
+    text = f"source {ROOT}/completions/ga-bench.bash; {shows}\n{line}\t\nexit\n"
+    os.write(typist, text.encode())
+    streams = {"stdin": terminal, "stdout": subprocess.PIPE, "stderr": subprocess.DEVNULL}
+    command = ["bash", "--norc", "--noprofile", "-i"]
+    environment = {**os.environ, "HOME": "/somewhere", "TERM": "dumb"}
+    shown = subprocess.run(command, **streams, cwd=folder, env=environment, text=True, timeout=60).stdout
+    os.close(typist)
+    os.close(terminal)
+    return shown.replace(f"{os.path.realpath(folder)}/", "").strip()
 
 
 SHELLS = {"bash": by_bash, "zsh": by_zsh, "fish": by_fish}
@@ -147,6 +181,9 @@ def completions():
             for line, wanted in COMPLETED.items():
                 found = complete(line, folder)
                 yield f"{shell}: {line!r}: {found}", set(found) == wanted
+        for line, wanted in TYPED.items():
+            found = typed_in_bash(line, folder)
+            yield f"bash at a terminal: {line!r}: {found!r}", found == wanted
 
 
 def wrong(program):
