@@ -83,17 +83,27 @@ def filled_roff(text):
 
 
 def listing(text):
-    return [".PP", ".in +2n", ".EX", roff(text), ".EE", ".in"]
+    """Lines as they are. Those of 70 columns and more begin further left, to end within 80."""
+    widest = max(map(len, text.splitlines()))
+    return [".PP", f".in {min(9, 79 - widest)}n", ".EX", roff(text), ".EE", ".in"]
+
+
+def table(text):
+    """Rows of two columns: a row begins two columns in, and what is further in goes on with the one above."""
+    rows = re.sub(r"\n {4,}", " ", text).splitlines()
+    for row in rows:
+        left, about = re.split(" {2,}", row.strip(), maxsplit=1)
+        yield from [".TP", roff(left), filled_roff(about)]
 
 
 def paragraph(text):
-    """A paragraph of help: an example, lines that are laid out, or running text."""
+    """A paragraph of help: an example, a table, or running text."""
     example, *rest = re.split(r"^More: ", text.removeprefix("Example: "), flags=re.M)
     more = [".PP", filled_roff(f"More: {rest[0]}")] if rest else []
     if text.startswith("Example: "):
         return [".PP", "Example:", *listing(example.rstrip("\n")), *more]
     if text.startswith("  "):
-        return listing(re.sub("^  ", "", text, flags=re.M))
+        return [*table(text)]
     return [".PP", filled_roff(text)]
 
 

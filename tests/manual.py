@@ -102,7 +102,8 @@ print -r -- "$line"
 
 
 def run(*command, folder):
-    return subprocess.run(command, stdin=subprocess.DEVNULL, capture_output=True, text=True, cwd=folder, timeout=60)
+    streams = {"stdin": subprocess.DEVNULL, "capture_output": True, "text": True}
+    return subprocess.run(command, **streams, cwd=folder, env={**os.environ, "MANWIDTH": "80"}, timeout=60)
 
 
 def by_bash(line, folder):
@@ -166,6 +167,10 @@ def pages():
         # The page has no date: nothing that it is made of has one.
         faults = [line for line in faults.splitlines() if "missing date" not in line]
         yield f"the page by {name}: {faults}", not faults and (name != "man" or "GA-BENCH(1)" in shown.stdout)
+        if name == "man":
+            plain = re.sub(r".\x08|\x1b\[[0-9;]*m", "", shown.stdout)
+            wide = [line for line in plain.splitlines() if len(line) > 80]
+            yield f"over 80 columns: {wide}", not wide
 
 
 def completions():
