@@ -332,7 +332,7 @@ use_another() {
 name_changed() {
     changed=$(git -C "$root" diff --name-only HEAD -- \
         crates.txt 'crates/*/src/*' 'crates/*/specs/*' 'crates/*/proofs/*' \
-        2>/dev/null | sed q)
+        2>/dev/null | sed -n 1p)
     [ -z "$changed" ] || say "$changed has changed: git checkout $changed gets it back"
 }
 

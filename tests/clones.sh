@@ -21,6 +21,8 @@ for part in src specs proofs; do
     done
 done
 gzip -9nc "$given" >"$whole/release/ga-bench.gz"
+# A clone of a test has no git, so it has this list of what is installed.
+(. "$root/scripts/layout.sh" && tracked) >"$whole/release/files.txt"
 
 # The text of a release: of the sources with this sum, and of this program.
 describe() {

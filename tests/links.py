@@ -1,19 +1,19 @@
 #!/usr/bin/env python3
-"""Follows the links of the pages: tests/links.py
+"""Follows the links of the pages: tests/links.py [FOLDER]
 
 - Each link of README.md, docs/*.md and the crates' READMEs that is no address of the web leads to a file or a folder
   that is there, and if it has an anchor, to a heading of that page.
 - No line of README.md outside tables and blocks has over 160 characters.
 - Each line of a call that a crate's README quotes is a line of the crate's src.
 
-The last line that is printed is 'N passed, M failed'.
+FOLDER is that of the pages, by default the repository. The last line that is printed is 'N passed, M failed'.
 """
 import glob
 import os
 import re
 import sys
 
-ROOT = os.path.dirname(os.path.dirname(os.path.abspath(__file__)))
+ROOT = os.path.abspath(sys.argv[1]) if sys.argv[1:] else os.path.dirname(os.path.dirname(os.path.abspath(__file__)))
 LINK = re.compile(r"\[[^\]]*\]\(([^)\s]+)\)")
 COLUMNS = 160
 
