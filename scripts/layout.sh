@@ -50,4 +50,5 @@ LINES
 }
 
 PLAIN='s/\[([^]]*)\]\((\.\.\/)*(crates|tests|scripts)\/[^)]*\)/\1/g'
-FRONT='Installed is the program `ga-bench`. What this page calls `./ga-bench`, `./test` and `scripts/` is in a clone of the repository.'
+FRONT='Installed is the program `ga-bench`. What this page calls `./ga-bench`, `./test` and `scripts/` is in a clone of\
+the repository.'
