@@ -13,6 +13,7 @@ use crate::error::TranscriptError;
 use crate::line::{Line, line_of};
 use crate::lines::{LinesLeft, early_reply};
 use crate::recording::{front, push_line, record};
+use ga_asm::Images;
 use ga_chip::Chip;
 use ga_debug::{Pieces, Program, ReplayError, load, reply_or_refusal};
 use std::alloc::{AllocError, Global};
@@ -128,6 +129,20 @@ impl Live {
         ensures { result.now ≡ self.now.text }
     {
         self.text.as_str()
+    }
+
+    /// The chip behind the last command.
+    pub fn chip(&self) -> &Chip
+        ensures { result.now ≡ self.now.chip }
+    {
+        &self.chip
+    }
+
+    /// The images of the program of the head.
+    pub fn images(&self) -> &Images
+        ensures { result.now ≡ self.now.program.images }
+    {
+        &self.program.images
     }
 
     /// The session as a transcript with its replies, as [`record`] writes it, ended by LF. Fails as
