@@ -10,13 +10,15 @@ use Rattle.ga_command_line.specs.Explain.{explain_command}
 use Rattle.ga_command_line.specs.File.{files_command, writing_command}
 use Rattle.ga_command_line.specs.List.{list_command}
 use Rattle.ga_command_line.specs.Loading as loading
+use Rattle.ga_command_line.specs.MapLine.{map_command}
 use Rattle.ga_command_line.specs.One.{one_command}
 use Rattle.ga_command_line.specs.Race as race
 use Rattle.ga_command_line.specs.Run.{routed_command, run_command, shared_command}
+use Rattle.ga_command_line.specs.Turns.{turns_command}
 
 unfoldable pub whole_command : App
 unfolding bench_command linked bare_command one_command dis_command boot_command routed_command
     shared_command run_command list_command loading.placed_command
-    loading.loading_command debug_command race.turns_command race.witness_command race.race_command
-    files_command writing_command explain_command
+    loading.loading_command debug_command turns_command race.witness_command race.race_command
+    map_command files_command writing_command explain_command
 whole_command = bench_command

@@ -3,7 +3,7 @@ use Rattle.std.proofs.Common.{◌≡◌, ◌<◌, Global, String, Vec, length, m
 use Rattle.std.specs.Prelude.{codes}
 use Rattle.clap.proofs.OnLiterals.{clap_on_literals}
 use Rattle.clap.specs.Words.{takes}
-use Rattle.ga_jobs.specs.declared.Job.TheVariants.{One, Dis, Boot, Race, Check, Record, Rewrite, Explain}
+use Rattle.ga_jobs.specs.declared.Job.TheVariants.{One, Dis, Boot, Race, Map, Check, Record, Rewrite, Explain}
 use Rattle.ga_jobs.specs.declared.race.Loading.TheVariants.{Any}
 use Rattle.ga_explain.specs.declared.topic.Topic.{Topic}
 use Rattle.ga_command_line.specs.Explain.{IsOfTable}
@@ -60,6 +60,13 @@ race_line : (file : String Global) → string_bytes file ≡ codes "arbiter"
     (Race Any None true (Some file))
 unfolding whole_command clap_on_literals
 race_line file is = (refl, (refl, ((refl, refl), refl, refl, ap Some is)), tt)
+
+map_line : (file : String Global) → string_bytes file ≡ codes "arbiter"
+    → IsRight (codes "ga-bench" ∷ codes "map" ∷ codes "--turns" ∷ codes "14" ∷ codes "arbiter" ∷ [])
+    (Map Any (Some 14) (Some file))
+unfolding whole_command clap_on_literals
+map_line file is =
+    (refl, (refl, ((refl, refl), ((lit< tt, (lit< tt, (lit< tt, tt))), refl), ap Some is)), lit≤ tt)
 
 two_topics : takes bench_command
     (codes "ga-bench" ∷ codes "explain" ∷ codes "own" ∷ codes "take" ∷ []) ≡ false

@@ -18,6 +18,7 @@ use Rattle.ga_command_line.specs.Flag.{is_set}
 use Rattle.ga_command_line.specs.List.{list_command}
 use Rattle.ga_command_line.specs.Loading.{IsLoadingAt}
 use Rattle.ga_command_line.specs.Number.{IsNumberAt, IsNumberIfAt}
+use Rattle.ga_command_line.specs.MapLine.{map_command}
 use Rattle.ga_command_line.specs.One.{one_command}
 use Rattle.ga_command_line.specs.Race.{race_command}
 use Rattle.ga_command_line.specs.Route.{IsRouteAt}
@@ -40,6 +41,7 @@ command_of sub.Debug = debug_command
 command_of sub.Replay = new_app (codes "replay")
 command_of sub.List = list_command
 command_of sub.Race = race_command
+command_of sub.Map = map_command
 command_of sub.Check = files_command (codes "check")
 command_of sub.Record = writing_command (codes "record")
 command_of sub.Explain = explain_command
@@ -48,7 +50,7 @@ command_of sub.Explain = explain_command
 abbrev pub subcommands : List Subcommand
 subcommands =
     sub.One ∷ sub.Asm ∷ sub.Dis ∷ sub.Boot ∷ sub.Run ∷ sub.Debug ∷ sub.Replay ∷ sub.List ∷ sub.Race
-    ∷ sub.Check ∷ sub.Record ∷ sub.Explain ∷ []
+    ∷ sub.Map ∷ sub.Check ∷ sub.Record ∷ sub.Explain ∷ []
 
 -- the whole command
 unfoldable pub bench_command : App
@@ -66,6 +68,7 @@ job_name (Talk loading file) = codes "debug"
 job_name Replay = codes "replay"
 job_name (job.List labels file) = codes "list"
 job_name (job.Race loading turns witness file) = codes "race"
+job_name (job.Map loading turns file) = codes "map"
 job_name (job.Check files) = codes "check"
 job_name (job.Record file) = codes "record"
 job_name (job.Rewrite files) = codes "record"
@@ -87,6 +90,9 @@ HasArguments rows (job.List labels file) =
 HasArguments rows (job.Race loading turns witness file) =
     IsLoadingAt rows loading × IsNumberIfAt (codes "N") rows turns
     × (witness ≡ is_set (codes "WITNESS") rows) × IsFileAt rows (option_map string_bytes file)
+HasArguments rows (job.Map loading turns file) =
+    IsLoadingAt rows loading × IsNumberIfAt (codes "N") rows turns
+    × IsFileAt rows (option_map string_bytes file)
 HasArguments rows (job.Check files) = map string_bytes files.items ≡ files_at rows
 HasArguments rows (job.Record file) =
     (is_set (codes "WRITE") rows ≡ false)
@@ -103,6 +109,7 @@ InRange (One tries) = tries ≤ 1000000
 InRange (Dis code) = IfSome code (λ number. number ≤ 64)
 InRange (Run route workers turns) = ((1 ≤ workers) × (workers ≤ 144)) × (turns ≤ 1000000)
 InRange (job.Race loading turns witness file) = IfSome turns (λ number. number ≤ 1000000)
+InRange (job.Map loading turns file) = IfSome turns (λ number. number ≤ 1000000)
 InRange (Explain topic) = IsOfTable topic
 InRange job = Unit {0}
 

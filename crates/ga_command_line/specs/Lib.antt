@@ -10,7 +10,9 @@ pub mod File
 pub mod List
 pub mod Flag
 pub mod Loading
+pub mod Turns
 pub mod Race
+pub mod MapLine
 pub mod Debug
 pub mod CommandLine
 pub mod inner

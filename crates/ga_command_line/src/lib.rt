@@ -18,12 +18,14 @@ mod files;
 mod flag;
 mod list;
 mod loading;
+mod map;
 mod number;
 mod one;
 mod race;
 mod record;
 mod route;
 mod run;
+mod turns;
 
 use crate::command_line::missing;
 pub use crate::command_line::{LineError, job, refusal};
@@ -43,13 +45,14 @@ pub enum Subcommand {
     Replay,
     List,
     Race,
+    Map,
     Check,
     Record,
     Explain,
 }
 
 /// All subcommands.
-const SUBCOMMANDS: [Subcommand; 12] = [
+const SUBCOMMANDS: [Subcommand; 13] = [
     Subcommand::One,
     Subcommand::Asm,
     Subcommand::Dis,
@@ -59,6 +62,7 @@ const SUBCOMMANDS: [Subcommand; 12] = [
     Subcommand::Replay,
     Subcommand::List,
     Subcommand::Race,
+    Subcommand::Map,
     Subcommand::Check,
     Subcommand::Record,
     Subcommand::Explain,
@@ -88,6 +92,7 @@ fn command_of<'a>(alloc: Global, subcommand: Subcommand) -> Result<Command<'a>, 
         ),
         Subcommand::List => list::command(alloc),
         Subcommand::Race => race::command(alloc),
+        Subcommand::Map => map::command(alloc),
         Subcommand::Check => check::command(alloc),
         Subcommand::Record => record::command(alloc),
         Subcommand::Explain => explain::command(alloc),
@@ -125,6 +130,7 @@ fn job_named(alloc: Global, name: &str, found: &ArgMatches<'_>) -> Result<Job, L
         "replay" => Ok(Job::Replay),
         "list" => Ok(list::job_of(alloc, found)?),
         "race" => race::job_of(alloc, found),
+        "map" => map::job_of(alloc, found),
         "check" => Ok(check::job_of(alloc, found)?),
         "record" => record::job_of(alloc, found),
         "explain" => explain::job_of(alloc, found),

@@ -3,20 +3,18 @@ ghost use Rattle.clap.specs.Words.{found_of, rows_of};
 ghost use Rattle.ga_command_line.specs.CommandLine.{AsksFor, InRange};
 ghost use Rattle.ga_command_line.specs.Number.{IsNumberIfAt};
 ghost use Rattle.ga_command_line.specs.Loading.{IsLoadingAt};
-ghost use Rattle.ga_command_line.specs.Race.{race_command, turns_command, witness_command};
+ghost use Rattle.ga_command_line.specs.Race.{race_command, witness_command};
 ghost use Rattle.ga_command_line.specs.inner.Command.{IsCommandOf};
 
 use crate::command_line::LineError;
 use crate::file::file_in;
 use crate::flag::flag_in;
-use crate::loading::{loading_command, loading_in};
+use crate::loading::loading_in;
 use crate::number::number_if;
-use clap::{Arg, ArgAction, ArgMatches, Command, value_parser};
+use crate::turns::{TURNS_LIMIT, turns_command};
+use clap::{Arg, ArgAction, ArgMatches, Command};
 use ga_jobs::{Job, Loading};
 use std::alloc::{AllocError, Global};
-
-/// The most turns of a job.
-const TURNS_LIMIT: u32 = 1_000_000;
 
 const HELP: &str = "\
 Decides whether the schedule, the order in which nodes step, decides what a program does. Reads from
@@ -54,26 +52,13 @@ fn witness_command<'a>(alloc: Global) -> Result<Command<'a>, AllocError>
         .long("witness")
         .action(ArgAction::SetTrue)
         .help("For a race, writes a transcript up to the moment at which both words are pending");
-    let command = turns_command(alloc)?;
-    command.arg(witness)
-}
-
-/// The subcommand without FILE and `--witness`.
-#[tactic(auto, unfolding(crate::specs::Race::turns_command))]
-fn turns_command<'a>(alloc: Global) -> Result<Command<'a>, AllocError>
-    ensures { IfOk result (IsCommandOf turns_command) }
-{
-    let turns = Arg::new(alloc, "N")
-        .long("turns")
-        .value_parser(value_parser!(u32).range(0..=i64::from(TURNS_LIMIT)))
-        .help("How many turns are made at most, from 0 to 1000000; by default 1000000");
-    let command = loading_command(
+    let command = turns_command(
         alloc,
         "race",
         "Decides whether the schedule can change what a program does",
         HELP,
     )?;
-    command.arg(turns)
+    command.arg(witness)
 }
 
 /// The job for the arguments of `race`.

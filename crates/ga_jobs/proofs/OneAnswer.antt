@@ -3,7 +3,7 @@ use Rattle.std.proofs.Common.{◌≡◌, ◌∙◌, sym, ℕ, Bool, true, false,
 use Rattle.std.specs.Prelude.{MatchBool, string_bytes}
 use Rattle.ga_asm.specs.Text.{AtMostOne}
 use Rattle.ga_jobs.specs.declared.Job.{Job}
-use Rattle.ga_jobs.specs.declared.Job.TheVariants.{Race, Run, Talk}
+use Rattle.ga_jobs.specs.declared.Job.TheVariants.{Map, Race, Run, Talk}
 use Rattle.ga_jobs.specs.declared.fault.ServeError.TheVariants.{Input}
 use Rattle.ga_jobs.specs.declared.fault.InputFault.TheVariants.{TooLong}
 use Rattle.ga_jobs.proofs.OneOutput.{one_outputs}
@@ -48,4 +48,5 @@ one_output (Run route workers turns) input =
     }
 one_output (Race loading turns witness file) input = tt
 one_output (Talk loading file) input = tt
+one_output (Map loading turns file) input = tt
 one_output job input = within_limit job input (λ one other p q. first_of (cc, search one_outputs))

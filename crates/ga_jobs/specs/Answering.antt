@@ -2,7 +2,7 @@
 use Rattle.std.specs.Prelude.{◌≡◌, ◌&&◌, ℕ, Bool, List, length, nat_lt, MatchBool, Result, Err}
 use Rattle.ga_asm.specs.Text.{AtMostOne}
 use Rattle.ga_jobs.specs.declared.Job.{Job}
-use Rattle.ga_jobs.specs.declared.Job.TheVariants.{Race, Run, Talk}
+use Rattle.ga_jobs.specs.declared.Job.TheVariants.{Map, Race, Run, Talk}
 use Rattle.ga_jobs.specs.declared.fault.ServeError.{ServeError}
 use Rattle.ga_jobs.specs.declared.fault.ServeError.TheVariants.{Input}
 use Rattle.ga_jobs.specs.declared.fault.InputFault.TheVariants.{TooLong}
@@ -31,4 +31,5 @@ HasOneOutput (Run route workers turns) input =
 HasOneOutput (Race loading turns witness file) input = Unit {0}
 -- the faults of a session that is opened aren't compared
 HasOneOutput (Talk loading file) input = Unit {0}
+HasOneOutput (Map loading turns file) input = Unit {0}
 HasOneOutput job input = AtMostOne (IsOutput job input)

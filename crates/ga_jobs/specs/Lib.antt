@@ -10,6 +10,7 @@ use Rattle.ga_jobs.specs.Boot.{IsBootOutput}
 use Rattle.ga_jobs.specs.Debug.{IsDebugOutput}
 use Rattle.ga_jobs.specs.Dis.{dis_output}
 use Rattle.ga_jobs.specs.Listing.{IsListOutput}
+use Rattle.ga_jobs.specs.MapJob.{IsMapOutput}
 use Rattle.ga_jobs.specs.One.{one_output}
 use Rattle.ga_jobs.specs.Race.{IsRaceOutput}
 use Rattle.ga_jobs.specs.Replay.{IsReplayOutput}
@@ -35,6 +36,7 @@ pub mod Run
 pub mod Replay
 pub mod Race
 pub mod Session
+pub mod MapJob
 pub mod SourceName
 pub mod Sourced
 pub mod Debug
@@ -61,6 +63,7 @@ IsJobOutput (job.Record file) input answer = IsRecordOutput input answer
 IsJobOutput (job.Rewrite files) input answer = IsRecordOutput input answer
 IsJobOutput (job.Race loading turns witness file) input answer =
     IsRaceOutput loading turns witness input answer
+IsJobOutput (job.Map loading turns file) input answer = IsMapOutput loading turns input answer
 IsJobOutput (job.Explain topic) input answer = answer ≡ Ok (explain_output topic)
 
 -- each job except `explain` reads an input
@@ -83,6 +86,7 @@ file_of (job.List labels (Some file)) = named_file file
 file_of (job.Check files) = only_file files.items
 file_of (job.Record (Some file)) = named_file file
 file_of (job.Race loading turns witness (Some file)) = named_file file
+file_of (job.Map loading turns (Some file)) = named_file file
 file_of (job.Talk loading file) = named_file file
 file_of job = None
 

@@ -17,6 +17,7 @@ mod engine;
 mod explain;
 mod fault;
 pub mod list;
+pub mod map;
 mod meaning;
 pub mod one;
 pub mod race;
@@ -118,6 +119,13 @@ pub enum Job {
         witness: bool,
         file: Option<String>,
     },
+    /// The picture of a chip, after the commands of its session and turns until rest. The session
+    /// or the source text is in the file, or comes from standard input if there is none.
+    Map {
+        loading: Loading,
+        turns: Option<u32>,
+        file: Option<String>,
+    },
     /// What a name means that the program writes, or all these names.
     Explain {
         topic: Option<Topic>,
@@ -156,6 +164,10 @@ impl Job {
             }
             | Job::Record { file: Some(file) }
             | Job::Race {
+                file: Some(file),
+                ..
+            }
+            | Job::Map {
                 file: Some(file),
                 ..
             }
@@ -200,6 +212,7 @@ fn output(alloc: Global, job: &Job, input: &[u8]) -> Option<Result<String, Serve
             witness,
             ..
         } => Some(race::output(alloc, loading, *turns, *witness, input)),
+        Job::Map { loading, turns, .. } => Some(map::output(alloc, loading, *turns, input)),
         Job::Explain { topic } => Some(explain::output(alloc, *topic)),
     }
 }

@@ -4,7 +4,7 @@ use Rattle.std.specs.Str.{bytes_eq}
 use Rattle.std.proofs.lemmas.Bool.{false≢true}
 use Rattle.clap.specs.Words.{Row, Text, found_of, rows_of}
 use Rattle.ga_jobs.specs.declared.Job.{Job}
-use Rattle.ga_jobs.specs.declared.Job.TheVariants.{Asm, Race, Run}
+use Rattle.ga_jobs.specs.declared.Job.TheVariants.{Asm, Map, Race, Run}
 use Rattle.ga_jobs.specs.declared.race.Loading.{Loading}
 use Rattle.ga_command_line.specs.declared.command_line.LineError.{LineError}
 use Rattle.ga_command_line.specs.declared.command_line.LineError.TheVariants.{Memory}
@@ -63,6 +63,25 @@ pub returns-in-race-clause-right : goal.returns-in-race-clause-right
 returns-in-race-clause-right c =
     race_right c.args.name.now (rows_of (found_of c.args.found.now)) c.job_of-in-race.result
     c.in-race.is c.job_of-in-race.ensures.right
+
+-- and the name `map` for a picture alone
+map_right : (name : Text) (rows : List Row) (result : Result Job LineError) → name ≡ codes "map"
+    → IfErr result (λ error. (loading : Loading) (turns : Option ℕ)
+    → IfSome turns (λ number. number ≤ 1000000) → IsLoadingAt rows loading
+    → IsNumberIfAt (codes "N") rows turns → error ≡ Memory)
+    → IfErr result (λ error. (job : Job) → AsksFor (name, rows) job → InRange job → error ≡ Memory)
+map_right name rows (Ok job) is right = right
+map_right name rows (Err error) is right =
+    λ asked. elim asked as (λ job. AsksFor (name, rows) job → InRange job → error ≡ Memory) [
+      | Map loading turns file ↦ λ asks within. right loading turns within asks.1.0 asks.1.1
+      | _ ↦ λ asks within. absurd (false≢true
+          (sym (ap (λ (text : Text). bytes_eq text (codes "map")) (sym is ∙ asks.0))))
+    ]
+
+pub returns-in-map-clause-right : goal.returns-in-map-clause-right
+returns-in-map-clause-right c =
+    map_right c.args.name.now (rows_of (found_of c.args.found.now)) c.job_of-in-map.result
+    c.in-map.is c.job_of-in-map.ensures.right
 
 -- and the name `record` for a recording alone
 record_right : (name : Text) (rows : List Row) (result : Result Job LineError)

@@ -24,3 +24,9 @@ unfolding IsJobOutput
 returns-in-Talk-clause-answer c =
     subst (λ job. Answers string_bytes (IsJobOutput job c.args.input.now) c.output-in-Talk.result)
     (sym c.in-Talk.is) c.output-in-Talk.ensures
+
+pub returns-in-Map-clause-answer : goal.returns-in-Map-clause-answer
+unfolding IsJobOutput
+returns-in-Map-clause-answer c =
+    subst (λ job. Answers string_bytes (IsJobOutput job c.args.input.now) c.output-in-Map.result)
+    (sym c.in-Map.is) c.output-in-Map.ensures
