@@ -16,6 +16,7 @@ output of a run must have its form, and must agree with other runs of the progra
 | `record` | `check` accepts its transcript, and `record` writes that again as it is |
 | `check` | it compares with the replies of `record` |
 | `race` | `debug` makes as many steps in its turns, and `check` accepts its witness |
+| `map` | `record` has it as the reply to `map` behind `run` |
 | `replay` of profile 2 | it compares with the replies of `debug` |
 | `replay` of profile 1 | it accepts the lines before one that differs, and refuses the last one changed |
 """
@@ -369,6 +370,17 @@ def head_in(job, text):
 
 # A line of a replay text behind `go`, with its number and its command.
 Step = namedtuple("Step", "line text command")
+
+
+@subcommand("FILE", turns=range(1000001), place=None, route="ROUTE")
+def map_(ask, job, text, answer):
+    """The reply to `map` after turns until rest, behind the commands of a session."""
+    head, commands = head_in(job, text), []
+    if not {"place", "route"} & {*job.options} and text.startswith("profile"):
+        commands = [it.text for it in Transcript(text).exchanges]
+    turns = job.options.get("turns", 1000000)
+    session = ask(["record"], head + text_of([*commands, f"run {turns}", "map"], "> "))
+    return answer.output if session is None else text_of(transcript_of(session).exchanges[-1].reply)
 
 
 @subcommand()

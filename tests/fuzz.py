@@ -166,8 +166,8 @@ def few_turns(args, data):
     data = re.sub(rb"((?:turn|step [^ \n]+|trace [^ \n]+) )(\d{1,7})(?!\d)", fewer, data)
     data = re.sub(rb"(until [^ \n]+ [^ \n]+(?: x\d*)?)( \d{1,7})?(?=\n|$)", fewer_or_all, data)
     data = re.sub(rb"(> run)( \d{1,7})?(?=\n|$)", fewer_or_all, data)
-    if args[:1] == ["race"] and not any(it.startswith("--turns") for it in args):
-        args = ["race", "--turns", str(MOST_TURNS), *args[1:]]
+    if args[:1] in (["race"], ["map"]) and not any(it.startswith("--turns") for it in args):
+        args = [args[0], "--turns", str(MOST_TURNS), *args[1:]]
     if args[:1] == ["run"] and len(args) > 3 and args[3].isdecimal() and int(args[3]) <= 1000000:
         args = [*args[:3], str(min(int(args[3]), 200)), *args[4:]]
     return args, data

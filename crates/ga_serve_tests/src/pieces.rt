@@ -29,7 +29,7 @@ const PIECE: usize = 16;
 /// How many calls are made at the most.
 const MOST: u32 = 1000;
 
-/// A job of each subcommand, and an input that it accepts.
+/// A job of each subcommand but `map`, and an input that it accepts.
 fn jobs(alloc: Global) -> Result<Vec<(Job, &'static str)>, Fail> {
     let topic = Topic::named(alloc, "NotHeld")?;
     let mut jobs = Vec::new(alloc);
