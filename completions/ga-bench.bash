@@ -42,6 +42,7 @@ _ga_bench() {
     1replay) options='-h --help' operands=() ;;
     1list) options='--labels -h --help' operands=(FILE) ;;
     1race) options='--place --route --turns --witness -h --help' operands=(FILE) ;;
+    1map) options='--place --route --turns -h --help' operands=(FILE) ;;
     1check) options='-h --help' operands=(FILE...) ;;
     1record) options='--write -h --help' operands=(FILE...) ;;
     1explain) options='-h --help' operands=(NAME) ;;
@@ -79,7 +80,7 @@ _ga_bench() {
         words=$(_ga_bench_route "$word")
         compopt -o nospace 2>/dev/null
         ;;
-    COMMAND) words='one asm dis boot run debug replay list race check record explain help' ;;
+    COMMAND) words='one asm dis boot run debug replay list race map check record explain help' ;;
     NAME)
         words='BadToken NumberRange BadNode DuplicateNode DuplicateLabel ReservedLabel OpenBracket
             BadWord NoNode Empty UndefinedLabel OutOfReach UnextAlone TooLong BadRoute

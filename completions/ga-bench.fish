@@ -38,6 +38,7 @@ complete -c ga-bench -n __fish_use_subcommand -a debug -d 'Loads source text int
 complete -c ga-bench -n __fish_use_subcommand -a replay -d 'Runs the commands of a replay text, and compares their results'
 complete -c ga-bench -n __fish_use_subcommand -a list -d 'Lists the words of a source text, with their instructions and their lines in the text'
 complete -c ga-bench -n __fish_use_subcommand -a race -d 'Decides whether the schedule can change what a program does'
+complete -c ga-bench -n __fish_use_subcommand -a map -d 'Shows what each node does and which words are pending, as a picture'
 complete -c ga-bench -n __fish_use_subcommand -a check -d 'Runs the commands of a transcript, and compares the replies with those in it'
 complete -c ga-bench -n __fish_use_subcommand -a record -d 'Runs the commands of a transcript, and writes it with their replies'
 complete -c ga-bench -n __fish_use_subcommand -a explain -d 'Explains an error, a state or a term'
@@ -64,6 +65,11 @@ complete -c ga-bench -n '__fish_seen_subcommand_from race' -l turns -x -d 'How m
 complete -c ga-bench -n '__fish_seen_subcommand_from race' -l witness -d 'For a race, writes a transcript up to the moment at which both words are pending'
 complete -c ga-bench -n '__fish_seen_subcommand_from race' -s h -l help -d 'Print help'
 complete -c ga-bench -n '__fish_seen_subcommand_from race' -F
+complete -c ga-bench -n '__fish_seen_subcommand_from map' -l place -d 'The input is source text, even if it begins with \'profile\'; its words are placed'
+complete -c ga-bench -n '__fish_seen_subcommand_from map' -l route -x -a '(__ga_bench_route)' -d 'The input is source text, which boots along this route, or a tree of routes'
+complete -c ga-bench -n '__fish_seen_subcommand_from map' -l turns -x -d 'How many turns are made at most, from 0 to 1000000; by default 1000000'
+complete -c ga-bench -n '__fish_seen_subcommand_from map' -s h -l help -d 'Print help'
+complete -c ga-bench -n '__fish_seen_subcommand_from map' -F
 complete -c ga-bench -n '__fish_seen_subcommand_from check' -s h -l help -d 'Print help'
 complete -c ga-bench -n '__fish_seen_subcommand_from check' -F
 complete -c ga-bench -n '__fish_seen_subcommand_from record' -l write -d 'Replaces each FILE by its recording'
@@ -71,4 +77,4 @@ complete -c ga-bench -n '__fish_seen_subcommand_from record' -s h -l help -d 'Pr
 complete -c ga-bench -n '__fish_seen_subcommand_from record' -F
 complete -c ga-bench -n '__fish_seen_subcommand_from explain' -s h -l help -d 'Print help'
 complete -c ga-bench -n '__fish_seen_subcommand_from explain' -a 'BadToken NumberRange BadNode DuplicateNode DuplicateLabel ReservedLabel OpenBracket BadWord NoNode Empty UndefinedLabel OutOfReach UnextAlone TooLong BadRoute NotEdge NotNeighbour Repeated OtherRoot Unreached BadCommand BadAddress BadSide BadCount BadValue NotHeld BadProfile NoGo Source Asm Route Tree Boot EarlyReply differs read NoFile Folder NotAFile Exists NoName BadText BadCode write Write memory Memory own take post check input stopped Counted IoRead Rom Unmapped MultiWrite carry moved waits held stuck ring race turn place step slot follower profile'
-complete -c ga-bench -n '__fish_seen_subcommand_from help' -a 'one asm dis boot run debug replay list race check record explain help'
+complete -c ga-bench -n '__fish_seen_subcommand_from help' -a 'one asm dis boot run debug replay list race map check record explain help'
