@@ -38,7 +38,7 @@ sum_of() {
 
 # Whether the program is that of the sources as they are now, and has not been touched since it was put there.
 is_current() {
-    [ -f "$program" ] && [ -x "$program" ] && [ -f "$stamp" ] && [ -f "$placed" ] || return 1
+    [ -f "$program" ] && [ -x "$program" ] && [ -f "$stamp" ] && [ -r "$placed" ] || return 1
     [ "${GA_BENCH_BUILD:-}" = 1 ] && [ -f "$out/unpacked" ] && return 1
     is_untouched || is_same
 }
@@ -57,14 +57,14 @@ is_untouched() {
 # stamp gets a new time: that of the second in which this began.
 is_same() {
     began=$(date +%s)
-    sum=$(sources_sum) && [ "$sum" = "$(cat "$stamp")" ] && is_whole || return 1
+    sum=$(sources_sum) && [ "$sum" = "$(cat "$stamp" 2>/dev/null)" ] && is_whole || return 1
     touch -d "@$began" "$stamp" "$placed" 2>/dev/null
     return 0
 }
 
 # Whether the program has the sum that it had when it was put there.
 is_whole() {
-    [ -f "$placed" ] && read -r _ whole <"$placed" && [ "$(sum_of <"$program")" = "$whole" ]
+    [ -r "$placed" ] && read -r _ whole <"$placed" && [ "$(sum_of <"$program")" = "$whole" ]
 }
 
 # Runs a command that writes. If it fails, `reason` has why, in the system's words.
@@ -122,10 +122,9 @@ put_in_place() {
     new=$out/new.$$
     writes cp "$1" "$new" || return 2
     is_as_begun || return 1
-    rm -f "$stamp"
-    mv -f "$new" "$program" && writes write_line "$new" "$(($(wc -c <"$1"))) $(sum_of <"$1")" &&
-        mv -f "$new" "$placed" && writes write_line "$new" "$begun_sum" &&
-        touch -r "$out/begun" "$new" && mv -f "$new" "$stamp" || return 2
+    writes rm -f "$stamp" && writes mv -f "$new" "$program" && writes write_line "$new" "$(($(wc -c <"$1"))) $(sum_of <"$1")" &&
+        writes mv -f "$new" "$placed" && writes write_line "$new" "$begun_sum" &&
+        writes touch -r "$out/begun" "$new" && writes mv -f "$new" "$stamp" || return 2
 }
 
 # The record of a ./test that passed.
@@ -139,16 +138,18 @@ released() {
 }
 
 # Starts a program with arguments, in place of this process. It refuses a name for itself that isn't UTF-8, so if
-# there are other letters than those of ASCII in its path, it gets one without.
+# there are other letters than those of ASCII in its path, it gets one without, if /proc is there.
 start() {
     case $1 in
     *[!\ -~]*)
-        exec 8<"$1"
-        shift
-        exec /proc/self/fd/8 "$@"
+        if [ -d /proc/self/fd ]; then
+            exec 8<"$1"
+            shift
+            exec /proc/self/fd/8 "$@"
+        fi
         ;;
-    *) exec "$@" ;;
     esac
+    exec "$@"
 }
 
 # Whether there is a release of the sources with this sum, for this machine, undamaged. If not, `why` has the reason.
@@ -210,13 +211,11 @@ unpack() {
     esac
     rm -f "$1"
     [ -z "$reason" ] || return 2
-    case $started in
-    *GLIBC_* | *"not found"*)
+    why="not one that starts on this machine${started:+: $started}"
+    if [ "${started#*GLIBC_}" != "$started" ] || [ ! -e /lib64/ld-linux-x86-64.so.2 ]; then
         here=$(getconf GNU_LIBC_VERSION 2>/dev/null) || here='another C library'
         why="for glibc $(released glibc) or later, and this machine has $here"
-        ;;
-    *) why="not one that starts on this machine${started:+: $started}" ;;
-    esac
+    fi
     return 1
 }
 
@@ -224,7 +223,7 @@ unpack() {
 # without the toolchain, 70 if the build failed or nothing can be written.
 make_current() {
     if ! lock; then
-        unpack_elsewhere
+        unpack_elsewhere "$@"
         return
     fi
     if [ -d "$program" ]; then
@@ -244,7 +243,7 @@ make_current() {
     2)
         unlock
         say "cannot make the program in $out: $reason"
-        unpack_elsewhere
+        unpack_elsewhere "$@"
         ;;
     *)
         [ -n "${begun_sum:-}" ] || return 70
@@ -263,7 +262,7 @@ make_current() {
 # started here, and then `reason` has why.
 use_release() {
     if [ -f "$program" ] && [ -f "$placed" ] && ! is_whole; then
-        say "$program is not as it was put there, so it is made again"
+        say "$program is not as it was put there"
     fi
     fits "$begun_sum" || return 1
     unpack "$out/unpacking.$$" || return
@@ -275,11 +274,18 @@ use_release() {
     return $made
 }
 
-# If nothing can be written here: unpacks the release into a temporary folder, which is removed before it starts.
+# If nothing can be written here, for a call with these arguments: unpacks the release into a temporary folder, which is
+# removed before it starts.
 unpack_elsewhere() {
     if ! fits "$(sources_sum)"; then
         name_obstacle || return
-        say "cannot write to $out: $reason; the release is $why: copy this folder to where it can be written"
+        if is_question "$@"; then
+            say "the release is $why"
+            use_another
+            return
+        fi
+        is_of_machine || why="$why: copy this folder to where it can be written"
+        say "cannot write to $out: $reason; the release is $why"
         return 70
     fi
     unpack_temporarily && return 0
@@ -289,7 +295,11 @@ unpack_elsewhere() {
 
 # Unpacks a release that fits into a temporary folder, and opens it there. If that fails, `reason` has why.
 unpack_temporarily() {
-    writes mktemp -d || return
+    if [ ! -d /proc/self/fd ]; then
+        reason='this needs /proc, which is not mounted'
+        return 2
+    fi
+    writes mktemp -d || return 2
     folder=$trouble
     unpack "$folder/ga-bench"
     made=$?
@@ -300,12 +310,12 @@ unpack_temporarily() {
     return $made
 }
 
-# Whether these arguments ask for help or the version, for which nothing is built.
+# Whether these arguments, or none, ask for help or the version, for which nothing is built.
 is_question() {
-    [ "${1:-}" = help ] && return 0
+    [ "${1:-help}" = help ] && return 0
     for word; do
         case $word in
-        -h | --help | -V | --version) return 0 ;;
+        -[hV]* | --help | --version) return 0 ;;
         --) return 1 ;;
         esac
     done
@@ -315,14 +325,23 @@ is_question() {
 # For a question: takes the program of other sources, if there is one.
 use_another() {
     unlock
-    if [ -f "$program" ] && is_whole; then
+    if [ -f "$program" ] && [ -x "$program" ] && is_whole; then
         say 'so this answer is from the program that is here; another command proves and builds it anew'
         return 0
     fi
     GA_BENCH_BUILD=
-    if fits "$(released sources)" && unpack_temporarily; then
-        say 'this answer is from the release all the same; another command proves and builds the program'
-        return 0
+    if fits "$(released sources)"; then
+        unpack_temporarily
+        case $? in
+        0)
+            say 'this answer is from the release all the same; another command proves and builds the program'
+            return 0
+            ;;
+        2)
+            say "cannot unpack the release in the temporary folder ${TMPDIR:-/tmp} (TMPDIR): $reason"
+            return 70
+            ;;
+        esac
     fi
     is_of_machine || say 'no program is here yet: --help and --version build none, another command does'
     return 69
