@@ -13,40 +13,42 @@ tracked() {
     fi
 }
 
-# Prints a line for each file but the program: its path in the repository, a tab, and its path below the prefix.
-layout() {
-    names=$(tracked) || return
-    printf '%s\t%s\n' \
-        man/ga-bench.1 share/man/man1/ga-bench.1 \
-        completions/ga-bench.bash share/bash-completion/completions/ga-bench \
-        completions/_ga-bench share/zsh/site-functions/_ga-bench \
-        completions/ga-bench.fish share/fish/vendor_completions.d/ga-bench.fish
-    printf '%s\n' "$names" |
-        sed 's/.*/&\tshare\/doc\/ga-bench\/&/; s/\tshare\/doc\/ga-bench\/editors/\tshare\/ga-bench\/editors/'
-}
+# The files that are installed elsewhere: each with its path in the repository and its path below the prefix.
+ELSEWHERE='man/ga-bench.1 share/man/man1/ga-bench.1
+completions/ga-bench.bash share/bash-completion/completions/ga-bench
+completions/_ga-bench share/zsh/site-functions/_ga-bench
+completions/ga-bench.fish share/fish/vendor_completions.d/ga-bench.fish'
 
 # The first of the files that is missing.
 missing() {
-    printf '%s\n' "$1" | while IFS='	' read -r file _; do
-        [ -f "$root/$file" ] || printf '%s\n' "$file"
+    printf '%s\n' "$ELSEWHERE" "$1" | while read -r file; do
+        [ -f "$root/${file% share/*}" ] || printf '%s\n' "${file% share/*}"
     done | sed -n 1p
 }
 
-# Lays out these files below a folder, as they are installed: in the pages a link to what isn't installed is plain
-# text. If that fails, `reason` has why.
+# Lays out all files but the program below a folder, as they are installed: in the pages a link to what isn't installed
+# is plain text. If that fails, `reason` has why.
 lay_out() {
-    lines=$(layout 2>/dev/null) && gone=$(missing "$lines") || gone=release/files.txt
+    names=$(tracked 2>/dev/null) && gone=$(missing "$names") || gone=release/files.txt
     if [ -n "$gone" ]; then
         reason="$gone is missing: get it back (git checkout $gone)"
         return 1
     fi
-    while IFS='	' read -r file path; do
-        writes install -D -m 644 -- "$root/$file" "$1/$path" || return
+    pages=$1/share/doc/ga-bench
+    writes mkdir -p "$pages" "$1/share/ga-bench" && writes copy_pages || return
+    while read -r file path; do
+        writes install -D -- "$root/$file" "$1/$path" || return
     done <<LINES
-$lines
+$ELSEWHERE
 LINES
-    writes find "$1/share/doc" -name '*.md' -exec sed -i -E "$PLAIN" {} + &&
-        writes sed -i "1i $FRONT\\n" "$1/share/doc/ga-bench/README.md"
+    [ ! -d "$pages/editors" ] || writes mv -- "$pages/editors" "$1/share/ga-bench" || return
+    writes find "$1" -type d -exec chmod 755 {} + && writes find "$1" -type f -exec chmod 644 {} + &&
+        writes find "$pages" -name '*.md' -exec sed -i -E "$PLAIN" {} + &&
+        writes sed -i "1i $FRONT\\n" "$pages/README.md"
+}
+
+copy_pages() {
+    (cd "$root" && printf '%s\n' "$names" | tr '\n' '\0' | xargs -0 cp --parents -t "$pages" --)
 }
 
 PLAIN='s/\[([^]]*)\]\((\.\.\/)*(crates|tests|scripts)\/[^)]*\)/\1/g'
