@@ -212,10 +212,12 @@ unpack() {
     rm -f "$1"
     [ -z "$reason" ] || return 2
     why="not one that starts on this machine${started:+: $started}"
-    if [ "${started#*GLIBC_}" != "$started" ] || [ ! -e /lib64/ld-linux-x86-64.so.2 ]; then
-        here=$(getconf GNU_LIBC_VERSION 2>/dev/null) || here='another C library'
-        why="for glibc $(released glibc) or later, and this machine has $here"
-    fi
+    here=
+    case $started in
+    *GLIBC_*) here=$(getconf GNU_LIBC_VERSION 2>/dev/null) || here='another C library' ;;
+    *) [ -e /lib64/ld-linux-x86-64.so.2 ] || here='another C library' ;;
+    esac
+    [ -z "$here" ] || why="for glibc $(released glibc) or later, and this machine has $here"
     return 1
 }
 
