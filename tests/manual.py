@@ -22,7 +22,7 @@ sys.path.insert(0, f"{ROOT}/scripts")
 import from_help  # noqa: E402
 
 EDGE = {f"{row}{column:02}" for row in range(8) for column in range(18) if row in (0, 7) or column in (0, 17)}
-COMMANDS = "one asm dis boot run debug replay list race check record explain help".split()
+COMMANDS = "one asm dis boot run debug replay list race map check record explain help".split()
 # What is completed for a line: all of it, and for a file the names in a folder with these.
 FILES = ["first.source", "two words.source", "other.text"]
 COMPLETED = {
