@@ -1,5 +1,6 @@
 -- The rule holds at the start, and at the end it gives the state of the cells.
-use Rattle.std.proofs.Common.{◌≡◌, ℕ, zero, suc, ◌+◌, ◌<◌, List, [], ◌∷◌, ◌++◌, map, take, length, replicate, Option, Some, get_or, refl, sym, ap, subst, ◌∙◌, arith}
+use Rattle.std.proofs.Common.{◌≡◌, ℕ, zero, suc, ◌+◌, ◌<◌, List, [], ◌∷◌, ◌++◌, drop, length, Option, Some, None, get_or, refl, sym, ap, subst, ◌∙◌, arith}
+use Rattle.std.proofs.lemmas.List.{get_or-drop}
 use mathlib.Core.Option.{some, some-injective, some-ne-none}
 use lib.ListN.{get_elem?}
 use Rattle.atomic_table.specs.Table.{Final, Seen, opening}
@@ -9,10 +10,10 @@ use Rattle.ga_chip.specs.Run.{ran, tries_of}
 use Rattle.ga_port.specs.declared.seat.Holding.{Holding}
 use Rattle.ga_port.specs.Cells.{IsEnd}
 use Rattle.ga_port.specs.Seat.{kept, untried}
-use Rattle.ga_port.specs.Rule.{AreSmall, Holds, IsOf, row_of, word_of}
-use Rattle.ga_port.specs.inner.Entering.{IsCellWord, pending_of}
+use Rattle.ga_port.specs.Rule.{AreSmall, Holds, IsOf, line_of, lines_of, place_of, row_of, word_of}
+use Rattle.ga_port.specs.inner.Entering.{IsCellWord, pending_cells, pending_of}
 use Rattle.ga_port.proofs.Nodes.{untried_from, untried_there}
-use Rattle.ga_port.proofs.Rows.{held_small, held_word, row_read}
+use Rattle.ga_port.proofs.Rows.{held_small, held_word, line_on, next_line, row_read}
 
 -- ---- the start
 
@@ -67,54 +68,57 @@ at_index [] i held e = absurd (some-ne-none held (sym e))
 at_index (word ∷ words) zero held e = sym (some-injective word held e)
 at_index (word ∷ words) (suc i) held e = at_index words i held e
 
-one_cell : (words : List ℕ) (i held : ℕ) → get_elem? words i ≡ some held
-    → map pending_of (take (i + 1) words) ≡ map pending_of (take i words) ++ pending_of held ∷ []
-one_cell [] i held e = absurd (some-ne-none held (sym e))
-one_cell (word ∷ words) zero held e = ap (λ w. pending_of w ∷ []) (some-injective word held e)
-one_cell (word ∷ words) (suc i) held e =
+one_cell : (words : List ℕ) (i held : ℕ) → held ≡ get_or words (place_of i) 0
+    → pending_cells (i + 1) words ≡ pending_cells i words ++ pending_of held ∷ []
+one_cell words zero held e = ap (λ w. pending_of w ∷ []) (sym e)
+one_cell words (suc i) held e =
     let more : suc i + 1 ≡ suc (i + 1) = omega arith in
-    ap (λ n. map pending_of (take n (word ∷ words))) more
-    ∙ ap (λ l. pending_of word ∷ l) (one_cell words i held e)
+    let on : line_on (place_of i) ≡ 8 + place_of i = omega arith in
+    ap (λ n. pending_cells n words) more
+    ∙ ap (λ l. pending_of (get_or words 0 0) ∷ l) (one_cell (drop 8 words) i held
+    (e ∙ ap (λ n. get_or words n 0) (next_line i ∙ on)
+    ∙ sym (get_or-drop 8 words (place_of i) 0)))
 
-pub back_push : (room new : List (Option ℕ)) (words : List ℕ) (i held : ℕ) (one : Option ℕ)
-    → new ≡ room ++ one ∷ [] → room ≡ map pending_of (take i words) → one ≡ pending_of held
-    → get_elem? words i ≡ some held → new ≡ map pending_of (take (i + 1) words)
-back_push room new words i held one pushed before is e =
-    pushed ∙ ap (λ l. l ++ one ∷ []) before ∙ ap (λ o. map pending_of (take i words) ++ o ∷ []) is
-    ∙ sym (one_cell words i held e)
+pub back_push : (room new : List (Option ℕ)) (words : List ℕ) (i place held : ℕ) (one : Option ℕ)
+    → new ≡ room ++ one ∷ [] → room ≡ pending_cells i words → one ≡ pending_of held
+    → place ≡ place_of i → get_elem? words place ≡ some held → new ≡ pending_cells (i + 1) words
+back_push room new words i place held one pushed before is there e =
+    pushed ∙ ap (λ l. l ++ one ∷ []) before ∙ ap (λ o. pending_cells i words ++ o ∷ []) is
+    ∙ sym (one_cell words i held
+    (at_index words place held e ∙ ap (λ n. get_or words n 0) there))
 
 reads_back : (cells : List (Option ℕ)) (tail : List ℕ)
-    → map pending_of (take (length cells) (map word_of cells ++ tail)) ≡ cells
+    → pending_cells (length cells) (lines_of cells ++ tail) ≡ cells
 reads_back [] tail = refl
 reads_back (one ∷ rest) tail = λ k. held_word one k ∷ reads_back rest tail k
 
 row_back : (cells : List (Option ℕ)) (count : ℕ) → length cells ≡ count
-    → map pending_of (take count (row_of cells)) ≡ cells
+    → pending_cells count (row_of cells) ≡ cells
 unfolding row_of
 row_back cells count e =
-    ap (λ n. map pending_of (take n (map word_of cells ++ replicate 1 0))) (sym e)
-    ∙ reads_back cells (replicate 1 0)
+    ap (λ n. pending_cells n (lines_of cells ++ line_of None)) (sym e)
+    ∙ reads_back cells (line_of None)
 
 pub final_words : (chip : Chip) (id : ℕ) (nodes : List (Option Holding)) (words : List ℕ)
     (slots : List ℕ) → Final (Seen (Holds chip) id nodes) words slots → (cell held : ℕ) → cell < 524
-    → get_elem? words cell ≡ some held → IsCellWord held
+    → get_elem? words (place_of cell) ≡ some held → IsCellWord held
 final_words chip id nodes words slots final cell held below e =
     let is = final.1.0.2 in
     let cells = (ran chip (tries_of final.1.0.0)).cells in
     let inside : cell < length cells = let count = is.cells in omega arith in
-    let reads : held ≡ word_of (pending_in cells cell) = at_index words cell held e
-    ∙ ap (λ l. get_or l cell 0) (sym final.2 ∙ is.words) ∙ row_read cells cell inside in
+    let reads : held ≡ word_of (pending_in cells cell) = at_index words (place_of cell) held e
+    ∙ ap (λ l. get_or l (place_of cell) 0) (sym final.2 ∙ is.words) ∙ row_read cells cell inside in
     subst IsCellWord (sym reads) (held_small (pending_in cells cell) (is.small cell))
 
 pub final_ends : (chip : Chip) (id : ℕ) (nodes : List (Option Holding)) (words : List ℕ)
     (slots : List ℕ) (row : List (Option ℕ))
-    (final : Final (Seen (Holds chip) id nodes) words slots) → row ≡ map pending_of (take 524 words)
+    (final : Final (Seen (Holds chip) id nodes) words slots) → row ≡ pending_cells 524 words
     → IsEnd chip nodes row final.1.0.0
 final_ends chip id nodes words slots row final e =
     let is = final.1.0.2 in
     let cells = (ran chip (tries_of final.1.0.0)).cells in
     record {
-      cells = e ∙ ap (λ l. map pending_of (take 524 l)) (sym final.2 ∙ is.words)
+      cells = e ∙ ap (pending_cells 524) (sym final.2 ∙ is.words)
           ∙ row_back cells 524 is.cells;
       parts = λ name one has. is.parts id name nodes one final.1.1 has;
       sides = λ name one has. is.sides id name nodes one final.1.1 has;
@@ -123,7 +127,7 @@ final_ends chip id nodes words slots row final e =
 
 pub final_count : (chip : Chip) (id : ℕ) (nodes : List (Option Holding)) (words : List ℕ)
     (slots : List ℕ) (row : List (Option ℕ))
-    (final : Final (Seen (Holds chip) id nodes) words slots) → row ≡ map pending_of (take 524 words)
+    (final : Final (Seen (Holds chip) id nodes) words slots) → row ≡ pending_cells 524 words
     → length row ≡ 524
 final_count chip id nodes words slots row final e =
     ap length (final_ends chip id nodes words slots row final e).cells ∙ final.1.0.2.cells

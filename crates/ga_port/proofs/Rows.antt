@@ -1,11 +1,11 @@
 -- The words of the table, and the cells that they hold.
-use Rattle.std.proofs.Common.{◌≡◌, ◌≢◌, ℕ, zero, suc, ◌+◌, ◌-◌, ◌<◌, ◌^◌, Bool, ◌⊎◌, inl, inr, List, [], ◌∷◌, ◌++◌, map, length, replicate, Option, Some, None, set, take, get_or, refl, sym, ap, subst, ◌∙◌, arith}
+use Rattle.std.proofs.Common.{◌≡◌, ◌≢◌, ℕ, zero, suc, ◌+◌, ◌-◌, ◌*◌, ◌<◌, ◌^◌, Bool, ◌⊎◌, inl, inr, List, [], ◌∷◌, ◌++◌, length, Option, Some, None, set, take, get_or, refl, sym, ap, subst, ◌∙◌, arith}
 use Rattle.std.specs.Prelude.{IfSome, if◌then◌else◌}
 use Rattle.std.proofs.lemmas.Bool.{cases_eq, ne_eqb}
 use Rattle.std.proofs.lemmas.Option.{none-some}
 use Rattle.std.proofs.lemmas.List.{get_or-set_other}
 use Rattle.ga_chip.specs.Chip.{pending_in}
-use Rattle.ga_port.specs.Rule.{AreSmall, row_of, word_of}
+use Rattle.ga_port.specs.Rule.{AreSmall, line_of, lines_of, place_of, row_of, word_of}
 use Rattle.ga_port.specs.inner.Entering.{IsCellWord, pending_of}
 
 -- ---- one cell
@@ -27,29 +27,39 @@ held_word (Some word) =
 
 -- ---- all cells
 
+-- eight words further on
+abbrev pub line_on : ℕ → ℕ
+line_on n = suc (suc (suc (suc (suc (suc (suc (suc n)))))))
+
+pub next_line : (cell : ℕ) → place_of (suc cell) ≡ line_on (place_of cell)
+next_line cell = omega arith
+
 reads_with : (cells : List (Option ℕ)) (tail : List ℕ) (cell : ℕ) → cell < length cells
-    → get_or (map word_of cells ++ tail) cell 0 ≡ word_of (get_or cells cell None)
+    → get_or (lines_of cells ++ tail) (place_of cell) 0 ≡ word_of (get_or cells cell None)
 reads_with [] tail cell below = absurd (omega arith)
 reads_with (one ∷ rest) tail zero below = refl
-reads_with (one ∷ rest) tail (suc cell) below = reads_with rest tail cell (omega arith)
+reads_with (one ∷ rest) tail (suc cell) below =
+    ap (λ n. get_or (lines_of (one ∷ rest) ++ tail) n 0) (next_line cell)
+    ∙ reads_with rest tail cell (omega arith)
 
 pub row_read : (cells : List (Option ℕ)) (cell : ℕ) → cell < length cells
-    → get_or (row_of cells) cell 0 ≡ word_of (pending_in cells cell)
+    → get_or (row_of cells) (place_of cell) 0 ≡ word_of (pending_in cells cell)
 unfolding row_of
-row_read cells cell below = reads_with cells (replicate 1 0) cell below
+row_read cells cell below = reads_with cells (line_of None) cell below
 
 writes_with : (cells : List (Option ℕ)) (tail : List ℕ) (cell : ℕ) (o : Option ℕ)
     → cell < length cells
-    → set (map word_of cells ++ tail) cell (word_of o) ≡ map word_of (set cells cell o) ++ tail
+    → set (lines_of cells ++ tail) (place_of cell) (word_of o) ≡ lines_of (set cells cell o) ++ tail
 writes_with [] tail cell o below = absurd (omega arith)
 writes_with (one ∷ rest) tail zero o below = refl
 writes_with (one ∷ rest) tail (suc cell) o below =
-    ap (λ l. word_of one ∷ l) (writes_with rest tail cell o (omega arith))
+    ap (λ n. set (lines_of (one ∷ rest) ++ tail) n (word_of o)) (next_line cell)
+    ∙ ap (λ l. line_of one ++ l) (writes_with rest tail cell o (omega arith))
 
 pub row_write : (cells : List (Option ℕ)) (cell : ℕ) (o : Option ℕ) → cell < length cells
-    → set (row_of cells) cell (word_of o) ≡ row_of (set cells cell o)
+    → set (row_of cells) (place_of cell) (word_of o) ≡ row_of (set cells cell o)
 unfolding row_of
-row_write cells cell o below = writes_with cells (replicate 1 0) cell o below
+row_write cells cell o below = writes_with cells (line_of None) cell o below
 
 -- a cell that is empty already
 pub empties_again : (cells : List (Option ℕ)) (cell : ℕ) → pending_in cells cell ≡ None
@@ -76,32 +86,33 @@ small_set cells cell o small fits at word e = by (cases_eq at cell)
     by (inr apart) = small at word (sym (get_or-set_other cells cell at o None apart) ∙ e)
 
 -- how many words the table has
-pub row_length : (cells : List (Option ℕ)) → length cells ≡ 524 → length (row_of cells) ≡ 525
+pub row_length : (cells : List (Option ℕ)) → length cells ≡ 524 → length (row_of cells) ≡ 4200
 unfolding row_of
-row_length cells count = longer cells ∙ (let sum : length cells + 1 ≡ 525 = omega arith in sum)
+row_length cells count =
+    longer cells ∙ (let sum : 8 * length cells + 8 ≡ 4200 = omega arith in sum)
   where
-    longer : (some : List (Option ℕ)) → length (map word_of some ++ replicate 1 0) ≡ length some + 1
+    longer : (some : List (Option ℕ)) → length (lines_of some ++ line_of None) ≡ 8 * length some + 8
     longer [] = refl
     longer (one ∷ rest) = let more = longer rest in omega arith
 
--- ---- the words of the first cells, and of one more
+-- ---- the lines of the first cells, and of one more
 
-words_more : (cells : List (Option ℕ)) (i : ℕ) (one : Option ℕ) → i < length cells
+lines_more : (cells : List (Option ℕ)) (i : ℕ) (one : Option ℕ) → i < length cells
     → one ≡ get_or cells i one
-    → map word_of (take (i + 1) cells) ≡ map word_of (take i cells) ++ word_of one ∷ []
-words_more [] i one below e = absurd (omega arith)
-words_more (x ∷ xs) zero one below e = ap (λ o. word_of o ∷ []) (sym e)
-words_more (x ∷ xs) (suc i) one below e =
+    → lines_of (take (i + 1) cells) ≡ lines_of (take i cells) ++ line_of one
+lines_more [] i one below e = absurd (omega arith)
+lines_more (x ∷ xs) zero one below e = ap (λ o. line_of o) (sym e)
+lines_more (x ∷ xs) (suc i) one below e =
     let more : suc i + 1 ≡ suc (i + 1) = omega arith in
-    ap (λ n. map word_of (take n (x ∷ xs))) more
-    ∙ ap (λ l. word_of x ∷ l) (words_more xs i one (omega arith) e)
+    ap (λ n. lines_of (take n (x ∷ xs))) more
+    ∙ ap (λ l. line_of x ++ l) (lines_more xs i one (omega arith) e)
 
-pub words_push : (words new : List ℕ) (cells : List (Option ℕ)) (i held : ℕ) (one : Option ℕ)
-    → new ≡ words ++ held ∷ [] → words ≡ map word_of (take i cells) → held ≡ word_of one
-    → i < length cells → one ≡ get_or cells i one → new ≡ map word_of (take (i + 1) cells)
-words_push words new cells i held one pushed before is below e =
-    pushed ∙ ap (λ l. l ++ held ∷ []) before ∙ ap (λ w. map word_of (take i cells) ++ w ∷ []) is
-    ∙ sym (words_more cells i one below e)
+pub lines_push : (words new line : List ℕ) (cells : List (Option ℕ)) (i : ℕ) (one : Option ℕ)
+    → new ≡ words ++ line → words ≡ lines_of (take i cells) → line ≡ line_of one
+    → i < length cells → one ≡ get_or cells i one → new ≡ lines_of (take (i + 1) cells)
+lines_push words new line cells i one pushed before is below e =
+    pushed ∙ ap (λ l. l ++ line) before ∙ ap (λ l. lines_of (take i cells) ++ l) is
+    ∙ sym (lines_more cells i one below e)
 
 same_default : (cells : List (Option ℕ)) (i : ℕ) (d e : Option ℕ) → i < length cells
     → get_or cells i d ≡ get_or cells i e

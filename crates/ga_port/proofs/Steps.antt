@@ -23,7 +23,7 @@ use Rattle.ga_chip.proofs.Lists.{get-set_here, get-set_else}
 use Rattle.ga_port.specs.declared.seat.Holding.{Holding}
 use Rattle.ga_port.specs.Seat.{kept, kept_after, tried_in}
 use Rattle.ga_port.specs.Cells.{AsksForNoCell, AsksToCheck, AsksToPost, AsksToTake, is_off_cells}
-use Rattle.ga_port.specs.Rule.{AreSmall, Holds, IsOf, row_of, word_of}
+use Rattle.ga_port.specs.Rule.{AreSmall, Holds, IsOf, place_of, row_of, word_of}
 use Rattle.ga_port.specs.inner.Entering.{Enters, EntersEmpty, EntersFound, IsCellWord, pending_of}
 use Rattle.ga_port.proofs.Nodes as nodes
 use Rattle.ga_port.proofs.Rows.{empties_again, held_small, held_word, row_read, row_write, small_set}
@@ -281,10 +281,10 @@ stays opening id me i play s holds at tells = (
 
 suits_post : (asked : Asks) (at : Side) (cell word : ℕ) (cells : List (Option ℕ))
     → asked ≡ Post at cell word → cell < 524 → word < 2 ^ 18 → length cells ≡ 524 → AreSmall cells
-    → Suits asked cell (λ _. word_of (Some word)) cells
+    → Suits asked (place_of cell) (λ _. word_of (Some word)) cells
 suits_post asked at cell word cells e below bound count small =
     let inside : cell < length cells = omega arith in
-    subst (λ a. Suits a cell (λ _. word_of (Some word)) cells) (sym e) (record {
+    subst (λ a. Suits a (place_of cell) (λ _. word_of (Some word)) cells) (sym e) (record {
       row = row_write cells cell (Some word) inside;
       count = length-set cells cell (Some word) ∙ count;
       small = small_set cells cell (Some word) small
@@ -294,12 +294,12 @@ suits_post asked at cell word cells e below bound count small =
 post_at : (opening : Chip) (slots id : ℕ) (me : Me ℕ (List (Option Holding))) (what : Try)
     (cell word new : ℕ) → AsksToPost me.0 what cell word → cell < 524 → word < 2 ^ 18
     → new ≡ word_of (Some word)
-    → Allows (Holds opening) slots id me cell (λ _. new) (λ _. Enters what me)
+    → Allows (Holds opening) slots id me (place_of cell) (λ _. new) (λ _. Enters what me)
 post_at opening slots id me what cell word new asked below bound same =
-    subst (λ n. Allows (Holds opening) slots id me cell (λ _. n) (λ _. Enters what me)) (sym same)
+    subst (λ n. Allows (Holds opening) slots id me (place_of cell) (λ _. n) (λ _. Enters what me)) (sym same)
     (λ s holds room at fits.
     let chip = ran opening (tries_of holds.0) in
-    enters opening id me what asked.0 cell (λ _. word_of (Some word))
+    enters opening id me what asked.0 (place_of cell) (λ _. word_of (Some word))
     (λ _. Enters what me) s holds asked.2 at
     (suits_post (asks asked.0.part what.side) asked.1 cell word chip.cells
     (told_post _ asked.1 cell word asked.3) below bound holds.2.cells holds.2.small)
@@ -309,11 +309,12 @@ post_at opening slots id me what cell word new asked below bound same =
 -- by the seat's nodes and the cell as a call names them
 pub post_step : (opening : Chip) (slots id : ℕ) (me : Me ℕ (List (Option Holding))) (what : Try)
     (cell place word new : ℕ) (nodes : List (Option Holding)) → AsksToPost nodes what cell word
-    → me.0 ≡ nodes → place ≡ cell → place < 524 → word < 2 ^ 18 → new ≡ word_of (Some word)
+    → me.0 ≡ nodes → place ≡ place_of cell → cell < 524 → word < 2 ^ 18 → new ≡ word_of (Some word)
     → Allows (Holds opening) slots id me place (λ _. new) (λ _. Enters what me)
-post_step opening slots id me what cell place word new nodes asked same there =
-    post_at opening slots id me what place word new (subst (λ n. AsksToPost n what place word)
-    (sym same) (subst (λ i. AsksToPost nodes what i word) (sym there) asked))
+post_step opening slots id me what cell place word new nodes asked same there below bound new_is =
+    subst (λ i. Allows (Holds opening) slots id me i (λ _. new) (λ _. Enters what me)) (sym there)
+    (post_at opening slots id me what cell word new
+    (subst (λ n. AsksToPost n what cell word) (sym same) asked) below bound new_is)
 
 -- ---- take, check and poll
 
@@ -321,7 +322,7 @@ post_step opening slots id me what cell place word new nodes asked same there =
 tells_cell : (what : Try) (me : Me ℕ (List (Option Holding))) (cell : ℕ) (cells : List (Option ℕ))
     (found : Option ℕ) → cell < 524 → length cells ≡ 524 → AreSmall cells
     → found ≡ pending_in cells cell
-    → EntersFound what (get_or (row_of cells) cell 0) me (tried_in me.0 what found, me.1)
+    → EntersFound what (get_or (row_of cells) (place_of cell) 0) me (tried_in me.0 what found, me.1)
 tells_cell what me cell cells found below count small e =
     let inside : cell < length cells = omega arith in
     let read = row_read cells cell inside in (
@@ -331,10 +332,10 @@ tells_cell what me cell cells found below count small e =
     )
 
 suits_take : (asked : Asks) (at : Side) (cell : ℕ) (cells : List (Option ℕ)) → asked ≡ Take at cell
-    → cell < 524 → length cells ≡ 524 → AreSmall cells → Suits asked cell (λ _. 0) cells
+    → cell < 524 → length cells ≡ 524 → AreSmall cells → Suits asked (place_of cell) (λ _. 0) cells
 suits_take asked at cell cells e below count small =
     let inside : cell < length cells = omega arith in
-    subst (λ a. Suits a cell (λ _. 0) cells) (sym e) (record {
+    subst (λ a. Suits a (place_of cell) (λ _. 0) cells) (sym e) (record {
       row = row_write cells cell None inside;
       count = length-set cells cell None ∙ count;
       small = small_set cells cell None small (λ w same. absurd (none-some w same));
@@ -342,11 +343,11 @@ suits_take asked at cell cells e below count small =
 
 take_at : (opening : Chip) (slots id : ℕ) (me : Me ℕ (List (Option Holding))) (what : Try)
     (cell : ℕ) → AsksToTake me.0 what cell → cell < 524
-    → Allows (Holds opening) slots id me cell (λ _. 0) (λ held. EntersFound what held me)
+    → Allows (Holds opening) slots id me (place_of cell) (λ _. 0) (λ held. EntersFound what held me)
 take_at opening slots id me what cell asked below s holds room at fits =
     let chip = ran opening (tries_of holds.0) in
     let takes = told_take (asks asked.0.part what.side) asked.1 cell asked.3 in
-    enters opening id me what asked.0 cell
+    enters opening id me what asked.0 (place_of cell)
     (λ _. 0) (λ held. EntersFound what held me) s holds asked.2 at
     (suits_take (asks asked.0.part what.side) asked.1 cell chip.cells takes below holds.2.cells
     holds.2.small)
@@ -364,20 +365,20 @@ suits_still asked i cells e count small = record {
 
 check_at : (opening : Chip) (slots id : ℕ) (me : Me ℕ (List (Option Holding))) (what : Try)
     (cell : ℕ) → AsksToCheck me.0 what cell → cell < 524
-    → Allows (Holds opening) slots id me cell (λ n. n) (λ held. EntersFound what held me)
+    → Allows (Holds opening) slots id me (place_of cell) (λ n. n) (λ held. EntersFound what held me)
 check_at opening slots id me what cell asked below s holds room at fits =
     let chip = ran opening (tries_of holds.0) in
     let checks = told_check (asks asked.0.part what.side) asked.1 cell asked.3 in
-    enters opening id me what asked.0 cell
+    enters opening id me what asked.0 (place_of cell)
     (λ n. n) (λ held. EntersFound what held me) s holds asked.2 at
-    (suits_still (asks asked.0.part what.side) cell chip.cells
+    (suits_still (asks asked.0.part what.side) (place_of cell) chip.cells
     (ap (λ a. cells_after a chip.cells) checks) holds.2.cells holds.2.small)
     (tells_cell what me cell chip.cells _ below holds.2.cells holds.2.small
     (ap (λ a. found_by a chip.cells) checks))
 
 poll_at : (opening : Chip) (slots id : ℕ) (me : Me ℕ (List (Option Holding))) (what : Try)
     (cell : ℕ) → AsksToTake me.0 what cell → cell < 524
-    → Allows (Holds opening) slots id me cell (λ n. n) (λ held. EntersEmpty what held me)
+    → Allows (Holds opening) slots id me (place_of cell) (λ n. n) (λ held. EntersEmpty what held me)
 poll_at opening slots id me what cell asked below s holds room at fits =
     by (pending_in (ran opening (tries_of holds.0)).cells cell) refl
   where
@@ -387,9 +388,9 @@ poll_at opening slots id me what cell asked below s holds room at fits =
     inside : cell < length (ran opening (tries_of holds.0)).cells
     inside = let count = holds.2.cells in omega arith
 
-    read : get_or s.words cell 0 ≡ word_of (pending_in (ran opening (tries_of holds.0)).cells cell)
+    read : get_or s.words (place_of cell) 0 ≡ word_of (pending_in (ran opening (tries_of holds.0)).cells cell)
     read =
-        ap (λ l. get_or l cell 0) holds.2.words
+        ap (λ l. get_or l (place_of cell) 0) holds.2.words
         ∙ row_read (ran opening (tries_of holds.0)).cells cell inside
 
     is_cell_word : IsCellWord (word_of (pending_in (ran opening (tries_of holds.0)).cells cell))
@@ -397,14 +398,14 @@ poll_at opening slots id me what cell asked below s holds room at fits =
         held_small (pending_in (ran opening (tries_of holds.0)).cells cell) (holds.2.small cell)
 
     by : (o : Option ℕ) → pending_in (ran opening (tries_of holds.0)).cells cell ≡ o
-        → Moves opening id me cell (λ n. n) (λ held. EntersEmpty what held me) s
+        → Moves opening id me (place_of cell) (λ n. n) (λ held. EntersEmpty what held me) s
     by None e =
         let cells = (ran opening (tries_of holds.0)).cells in
         let takes = told_take (asks asked.0.part what.side) asked.1 cell asked.3 in
-        let empty : get_or (row_of cells) cell 0 ≡ 0 = row_read cells cell inside ∙ ap word_of e in
-        enters opening id me what asked.0 cell
+        let empty : get_or (row_of cells) (place_of cell) 0 ≡ 0 = row_read cells cell inside ∙ ap word_of e in
+        enters opening id me what asked.0 (place_of cell)
         (λ n. n) (λ held. EntersEmpty what held me) s holds asked.2 at
-        (suits_still (asks asked.0.part what.side) cell cells (ap (λ a. cells_after a cells) takes
+        (suits_still (asks asked.0.part what.side) (place_of cell) cells (ap (λ a. cells_after a cells) takes
         ∙ empties_again cells cell e) holds.2.cells holds.2.small)
         (subst (λ held. EntersEmpty what held me
         (tried_in me.0 what (found_by (asks asked.0.part what.side) cells), me.1)) (sym empty) (
@@ -412,9 +413,9 @@ poll_at opening slots id me what cell asked below s holds room at fits =
           ap (λ o. (tried_in me.0 what o, me.1)) (ap (λ a. found_by a cells) takes ∙ e),
         ))
     by (Some word) e =
-        let full : get_or s.words cell 0 ≡ word_of (Some word) = read ∙ ap word_of e in
+        let full : get_or s.words (place_of cell) 0 ≡ word_of (Some word) = read ∙ ap word_of e in
         let some_word : 262144 + word ≢ 0 = λ f. omega arith in
-        stays opening id me cell (λ held. EntersEmpty what held me) s holds at
+        stays opening id me (place_of cell) (λ held. EntersEmpty what held me) s holds at
         (subst (λ held. EntersEmpty what held me me) (sym full) (
           subst (λ o. IsCellWord (word_of o)) e is_cell_word,
           ap (λ (b : Bool). (if b then tried_in me.0 what None else me.0, me.1))
@@ -423,27 +424,30 @@ poll_at opening slots id me what cell asked below s holds room at fits =
 
 pub take_step : (opening : Chip) (slots id : ℕ) (me : Me ℕ (List (Option Holding))) (what : Try)
     (cell place : ℕ) (nodes : List (Option Holding)) → AsksToTake nodes what cell → me.0 ≡ nodes
-    → place ≡ cell → place < 524
+    → place ≡ place_of cell → cell < 524
     → Allows (Holds opening) slots id me place (λ _. 0) (λ held. EntersFound what held me)
-take_step opening slots id me what cell place nodes asked same there =
-    take_at opening slots id me what place (subst (λ n. AsksToTake n what place) (sym same)
-    (subst (AsksToTake nodes what) (sym there) asked))
+take_step opening slots id me what cell place nodes asked same there below =
+    subst (λ i. Allows (Holds opening) slots id me i (λ _. 0) (λ held. EntersFound what held me))
+    (sym there) (take_at opening slots id me what cell
+    (subst (λ n. AsksToTake n what cell) (sym same) asked) below)
 
 pub check_step : (opening : Chip) (slots id : ℕ) (me : Me ℕ (List (Option Holding))) (what : Try)
     (cell place : ℕ) (nodes : List (Option Holding)) → AsksToCheck nodes what cell → me.0 ≡ nodes
-    → place ≡ cell → place < 524
+    → place ≡ place_of cell → cell < 524
     → Allows (Holds opening) slots id me place (λ n. n) (λ held. EntersFound what held me)
-check_step opening slots id me what cell place nodes asked same there =
-    check_at opening slots id me what place (subst (λ n. AsksToCheck n what place) (sym same)
-    (subst (AsksToCheck nodes what) (sym there) asked))
+check_step opening slots id me what cell place nodes asked same there below =
+    subst (λ i. Allows (Holds opening) slots id me i (λ n. n) (λ held. EntersFound what held me))
+    (sym there) (check_at opening slots id me what cell
+    (subst (λ n. AsksToCheck n what cell) (sym same) asked) below)
 
 pub poll_step : (opening : Chip) (slots id : ℕ) (me : Me ℕ (List (Option Holding))) (what : Try)
     (cell place : ℕ) (nodes : List (Option Holding)) → AsksToTake nodes what cell → me.0 ≡ nodes
-    → place ≡ cell → place < 524
+    → place ≡ place_of cell → cell < 524
     → Allows (Holds opening) slots id me place (λ n. n) (λ held. EntersEmpty what held me)
-poll_step opening slots id me what cell place nodes asked same there =
-    poll_at opening slots id me what place (subst (λ n. AsksToTake n what place) (sym same)
-    (subst (AsksToTake nodes what) (sym there) asked))
+poll_step opening slots id me what cell place nodes asked same there below =
+    subst (λ i. Allows (Holds opening) slots id me i (λ n. n) (λ held. EntersEmpty what held me))
+    (sym there) (poll_at opening slots id me what cell
+    (subst (λ n. AsksToTake n what cell) (sym same) asked) below)
 
 -- ---- a try that touches no cell
 

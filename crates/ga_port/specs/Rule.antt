@@ -2,7 +2,7 @@
 -- chip, along tries of its nodes from the opening chip on, so that the words of the table are the
 -- cells of the chip to which the run leads, and what all seats have of their nodes is what the run
 -- makes of these; and each node is at exactly one seat.
-use Rattle.std.specs.Prelude.{◌≡◌, ℕ, ◌+◌, ◌<◌, ◌^◌, List, [], ◌++◌, map, length, replicate, Option, Some, None}
+use Rattle.std.specs.Prelude.{◌≡◌, ℕ, ◌+◌, ◌*◌, ◌<◌, ◌^◌, List, [], ◌∷◌, ◌++◌, length, replicate, Option, Some, None}
 use mathlib.Core.Option.{some}
 use lib.ListN.{get_elem?}
 use Rattle.atomic_table.specs.Table.{State}
@@ -19,9 +19,22 @@ abbrev pub word_of : Option ℕ → ℕ
 word_of None = 0
 word_of (Some word) = 262144 + word
 
--- all words of the table: those of the cells, and one of no cell
+-- a line of memory, 64 bytes: the word of a cell, and seven that nobody writes
+abbrev pub line_of : Option ℕ → List ℕ
+line_of cell = word_of cell ∷ replicate 7 0
+
+abbrev pub lines_of : List (Option ℕ) → List ℕ
+lines_of [] = []
+lines_of (cell ∷ rest) = line_of cell ++ lines_of rest
+
+-- All words of the table: a line for each cell, so that no two cells share one, and a line of no
+-- cell.
 unfoldable pub row_of : List (Option ℕ) → List ℕ
-row_of cells = map word_of cells ++ replicate 1 0
+row_of cells = lines_of cells ++ line_of None
+
+-- where the table has the word of a cell
+abbrev pub place_of : ℕ → ℕ
+place_of cell = 8 * cell
 
 -- each pending word has 18 bits
 abbrev pub AreSmall : List (Option ℕ) → Type 0

@@ -1,12 +1,12 @@
-ghost use Rattle.std.specs.Prelude.{◌≡◌, ◌↔◌, ℕ, ◌<◌, ◌≤◌, List, length, map, take, vec_capacity, vec_len, None, Some, OnOk, IfOk, IsSome, true, false};
+ghost use Rattle.std.specs.Prelude.{◌≡◌, ◌↔◌, ℕ, ◌<◌, ◌≤◌, ◌^◌, List, length, vec_capacity, vec_len, None, Some, OnOk, IfOk, IfSome, IsSome, true, false};
 ghost use Rattle.std.specs.Slots.{IsFull, slots_items, slots_len};
 ghost use mathlib.Core.Option.{some};
 ghost use lib.ListN.{get_elem?};
 ghost use Rattle.ga_chip.specs.declared.outcome.Try.{Try};
 ghost use Rattle.ga_port.specs.Cells.{AsksForNoCell, AsksToCheck, AsksToPost, AsksToTake, IsEnd, IsMoved};
 ghost use Rattle.ga_port.specs.Seat.{merged, only, tried_in, untried, without};
-ghost use Rattle.ga_port.specs.Rule.{AreSmall, row_of};
-ghost use Rattle.ga_port.specs.inner.Entering.{IsCellWord, pending_of};
+ghost use Rattle.ga_port.specs.Rule.{AreSmall, line_of, place_of, row_of};
+ghost use Rattle.ga_port.specs.inner.Entering.{IsCellWord, pending_cells};
 
 use crate::name::{Chosen, Named};
 use crate::rule::{Acts, Finds, Gathers, InOneRun, Polls, Shares};
@@ -21,8 +21,11 @@ use std::marker::{Brand, Model};
 
 const CELLS: usize = 524;
 
-/// The last word of the table, which is no cell: nobody writes it.
-const NO_CELL: usize = CELLS;
+/// How many words of the table a cell has: a line of memory, of which it uses the first word.
+const LINE: usize = 8;
+
+/// The first word of the table's last line, which is no cell's: nobody writes it.
+const NO_CELL: usize = LINE * CELLS;
 
 /// The cells of a chip, each a word that any thread can read and write in one step.
 pub struct Cells {
@@ -41,7 +44,7 @@ impl Model for Cells {
       opening = it.table.shared.key;
     } };
 
-    ghost invariant = { λ it. (it.table.shared.table_id.words ≡ 525)
+    ghost invariant = { λ it. (it.table.shared.table_id.words ≡ 4200)
         × (it.table.shared.table_id.slots ≡ 0) × (vec_len it.room ≡ 0)
         × (524 ≤ vec_capacity it.room) };
 }
@@ -186,7 +189,7 @@ impl Cells {
     {
         self.table
             .shared
-            .store::<Acts<T>>(&mut seat.seat, cell.index(), full(word));
+            .store::<Acts<T>>(&mut seat.seat, place_of(cell), full(word));
     }
 
     #[inline(always)]
@@ -199,7 +202,7 @@ impl Cells {
         pending(
             self.table
                 .shared
-                .swap::<Finds<T>>(&mut seat.seat, cell.index(), EMPTY),
+                .swap::<Finds<T>>(&mut seat.seat, place_of(cell), EMPTY),
         )
     }
 
@@ -213,7 +216,7 @@ impl Cells {
     {
         self.table
             .shared
-            .load::<Polls<T>>(&mut seat.seat, cell.index())
+            .load::<Polls<T>>(&mut seat.seat, place_of(cell))
             != EMPTY
     }
 
@@ -229,7 +232,7 @@ impl Cells {
         let held = self
             .table
             .shared
-            .load::<Finds<T>>(&mut seat.seat, cell.index());
+            .load::<Finds<T>>(&mut seat.seat, place_of(cell));
         held == EMPTY
     }
 
@@ -254,18 +257,37 @@ impl Cells {
     }
 }
 
-/// What the table holds at the start: the words of the cells, and the words behind them.
+/// Where the table has the word of a cell.
+#[inline(always)]
+fn place_of(cell: CellId) -> usize
+    ensures value { result ≡ place_of cell }
+    ensures bound { cell < 524 }
+{
+    LINE * cell.index()
+}
+
+/// The words of a line of memory with the word of a cell.
+fn line_of(pending: Option<Word18>) -> [u64; LINE]
+    ensures value { result ≡ line_of pending }
+    ensures bound { IfSome pending (λ word. word < 2 ^ 18) }
+{
+    let mut line = [EMPTY; LINE];
+    line[0] = held_by(pending);
+    line
+}
+
+/// What the table holds at the start: a line for each cell, and one of no cell.
 #[tactic(auto, unfolding(crate::specs::Rule::row_of))]
 fn words_of(alloc: Global, cells: &[Option<Word18>]) -> Result<Vec<u64>, AllocError>
     requires { length cells.now ≡ 524 }
     ensures words { IfOk result (λ made. made.items ≡ row_of cells.now) }
     ensures small { OnOk result (AreSmall cells.now) }
 {
-    let mut words = Vec::with_capacity(alloc, CELLS + 1)?;
+    let mut words = Vec::with_capacity(alloc, LINE * (CELLS + 1))?;
     for cell in cells {
-        words.push(held_by(*cell))?;
+        words.extend_from_slice(&line_of(*cell))?;
     }
-    words.push(EMPTY)?;
+    words.extend_from_slice(&line_of(None))?;
     Ok(words)
 }
 
@@ -275,14 +297,14 @@ fn words_back(
     mut room: Vec<Option<Word18>>,
     count: usize,
 ) -> Vec<Option<Word18>>
-    requires words { IsFull closed.now.words × (count ≤ slots_len closed.now.words) }
+    requires words { IsFull closed.now.words × (place_of count ≤ slots_len closed.now.words) }
     requires held { (cell held : ℕ) → cell < count
-        → get_elem? (slots_items closed.now.words) cell ≡ some held → IsCellWord held }
+        → get_elem? (slots_items closed.now.words) (place_of cell) ≡ some held → IsCellWord held }
     requires room { (vec_len room ≡ 0) × (count ≤ vec_capacity room) }
-    ensures { result.items ≡ map pending_of (take count (slots_items closed.now.words)) }
+    ensures { result.items ≡ pending_cells count (slots_items closed.now.words) }
 {
     for cell in 0..count {
-        room.push_reserved(pending(closed.word(cell)));
+        room.push_reserved(pending(closed.word(LINE * cell)));
     }
     room
 }

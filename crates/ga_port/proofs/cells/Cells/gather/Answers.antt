@@ -5,7 +5,7 @@ use Rattle.ga_port.proofs.cells.Cells.gather.Goals as goal
 pub join_seat-requires : goal.join_seat-requires
 join_seat-requires c =
     let it = c.self.inside.table.shared in
-    let words : it.table_id.words ≡ 525 = c.self.invariant.0 in (
+    let words : it.table_id.words ≡ 4200 = c.self.invariant.0 in (
       ap (λ z. z.table) c.seat.view_is ∙ c.requires.own ∙ sym (ap (λ z. z.table) c.self.view_is),
       ap (λ z. z.table) c.other.view_is ∙ c.requires.other ∙ sym (ap (λ z. z.table) c.self.view_is),
       c.other.invariant,

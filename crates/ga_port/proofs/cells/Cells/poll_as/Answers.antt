@@ -5,10 +5,10 @@ use Rattle.ga_port.proofs.cells.Cells.poll_as.Goals as goal
 pub load-requires : goal.load-requires
 load-requires g c =
     let it = c.self.inside.table.shared in
-    let words : it.table_id.words ≡ 525 = c.self.invariant.0 in (
+    let words : it.table_id.words ≡ 4200 = c.self.invariant.0 in (
       ap (λ z. z.table) c.seat.view_is ∙ c.requires.own ∙ sym (ap (λ z. z.table) c.self.view_is),
-      omega (arith, words, c.index.ensures.bound),
+      omega (arith, words, c.place_of.ensures.value, c.place_of.ensures.bound),
       poll_step it.key it.table_id.slots c.seat.inside.seat.id c.seat.inside.seat.me g.T.Named.what
-          c.args.cell c.index.result _ c.requires.asks
-          (ap (λ z. z.nodes) c.seat.view_is) c.index.ensures.value c.index.ensures.bound,
+          c.args.cell c.place_of.result _ c.requires.asks
+          (ap (λ z. z.nodes) c.seat.view_is) c.place_of.ensures.value c.place_of.ensures.bound,
     )
