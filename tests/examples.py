@@ -1,13 +1,13 @@
 #!/usr/bin/env python3
 """Runs the worked programs of examples/, and compares their data: tests/examples.py PROGRAM [NAME..]
 
-A worked program is a folder examples/NAME with three files:
+A worked program is three files in a folder of examples/:
   NAME.source      the source text
   NAME.transcript  a session with its replies, with this source in its head
   NAME.replay      a text of `replay`, with this source in its head
 Of each, or of those that are named, `check` accepts the transcript, and `record` writes it as it is; the replay text
 holds; both have the source; and the row of docs/EXAMPLES.md has the program's nodes, words, steps and verdict. Each other
-transcript of the folder is checked and recorded too.
+transcript of the folder whose name begins with NAME is checked and recorded too.
 
 Then the program is run with other data, at the limits of its range too, and its results are compared with
 numbers that this file computes itself, without the bench: a product is Python's product.
@@ -27,6 +27,7 @@ SECONDS = 60
 ROOT = os.path.dirname(os.path.dirname(os.path.abspath(__file__)))
 ROW = [f"{node}" for node in range(708, 715)]
 RING = ["708", "709", "710", "711", "611", "610", "609", "608"]
+TAPS = [f"{node}" for node in range(709, 717)]
 TREE = [["708", "709", "710"], ["708", "709", "609"], ["708", "608"], ["708", "707"]]
 WORDS = 1 << 18
 NODES = [f"{row}{column:02}" for row in range(8) for column in range(18)]
@@ -85,8 +86,13 @@ def shown(value):
 
 
 def read(name, kind):
-    with open(f"{ROOT}/examples/{name}/{name}.{kind}", encoding="utf-8") as text:
+    with open(f"{folder_of(name)}/{name}.{kind}", encoding="utf-8") as text:
         return text.read()
+
+
+def folder_of(name):
+    """The folder of a worked program."""
+    return os.path.dirname(glob.glob(f"{ROOT}/examples/*/{name}.source")[0])
 
 
 def field(line, name):
@@ -217,6 +223,50 @@ def moving_sum(bench, source, chance):
         memory = bench.memories(f"route {','.join(ROW)}", text, ["turn 20000", "turn 4"], ["714"])["714"]
         wanted = [sum(numbers[max(0, at - 4):at + 1]) % WORDS for at in range(len(numbers))]
         bench.same(f"moving sums of {shown(numbers)}", memory[code:], wanted + [0] * (64 - code - len(wanted)))
+
+
+def signed(word):
+    return word - WORDS if word >= WORDS // 2 else word
+
+
+def filtered(coefficients, samples):
+    """Returns the sums of a filter: of each sample and those before it, times their coefficients in units of 2^-17."""
+    pairs = [zip(coefficients, samples[at::-1]) for at in range(len(samples))]
+    return [sum(signed(coefficient) * signed(sample) // 2 ** 17 for coefficient, sample in it) % WORDS for it in pairs]
+
+
+def fir(bench, source, chance, turns, turns_below_0):
+    """The sums of a filter, and the turns from one to the next: with a sample below 0 in each tap, and without."""
+    kept = [int(it) for it in re.findall(r"^  (\d+) 0 16 push", source, re.M)]
+    head, code = f"route 708,{','.join(TAPS)},717", bench.images(source)["717"][0]
+    lists = [(kept, [1000, *[0] * 7, 20000, 229376, 131071, 131072, 5, 7, 9, 11]), (kept, [7]), (kept, EDGES * 3)]
+    lists += [(kept, [sample] * 20) for sample in (1, 0x1FFFF, 0x20000, 0x3FFFF)]
+    lists += [([edge] * 8, EDGES * 2) for edge in (0, 1, 0xFFFF, 0x10000, 0x30000, 0x30001, 0x3FFFF)]
+    lists += [([0x10000, 0x30000] * 4, [0x1FFFF, 0x20000] * 10), ([0x30000, 0x10000] * 4, [0x1FFFF, 0x20000] * 10)]
+    some = lambda count, most: [chance.randint(-most, most - 1) % WORDS for _ in range(count)]
+    lists += [(some(8, 0x10000), some(length, 0x20000)) for length in (2, 8, 9, 30, 54)]
+    for coefficients, samples in lists:
+        text = with_words(source, "samples", [len(samples) - 1, *samples])
+        for node, coefficient in zip(TAPS, coefficients):
+            text = re.sub(rf"(node {node}\b[^/]*?\n  )\d+( 0 16 push)", rf"\g<1>{coefficient}\2", text)
+        memory = bench.memories(head, text, ["turn 60000", "turn 4"], ["717"])["717"]
+        wanted = filtered(coefficients, samples)
+        bench.same(f"{shown(samples)} filtered by {shown(coefficients)}", memory[code:], wanted + [0] * (64 - code - len(wanted)))
+    for sample, wanted in ((1, turns), (0x3FFFF, turns_below_0)):
+        text = with_words(source, "samples", [19, *[sample] * 20])
+        lines = bench.run("record", "\n".join(["profile 2", head, text + "go", "> until 717 keep x10", *["> until 717 keep x1"] * 5, ""]))
+        came = [int(line.split()[1]) for line in lines[lines.index("go"):] if line.startswith("turns ")]
+        bench.same(f"turns from one sum of {sample:05X} to the next", came[1:], [wanted] * 5)
+
+
+def fir_serial(bench, source, chance):
+    """One tap after the other."""
+    fir(bench, source, chance, 693, 773)
+
+
+def fir_pipelined(bench, source, chance):
+    """All taps at once."""
+    fir(bench, source, chance, 101, 111)
 
 
 def sort(bench, source, chance):
@@ -400,14 +450,14 @@ def multiply_range(bench, pairs):
         text = "".join(f"node {node} {second} a! {first} {steps}" for node, (first, second) in some)
         lines = registers(bench, "place", text, 200, [node for node, _ in some])
         for line, (_, (first, second)) in zip(lines, some):
-            signed = first - WORDS if first >= WORDS // 2 else first
-            sums = [signed * (second % (2 << bit)) >> bit for bit in range(18) if second >> bit & 1]
+            factor = signed(first)
+            sums = [factor * (second % (2 << bit)) >> bit for bit in range(18) if second >> bit & 1]
             wanted = all(-WORDS // 2 <= it < WORDS // 2 for it in sums)
             came = [field(line, "T"), field(line, "A")]
             what = f"eighteen steps of {first:05X} and {second:05X}"
-            bench.same(f"{what} are right", came == [(signed * second >> 18) % WORDS, signed * second % WORDS], wanted)
-            bench.same(f"{what}, the lower word", came[1], signed * second % WORDS)
-            if abs(signed) <= 0x10000:
+            bench.same(f"{what} are right", came == [(factor * second >> 18) % WORDS, factor * second % WORDS], wanted)
+            bench.same(f"{what}, the lower word", came[1], factor * second % WORDS)
+            if abs(factor) <= 0x10000:
                 bench.same(f"{what}, in the range", wanted, True)
 
 
@@ -466,12 +516,13 @@ def ring(bench, source, chance):
 
 
 DATA = [blinker, multiply, echo, fill, two_nodes, send, sum_, ring]
-DATA += [pulse, crc, product, division, long_sum, port_worker, moving_sum, sort, queue, token, token_ring, tree_sum]
+DATA += [pulse, crc, product, division, long_sum, port_worker, moving_sum, fir_serial, fir_pipelined, sort, queue]
+DATA += [token, token_ring, tree_sum]
 
 
 def transcripts(bench, name):
-    """Checks and records each transcript of a folder."""
-    for path in sorted(glob.glob(f"{ROOT}/examples/{name}/*.transcript")):
+    """Checks and records each transcript of a program."""
+    for path in sorted(glob.glob(f"{folder_of(name)}/{name}*.transcript")):
         with open(path, encoding="utf-8") as file:
             text = file.read()
         commands = len(re.findall(r"^> ", text.split("\ngo\n")[1], re.M))
@@ -527,7 +578,7 @@ def main(program, *names):
         print(f"{program} --version failed")
         print("0 passed, 1 failed")
         return 1
-    names = names or sorted(it for it in os.listdir(f"{ROOT}/examples") if os.path.exists(f"{ROOT}/examples/{it}/{it}.source"))
+    names = names or sorted(os.path.basename(it).removesuffix(".source") for it in glob.glob(f"{ROOT}/examples/*/*.source"))
     passed = failed = 0
     with ThreadPoolExecutor(os.cpu_count()) as pool:
         for name, bench in zip(names, pool.map(lambda name: check(program, name), names)):
@@ -538,7 +589,7 @@ def main(program, *names):
     missing = {it.__name__.strip("_") for it in DATA} - {*names} if len(sys.argv) == 2 else set()
     for name in sorted(missing):
         failed += 1
-        print(f"FAILED {name}: its folder isn't there")
+        print(f"FAILED {name}: its source isn't there")
     print(f"{passed} passed, {failed} failed")
     return 1 if failed or not passed else 0
 
