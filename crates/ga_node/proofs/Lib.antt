@@ -3,6 +3,7 @@ pub mod Rows
 pub mod Loading
 pub mod OwnSteps
 mod Apart
+mod Skips
 mod Works
 mod StackRing
 mod WorkedNodes

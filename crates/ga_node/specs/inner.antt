@@ -2,3 +2,4 @@
 pub mod Work
 pub mod Again
 pub mod Going
+pub mod Skip

@@ -10,6 +10,7 @@ mod moves;
 mod need;
 mod place;
 mod running;
+mod skip;
 mod slot;
 mod stack;
 mod state;

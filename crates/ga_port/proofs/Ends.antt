@@ -10,8 +10,8 @@ use Rattle.ga_chip.specs.Run.{ran, tries_of}
 use Rattle.ga_port.specs.declared.seat.Holding.{Holding}
 use Rattle.ga_port.specs.Cells.{IsEnd}
 use Rattle.ga_port.specs.Seat.{kept, untried}
-use Rattle.ga_port.specs.Rule.{AreSmall, Holds, IsOf, line_of, lines_of, place_of, row_of, word_of}
-use Rattle.ga_port.specs.inner.Entering.{IsCellWord, pending_cells, pending_of}
+use Rattle.ga_port.specs.Rule.{AreSmall, Holds, IsOf, line_of, lines_of, row_of, word_of}
+use Rattle.ga_port.specs.inner.Entering.{IsCellWord, pending_cells, pending_of, place_of}
 use Rattle.ga_port.proofs.Nodes.{untried_from, untried_there}
 use Rattle.ga_port.proofs.Rows.{held_small, held_word, line_on, next_line, row_read}
 

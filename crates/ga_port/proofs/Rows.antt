@@ -5,8 +5,8 @@ use Rattle.std.proofs.lemmas.Bool.{cases_eq, ne_eqb}
 use Rattle.std.proofs.lemmas.Option.{none-some}
 use Rattle.std.proofs.lemmas.List.{get_or-set_other}
 use Rattle.ga_chip.specs.Chip.{pending_in}
-use Rattle.ga_port.specs.Rule.{AreSmall, line_of, lines_of, place_of, row_of, word_of}
-use Rattle.ga_port.specs.inner.Entering.{IsCellWord, pending_of}
+use Rattle.ga_port.specs.Rule.{AreSmall, line_of, lines_of, row_of, word_of}
+use Rattle.ga_port.specs.inner.Entering.{IsCellWord, pending_of, place_of}
 
 -- ---- one cell
 

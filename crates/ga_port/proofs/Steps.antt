@@ -23,8 +23,8 @@ use Rattle.ga_chip.proofs.Lists.{get-set_here, get-set_else}
 use Rattle.ga_port.specs.declared.seat.Holding.{Holding}
 use Rattle.ga_port.specs.Seat.{kept, kept_after, tried_in}
 use Rattle.ga_port.specs.Cells.{AsksForNoCell, AsksToCheck, AsksToPost, AsksToTake, is_off_cells}
-use Rattle.ga_port.specs.Rule.{AreSmall, Holds, IsOf, place_of, row_of, word_of}
-use Rattle.ga_port.specs.inner.Entering.{Enters, EntersEmpty, EntersFound, IsCellWord, pending_of}
+use Rattle.ga_port.specs.Rule.{AreSmall, Holds, IsOf, row_of, word_of}
+use Rattle.ga_port.specs.inner.Entering.{Enters, EntersEmpty, EntersFound, IsCellWord, pending_of, place_of}
 use Rattle.ga_port.proofs.Nodes as nodes
 use Rattle.ga_port.proofs.Rows.{empties_again, held_small, held_word, row_read, row_write, small_set}
 use Rattle.ga_port.proofs.Runs.{happened_at, ran_push}
@@ -296,7 +296,8 @@ post_at : (opening : Chip) (slots id : ℕ) (me : Me ℕ (List (Option Holding))
     → new ≡ word_of (Some word)
     → Allows (Holds opening) slots id me (place_of cell) (λ _. new) (λ _. Enters what me)
 post_at opening slots id me what cell word new asked below bound same =
-    subst (λ n. Allows (Holds opening) slots id me (place_of cell) (λ _. n) (λ _. Enters what me)) (sym same)
+    subst (λ n. Allows (Holds opening) slots id me (place_of cell) (λ _. n) (λ _. Enters what me))
+    (sym same)
     (λ s holds room at fits.
     let chip = ran opening (tries_of holds.0) in
     enters opening id me what asked.0 (place_of cell) (λ _. word_of (Some word))
@@ -388,7 +389,8 @@ poll_at opening slots id me what cell asked below s holds room at fits =
     inside : cell < length (ran opening (tries_of holds.0)).cells
     inside = let count = holds.2.cells in omega arith
 
-    read : get_or s.words (place_of cell) 0 ≡ word_of (pending_in (ran opening (tries_of holds.0)).cells cell)
+    read : get_or s.words (place_of cell) 0
+        ≡ word_of (pending_in (ran opening (tries_of holds.0)).cells cell)
     read =
         ap (λ l. get_or l (place_of cell) 0) holds.2.words
         ∙ row_read (ran opening (tries_of holds.0)).cells cell inside
@@ -402,10 +404,12 @@ poll_at opening slots id me what cell asked below s holds room at fits =
     by None e =
         let cells = (ran opening (tries_of holds.0)).cells in
         let takes = told_take (asks asked.0.part what.side) asked.1 cell asked.3 in
-        let empty : get_or (row_of cells) (place_of cell) 0 ≡ 0 = row_read cells cell inside ∙ ap word_of e in
+        let empty : get_or (row_of cells) (place_of cell) 0 ≡ 0 =
+        row_read cells cell inside ∙ ap word_of e in
         enters opening id me what asked.0 (place_of cell)
         (λ n. n) (λ held. EntersEmpty what held me) s holds asked.2 at
-        (suits_still (asks asked.0.part what.side) (place_of cell) cells (ap (λ a. cells_after a cells) takes
+        (suits_still (asks asked.0.part what.side) (place_of cell) cells
+        (ap (λ a. cells_after a cells) takes
         ∙ empties_again cells cell e) holds.2.cells holds.2.small)
         (subst (λ held. EntersEmpty what held me
         (tried_in me.0 what (found_by (asks asked.0.part what.side) cells), me.1)) (sym empty) (

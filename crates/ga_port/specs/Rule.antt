@@ -2,7 +2,7 @@
 -- chip, along tries of its nodes from the opening chip on, so that the words of the table are the
 -- cells of the chip to which the run leads, and what all seats have of their nodes is what the run
 -- makes of these; and each node is at exactly one seat.
-use Rattle.std.specs.Prelude.{◌≡◌, ℕ, ◌+◌, ◌*◌, ◌<◌, ◌^◌, List, [], ◌∷◌, ◌++◌, length, replicate, Option, Some, None}
+use Rattle.std.specs.Prelude.{◌≡◌, ℕ, ◌+◌, ◌<◌, ◌^◌, List, [], ◌∷◌, ◌++◌, length, replicate, Option, Some, None}
 use mathlib.Core.Option.{some}
 use lib.ListN.{get_elem?}
 use Rattle.atomic_table.specs.Table.{State}
@@ -31,10 +31,6 @@ lines_of (cell ∷ rest) = line_of cell ++ lines_of rest
 -- cell.
 unfoldable pub row_of : List (Option ℕ) → List ℕ
 row_of cells = lines_of cells ++ line_of None
-
--- where the table has the word of a cell
-abbrev pub place_of : ℕ → ℕ
-place_of cell = 8 * cell
 
 -- each pending word has 18 bits
 abbrev pub AreSmall : List (Option ℕ) → Type 0

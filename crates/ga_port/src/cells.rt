@@ -5,8 +5,8 @@ ghost use lib.ListN.{get_elem?};
 ghost use Rattle.ga_chip.specs.declared.outcome.Try.{Try};
 ghost use Rattle.ga_port.specs.Cells.{AsksForNoCell, AsksToCheck, AsksToPost, AsksToTake, IsEnd, IsMoved};
 ghost use Rattle.ga_port.specs.Seat.{merged, only, tried_in, untried, without};
-ghost use Rattle.ga_port.specs.Rule.{AreSmall, line_of, place_of, row_of};
-ghost use Rattle.ga_port.specs.inner.Entering.{IsCellWord, pending_cells};
+ghost use Rattle.ga_port.specs.Rule.{AreSmall, line_of, row_of};
+ghost use Rattle.ga_port.specs.inner.Entering.{IsCellWord, pending_cells, place_of};
 
 use crate::name::{Chosen, Named};
 use crate::rule::{Acts, Finds, Gathers, InOneRun, Polls, Shares};

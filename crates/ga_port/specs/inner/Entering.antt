@@ -1,5 +1,5 @@
 -- What a step on the table enters.
-use Rattle.std.specs.Prelude.{◌≡◌, ◌≢◌, ℕ, zero, suc, ◌-◌, ◌==◌, ◌<◌, ◌≤◌, ◌^◌, if◌then◌else◌, List, [], ◌∷◌, drop, get_or, Option, Some, None}
+use Rattle.std.specs.Prelude.{◌≡◌, ◌≢◌, ℕ, zero, suc, ◌-◌, ◌*◌, ◌==◌, ◌<◌, ◌≤◌, ◌^◌, if◌then◌else◌, List, [], ◌∷◌, drop, get_or, Option, Some, None}
 use Rattle.atomic_table.specs.Table.{Me}
 use Rattle.ga_chip.specs.declared.outcome.Try.{Try}
 use Rattle.ga_port.specs.declared.seat.Holding.{Holding}
@@ -12,6 +12,10 @@ IsCellWord held = (held < 2 ^ 19) × (held ≢ 0 → 262144 ≤ held)
 -- the word pending in a cell that holds this
 abbrev pub pending_of : ℕ → Option ℕ
 pending_of held = if held == 0 then None else Some (held - 262144)
+
+-- where the table has the word of a cell
+abbrev pub place_of : ℕ → ℕ
+place_of cell = 8 * cell
 
 -- the words pending in as many cells, by the words of the table
 abbrev pub pending_cells : ℕ → List ℕ → List (Option ℕ)
