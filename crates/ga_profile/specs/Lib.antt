@@ -7,4 +7,6 @@ pub mod Bar
 pub mod Table
 pub mod Bottleneck
 pub mod Text
+pub mod Passes
+pub mod NodePass
 pub mod inner

@@ -3,7 +3,10 @@
 
 mod bar;
 mod bottleneck;
+mod node_pass;
 mod node_turns;
+mod pass_watch;
+mod passes;
 mod profile;
 mod self_jump;
 mod share;
@@ -12,7 +15,9 @@ mod text;
 mod turn_watch;
 mod window;
 
+pub use node_pass::NodePass;
 pub use node_turns::{NodeTurns, TurnCounts};
+pub use passes::{Moment, Passes};
 pub use profile::{Profile, measure};
 pub use text::profile_text;
 pub use window::{Window, WindowStart};
