@@ -7,7 +7,8 @@ use Rattle.std.proofs.lemmas.List.{get_or_default, get_or-replicate, get_or-set_
 use Rattle.ga_observe.specs.declared.step.Step.{Step}
 use Rattle.ga_profile.specs.declared.passes.Passes.{Passes}
 use Rattle.ga_profile.specs.inner.KeptPasses.{KeptPasses}
-use Rattle.ga_profile.specs.NodePass.{more_of, most_of, place_read}
+use Rattle.ga_profile.specs.NodePass.{more_of, most_of}
+use Rattle.ga_profile.specs.inner.PlaceRead.{place_read}
 use Rattle.ga_profile.specs.Passes.{NO_PASSES, is_at, passed, passes_in, passes_on, place_of}
 
 -- steps behind others

@@ -1,5 +1,5 @@
 -- The definitions at worked values.
-use Rattle.std.proofs.Common.{◌≡◌, ℕ, true, false, List, [], ◌∷◌, Some, refl}
+use Rattle.std.proofs.Common.{◌≡◌, ℕ, ◌+◌, ◌*◌, true, false, List, [], ◌∷◌, Some, refl}
 use Rattle.std.specs.Prelude.{codes, None}
 use Rattle.std.specs.Fmt.{digits}
 use Rattle.ga_word.specs.Op.{op_with}
@@ -17,15 +17,18 @@ use Rattle.ga_profile.specs.declared.bottleneck.Bottleneck.TheVariants as found
 use Rattle.ga_profile.specs.declared.node_turns.NodeTurns.{NodeTurns}
 use Rattle.ga_profile.specs.declared.node_turns.TurnCounts.{TurnCounts}
 use Rattle.ga_profile.specs.declared.node_turns.Wait.TheVariants as wait
+use Rattle.ga_profile.specs.declared.passes.Passes.{Passes}
 use Rattle.ga_profile.specs.declared.share.Share.TheVariants as share
 use Rattle.ga_profile.specs.declared.window.Window.{Window}
 use Rattle.ga_profile.specs.declared.window.WindowStart.TheVariants.{FirstNode, LastNode, Turn}
 use Rattle.ga_profile.specs.Bar.{bar}
-use Rattle.ga_profile.specs.Bottleneck.{judge, sentence}
+use Rattle.ga_profile.specs.Bottleneck.{judge, sentence, use_of}
+use Rattle.ga_profile.specs.NodePass.{pass_of}
 use Rattle.ga_profile.specs.NodeTurns.{NO_TURNS, after_step, turns_between, turns_in}
+use Rattle.ga_profile.specs.Passes.{passes_in, place_of}
 use Rattle.ga_profile.specs.Profile.{wait_for}
 use Rattle.ga_profile.specs.Share.{cell, share_of}
-use Rattle.ga_profile.specs.Table.{row, shares, words}
+use Rattle.ga_profile.specs.Table.{means, row, shares, words}
 use Rattle.ga_profile.specs.Text.{window_text}
 use Rattle.ga_profile.specs.Window.{window_of}
 
@@ -137,8 +140,8 @@ half_up = refl
 abbrev line_708 : NodeTurns
 line_708 = record turns_708 { counts = record counts_708 { boots = 0 } }
 
-line_of_708 : row 708 line_708 24
-    ≡ codes "708     25    8   13   54  |######??!!!~~           |     1     1\n"
+line_of_708 : row 708 line_708 None 24
+    ≡ codes "708     25    8   13   54  |######??!!!~~           |     1     1       .     .\n"
 unfolding row shares words bar share_of cell digits
 line_of_708 = refl
 
@@ -147,20 +150,73 @@ window_line : window_text (record { first = 12; end = 40 })
 unfolding digits
 window_line = refl
 
--- the bottleneck, by the turns in which the busiest worked of 100
-one_node : judge 66 100 false 4 ≡ found.OneNode
+-- the bottleneck, by the use of the busiest
+one_node : judge 66 false 4 ≡ found.OneNode
 one_node = refl
 
-two_nodes : judge 66 100 false 8 ≡ found.EachNode
+two_nodes : judge 66 false 8 ≡ found.EachNode
 two_nodes = refl
 
-too_few : judge 65 100 false 4 ≡ found.NoNode
+too_few : judge 65 false 4 ≡ found.NoNode
 too_few = refl
 
-a_ring : judge 66 100 true 4 ≡ found.Deadlock
+a_ring : judge 66 true 4 ≡ found.Deadlock
 a_ring = refl
 
-of_709 : sentence found.OneNode (codes " 709") (codes "86")
+of_709 : sentence found.OneNode (codes " 709") 86
     ≡ codes "Bottleneck: the work of 709, in 86 % of the turns.\nThe run gets shorter if this node does less.\n"
-unfolding sentence
+unfolding sentence digits
 of_709 = refl
+
+-- ---- passes
+
+-- 709 takes a word in slot 1 of the word at 003 in every tenth turn, after seven steps; P is 004
+abbrev a_pass : ℕ → Step
+a_pass count =
+    record (a_step 709 (5 + count * 10) Slot1 4 0 (did.Took Right (sides_with 0x80) 7))
+    { number = 20 + count * 7 }
+
+-- node 709 is the 135th
+its_place : place_of (a_pass 0) ≡ Some (135 * 256 + 3 * 4 + 1)
+unfolding place_of at_word reading_of op_with
+its_place = refl
+
+-- code from a port has no place
+of_port : place_of (a_step 709 3 Slot1 0x1B5 0 (did.Posted Right 9)) ≡ None
+unfolding place_of at_word reading_of op_with
+of_port = refl
+
+four_times : Passes
+four_times = record {
+  count = 4;
+  first = record { turn = 5; number = 20 };
+  last = record { turn = 35; number = 41 };
+}
+
+abbrev four_passes : List Step
+four_passes = a_pass 0 ∷ a_pass 1 ∷ a_pass 2 ∷ a_pass 3 ∷ []
+
+their_passes : passes_in 0 (135 * 256 + 3 * 4 + 1) four_passes ≡ four_times
+unfolding place_of at_word reading_of op_with four_times
+their_passes = refl
+
+-- from turn 6 on there is one less, and so no mean
+fewer_passes : (passes_in 6 (135 * 256 + 3 * 4 + 1) four_passes).count ≡ 3
+unfolding place_of at_word reading_of op_with
+fewer_passes = refl
+
+their_mean : pass_of four_times ≡ Some (record { turns = 10; works = 7 })
+unfolding four_times
+their_mean = refl
+
+no_mean : pass_of (record four_times { count = 3 }) ≡ None
+unfolding four_times
+no_mean = refl
+
+-- a node with a pass works 70 of 100 turns, whatever it works in all
+its_use : use_of 5 (Some (record { turns = 10; works = 7 })) 100 ≡ 70
+its_use = refl
+
+means_of_pass : means (record { turns = 10; works = 7 }) ≡ codes "      10     7\n"
+unfolding means cell digits
+means_of_pass = refl

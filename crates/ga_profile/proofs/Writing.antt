@@ -1,5 +1,6 @@
 -- Texts that are written part by part.
-use Rattle.std.proofs.Common.{◌≡◌, ◌∙◌, ℕ, ◌+◌, ◌<◌, List, [], ◌∷◌, ◌++◌, ap, append_assoc, get_or, length, map, refl, sym}
+use Rattle.std.proofs.Common.{◌≡◌, ◌∙◌, ℕ, suc, ◌+◌, ◌<◌, arith, max, List, [], ◌∷◌, ◌++◌, ap, append_assoc, get_or, length, map, refl, sym}
+use Rattle.std.specs.Prelude.{Option, None}
 use Rattle.std.specs.List.{flat_map, range_with_len}
 use Rattle.std.proofs.lemmas.List.{get_or_default}
 use Rattle.ga_dump.proofs.Lines.{next_line}
@@ -7,7 +8,8 @@ use Rattle.ga_place.specs.Cell.{name_at}
 use Rattle.ga_chip.specs.Chip.{Chip, state_of}
 use Rattle.ga_profile.specs.declared.node_turns.NodeTurns.{NodeTurns}
 use Rattle.ga_profile.specs.declared.window.Window.{Window}
-use Rattle.ga_profile.specs.Bottleneck.{busy_name}
+use Rattle.ga_profile.specs.declared.node_pass.NodePass.{NodePass}
+use Rattle.ga_profile.specs.Bottleneck.{most_use, use_at, use_of}
 use Rattle.ga_profile.specs.NodeTurns.{NO_TURNS}
 use Rattle.ga_profile.specs.Profile.{with_end}
 use Rattle.ga_profile.specs.Table.{row_at, row_if}
@@ -33,27 +35,41 @@ item_more f n =
     ∙ ap (λ l. l ++ f n ∷ []) (sym (map_is_flat f (range_with_len 0 n)))
 
 -- the line of a node, read at any default
-pub row_read : (nodes : List NodeTurns) (turns index name : ℕ) (other : NodeTurns)
-    (text new : List ℕ) → index < length nodes → name ≡ name_at index
-    → new ≡ text ++ row_if (get_or nodes index other).began name (get_or nodes index other) turns
-    → new ≡ text ++ row_at nodes turns index
-row_read nodes turns index name other text new within named wrote =
+pub row_read : (nodes : List NodeTurns) (passes : List (Option NodePass)) (turns index name : ℕ)
+    (other : NodeTurns) (pass : Option NodePass) (text new : List ℕ) → index < length nodes
+    → index < length passes → name ≡ name_at index
+    → new ≡ text ++ row_if (get_or nodes index other).began name (get_or nodes index other)
+    (get_or passes index pass) turns
+    → new ≡ text ++ row_at nodes passes turns index
+row_read nodes passes turns index name other pass text new within in_passes named wrote =
     let did = get_or nodes index NO_TURNS in
     wrote
-    ∙ ap (λ (one : NodeTurns). text ++ row_if one.began name one turns)
+    ∙ ap (λ (one : NodeTurns). text ++ row_if one.began name one (get_or passes index pass) turns)
     (get_or_default nodes index other NO_TURNS within)
-    ∙ ap (λ n. text ++ row_if did.began n did turns) named
+    ∙ ap (λ (p : Option NodePass). text ++ row_if did.began name did p turns)
+    (get_or_default passes index pass None in_passes)
+    ∙ ap (λ n. text ++ row_if did.began n did (get_or passes index None) turns) named
 
--- and the name of a busy node
-pub busy_read : (nodes : List NodeTurns) (most index name : ℕ) (other : NodeTurns)
-    (text new : List ℕ) → index < length nodes → name ≡ name_at index
-    → new ≡ text ++ busy_name name (get_or nodes index other).counts.works most
-    → new ≡ text ++ busy_name (name_at index) (get_or nodes index NO_TURNS).counts.works most
-busy_read nodes most index name other text new within named wrote =
-    wrote
-    ∙ ap (λ (one : NodeTurns). text ++ busy_name name one.counts.works most)
+-- and how much of its turns it works
+pub use_read : (nodes : List NodeTurns) (passes : List (Option NodePass)) (turns index : ℕ)
+    (other : NodeTurns) (pass : Option NodePass) (new : ℕ) → index < length nodes
+    → index < length passes
+    → new ≡ use_of (get_or nodes index other).counts.works (get_or passes index pass) turns
+    → new ≡ use_at nodes passes turns index
+use_read nodes passes turns index other pass new within in_passes is =
+    is
+    ∙ ap (λ (one : NodeTurns). use_of one.counts.works (get_or passes index pass) turns)
     (get_or_default nodes index other NO_TURNS within)
-    ∙ ap (λ n. text ++ busy_name n (get_or nodes index NO_TURNS).counts.works most) named
+    ∙ ap (λ (p : Option NodePass). use_of (get_or nodes index NO_TURNS).counts.works p turns)
+    (get_or_default passes index pass None in_passes)
+
+-- the most of one number more
+pub most_use_more : (uses : ℕ → ℕ) (count most used new : ℕ) → most ≡ most_use uses count
+    → used ≡ uses count → new ≡ max most used → new ≡ most_use uses (count + 1)
+most_use_more uses count most used new so_far is wrote =
+    let one : suc count ≡ count + 1 = omega arith in
+    wrote ∙ ap (λ m. max m used) so_far ∙ ap (λ u. max (most_use uses count) u) is
+    ∙ ap (most_use uses) one
 
 -- and the turns of a node with those behind its last step
 pub end_read : (window : Window) (nodes : List NodeTurns) (index name : ℕ) (other : NodeTurns)

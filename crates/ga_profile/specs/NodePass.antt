@@ -1,5 +1,5 @@
 -- How long a pass of each node takes.
-use Rattle.std.specs.Prelude.{ℕ, zero, suc, ◌+◌, ◌-◌, ◌*◌, ◌/◌, List, get_or, map, Option, Some, None, nat_lt, if◌then◌else◌}
+use Rattle.std.specs.Prelude.{ℕ, zero, suc, ◌+◌, ◌-◌, ◌*◌, ◌/◌, List, map, Option, Some, None, nat_lt, if◌then◌else◌}
 use Rattle.std.specs.List.{range_with_len}
 use Rattle.ga_chip.specs.Chip.{Chip}
 use Rattle.ga_observe.specs.Seen.{steps_seen, turns_numbered}
@@ -37,7 +37,3 @@ passes_at window chip index place =
 unfoldable pub node_passes : Window → Chip → List (Option NodePass)
 node_passes window chip =
     map (λ index. pass_of (most_of (passes_at window chip index) 256)) (range_with_len 0 144)
-
--- the passes through a place of a node, in a list of all
-abbrev pub place_read : List Passes → ℕ → ℕ → Passes
-place_read places index place = get_or places (index * 256 + place) NO_PASSES

@@ -1,11 +1,11 @@
 //! What to change so that a run gets shorter.
-ghost use Rattle.std.specs.Prelude.{◌≡◌, ◌++◌, IfOk, OnOk, length, string_bytes};
+ghost use Rattle.std.specs.Prelude.{◌≡◌, ◌<◌, ◌^◌, ◌++◌, IfOk, OnOk, length, string_bytes};
 ghost use Rattle.ga_waits.specs.Waits.{all_ring_lines, text_of};
 ghost use Rattle.ga_profile.specs.Bottleneck as spec;
 ghost use Rattle.ga_profile.specs.Bottleneck.{bottleneck_text, busiest_text, busy_names, sentence, tail_text};
 
+use crate::node_pass::NodePass;
 use crate::node_turns::NodeTurns;
-use crate::share::{share_of, share_text};
 use ga_chip::Chip;
 use ga_place::Node;
 use ga_waits::push_rings;
@@ -34,14 +34,16 @@ pub(crate) fn push_bottleneck(
     alloc: Global,
     chip: &Chip,
     nodes: &[NodeTurns],
+    passes: &[Option<NodePass>],
     turns: u64,
 ) -> Result<(), AllocError>
-    requires { length nodes.now ≡ 144 }
+    requires nodes { length nodes.now ≡ 144 }
+    requires passes { length passes.now ≡ 144 }
     ensures { OnOk result (string_bytes text.new
-        ≡ string_bytes text.old ++ bottleneck_text chip.now nodes.now turns) }
+        ≡ string_bytes text.old ++ bottleneck_text chip.now nodes.now passes.now turns) }
 {
     let rings = ring_lines(alloc, chip)?;
-    push_busiest(text, alloc, nodes, turns, !rings.is_empty())?;
+    push_busiest(text, alloc, nodes, passes, turns, !rings.is_empty())?;
     text.push_str(rings.as_str())?;
     Ok(())
 }
@@ -52,18 +54,19 @@ fn push_busiest(
     text: &mut String,
     alloc: Global,
     nodes: &[NodeTurns],
+    passes: &[Option<NodePass>],
     turns: u64,
     has_rings: bool,
 ) -> Result<(), AllocError>
-    requires { length nodes.now ≡ 144 }
+    requires nodes { length nodes.now ≡ 144 }
+    requires passes { length passes.now ≡ 144 }
     ensures { OnOk result (string_bytes text.new
-        ≡ string_bytes text.old ++ busiest_text nodes.now turns has_rings) }
+        ≡ string_bytes text.old ++ busiest_text nodes.now passes.now turns has_rings) }
 {
-    let most = most_worked(nodes);
-    let names = busy_names(alloc, nodes, most)?;
-    let share = share_text(alloc, share_of(most, turns))?;
-    let bottleneck = judge(most, turns, has_rings, names.len());
-    push_sentence(text, bottleneck, names.as_str(), share.as_str())?;
+    let most = most_used(nodes, passes, turns);
+    let names = busy_names(alloc, nodes, passes, turns, most)?;
+    let bottleneck = judge(most, has_rings, names.len());
+    push_sentence(text, bottleneck, names.as_str(), most)?;
     Ok(())
 }
 
@@ -76,58 +79,115 @@ fn ring_lines(alloc: Global, chip: &Chip) -> Result<String, AllocError>
     Ok(rings)
 }
 
-/// In how many turns the busiest node worked.
-fn most_worked(nodes: &[NodeTurns]) -> u64
-    ensures { result ≡ spec.most_worked 0 nodes.now }
+/// The use of the node that is used most.
+fn most_used(nodes: &[NodeTurns], passes: &[Option<NodePass>], turns: u64) -> u128
+    requires nodes { length nodes.now ≡ 144 }
+    requires passes { length passes.now ≡ 144 }
+    ensures value { result ≡ spec.most_use (spec.use_at nodes.now passes.now turns) 144 }
+    ensures bound { result < 2 ^ 100 }
 {
     let mut most = 0;
-    for did in nodes {
-        most = did.counts.works.max(most);
+    for index in 0..144 {
+        most = most.max(use_at(nodes, passes, turns, index));
     }
     most
 }
 
-/// The names of the nodes that worked in about as many turns as the busiest, each behind a blank.
+/// The use of a node, by its index.
+fn use_at(nodes: &[NodeTurns], passes: &[Option<NodePass>], turns: u64, index: usize) -> u128
+    requires nodes { length nodes.now ≡ 144 }
+    requires passes { length passes.now ≡ 144 }
+    requires index { index < 144 }
+    ensures value { result ≡ spec.use_at nodes.now passes.now turns index }
+    ensures bound { result < 2 ^ 100 }
+{
+    use_of(nodes[index].counts.works, passes[index], turns)
+}
+
+/// In how many of 100 turns of its pass a node works, or else of all turns.
+fn use_of(works: u64, pass: Option<NodePass>, turns: u64) -> u128
+    ensures value { result ≡ spec.use_of works pass turns }
+    ensures bound { result < 2 ^ 100 }
+{
+    match pass {
+        Some(pass) => percent(pass.works, pass.turns),
+        None => percent(works, turns),
+    }
+}
+
+/// A part in percent, rounded down.
+fn percent(part: u64, all: u64) -> u128
+    ensures value { result ≡ spec.percent part all }
+    ensures bound { result < 2 ^ 100 }
+{
+    if all == 0 {
+        0
+    } else {
+        u128::from(part) * 100 / u128::from(all)
+    }
+}
+
+/// The names of the nodes that are used about as much as the one that is used most, each behind a
+/// blank.
 #[tactic(auto, unfolding(crate::specs::Bottleneck::busy_names))]
-fn busy_names(alloc: Global, nodes: &[NodeTurns], most: u64) -> Result<String, AllocError>
-    requires { length nodes.now ≡ 144 }
-    ensures { IfOk result (λ names. string_bytes names ≡ busy_names nodes.now most) }
+fn busy_names(
+    alloc: Global,
+    nodes: &[NodeTurns],
+    passes: &[Option<NodePass>],
+    turns: u64,
+    most: u128,
+) -> Result<String, AllocError>
+    requires most { most < 2 ^ 100 }
+    requires nodes { length nodes.now ≡ 144 }
+    requires passes { length passes.now ≡ 144 }
+    ensures { IfOk result (λ names. string_bytes names
+        ≡ busy_names (spec.use_at nodes.now passes.now turns) most) }
 {
     let mut names = String::new(alloc);
     for index in 0..144 {
-        push_busy(&mut names, Node::at(index), nodes[index].counts.works, most)?;
+        push_busy(
+            &mut names,
+            Node::at(index),
+            use_at(nodes, passes, turns, index),
+            most,
+        )?;
     }
     Ok(names)
 }
 
-/// Adds the name of a node behind a blank, if it worked in about as many turns as the busiest.
-fn push_busy(text: &mut String, node: Node, works: u64, most: u64) -> Result<(), AllocError>
+/// Adds the name of a node behind a blank, if it is used about as much as the one that is used
+/// most.
+fn push_busy(text: &mut String, node: Node, used: u128, most: u128) -> Result<(), AllocError>
+    requires used { used < 2 ^ 100 }
+    requires most { most < 2 ^ 100 }
     ensures { OnOk result (string_bytes text.new
-        ≡ string_bytes text.old ++ spec.busy_name node works most) }
+        ≡ string_bytes text.old ++ spec.busy_name node used most) }
 {
-    if is_busy(works, most) {
+    if is_busy(used, most) {
         write!(text, " {node}")?;
     }
     Ok(())
 }
 
-/// Whether a node worked in at least nine tenths of the turns in which the busiest did.
-fn is_busy(works: u64, most: u64) -> bool
-    ensures { result ≡ spec.is_busy works most }
+/// Whether a use is at least nine tenths of another one.
+fn is_busy(used: u128, most: u128) -> bool
+    requires used { used < 2 ^ 100 }
+    requires most { most < 2 ^ 100 }
+    ensures { result ≡ spec.is_busy used most }
 {
-    works > 0 && u128::from(works) * 10 >= u128::from(most) * 9
+    used > 0 && used * 10 >= most * 9
 }
 
-/// The bottleneck, by the turns in which the busiest node worked, whether there are rings, and how
-/// long the names of the busy nodes are, of which each takes four characters.
-fn judge(most: u64, turns: u64, has_rings: bool, length: usize) -> Bottleneck
-    ensures { result ≡ spec.judge most turns has_rings length }
+/// The bottleneck, by the use of the node that is used most, whether there are rings, and how long
+/// the names of the busy nodes are, of which each takes four characters.
+fn judge(most: u128, has_rings: bool, length: usize) -> Bottleneck
+    ensures { result ≡ spec.judge most has_rings length }
 {
     if has_rings {
         Bottleneck::Deadlock
     } else if most == 0 {
         Bottleneck::Nothing
-    } else if u128::from(most) * 100 < u128::from(turns) * 66 {
+    } else if most < 66 {
         Bottleneck::NoNode
     } else if length <= 4 {
         Bottleneck::OneNode
@@ -136,20 +196,20 @@ fn judge(most: u64, turns: u64, has_rings: bool, length: usize) -> Bottleneck
     }
 }
 
-/// Adds a bottleneck, the names of the busiest nodes, and the share of turns in which they work.
+/// Adds a bottleneck, the names of the busy nodes, and in how many of 100 turns they work.
 #[tactic(auto, unfolding(crate::specs::Bottleneck::sentence))]
 fn push_sentence(
     text: &mut String,
     bottleneck: Bottleneck,
     names: &str,
-    share: &str,
+    used: u128,
 ) -> Result<(), AllocError>
     ensures { OnOk result (string_bytes text.new
-        ≡ string_bytes text.old ++ sentence bottleneck names.now share.now) }
+        ≡ string_bytes text.old ++ sentence bottleneck names.now used) }
 {
     text.push_str(head_text(bottleneck))?;
     if let Bottleneck::OneNode | Bottleneck::EachNode | Bottleneck::NoNode = bottleneck {
-        write!(text, "{names}, in {share}")?;
+        write!(text, "{names}, in {used}")?;
     }
     text.push_str(tail_text(bottleneck))
 }

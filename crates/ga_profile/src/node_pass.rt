@@ -2,7 +2,8 @@
 ghost use Rattle.std.specs.Prelude.{◌≡◌, ◌<◌, IfOk, length};
 ghost use Rattle.ga_observe.specs.Seen.{steps_seen, turns_numbered};
 ghost use Rattle.ga_profile.specs.NodePass as spec;
-ghost use Rattle.ga_profile.specs.NodePass.{most_of, node_passes, place_read};
+ghost use Rattle.ga_profile.specs.NodePass.{most_of, node_passes};
+ghost use Rattle.ga_profile.specs.inner.PlaceRead.{place_read};
 ghost use Rattle.ga_profile.specs.inner.KeptPasses.{KeptPasses};
 
 use crate::pass_watch::PassWatch;

@@ -2,9 +2,11 @@
 ghost use Rattle.std.specs.Prelude.{◌≡◌, IfOk, length};
 ghost use Rattle.ga_chip.specs.Chip.{state_of};
 ghost use Rattle.ga_chip.specs.Run.{ran, turns_of};
+ghost use Rattle.ga_profile.specs.NodePass.{node_passes};
 ghost use Rattle.ga_profile.specs.Profile as spec;
 ghost use Rattle.ga_profile.specs.Profile.{chip_at_end, nodes_in, window_in};
 
+use crate::node_pass::{NodePass, node_passes};
 use crate::node_turns::{NodeTurns, Wait, turns_between, wait_to_take, waited};
 use crate::turn_watch::TurnWatch;
 use crate::window::{Window, WindowStart, window_of};
@@ -21,9 +23,12 @@ pub struct Profile {
     pub window: Window,
     /// In order of name.
     pub nodes: Vec<NodeTurns>,
+    /// The pass of each node, in order of name, if it makes three.
+    pub passes: Vec<Option<NodePass>>,
     /// The chip at the end of the window.
     pub chip: Chip,
     ghost all: { length nodes.items ≡ 144 },
+    ghost each: { length passes.items ≡ 144 },
 }
 
 /// What each node does in a run of a chip: in its turns until no node moves but those that spin, or
@@ -37,6 +42,8 @@ pub fn measure(
     ensures window { IfOk result (λ profile. profile.window ≡ window_in start most chip.now) }
     ensures nodes { IfOk result (λ profile.
         profile.nodes.items ≡ nodes_in (window_in start most chip.now) chip.now) }
+    ensures passes { IfOk result (λ profile.
+        profile.passes.items ≡ node_passes (window_in start most chip.now) chip.now) }
     ensures chip { IfOk result (λ profile.
         profile.chip ≡ chip_at_end (window_in start most chip.now) chip.now) }
 {
@@ -52,14 +59,18 @@ fn profile_in(alloc: Global, chip: &Chip, window: Window) -> Result<Profile, All
     ensures window { IfOk result (λ profile. profile.window ≡ window) }
     ensures nodes { IfOk result (λ profile.
         profile.nodes.items ≡ nodes_in window chip.now) }
+    ensures passes { IfOk result (λ profile.
+        profile.passes.items ≡ node_passes window chip.now) }
     ensures chip { IfOk result (λ profile. profile.chip ≡ chip_at_end window chip.now) }
 {
+    let passes = node_passes(alloc, chip, window)?;
     let mut chip = chip.copied(alloc)?;
     let watched = watched(&mut chip, window.first, window.end);
     let nodes = ended(alloc, &chip, window, &watched)?;
     Ok(Profile {
         window,
         nodes,
+        passes,
         chip,
     })
 }

@@ -43,7 +43,7 @@ fn percent_of(hundredfold: u128, all: u128) -> Share
 }
 
 /// A share as text.
-pub(crate) fn share_text(alloc: Global, share: Share) -> Result<String, AllocError>
+fn share_text(alloc: Global, share: Share) -> Result<String, AllocError>
     ensures { IfOk result (λ text. string_bytes text ≡ share_text share) }
 {
     match share {

@@ -1,9 +1,10 @@
 //! A line for each node that began.
 ghost use Rattle.std.specs.Prelude.{◌≡◌, ◌++◌, OnOk, length, string_bytes};
 ghost use Rattle.ga_profile.specs.Table as spec;
-ghost use Rattle.ga_profile.specs.Table.{HEAD, LEGEND, row, rows, shares, words};
+ghost use Rattle.ga_profile.specs.Table.{HEAD, LEGEND, means, row, rows, shares, words};
 
 use crate::bar::push_bar;
+use crate::node_pass::NodePass;
 use crate::node_turns::NodeTurns;
 use crate::share::{push_number, push_share, share_of};
 use ga_place::Node;
@@ -15,8 +16,10 @@ use std::fmt::Write;
 pub(crate) fn push_head(text: &mut String) -> Result<(), AllocError>
     ensures { OnOk result (string_bytes text.new ≡ string_bytes text.old ++ HEAD) }
 {
-    text.push_str("      share of the turns, % 0                    100   words\n")?;
-    text.push_str("node  work take read rest  |-----+-----+-----+------|    in   out\n")?;
+    text.push_str("      share of the turns, % 0                    100   words         a pass\n")?;
+    text.push_str(
+        "node  work take read rest  |-----+-----+-----+------|    in   out   turns works\n",
+    )?;
     Ok(())
 }
 
@@ -35,14 +38,23 @@ pub(crate) fn push_rows(
     text: &mut String,
     alloc: Global,
     nodes: &[NodeTurns],
+    passes: &[Option<NodePass>],
     turns: u64,
 ) -> Result<(), AllocError>
-    requires { length nodes.now ≡ 144 }
+    requires nodes { length nodes.now ≡ 144 }
+    requires passes { length passes.now ≡ 144 }
     ensures { OnOk result (string_bytes text.new
-        ≡ string_bytes text.old ++ rows nodes.now turns) }
+        ≡ string_bytes text.old ++ rows nodes.now passes.now turns) }
 {
     for index in 0..144 {
-        push_row(text, alloc, Node::at(index), &nodes[index], turns)?;
+        push_row(
+            text,
+            alloc,
+            Node::at(index),
+            &nodes[index],
+            passes[index],
+            turns,
+        )?;
     }
     Ok(())
 }
@@ -53,13 +65,14 @@ fn push_row(
     alloc: Global,
     node: Node,
     did: &NodeTurns,
+    pass: Option<NodePass>,
     turns: u64,
 ) -> Result<(), AllocError>
     ensures { OnOk result (string_bytes text.new
-        ≡ string_bytes text.old ++ spec.row_if did.now.began node did.now turns) }
+        ≡ string_bytes text.old ++ spec.row_if did.now.began node did.now pass turns) }
 {
     match did.began {
-        Some(_) => push_line(text, alloc, node, did, turns),
+        Some(_) => push_line(text, alloc, node, did, pass, turns),
         None => Ok(()),
     }
 }
@@ -71,17 +84,19 @@ fn push_line(
     alloc: Global,
     node: Node,
     did: &NodeTurns,
+    pass: Option<NodePass>,
     turns: u64,
 ) -> Result<(), AllocError>
     ensures { OnOk result (string_bytes text.new
-        ≡ string_bytes text.old ++ row node did.now turns) }
+        ≡ string_bytes text.old ++ row node did.now pass turns) }
 {
     write!(text, "{node}")?;
     push_shares(text, alloc, did, turns)?;
     text.push_str("  |")?;
     push_bar(text, &did.counts, turns)?;
     text.push_str("|")?;
-    push_words(text, alloc, did)
+    push_words(text, alloc, did)?;
+    push_pass(text, alloc, pass)
 }
 
 /// Adds the shares of the turns in which a node worked, waited for a word, waited for a reader, and
@@ -114,12 +129,33 @@ fn rest_of(did: &NodeTurns, turns: u64) -> u64
         .saturating_sub(counts.reader_waits)
 }
 
-/// Adds how many words a node took and posted, and the end of its line.
+/// Adds how many words a node took and posted.
 #[tactic(auto, unfolding(crate::specs::Table::words))]
 fn push_words(text: &mut String, alloc: Global, did: &NodeTurns) -> Result<(), AllocError>
     ensures { OnOk result (string_bytes text.new ≡ string_bytes text.old ++ words did.now) }
 {
     push_number(text, alloc, 6, did.taken)?;
-    push_number(text, alloc, 6, did.posted)?;
+    push_number(text, alloc, 6, did.posted)
+}
+
+/// Adds how many turns a pass of a node takes, and in how many of them it works; and the end of its
+/// line.
+fn push_pass(text: &mut String, alloc: Global, pass: Option<NodePass>) -> Result<(), AllocError>
+    ensures { OnOk result (string_bytes text.new
+        ≡ string_bytes text.old ++ spec.pass_text pass) }
+{
+    match pass {
+        Some(pass) => push_means(text, alloc, pass),
+        None => text.push_str("       .     .\n"),
+    }
+}
+
+/// Adds the means of a pass, and the end of the line.
+#[tactic(auto, unfolding(crate::specs::Table::means))]
+fn push_means(text: &mut String, alloc: Global, pass: NodePass) -> Result<(), AllocError>
+    ensures { OnOk result (string_bytes text.new ≡ string_bytes text.old ++ means pass) }
+{
+    push_number(text, alloc, 8, pass.turns)?;
+    push_number(text, alloc, 6, pass.works)?;
     text.push_str("\n")
 }

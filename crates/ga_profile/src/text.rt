@@ -16,16 +16,18 @@ use std::fmt::Write;
 #[tactic(auto, unfolding(crate::specs::Text::profile_text))]
 pub fn profile_text(alloc: Global, profile: &Profile) -> Result<String, AllocError>
     ensures { IfOk result (λ text. string_bytes text
-        ≡ profile_text profile.now.window profile.now.nodes.items profile.now.chip) }
+        ≡ profile_text profile.now.window profile.now.nodes.items
+        profile.now.passes.items profile.now.chip) }
 {
     let turns = profile.window.length();
     let nodes = profile.nodes.as_slice();
+    let passes = profile.passes.as_slice();
     let mut text = String::new(alloc);
     push_window(&mut text, profile.window)?;
     push_head(&mut text)?;
-    push_rows(&mut text, alloc, nodes, turns)?;
+    push_rows(&mut text, alloc, nodes, passes, turns)?;
     push_legend(&mut text)?;
-    push_bottleneck(&mut text, alloc, &profile.chip, nodes, turns)?;
+    push_bottleneck(&mut text, alloc, &profile.chip, nodes, passes, turns)?;
     Ok(text)
 }
 

@@ -1,6 +1,7 @@
 use Rattle.std.proofs.Common.{◌≡◌, ◌∙◌, ◌+◌, ◌*◌, ◌<◌, ap, arith, length}
 use Rattle.std.proofs.lemmas.List.{get_or_default}
-use Rattle.ga_profile.specs.NodePass.{most_of, place_read}
+use Rattle.ga_profile.specs.NodePass.{most_of}
+use Rattle.ga_profile.specs.inner.PlaceRead.{place_read}
 use Rattle.ga_profile.specs.Passes.{NO_PASSES}
 use Rattle.ga_profile.proofs.Passing.{most_more}
 use Rattle.ga_profile.proofs.node_pass.most_passed.Goals as goal

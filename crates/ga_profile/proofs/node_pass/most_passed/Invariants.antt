@@ -1,5 +1,6 @@
 use Rattle.std.proofs.Common.{◌≡◌}
-use Rattle.ga_profile.specs.NodePass.{most_of, place_read}
+use Rattle.ga_profile.specs.NodePass.{most_of}
+use Rattle.ga_profile.specs.inner.PlaceRead.{place_read}
 use Rattle.ga_profile.proofs.node_pass.most_passed.Given as goal
 
 -- the most of as many places

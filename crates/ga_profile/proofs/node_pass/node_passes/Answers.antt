@@ -4,7 +4,8 @@ use Rattle.std.specs.List.{range_with_len}
 use Rattle.std.proofs.lemmas.List.FromFn.{length-map-range_with_len}
 use Rattle.ga_observe.specs.Seen.{steps_seen, turns_numbered}
 use Rattle.ga_profile.specs.declared.node_pass.NodePass.{NodePass}
-use Rattle.ga_profile.specs.NodePass.{most_of, node_passes, pass_of, passes_at, place_read}
+use Rattle.ga_profile.specs.NodePass.{most_of, node_passes, pass_of, passes_at}
+use Rattle.ga_profile.specs.inner.PlaceRead.{place_read}
 use Rattle.ga_profile.proofs.Passing.{most_kept}
 use Rattle.ga_profile.proofs.Writing.{item_more}
 use Rattle.ga_profile.proofs.node_pass.node_passes.Goals as goal
