@@ -1,0 +1,4 @@
+pub mod Keeping
+pub mod Passing
+pub mod Writing
+mod Worked

@@ -1,0 +1,222 @@
+-- The definitions at worked values.
+use Rattle.std.proofs.Common.{◌≡◌, ℕ, ◌+◌, ◌*◌, true, false, List, [], ◌∷◌, Some, refl}
+use Rattle.std.specs.Prelude.{codes, None}
+use Rattle.std.specs.Fmt.{digits}
+use Rattle.ga_word.specs.Op.{op_with}
+use Rattle.ga_pack.specs.Decoded.{reading_of}
+use Rattle.ga_place.specs.Side.{sides_with}
+use Rattle.ga_place.specs.declared.side.Side.TheVariants.{Right}
+use Rattle.ga_node.specs.declared.need.Need.TheVariants as need
+use Rattle.ga_node.specs.declared.place.Place.{Place}
+use Rattle.ga_node.specs.declared.place.Place.TheVariants.{Fetch, Slot0, Slot1, Slot2, Slot3, Body}
+use Rattle.ga_observe.specs.declared.step.Deed.{Deed}
+use Rattle.ga_observe.specs.declared.step.Deed.TheVariants as did
+use Rattle.ga_observe.specs.declared.step.Step.{Step}
+use Rattle.ga_trace.specs.At.{at_word}
+use Rattle.ga_profile.specs.declared.bottleneck.Bottleneck.TheVariants as found
+use Rattle.ga_profile.specs.declared.node_turns.NodeTurns.{NodeTurns}
+use Rattle.ga_profile.specs.declared.node_turns.TurnCounts.{TurnCounts}
+use Rattle.ga_profile.specs.declared.node_turns.Wait.TheVariants as wait
+use Rattle.ga_profile.specs.declared.passes.Passes.{Passes}
+use Rattle.ga_profile.specs.declared.share.Share.TheVariants as share
+use Rattle.ga_profile.specs.declared.window.Window.{Window}
+use Rattle.ga_profile.specs.declared.window.WindowStart.TheVariants.{FirstNode, LastNode, Turn}
+use Rattle.ga_profile.specs.Bar.{bar}
+use Rattle.ga_profile.specs.Bottleneck.{judge, sentence, use_of}
+use Rattle.ga_profile.specs.NodePass.{pass_of}
+use Rattle.ga_profile.specs.NodeTurns.{NO_TURNS, after_step, turns_between, turns_in}
+use Rattle.ga_profile.specs.Passes.{passes_in, place_of}
+use Rattle.ga_profile.specs.Profile.{wait_for}
+use Rattle.ga_profile.specs.Share.{cell, share_of}
+use Rattle.ga_profile.specs.Table.{means, row, shares, words}
+use Rattle.ga_profile.specs.Text.{window_text}
+use Rattle.ga_profile.specs.Window.{window_of}
+
+-- a step of a node in a turn, with P and the word in execution
+abbrev a_step : ℕ → ℕ → Place → ℕ → ℕ → Deed → Step
+a_step name turn place p word deed = record {
+  node = name;
+  number = turn;
+  turn = turn;
+  place = place;
+  p = p;
+  word = word;
+  deed = deed;
+}
+
+-- 708 boots, begins in turn 2, waits two turns for a word, and three for its word to be read; then
+-- it jumps to itself, by the word 10000 at 000
+abbrev steps_708 : List Step
+steps_708 =
+    a_step 708 0 Body 0 0 (did.TookInput 5)
+    ∷ a_step 708 2 Fetch 0 0 did.Own
+    ∷ a_step 708 3 Slot0 1 0 did.Own
+    ∷ a_step 709 3 Fetch 0x1B5 0 (did.Took Right (sides_with 0x80) 7)
+    ∷ a_step 708 6 Slot1 1 0 (did.Took Right (sides_with 0x80) 7)
+    ∷ a_step 708 7 Slot2 1 0 (did.Posted Right 9)
+    ∷ a_step 708 11 Slot3 1 0 (did.SawRead Right)
+    ∷ a_step 708 12 Fetch 0 0 did.Own
+    ∷ a_step 708 13 Slot0 1 0x10000 did.Own
+    ∷ a_step 708 14 Fetch 0 0x10000 did.Own
+    ∷ []
+
+abbrev counts_708 : TurnCounts
+counts_708 = record {
+  boots = 1;
+  works = 6;
+  word_waits = 2;
+  reader_waits = 3;
+  spins = 2;
+  stops = 0;
+}
+
+abbrev turns_708 : NodeTurns
+turns_708 = record {
+  began = Some 2;
+  last = Some 12;
+  is_spinning = true;
+  counts = counts_708;
+  taken = 1;
+  posted = 1;
+}
+
+all_turns : turns_in 0 708 steps_708 ≡ turns_708
+unfolding after_step at_word reading_of op_with
+all_turns = refl
+
+-- in a window from turn 5 on it waits one turn for a word, and works four
+from_turn_5 : (turns_in 5 708 steps_708).counts
+    ≡ record counts_708 { boots = 0; works = 4; word_waits = 1 }
+unfolding after_step at_word reading_of op_with
+from_turn_5 = refl
+
+-- 709 has run code from its ports alone: it hasn't started
+not_begun : (turns_in 0 709 steps_708).began ≡ None
+unfolding after_step at_word reading_of op_with
+not_begun = refl
+
+-- behind the last step: turns 13 to 19
+behind_last : turns_between 0 (Some 12) 20 ≡ 7
+behind_last = refl
+
+waits_for_word : wait_for Slot0 (need.Take (sides_with 0x80)) ≡ wait.Word
+waits_for_word = refl
+
+waits_for_code : wait_for Fetch (need.Take (sides_with 0x80)) ≡ wait.Work
+waits_for_code = refl
+
+-- the windows of a run of 20 turns in which another node began in turn 4 and moved in turn 9
+abbrev other_turns : NodeTurns
+other_turns = record NO_TURNS { began = Some 4; last = Some 9 }
+
+from_first : window_of FirstNode (other_turns ∷ turns_708 ∷ NO_TURNS ∷ []) 20
+    ≡ record { first = 2; end = 13 }
+unfolding window_of
+from_first = refl
+
+from_last : window_of LastNode (other_turns ∷ turns_708 ∷ NO_TURNS ∷ []) 20
+    ≡ record { first = 4; end = 13 }
+unfolding window_of
+from_last = refl
+
+from_number : window_of (Turn 7) (NO_TURNS ∷ []) 20 ≡ record { first = 7; end = 0 }
+unfolding window_of
+from_number = refl
+
+-- shares are rounded
+no_share : share_of 0 7 ≡ share.None
+unfolding share_of
+no_share = refl
+
+small_share : share_of 1 101 ≡ share.BelowOne
+unfolding share_of
+small_share = refl
+
+half_up : share_of 3 24 ≡ share.Percent 13
+unfolding share_of
+half_up = refl
+
+-- the line of 708 in a window of 24 turns
+abbrev line_708 : NodeTurns
+line_708 = record turns_708 { counts = record counts_708 { boots = 0 } }
+
+line_of_708 : row 708 line_708 None 24
+    ≡ codes "708     25    8   13   54  |######??!!!~~           |     1     1       .     .\n"
+unfolding row shares words bar share_of cell digits
+line_of_708 = refl
+
+window_line : window_text (record { first = 12; end = 40 })
+    ≡ codes "28 turns from turn 12 on\n"
+unfolding digits
+window_line = refl
+
+-- the bottleneck, by the use of the busiest
+one_node : judge 66 false 4 ≡ found.OneNode
+one_node = refl
+
+two_nodes : judge 66 false 8 ≡ found.EachNode
+two_nodes = refl
+
+too_few : judge 65 false 4 ≡ found.NoNode
+too_few = refl
+
+a_ring : judge 66 true 4 ≡ found.Deadlock
+a_ring = refl
+
+of_709 : sentence found.OneNode (codes " 709") 86
+    ≡ codes "Bottleneck: the work of 709, in 86 % of the turns.\nThe run gets shorter if this node does less.\n"
+unfolding sentence digits
+of_709 = refl
+
+-- ---- passes
+
+-- 709 takes a word in slot 1 of the word at 003 in every tenth turn, after seven steps; P is 004
+abbrev a_pass : ℕ → Step
+a_pass count =
+    record (a_step 709 (5 + count * 10) Slot1 4 0 (did.Took Right (sides_with 0x80) 7))
+    { number = 20 + count * 7 }
+
+-- node 709 is the 135th
+its_place : place_of (a_pass 0) ≡ Some (135 * 256 + 3 * 4 + 1)
+unfolding place_of at_word reading_of op_with
+its_place = refl
+
+-- code from a port has no place
+of_port : place_of (a_step 709 3 Slot1 0x1B5 0 (did.Posted Right 9)) ≡ None
+unfolding place_of at_word reading_of op_with
+of_port = refl
+
+four_times : Passes
+four_times = record {
+  count = 4;
+  first = record { turn = 5; number = 20 };
+  last = record { turn = 35; number = 41 };
+}
+
+abbrev four_passes : List Step
+four_passes = a_pass 0 ∷ a_pass 1 ∷ a_pass 2 ∷ a_pass 3 ∷ []
+
+their_passes : passes_in 0 (135 * 256 + 3 * 4 + 1) four_passes ≡ four_times
+unfolding place_of at_word reading_of op_with four_times
+their_passes = refl
+
+-- from turn 6 on there is one less, and so no mean
+fewer_passes : (passes_in 6 (135 * 256 + 3 * 4 + 1) four_passes).count ≡ 3
+unfolding place_of at_word reading_of op_with
+fewer_passes = refl
+
+their_mean : pass_of four_times ≡ Some (record { turns = 10; works = 7 })
+unfolding four_times
+their_mean = refl
+
+no_mean : pass_of (record four_times { count = 3 }) ≡ None
+unfolding four_times
+no_mean = refl
+
+-- a node with a pass works 70 of 100 turns, whatever it works in all
+its_use : use_of 5 (Some (record { turns = 10; works = 7 })) 100 ≡ 70
+its_use = refl
+
+means_of_pass : means (record { turns = 10; works = 7 }) ≡ codes "      10     7\n"
+unfolding means cell digits
+means_of_pass = refl

@@ -1,0 +1,83 @@
+-- Texts that are written part by part.
+use Rattle.std.proofs.Common.{◌≡◌, ◌∙◌, ℕ, suc, ◌+◌, ◌<◌, arith, max, List, [], ◌∷◌, ◌++◌, ap, append_assoc, get_or, length, map, refl, sym}
+use Rattle.std.specs.Prelude.{Option, None}
+use Rattle.std.specs.List.{flat_map, range_with_len}
+use Rattle.std.proofs.lemmas.List.{get_or_default}
+use Rattle.ga_dump.proofs.Lines.{next_line}
+use Rattle.ga_place.specs.Cell.{name_at}
+use Rattle.ga_chip.specs.Chip.{Chip, state_of}
+use Rattle.ga_profile.specs.declared.node_turns.NodeTurns.{NodeTurns}
+use Rattle.ga_profile.specs.declared.window.Window.{Window}
+use Rattle.ga_profile.specs.declared.node_pass.NodePass.{NodePass}
+use Rattle.ga_profile.specs.Bottleneck.{most_use, use_at, use_of}
+use Rattle.ga_profile.specs.NodeTurns.{NO_TURNS}
+use Rattle.ga_profile.specs.Profile.{with_end}
+use Rattle.ga_profile.specs.Table.{row_at, row_if}
+
+-- one part more of those that are numbered from 0
+pub part_more : (f : ℕ → List ℕ) (n : ℕ) (old text new : List ℕ)
+    → text ≡ old ++ flat_map f (range_with_len 0 n) → new ≡ text ++ f n
+    → new ≡ old ++ flat_map f (range_with_len 0 (n + 1))
+part_more f n old text new so_far wrote =
+    wrote ∙ ap (λ t. t ++ f n) so_far ∙ append_assoc old (flat_map f (range_with_len 0 n)) (f n)
+    ∙ ap (λ t. old ++ t) (sym (next_line f n))
+
+map_is_flat : {A B : Type 0} (f : A → B) (xs : List A)
+    → map f xs ≡ flat_map (λ x. f x ∷ []) xs
+map_is_flat f [] = refl
+map_is_flat f (x ∷ xs) = ap (λ l. f x ∷ l) (map_is_flat f xs)
+
+-- one item more of those that are numbered from 0
+pub item_more : {B : Type 0} (f : ℕ → B) (n : ℕ)
+    → map f (range_with_len 0 (n + 1)) ≡ map f (range_with_len 0 n) ++ f n ∷ []
+item_more f n =
+    map_is_flat f (range_with_len 0 (n + 1)) ∙ next_line (λ i. f i ∷ []) n
+    ∙ ap (λ l. l ++ f n ∷ []) (sym (map_is_flat f (range_with_len 0 n)))
+
+-- the line of a node, read at any default
+pub row_read : (nodes : List NodeTurns) (passes : List (Option NodePass)) (turns index name : ℕ)
+    (other : NodeTurns) (pass : Option NodePass) (text new : List ℕ) → index < length nodes
+    → index < length passes → name ≡ name_at index
+    → new ≡ text ++ row_if (get_or nodes index other).began name (get_or nodes index other)
+    (get_or passes index pass) turns
+    → new ≡ text ++ row_at nodes passes turns index
+row_read nodes passes turns index name other pass text new within in_passes named wrote =
+    let did = get_or nodes index NO_TURNS in
+    wrote
+    ∙ ap (λ (one : NodeTurns). text ++ row_if one.began name one (get_or passes index pass) turns)
+    (get_or_default nodes index other NO_TURNS within)
+    ∙ ap (λ (p : Option NodePass). text ++ row_if did.began name did p turns)
+    (get_or_default passes index pass None in_passes)
+    ∙ ap (λ n. text ++ row_if did.began n did (get_or passes index None) turns) named
+
+-- and how much of its turns it works
+pub use_read : (nodes : List NodeTurns) (passes : List (Option NodePass)) (turns index : ℕ)
+    (other : NodeTurns) (pass : Option NodePass) (new : ℕ) → index < length nodes
+    → index < length passes
+    → new ≡ use_of (get_or nodes index other).counts.works (get_or passes index pass) turns
+    → new ≡ use_at nodes passes turns index
+use_read nodes passes turns index other pass new within in_passes is =
+    is
+    ∙ ap (λ (one : NodeTurns). use_of one.counts.works (get_or passes index pass) turns)
+    (get_or_default nodes index other NO_TURNS within)
+    ∙ ap (λ (p : Option NodePass). use_of (get_or nodes index NO_TURNS).counts.works p turns)
+    (get_or_default passes index pass None in_passes)
+
+-- the most of one number more
+pub most_use_more : (uses : ℕ → ℕ) (count most used new : ℕ) → most ≡ most_use uses count
+    → used ≡ uses count → new ≡ max most used → new ≡ most_use uses (count + 1)
+most_use_more uses count most used new so_far is wrote =
+    let one : suc count ≡ count + 1 = omega arith in
+    wrote ∙ ap (λ m. max m used) so_far ∙ ap (λ u. max (most_use uses count) u) is
+    ∙ ap (most_use uses) one
+
+-- and the turns of a node with those behind its last step
+pub end_read : (window : Window) (nodes : List NodeTurns) (index name : ℕ) (other : NodeTurns)
+    (chip : Chip) (new : NodeTurns) → index < length nodes → name ≡ name_at index
+    → new ≡ with_end window (get_or nodes index other) (state_of chip name)
+    → new ≡ with_end window (get_or nodes index NO_TURNS) (state_of chip (name_at index))
+end_read window nodes index name other chip new within named is =
+    is
+    ∙ ap (λ (one : NodeTurns). with_end window one (state_of chip name))
+    (get_or_default nodes index other NO_TURNS within)
+    ∙ ap (λ n. with_end window (get_or nodes index NO_TURNS) (state_of chip n)) named

@@ -1,0 +1,12 @@
+pub mod SelfJump
+pub mod NodeTurns
+pub mod Window
+pub mod Profile
+pub mod Share
+pub mod Bar
+pub mod Table
+pub mod Bottleneck
+pub mod Text
+pub mod Passes
+pub mod NodePass
+pub mod inner

@@ -1,0 +1,23 @@
+-- A profile as text.
+use Rattle.std.specs.Prelude.{ℕ, Option, List, [], ◌∷◌, ◌++◌, codes}
+use Rattle.std.specs.Fmt.{decimal}
+use Rattle.std.specs.List.{concat}
+use Rattle.ga_chip.specs.Chip.{Chip}
+use Rattle.ga_profile.specs.declared.node_pass.NodePass.{NodePass}
+use Rattle.ga_profile.specs.declared.node_turns.NodeTurns.{NodeTurns}
+use Rattle.ga_profile.specs.declared.window.Window.{Window}
+use Rattle.ga_profile.specs.Bottleneck.{bottleneck_text}
+use Rattle.ga_profile.specs.Table.{HEAD, LEGEND, rows}
+use Rattle.ga_profile.specs.Window.{length_of}
+
+-- how long a window is, and where it begins
+abbrev pub window_text : Window → List ℕ
+window_text window =
+    decimal (length_of window) ++ codes " turns"
+    ++ (codes " from turn " ++ decimal window.first ++ codes " on\n")
+
+-- The window; a line for each node that began; and the bottleneck.
+unfoldable pub profile_text : Window → List NodeTurns → List (Option NodePass) → Chip → List ℕ
+profile_text window nodes passes chip =
+    concat (window_text window ∷ HEAD ∷ rows nodes passes (length_of window) ∷ LEGEND
+    ∷ bottleneck_text chip nodes passes (length_of window) ∷ [])

@@ -1,0 +1,23 @@
+//! What each node of a chip did in the turns of a run, and where the run is slow, as text.
+#![tactic(auto)]
+
+mod bar;
+mod bottleneck;
+mod node_pass;
+mod node_turns;
+mod pass_watch;
+mod passes;
+mod profile;
+mod self_jump;
+mod share;
+mod table;
+mod text;
+mod turn_watch;
+mod window;
+
+pub use node_pass::NodePass;
+pub use node_turns::{NodeTurns, TurnCounts};
+pub use passes::{Moment, Passes};
+pub use profile::{Profile, measure};
+pub use text::profile_text;
+pub use window::{Window, WindowStart};

@@ -1,0 +1,147 @@
+//! What each node of a chip did in the turns of a run.
+ghost use Rattle.std.specs.Prelude.{◌≡◌, IfOk, length};
+ghost use Rattle.ga_chip.specs.Chip.{state_of};
+ghost use Rattle.ga_chip.specs.Run.{ran, turns_of};
+ghost use Rattle.ga_profile.specs.NodePass.{node_passes};
+ghost use Rattle.ga_profile.specs.Profile as spec;
+ghost use Rattle.ga_profile.specs.Profile.{chip_at_end, nodes_in, window_in};
+
+use crate::node_pass::{NodePass, node_passes};
+use crate::node_turns::{NodeTurns, Wait, turns_between, wait_to_take, waited};
+use crate::turn_watch::TurnWatch;
+use crate::window::{Window, WindowStart, window_of};
+use ga_chip::Chip;
+use ga_node::{Need, Place};
+use ga_observe::turns;
+use ga_place::Node;
+use ga_trace::run;
+use std::alloc::{AllocError, Global};
+
+/// What each node did in a window of a run.
+#[derive(Drop)]
+pub struct Profile {
+    pub window: Window,
+    /// In order of name.
+    pub nodes: Vec<NodeTurns>,
+    /// The pass of each node, in order of name, if it makes three.
+    pub passes: Vec<Option<NodePass>>,
+    /// The chip at the end of the window.
+    pub chip: Chip,
+    ghost all: { length nodes.items ≡ 144 },
+    ghost each: { length passes.items ≡ 144 },
+}
+
+/// What each node does in a run of a chip: in its turns until no node moves but those that spin, or
+/// at most `most`. The chip itself makes no turn. Fails only when out of memory.
+pub fn measure(
+    alloc: Global,
+    chip: &Chip,
+    start: WindowStart,
+    most: u32,
+) -> Result<Profile, AllocError>
+    ensures window { IfOk result (λ profile. profile.window ≡ window_in start most chip.now) }
+    ensures nodes { IfOk result (λ profile.
+        profile.nodes.items ≡ nodes_in (window_in start most chip.now) chip.now) }
+    ensures passes { IfOk result (λ profile.
+        profile.passes.items ≡ node_passes (window_in start most chip.now) chip.now) }
+    ensures chip { IfOk result (λ profile.
+        profile.chip ≡ chip_at_end (window_in start most chip.now) chip.now) }
+{
+    let made = turns_to_rest(alloc, chip, most)?;
+    let mut copy = chip.copied(alloc)?;
+    let all = watched(&mut copy, 0, made);
+    let window = window_of(start, &all, made);
+    profile_in(alloc, chip, window)
+}
+
+/// What each node does in a window of the run of a chip.
+fn profile_in(alloc: Global, chip: &Chip, window: Window) -> Result<Profile, AllocError>
+    ensures window { IfOk result (λ profile. profile.window ≡ window) }
+    ensures nodes { IfOk result (λ profile.
+        profile.nodes.items ≡ nodes_in window chip.now) }
+    ensures passes { IfOk result (λ profile.
+        profile.passes.items ≡ node_passes window chip.now) }
+    ensures chip { IfOk result (λ profile. profile.chip ≡ chip_at_end window chip.now) }
+{
+    let passes = node_passes(alloc, chip, window)?;
+    let mut chip = chip.copied(alloc)?;
+    let watched = watched(&mut chip, window.first, window.end);
+    let nodes = ended(alloc, &chip, window, &watched)?;
+    Ok(Profile {
+        window,
+        nodes,
+        passes,
+        chip,
+    })
+}
+
+/// In how many turns a chip comes to rest, at most `most`.
+fn turns_to_rest(alloc: Global, chip: &Chip, most: u32) -> Result<u32, AllocError>
+    ensures { IfOk result (λ turns. turns ≡ spec.turns_to_rest most chip.now) }
+{
+    let mut copy = chip.copied(alloc)?;
+    Ok(run(&mut copy, most).turns)
+}
+
+/// Makes turns of a chip. Answers what each node did in them from a turn on, up to its last step.
+fn watched(chip: &mut Chip, from: u64, count: u32) -> [NodeTurns; 144]
+    ensures chip { chip.new ≡ ran chip.old (turns_of count) }
+    ensures nodes { result ≡ spec.watched from count chip.old }
+{
+    let mut watch = TurnWatch::new(from);
+    let _moved = turns(chip, &mut watch, count);
+    watch.nodes
+}
+
+/// The turns of all nodes with those behind their last steps, up to the end of a window.
+fn ended(
+    alloc: Global,
+    chip: &Chip,
+    window: Window,
+    nodes: &[NodeTurns],
+) -> Result<Vec<NodeTurns>, AllocError>
+    requires { length nodes.now ≡ 144 }
+    ensures nodes { IfOk result (λ all. all.items ≡ spec.ended window nodes.now chip.now) }
+    ensures all { IfOk result (λ all. length all.items ≡ 144) }
+{
+    let mut all = Vec::new(alloc);
+    for index in 0..144 {
+        all.push(node_ended(chip, window, &nodes[index], Node::at(index)))?;
+    }
+    Ok(all)
+}
+
+/// The turns of a node with those behind its last step.
+fn node_ended(chip: &Chip, window: Window, turns: &NodeTurns, node: Node) -> NodeTurns
+    ensures { result ≡ spec.with_end window turns.now (state_of chip.now node) }
+{
+    let state = chip.state(node);
+    let wait = wait_at_end(turns, state.place(), state.need());
+    let count = turns_between(window.first, turns.last, u64::from(window.end));
+    NodeTurns {
+        counts: waited(&turns.counts, wait, count),
+        ..*turns
+    }
+}
+
+/// What a node of this need waits for at the end; before it began it was idle.
+fn wait_at_end(turns: &NodeTurns, place: Place, need: Need) -> Wait
+    ensures { result ≡ spec.wait_at_end turns.now.began place need }
+{
+    match turns.began {
+        Some(_) => wait_for(place, need),
+        None => Wait::Work,
+    }
+}
+
+/// What a node waits for that has started.
+fn wait_for(place: Place, need: Need) -> Wait
+    ensures { result ≡ spec.wait_for place need }
+{
+    match need {
+        Need::Take(_) => wait_to_take(place),
+        Need::Post(_, _) | Need::Check(_) => Wait::Reader,
+        Need::Stopped(_) => Wait::Never,
+        Need::Own | Need::Input => Wait::Work,
+    }
+}
