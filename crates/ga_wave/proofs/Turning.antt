@@ -21,8 +21,8 @@ began images names start traced text are is = record {
   traced_are = are;
   text_is =
       is ∙ ap header_of are
-      ∙ ap (λ scopes. UNIT ++ scopes ++ codes "$upscope $end\n$enddefinitions $end\n") (nodes.scopes start 0
-      (numbered names))
+      ∙ ap (λ scopes. UNIT ++ scopes ++ codes "$upscope $end\n$enddefinitions $end\n")
+      (nodes.scopes start 0 (numbered names))
       ∙ sym (append-nil (header names));
 }
 
@@ -46,8 +46,8 @@ pub turn_more : (images : List (ℕ × ImageView)) (names : List ℕ) (start : C
 turn_more images names start turn chip next_chip traced next text next_text before is wrote are =
     let side = side_of_turn turn in
     let behind = turned turn (chip_behind start turn) in
-    let lines : Chip → List Traced → List ℕ = λ c t. turn_block turn (traced_changes images side c t)
-    in
+    let lines : Chip → List Traced → List ℕ =
+    λ c t. turn_block turn (traced_changes images side c t) in
     let new = turn_text images names start turn in
     let old = flat_map (turn_text images names start) (range_with_len 0 turn) in
     record {

@@ -50,7 +50,7 @@ unlabelled : label_or [] 0x1D5 ≡ codes "s1D5 "
 unfolding hex_digits
 unlabelled = refl
 
--- a read of several ports takes at the side of the turn, and one of one port at its own
+-- a multiport read takes at the side of the turn, and a read of one port at its own
 by_turn : did_text (step_did Left (intent_of (need.Take (sides_with 0xA0)))) ≡ codes "takes_left"
 by_turn = refl
 

@@ -19,7 +19,7 @@ intent_of (need.Check side) = intent.Check side
 intent_of need.Input = intent.Input
 intent_of (need.Stopped stop) = intent.Stop
 
--- What it did by a step in a turn with a side: a read of several ports takes at this side.
+-- What it did by a step in a turn with a side: a multiport read takes at this side.
 abbrev pub step_did : Side → Intent → Did
 step_did side intent.Work = did.Works
 step_did side (intent.Take own) = did.Takes (unwrap_or own side)

@@ -31,8 +31,8 @@ state_at chip name = unwrap_or (state_of chip name) (reset_state name)
 abbrev pub address_of : State → ℕ
 address_of state = at_word state.place state.p state.word
 
--- where a node stands: what it is about to do, whether it is held, its steps, the address of the word in
--- execution, and what it runs
+-- where a node stands: what it is about to do, whether it is held, its steps, the address of the
+-- word in execution, and what it runs
 abbrev pub stand_by : Bool → State → Stand
 stand_by held state = record {
   intent = intent_of (need_of state);
@@ -71,8 +71,8 @@ registers_of state = record {
 abbrev pub pending_at : Chip → ℕ → Side → Option ℕ
 pending_at chip name side = option_and_then (λ cell. pending chip cell) (cell_of name side)
 
--- The same behind a turn, by what the node was about to do. A word that was posted in the turn is shown
--- even if it was read in it.
+-- The same behind a turn, by what the node was about to do. A word that was posted in the turn is
+-- shown even if it was read in it.
 abbrev pub word_at : Intent → Bool → Chip → ℕ → Side → Option ℕ
 word_at (Post at word) moved chip name side =
     if moved && (side_bit at == side_bit side) then Some word else pending_at chip name side
