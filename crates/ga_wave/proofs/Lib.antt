@@ -1,0 +1,5 @@
+pub mod Parts
+pub mod Tracing
+pub mod Turning
+pub mod LastValues
+mod Worked

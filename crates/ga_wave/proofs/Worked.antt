@@ -1,0 +1,125 @@
+-- Waveforms that were worked out by hand.
+use Rattle.std.proofs.Common.{◌≡◌, ◌++◌, false, true, [], Some, None, codes, refl}
+use Rattle.ga_place.specs.declared.address.Where.TheVariants.{Ram}
+use Rattle.ga_place.specs.declared.side.Side.TheVariants.{Right, Left}
+use Rattle.ga_place.specs.Side.{sides_with}
+use Rattle.std.specs.Fmt.{digits}
+use Rattle.ga_word.specs.Hex.{hex_digits}
+use Rattle.ga_word.specs.declared.op.Op.TheVariants.{Store}
+use Rattle.ga_chip.specs.Chip.{Chip}
+use Rattle.ga_wave.specs.declared.deed.Did.TheVariants.{Posts, SeesRead}
+use Rattle.ga_wave.specs.declared.deed.Intent.TheVariants.{Post, Check}
+use Rattle.ga_node.specs.declared.need.Need.TheVariants as need
+use Rattle.ga_wave.specs.declared.sample.Sample.{Sample}
+use Rattle.ga_wave.specs.declared.value.Value.TheVariants as value
+use Rattle.ga_wave.specs.declared.work.Work.TheVariants.{Runs}
+use Rattle.ga_wave.specs.Change.{changes}
+use Rattle.ga_wave.specs.Deed.{did_text, intent_of, step_did}
+use Rattle.ga_wave.specs.Header.{declarations, scope}
+use Rattle.ga_wave.specs.Identifier.{identifier}
+use Rattle.ga_wave.specs.Sample.{word_at}
+use Rattle.ga_wave.specs.Value.{label_or, value_text}
+use Rattle.ga_wave.specs.Wave.{turn_block}
+
+-- identifiers of one character, and of two
+first_identifier : identifier 0 ≡ codes "!"
+first_identifier = refl
+
+last_short : identifier 93 ≡ codes "~"
+last_short = refl
+
+first_long : identifier 94 ≡ codes "!!"
+first_long = refl
+
+next_long : identifier 282 ≡ codes "#!"
+next_long = refl
+
+-- bits without leading zeros, no word, and a label in place of an address
+bits : value_text [] 708 (value.Bits 0x2B) ≡ codes "b101011 "
+unfolding digits
+bits = refl
+
+no_bits : value_text [] 708 (value.Bits 0) ≡ codes "b0 "
+unfolding digits
+no_bits = refl
+
+labelled : label_or (codes " main+2") 2 ≡ codes "smain+2 "
+labelled = refl
+
+unlabelled : label_or [] 0x1D5 ≡ codes "s1D5 "
+unfolding hex_digits
+unlabelled = refl
+
+-- a multiport read takes at the side of the turn, and a read of one port at its own
+by_turn : did_text (step_did Left (intent_of (need.Take (sides_with 0xA0)))) ≡ codes "takes_left"
+by_turn = refl
+
+by_port : did_text (step_did Left (intent_of (need.Take (sides_with 0x40)))) ≡ codes "takes_down"
+by_port = refl
+
+saw_read : did_text (step_did Left (Check Right)) ≡ codes "sees_right_read"
+saw_read = refl
+
+-- a word is at its port in the turn in which it is posted, whatever the chip behind it
+at_once : (chip : Chip) → word_at (Post Right 5) true chip 708 Right ≡ Some 5
+at_once chip = refl
+
+-- a corner has two ports; the second node's identifiers go on from 15
+corner : scope 0 1
+    ≡ codes "$scope module n000 $end\n$var string 1 0 did $end\n$var string 1 1 at $end\n"
+    ++ codes "$var string 1 2 op $end\n$var wire 1 3 busy $end\n$var reg 10 4 p [9:0] $end\n"
+    ++ codes "$var reg 18 5 t [17:0] $end\n$var reg 18 6 s [17:0] $end\n"
+    ++ codes "$var reg 18 7 r [17:0] $end\n$var reg 18 8 a [17:0] $end\n"
+    ++ codes "$var reg 9 9 b [8:0] $end\n$var reg 18 : io [17:0] $end\n"
+    ++ codes "$var wire 18 ; right_to_001 [17:0] $end\n$var wire 18 < down_to_100 [17:0] $end\n"
+    ++ codes "$upscope $end\n"
+unfolding scope declarations
+corner = refl
+
+-- `!` at the port right posts 5, and the next turn sees that it was read: the port is empty
+abbrev posted : Sample
+posted = record {
+  stand = record {
+    intent = Post Right 5;
+    held = false;
+    steps = 3;
+    address = 1;
+    reaches = Ram 1;
+    work = Runs Store;
+  };
+  did = Posts Right;
+  moved = true;
+  registers = record { p = 2; t = 5; s = 0; r = 0; a = 0x1D5; b = 0x15D; io = 0 };
+  ports = record { right = Some 5; down = None; left = None; up = None };
+}
+
+abbrev read : Sample
+read = record posted {
+  stand = record {
+    intent = Check Right;
+    held = false;
+    steps = 4;
+    address = 1;
+    reaches = Ram 1;
+    work = Runs Store;
+  };
+  did = SeesRead Right;
+  registers = record { p = 2; t = 0; s = 0; r = 0; a = 0x1D5; b = 0x15D; io = 0 };
+  ports = record { right = None; down = None; left = None; up = None };
+}
+
+seen : changes [] 708 0 (Some posted) read ≡ codes "ssees_right_read !\nb0 &\nbz ,\n"
+unfolding changes digits
+seen = refl
+
+same : changes [] 708 0 (Some read) read ≡ []
+unfolding changes
+same = refl
+
+-- a turn that changed nothing has no time
+turn : turn_block 12 (codes "1$\n") ≡ codes "#12\n1$\n"
+unfolding digits
+turn = refl
+
+no_turn : turn_block 12 [] ≡ []
+no_turn = refl

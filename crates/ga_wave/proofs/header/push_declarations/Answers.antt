@@ -1,0 +1,12 @@
+use Rattle.std.proofs.Common.{rules, string_bytes}
+use Rattle.ga_dump.proofs.Lines.{line_more}
+use Rattle.ga_wave.specs.Header.{declaration}
+use Rattle.ga_wave.specs.Signal.{SIGNALS}
+use Rattle.ga_wave.specs.declared.signal.Signal.TheVariants.{Did}
+use Rattle.ga_wave.proofs.header.push_declarations.Goals as goal
+
+pub loop-signal-preserved : goal.loop-signal-preserved
+loop-signal-preserved c =
+    line_more (declaration c.args.node c.args.number) SIGNALS c.loop-signal.signal-index Did
+    (string_bytes c.loop-signal.text) _ _ (search rules) c.loop-signal.invariant
+    c.in_ok-push_declaration.ensures

@@ -1,0 +1,12 @@
+pub mod Signal
+pub mod Deed
+pub mod Work
+pub mod Identifier
+pub mod Nodes
+pub mod Sample
+pub mod Value
+pub mod Change
+pub mod Header
+pub mod Wave
+pub mod Laws
+pub mod inner
