@@ -6,9 +6,9 @@ tries one after the other, and those of a route also by `run` with one worker, w
 set and cleared and passes given in between. In the end all nodes, their memory and their ledgers are compared, and how
 many steps each `turn` made.
 
-The chips are those of recorded cases and of the programs for races, boots of routes and of trees among them; and chips
-of random words, which read several ports, post, and come to extended mode. The last line that is printed is
-'turns: N passed, M failed', a chip each, and the exit status is 0 if M is 0.
+The chips are those of recorded cases and of the programs for races, boots of routes and of trees among them; chips of
+random words, which read several ports, post, and come to extended mode; and chips of loops that only count. The last
+line that is printed is 'turns: N passed, M failed', a chip each, and the exit status is 0 if M is 0.
 """
 import argparse
 import json
@@ -47,6 +47,17 @@ def random_head(chance):
     for name in names:
         words = [chance.choice([chance.getrandbits(18), chance.choice(loop)]) for _ in range(chance.randint(1, 12))]
         lines.append(f"node {name} data {' '.join(f', ${word:05X}' for word in [*words, chance.choice(jumps)])}")
+    return "\n".join([*lines, "go", ""])
+
+
+def counting_head(chance):
+    """A chip of rounds of `unext`, of which some change T, and of jumps of a word to itself."""
+    lines = ["profile 2", "place"]
+    for name in chance.sample(NODES, chance.choice([1, 10, 144])):
+        slots = chance.choice([".", "2*", "2/", "-", "+*", ". .", "2* .", "2/ -", "- -", "- - .", "2/ 2* .", ". . ."])
+        start, rounds = chance.getrandbits(18), chance.choice([0, 1, 5, 40, 300])
+        behind = chance.choice(["drop jump main", "done: jump done", "right a! @ jump main"])
+        lines.append(f"node {name} main: ${start:05X} {rounds} push align {slots} unext {behind}")
     return "\n".join([*lines, "go", ""])
 
 
@@ -106,7 +117,8 @@ def same_by_a_worker(program, head, turns):
 def check(program, heads, seed):
     """Whether a chip is alike in all ways."""
     chance = random.Random(seed)
-    head = chance.choice(heads) if chance.random() < 0.6 else random_head(chance)
+    make = chance.choice([random_head, counting_head])
+    head = chance.choice(heads) if chance.random() < 0.5 else make(chance)
     commands = commands_of(chance)
     told, shown = of_all_nodes(program, head, by_turns(commands))
     if len(shown) < 144 * 9:
