@@ -33,16 +33,19 @@ _ga_bench() {
     fi
     case $((COMP_CWORD > 1))${COMP_WORDS[1]} in
     0*) options='-h --help -V --version' operands=(COMMAND) ;;
-    1one) options='-h --help' operands=(TRIES) ;;
-    1asm) options='-h --help' operands=() ;;
-    1dis) options='--code -h --help' operands=() ;;
-    1boot) options='-h --help' operands=(ROUTE) ;;
-    1run) options='-h --help' operands=(ROUTE WORKERS TURNS) ;;
+    1one) options='-h --help' operands=(TRIES FILE) ;;
+    1asm) options='-h --help' operands=(FILE) ;;
+    1dis) options='--code -h --help' operands=(FILE) ;;
+    1boot) options='-h --help' operands=(ROUTE FILE) ;;
+    1run) options='-h --help' operands=(ROUTE WORKERS TURNS FILE) ;;
     1debug) options='--place --route -h --help' operands=(FILE) ;;
-    1replay) options='-h --help' operands=() ;;
+    1replay) options='-h --help' operands=(FILE) ;;
+    1expand) options='-h --help' operands=(FILE) ;;
     1list) options='--labels -h --help' operands=(FILE) ;;
     1race) options='--place --route --turns --witness -h --help' operands=(FILE) ;;
     1map) options='--place --route --turns -h --help' operands=(FILE) ;;
+    1profile) options='--place --route --turns --from -h --help' operands=(FILE) ;;
+    1trace) options='--place --route --turns --nodes -h --help' operands=(FILE) ;;
     1check) options='-h --help' operands=(FILE...) ;;
     1record) options='--write -h --help' operands=(FILE...) ;;
     1explain) options='-h --help' operands=(NAME) ;;
@@ -52,7 +55,7 @@ _ga_bench() {
     # The operands before this word, without options and their values, show which one it is.
     for ((at = 2; at < COMP_CWORD; at++)); do
         case ${COMP_WORDS[at]} in
-        --code | --route | --turns) [[ ${COMP_WORDS[at + 1]} != = ]] && ((at++)) || ((at += 2)) ;;
+        --code | --route | --turns | --from | --nodes) [[ ${COMP_WORDS[at + 1]} != = ]] && ((at++)) || ((at += 2)) ;;
         *[\<\>]*) ((at++)) ;;
         -?*) ;;
         *) [[ ${operands[0]-} == *... ]] || operands=("${operands[@]:1}") ;;
@@ -69,6 +72,8 @@ _ga_bench() {
     --code) kind=N ;;
     --route) kind=ROUTE ;;
     --turns) kind=N ;;
+    --from) kind=WHERE ;;
+    --nodes) kind=LIST ;;
     esac
     case $kind in
     FILE*)
@@ -80,12 +85,13 @@ _ga_bench() {
         words=$(_ga_bench_route "$word")
         compopt -o nospace 2>/dev/null
         ;;
-    COMMAND) words='one asm dis boot run debug replay list race map check record explain help' ;;
+    COMMAND) words='one asm dis boot run debug replay expand list race map profile trace check record explain help' ;;
     NAME)
         words='BadToken NumberRange BadNode DuplicateNode DuplicateLabel ReservedLabel OpenBracket
-            BadWord NoNode Empty UndefinedLabel OutOfReach UnextAlone TooLong BadRoute
-            NotEdge NotNeighbour Repeated OtherRoot Unreached BadCommand BadAddress
-            BadSide BadCount BadValue NotHeld BadProfile NoGo Source Asm Route Tree Boot
+            BadWord NoNode Empty UndefinedLabel OutOfReach UnextAlone TooLong ReservedName
+            DuplicateName OpenDefinition NoNeighbour UnknownBody TooLarge BadRoute NotEdge
+            NotNeighbour Repeated OtherRoot Unreached BadCommand BadAddress BadSide
+            BadCount BadValue NotHeld BadProfile NoGo Source Asm Route Tree Boot
             EarlyReply differs read NoFile Folder NotAFile Exists NoName BadText BadCode
             write Write memory Memory own take post check input stopped Counted IoRead Rom
             Unmapped MultiWrite carry moved waits held stuck ring race turn place step

@@ -36,26 +36,37 @@ complete -c ga-bench -n __fish_use_subcommand -a boot -d 'Assembles source text,
 complete -c ga-bench -n __fish_use_subcommand -a run -d 'Boots a route or a tree, runs its nodes in threads, and prints them'
 complete -c ga-bench -n __fish_use_subcommand -a debug -d 'Loads source text into a chip, runs commands on it, and prints the replies'
 complete -c ga-bench -n __fish_use_subcommand -a replay -d 'Runs the commands of a replay text, and compares their results'
+complete -c ga-bench -n __fish_use_subcommand -a expand -d 'Expands constants, sides, directions and shared bodies to source text'
 complete -c ga-bench -n __fish_use_subcommand -a list -d 'Lists the words of a source text, with their instructions and their lines in the text'
 complete -c ga-bench -n __fish_use_subcommand -a race -d 'Decides whether the schedule can change what a program does'
 complete -c ga-bench -n __fish_use_subcommand -a map -d 'Shows what each node does and which words are pending, as a picture'
+complete -c ga-bench -n __fish_use_subcommand -a profile -d 'Shows in how many turns each node worked and waited, and the bottleneck'
+complete -c ga-bench -n __fish_use_subcommand -a trace -d 'Writes a run as a waveform in VCD'
 complete -c ga-bench -n __fish_use_subcommand -a check -d 'Runs the commands of a transcript, and compares the replies with those in it'
 complete -c ga-bench -n __fish_use_subcommand -a record -d 'Runs the commands of a transcript, and writes it with their replies'
 complete -c ga-bench -n __fish_use_subcommand -a explain -d 'Explains an error, a state or a term'
 complete -c ga-bench -n __fish_use_subcommand -a help -d 'Print this message or the help of the given subcommand(s)'
 complete -c ga-bench -n '__fish_seen_subcommand_from one' -s h -l help -d 'Print help'
+complete -c ga-bench -n '__fish_seen_subcommand_from one' -F
 complete -c ga-bench -n '__fish_seen_subcommand_from asm' -s h -l help -d 'Print help'
+complete -c ga-bench -n '__fish_seen_subcommand_from asm' -F
 complete -c ga-bench -n '__fish_seen_subcommand_from dis' -l code -x -d 'How many words are code, from 0 to 64; the rest are data. By default all are code'
 complete -c ga-bench -n '__fish_seen_subcommand_from dis' -s h -l help -d 'Print help'
+complete -c ga-bench -n '__fish_seen_subcommand_from dis' -F
 complete -c ga-bench -n '__fish_seen_subcommand_from boot' -s h -l help -d 'Print help'
 complete -c ga-bench -n '__fish_seen_subcommand_from boot; and test (count (commandline -opc)) = 2' -a '(__ga_bench_route)'
+complete -c ga-bench -n '__fish_seen_subcommand_from boot' -F
 complete -c ga-bench -n '__fish_seen_subcommand_from run' -s h -l help -d 'Print help'
 complete -c ga-bench -n '__fish_seen_subcommand_from run; and test (count (commandline -opc)) = 2' -a '(__ga_bench_route)'
+complete -c ga-bench -n '__fish_seen_subcommand_from run' -F
 complete -c ga-bench -n '__fish_seen_subcommand_from debug' -l place -d 'The input is source text, even if it begins with \'profile\'; its words are placed'
 complete -c ga-bench -n '__fish_seen_subcommand_from debug' -l route -x -a '(__ga_bench_route)' -d 'The input is source text, which boots along this route, or a tree of routes'
 complete -c ga-bench -n '__fish_seen_subcommand_from debug' -s h -l help -d 'Print help'
 complete -c ga-bench -n '__fish_seen_subcommand_from debug' -F
 complete -c ga-bench -n '__fish_seen_subcommand_from replay' -s h -l help -d 'Print help'
+complete -c ga-bench -n '__fish_seen_subcommand_from replay' -F
+complete -c ga-bench -n '__fish_seen_subcommand_from expand' -s h -l help -d 'Print help'
+complete -c ga-bench -n '__fish_seen_subcommand_from expand' -F
 complete -c ga-bench -n '__fish_seen_subcommand_from list' -l labels -d 'Writes only the labels: the node, the label and its address, a line each'
 complete -c ga-bench -n '__fish_seen_subcommand_from list' -s h -l help -d 'Print help'
 complete -c ga-bench -n '__fish_seen_subcommand_from list' -F
@@ -70,11 +81,23 @@ complete -c ga-bench -n '__fish_seen_subcommand_from map' -l route -x -a '(__ga_
 complete -c ga-bench -n '__fish_seen_subcommand_from map' -l turns -x -d 'How many turns are made at most, from 0 to 1000000; by default 1000000'
 complete -c ga-bench -n '__fish_seen_subcommand_from map' -s h -l help -d 'Print help'
 complete -c ga-bench -n '__fish_seen_subcommand_from map' -F
+complete -c ga-bench -n '__fish_seen_subcommand_from profile' -l place -d 'The input is source text, even if it begins with \'profile\'; its words are placed'
+complete -c ga-bench -n '__fish_seen_subcommand_from profile' -l route -x -a '(__ga_bench_route)' -d 'The input is source text, which boots along this route, or a tree of routes'
+complete -c ga-bench -n '__fish_seen_subcommand_from profile' -l turns -x -d 'How many turns are made at most, from 0 to 1000000; by default 1000000'
+complete -c ga-bench -n '__fish_seen_subcommand_from profile' -l from -x -d 'Where it begins: with the last node that begins (last, the default), the first (first), or a turn'
+complete -c ga-bench -n '__fish_seen_subcommand_from profile' -s h -l help -d 'Print help'
+complete -c ga-bench -n '__fish_seen_subcommand_from profile' -F
+complete -c ga-bench -n '__fish_seen_subcommand_from trace' -l place -d 'The input is source text, even if it begins with \'profile\'; its words are placed'
+complete -c ga-bench -n '__fish_seen_subcommand_from trace' -l route -x -a '(__ga_bench_route)' -d 'The input is source text, which boots along this route, or a tree of routes'
+complete -c ga-bench -n '__fish_seen_subcommand_from trace' -l turns -x -d 'How many turns are made at most, from 0 to 1000000; by default 1000000'
+complete -c ga-bench -n '__fish_seen_subcommand_from trace' -l nodes -x -d 'The nodes that are shown, as 708,709; by default those that the source text names'
+complete -c ga-bench -n '__fish_seen_subcommand_from trace' -s h -l help -d 'Print help'
+complete -c ga-bench -n '__fish_seen_subcommand_from trace' -F
 complete -c ga-bench -n '__fish_seen_subcommand_from check' -s h -l help -d 'Print help'
 complete -c ga-bench -n '__fish_seen_subcommand_from check' -F
 complete -c ga-bench -n '__fish_seen_subcommand_from record' -l write -d 'Replaces each FILE by its recording'
 complete -c ga-bench -n '__fish_seen_subcommand_from record' -s h -l help -d 'Print help'
 complete -c ga-bench -n '__fish_seen_subcommand_from record' -F
 complete -c ga-bench -n '__fish_seen_subcommand_from explain' -s h -l help -d 'Print help'
-complete -c ga-bench -n '__fish_seen_subcommand_from explain' -a 'BadToken NumberRange BadNode DuplicateNode DuplicateLabel ReservedLabel OpenBracket BadWord NoNode Empty UndefinedLabel OutOfReach UnextAlone TooLong BadRoute NotEdge NotNeighbour Repeated OtherRoot Unreached BadCommand BadAddress BadSide BadCount BadValue NotHeld BadProfile NoGo Source Asm Route Tree Boot EarlyReply differs read NoFile Folder NotAFile Exists NoName BadText BadCode write Write memory Memory own take post check input stopped Counted IoRead Rom Unmapped MultiWrite carry moved waits held stuck ring race turn place step slot follower profile'
-complete -c ga-bench -n '__fish_seen_subcommand_from help' -a 'one asm dis boot run debug replay list race map check record explain help'
+complete -c ga-bench -n '__fish_seen_subcommand_from explain' -a 'BadToken NumberRange BadNode DuplicateNode DuplicateLabel ReservedLabel OpenBracket BadWord NoNode Empty UndefinedLabel OutOfReach UnextAlone TooLong ReservedName DuplicateName OpenDefinition NoNeighbour UnknownBody TooLarge BadRoute NotEdge NotNeighbour Repeated OtherRoot Unreached BadCommand BadAddress BadSide BadCount BadValue NotHeld BadProfile NoGo Source Asm Route Tree Boot EarlyReply differs read NoFile Folder NotAFile Exists NoName BadText BadCode write Write memory Memory own take post check input stopped Counted IoRead Rom Unmapped MultiWrite carry moved waits held stuck ring race turn place step slot follower profile'
+complete -c ga-bench -n '__fish_seen_subcommand_from help' -a 'one asm dis boot run debug replay expand list race map profile trace check record explain help'

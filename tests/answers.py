@@ -2,8 +2,8 @@
 is a function here, under `@subcommand`. The other tests use the recorded cases of each of SUBCOMMANDS.
 
 A text has one meaning or one first fault, and so have a command line and a command. This file computes them after
-docs/FORMATS.md, with tests/assembler.py, outputs.py and sessions.py, which share nothing with the program. So all
-refusals are compared to the byte, and all outputs of `asm`, `list`, `dis` and `boot`. These files have no chip: the
+docs/FORMATS.md, with tests/assembler.py, expander.py, outputs.py and sessions.py, which share nothing with the program.
+So all refusals are compared to the byte, and all outputs of `asm`, `expand`, `list`, `dis` and `boot`. These files have no chip: the
 output of a run must have its form, and must agree with other runs of the program.
 
 | Of | The relation |
@@ -16,7 +16,9 @@ output of a run must have its form, and must agree with other runs of the progra
 | `record` | `check` accepts its transcript, and `record` writes that again as it is |
 | `check` | it compares with the replies of `record` |
 | `race` | `debug` makes as many steps in its turns, and `check` accepts its witness |
+| `trace` | `record` shows the same in the first turns, made by tries, and the same nodes behind `run` |
 | `map` | `record` has it as the reply to `map` behind `run` |
+| `profile` | `record` makes the same tries, one after the other. tests/profiles.py works the text out from their replies |
 | `replay` of profile 2 | it compares with the replies of `debug` |
 | `replay` of profile 1 | it accepts the lines before one that differs, and refuses the last one changed |
 """
@@ -28,18 +30,27 @@ import re
 from collections import namedtuple
 
 from assembler import Fault, images_of
+from expander import expanded_text, expansion
 from operands import COMMANDS, IN_REPLAYS, command_of
 from outputs import (
     asm_output, boot_output, dis_output, judge_reached, labels_output, list_output, routes_of, rows_of, tree_of,
 )  # fmt: skip
+from profiles import PROFILE, Run, TooLong, profile_text
 from replies import STACKS, agree_in_other_words, agrees, has_form, ledgers, other_words, registers
 from sessions import Transcript, head_of, text_of
+from vcd import NODES, Session, Waveform, Wrong, commands_of, compare, compare_end, demand
 
 ROOT = os.path.dirname(os.path.dirname(os.path.abspath(__file__)))
 LIMIT = 1048576
 # A run is compared with one of at most this many turns, or tries.
 MOST_TURNS, MOST_TRIES = 2000, 3000
+# The profile of a run of at most this many turns is worked out.
+MOST_PROFILED = 300
 HELP = {"-h", "--help", "-V", "--version"}
+# The subcommands of which a word that names no file is a wrong one.
+DEMANDING = {"one", "asm", "dis", "boot", "run", "replay"}
+# The subcommands that show the line of a fault.
+SHOWING = {"expand", "list", "race", "map", "profile", "trace", "check", "record"}
 # The status, the output, and the text on standard error; no status if no answer came in time.
 Answer = namedtuple("Answer", "status output error")
 
@@ -53,8 +64,9 @@ def recorded_cases():
 
 
 def meanings():
-    """What each name of a fault means, as the recorded cases of `list` and `check` show it."""
-    shown = [case.get("stderr", "").splitlines() for case in CASES if case["args"][:1] in (["list"], ["check"])]
+    """What each name of a fault means, as the recorded cases of `expand`, `list` and `check` show it."""
+    kinds = (["expand"], ["list"], ["check"])
+    shown = [case.get("stderr", "").splitlines() for case in CASES if case["args"][:1] in kinds]
     return {lines[0].split()[-1]: lines[-1] for lines in shown if len(lines) > 2}
 
 
@@ -62,10 +74,6 @@ CASES = recorded_cases()
 MEANINGS = meanings()
 # The recorded texts of `explain`, by the names behind it.
 EXPLAINED = {tuple(it["args"][1:]): it["stdout"] for it in CASES if it["args"][:1] == ["explain"] and it["status"] == 0}
-
-
-class Wrong(Exception):
-    """What is wrong with an answer."""
 
 
 # The arguments of a subcommand: values, which are numbers of a range, and texts; and options, which have a number of a
@@ -105,7 +113,9 @@ class Job:
                 if not equals and (not rest or re.match("-.", rest[0])):
                     raise ValueError("an option without its value")
                 kind, text = self.kind.options[option], value if equals else rest.pop(0)
-                self.options[option] = text if kind == "ROUTE" else number_in(kind, text)
+                if kind == "WHERE" and text not in ("last", "first"):
+                    number_in(range(1000001), text)
+                self.options[option] = text if isinstance(kind, str) else number_in(kind, text)
             elif equals:
                 raise ValueError("an option with a value that has none")
             else:
@@ -123,14 +133,23 @@ class Job:
         if "NAME" in kinds and self.values and self.values[0] not in EXPLAINED[()].split():
             raise ValueError("no such name")
 
+    def file(self):
+        """The file that is read in place of standard input, or None."""
+        given = self.kind.values[-1:] == ["FILE"] and len(self.values) == len(self.kind.values)
+        return self.values[-1] if given and self.values[-1] not in ("-", "/dev/stdin") else None
+
+    def demand_file(self):
+        if self.name in DEMANDING and self.file() is not None and not os.path.exists(self.file()):
+            raise ValueError("a word that names no file")
+
     def input_of(self, data):
         """The text that is read, if standard input has this data."""
-        if self.kind.values == ["FILE"] and self.values not in ([], ["-"], ["/dev/stdin"]):
-            if os.path.isdir(self.values[0]):
+        if (file := self.file()) is not None:
+            if os.path.isdir(file):
                 raise Fault("input Folder")
-            if not os.path.exists(self.values[0]):
+            if not os.path.exists(file):
                 raise Fault("input NoFile")
-            with open(self.values[0], "rb") as it:
+            with open(file, "rb") as it:
                 data = it.read()
         if len(data) > LIMIT:
             raise Fault("input TooLong")
@@ -173,9 +192,9 @@ def meaning_of(name, text):
 
 
 def reported(job, fault, text):
-    """The expected standard error: the fault, and behind it what `list`, `check` and `record` show of the text."""
+    """The expected standard error: the fault, and behind it what some subcommands show of the text."""
     shown = fault.behind
-    if job.kind.values == ["FILE"] and fault.place:
+    if job.name in SHOWING and fault.place:
         line, column = fault.place
         rows = [*text.split("\n"), ""]
         row = rows[line - 1].removesuffix("\r" if line < len(rows) - 1 else "")
@@ -191,11 +210,23 @@ def reported(job, fault, text):
 # the output of one, or None if its input would be too long. What no other run shows is taken from the answer.
 
 
-@subcommand()
+@subcommand("FILE")
 def asm(ask, job, text, answer):
     images = images_of(text)
     ask(["list"], text, list_output(images))
     return asm_output(images)
+
+
+@subcommand("FILE")
+def expand(ask, job, text, answer):
+    """The text of the expansion. If it has a program, it expands to itself."""
+    source = expanded_text(expansion(text))
+    try:
+        images_of(source)
+    except Fault:
+        return source
+    ask(["expand"], source, source)
+    return source
 
 
 @subcommand("FILE", labels=None)
@@ -205,7 +236,7 @@ def list_(ask, job, text, answer):
     return labels_output(images) if job.options else list_output(images)
 
 
-@subcommand(code=range(65))
+@subcommand("FILE", code=range(65))
 def dis(ask, job, text, answer):
     words = words_of(text)
     code = job.options.get("code", len(words))
@@ -216,7 +247,7 @@ def dis(ask, job, text, answer):
     return source
 
 
-@subcommand("ROUTE")
+@subcommand("ROUTE", "FILE")
 def boot(ask, job, text, answer):
     return boot_output(*tree_and_images(job.values[0], text))
 
@@ -228,7 +259,7 @@ def tree_and_images(route, text):
     return parents, images
 
 
-@subcommand(range(1000001))
+@subcommand(range(1000001), "FILE")
 def one(ask, job, text, answer):
     words = words_of(text)
     must_have_form(answer, [registers(0)])
@@ -242,9 +273,9 @@ def one(ask, job, text, answer):
     return ask(["debug"], session).partition("\n")[2]
 
 
-@subcommand("ROUTE", range(1, 145), range(1000001))
+@subcommand("ROUTE", range(1, 145), range(1000001), "FILE")
 def run(ask, job, text, answer):
-    route, workers, turns = job.values
+    route, workers, turns = job.values[:3]
     parents, _ = tree_and_images(route, text)
     if workers > len(parents):
         raise Fault(f"plan Empty {len(parents)}")
@@ -368,6 +399,13 @@ def head_in(job, text):
     return f"profile 2\n{line}\n{source}\ngo\n"
 
 
+def session_in(job, text):
+    """The head, and the commands of a session behind it."""
+    head = head_in(job, text)
+    is_session = not {"place", "route"} & {*job.options} and text.startswith("profile")
+    return head, [it.text for it in Transcript(text).exchanges] if is_session else []
+
+
 # A line of a replay text behind `go`, with its number and its command.
 Step = namedtuple("Step", "line text command")
 
@@ -375,15 +413,32 @@ Step = namedtuple("Step", "line text command")
 @subcommand("FILE", turns=range(1000001), place=None, route="ROUTE")
 def map_(ask, job, text, answer):
     """The reply to `map` after turns until rest, behind the commands of a session."""
-    head, commands = head_in(job, text), []
-    if not {"place", "route"} & {*job.options} and text.startswith("profile"):
-        commands = [it.text for it in Transcript(text).exchanges]
+    head, commands = session_in(job, text)
     turns = job.options.get("turns", 1000000)
     session = ask(["record"], head + text_of([*commands, f"run {turns}", "map"], "> "))
     return answer.output if session is None else text_of(transcript_of(session).exchanges[-1].reply)
 
 
-@subcommand()
+@subcommand("FILE", turns=range(1000001), place=None, route="ROUTE", **{"from": "WHERE"})
+def profile(ask, job, text, answer):
+    """What each node did in turns until rest, by the tries of a run. Of a run of many turns it must have its form."""
+
+    def replies_to(head, commands):
+        session = ask(["record"], head + text_of(commands, "> "))
+        return None if session is None else [it.reply for it in transcript_of(session).exchanges]
+
+    head, commands = session_in(job, text)
+    try:
+        run = Run(replies_to, head, commands, job.options.get("turns", 1000000))
+        if run.turns <= MOST_PROFILED:
+            return profile_text(run, job.options.get("from", "last"))
+    except TooLong:
+        pass
+    must_have_form(answer, PROFILE)
+    return answer.output
+
+
+@subcommand("FILE")
 def replay(ask, job, text, answer):
     head = head_of(text, ["profile 2", "profile 1"])
     steps = [Step(line, it, command_of(it, IN_REPLAYS)) for line, it in enumerate(head.lines, head.go + 1) if it]
@@ -429,6 +484,34 @@ def judge_old(ask, text, steps, answer):
         ask(["replay"], text_of(front), error=f"ga-bench: replay differs {last.line}\n")
 
 
+@subcommand("FILE", nodes="LIST", turns=range(1000001), place=None, route="ROUTE")
+def trace(ask, job, text, answer):
+    """A waveform of turns until rest, behind the commands of a session."""
+    head, commands = session_in(job, text)
+    images = head_of(head).images
+    nodes = [f"{node:03}" for node in sorted(images)]
+    if "nodes" in job.options:
+        nodes = sorted({*job.options["nodes"].split(",")})
+    if not {*nodes} <= {*NODES}:
+        raise Fault("route BadRoute")
+    wave = Waveform(answer.output)
+    demand(wave.nodes() == nodes, "it shows other nodes")
+    front = head + text_of(commands, "> ")
+    shown = [f"{view} {node}" for node in nodes for view in ("regs", "sides")]
+    session = ask(["record"], front + text_of([f"run {job.options.get('turns', 1000000)}", *shown], "> "))
+    if session is None:
+        return answer.output
+    run, *replies = [it.reply for it in transcript_of(session).exchanges[len(commands) :]]
+    demand(run[0].startswith(f"turns {wave.end} "), f"it has {wave.end} turns, and there are other: {run[0]}")
+    compare_end(wave, nodes, replies)
+    turns = min(wave.end, MOST_TRIES // len(NODES))
+    session = ask(["record"], front + text_of(commands_of(nodes, turns), "> "))
+    if session is not None:
+        replies = [it.reply for it in transcript_of(session).exchanges[len(commands) :]]
+        compare(wave, Session(replies, images, nodes), turns)
+    return answer.output
+
+
 @subcommand("NAME")
 def explain(ask, job, text, answer):
     if tuple(job.values) in EXPLAINED:
@@ -458,6 +541,7 @@ def judge(ask, args, data, answer):
         return
     try:
         job, text = Job(args), ""
+        job.demand_file()
     except ValueError:
         if answer.status != 2 or answer.output or not answer.error:
             raise Wrong("expected status 2") from None

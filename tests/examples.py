@@ -5,6 +5,8 @@ A worked program is three files in a folder of examples/:
   NAME.source      the source text
   NAME.transcript  a session with its replies, with this source in its head
   NAME.replay      a text of `replay`, with this source in its head
+If its nodes share code, there is a fourth one:
+  NAME.larger      a text that expands to the words of the source
 Of each, or of those that are named, `check` accepts the transcript, and `record` writes it as it is; the replay text
 holds; both have the source; and the row of docs/EXAMPLES.md has the program's nodes, words, steps and verdict. Each other
 transcript of the folder whose name begins with NAME is checked and recorded too.
@@ -548,6 +550,9 @@ def kept(bench, name):
     what = f"{name}, its nodes, words, steps and verdict in docs/EXAMPLES.md"
     verdict = verdict_of("\n".join(bench.run("race", transcript)))
     bench.same(what, row and " ".join(row.groups()), f"{len(images)} {words} {steps} {verdict}")
+    if glob.glob(f"{ROOT}/examples/*/{name}.larger"):
+        expanded = "\n".join([*bench.run("expand", read(name, "larger")), ""])
+        bench.same(f"{name}, the words of {name}.larger", bench.images(expanded), images)
 
 
 def verdict_of(text):

@@ -40,7 +40,7 @@ HARMLESS = {"own", "moved"} | TERMS
 # What an output has in place of a name.
 # The files of crates/ that have the names of replies and messages.
 NAMING = [
-    "ga_debug/src/error.rt", "ga_debug/src/replay_error.rt", "ga_jobs/src/fault.rt", "ga_prompt/src/answer.rt",
+    "ga_debug/src/error.rt", "ga_debug/src/replay_error.rt", "ga_expand/src/error.rt", "ga_jobs/src/fault.rt", "ga_prompt/src/answer.rt",
     "ga_prompt/src/refusal.rt", "ga_transcript/src/error.rt",
 ]  # fmt: skip
 SHOWN = {"carry": "C 1", "turn": "moved", "place": "at fetch", "step": "steps", "slot": "slot2"}
@@ -69,7 +69,7 @@ def names_of_code():
 def names_of_pages():
     """Returns the names that the pages have in their tables of faults, needs, stops, outcomes and the carry."""
     names = set()
-    headings = ["Faults of source text", "Faults of layout", "Routes", "Trees", "Plans", "Sessions", "Replay texts"]
+    headings = ["Faults of source text", "Faults of layout", "Faults of larger source text", "Routes", "Trees", "Plans", "Sessions", "Replay texts"]
     for heading in headings:
         for cell in rows("FORMATS.md", heading):
             names.update(re.findall(r"^`([A-Z][a-z]\w*)(?: [A-Z]+)?`$", cell))
@@ -182,7 +182,8 @@ def main():
     checks.append(("names of the pages that are missing", sorted(expected - set(names))))
     checks.append(("names of the code that are missing", sorted(names_of_code() - set(names))))
     checks.append(("terms that the glossary lacks", sorted(TERMS - glossary())))
-    of_texts = {*rows("FORMATS.md", "Faults of source text"), *rows("FORMATS.md", "Faults of layout")}
+    headings = ["Faults of source text", "Faults of layout", "Faults of larger source text"]
+    of_texts = {cell for heading in headings for cell in rows("FORMATS.md", heading)}
     of_texts = {cell.strip("`") for cell in of_texts if re.fullmatch(r"`[A-Z]\w+`", cell)}
     checks.append(("faults without a meaning", sorted(name for name in of_texts if not MEANINGS.get(name))))
     with open(CASES, encoding="utf-8") as lines:

@@ -46,6 +46,7 @@ ROUTES = ["708,709", "708,709,710/708,608/708,709,609", "708/708", "708,709/000,
 KINDS = [kind.encode().split() for kind in (
     "@p a! ; ex unext @+ @b @ !p !+ !b ! +* 2* 2/ - + and or drop dup pop over a . push b!", "jump call next if -if",
     "right down left up io rdlu warm", "0 1 2 3 5 10 17 $1D5 $3FFFF", "708 709 710 608 609 017 300", "r d l u",
+    "const body end use to north east south west", "-1 %101 'A' right|left",
     "000 001 002 003 008 03F 041 0A9 175", "moved waits held stopped", "regs mem ports node sides depth", "break clear until",
     "step trace", "where nodes map breaks", "P A B R S T C io steps at", "none IoRead Rom Unmapped", "written read",
 )]  # fmt: skip
@@ -81,6 +82,7 @@ def pools():
         if name in ("debug", "replay"):
             made["check"].append((["check"], as_transcript(name, data, output)))
             made["record"].append((["record"], as_transcript(name, data, b"")))
+            made["trace"].append((["trace", "--turns", "100"], as_transcript(name, data, b"")))
     return {name: [pool for pool in (recorded[name], made[name]) if pool] for name in recorded}
 
 
@@ -143,8 +145,8 @@ CHANGES = [cut, doubled, other_bytes, swapped_lines, lines_of_another, other_num
 
 
 def few_turns(args, data):
-    """The same with at most MOST_TURNS turns of sessions in all, and 200 of `run`. But `watch` and `trace` make up to 1,000,000
-    turns, if other nodes move, so at most two of them are left."""
+    """The same with at most MOST_TURNS turns of sessions in all, and 200 of `run` and of waveforms. But the commands `watch` and
+    `trace` make up to 1,000,000 turns, if other nodes move, so at most two of them are left."""
     left = MOST_TURNS
 
     def fewer(found):
@@ -166,10 +168,13 @@ def few_turns(args, data):
     data = re.sub(rb"((?:turn|step [^ \n]+|trace [^ \n]+) )(\d{1,7})(?!\d)", fewer, data)
     data = re.sub(rb"(until [^ \n]+ [^ \n]+(?: x\d*)?)( \d{1,7})?(?=\n|$)", fewer_or_all, data)
     data = re.sub(rb"(> run)( \d{1,7})?(?=\n|$)", fewer_or_all, data)
-    if args[:1] in (["race"], ["map"]) and not any(it.startswith("--turns") for it in args):
+    if args[:1] in (["race"], ["map"], ["profile"]) and not any(it.startswith("--turns") for it in args):
         args = [args[0], "--turns", str(MOST_TURNS), *args[1:]]
     if args[:1] == ["run"] and len(args) > 3 and args[3].isdecimal() and int(args[3]) <= 1000000:
         args = [*args[:3], str(min(int(args[3]), 200)), *args[4:]]
+    if args[:1] == ["trace"]:
+        turns = [] if any(it.startswith("--turns") for it in args) else ["--turns", "200"]
+        args = ["trace", *turns, *(re.sub("(?<![^=])([0-9]{4,6}|1000000)$", "200", it) for it in args[1:])]
     return args, data
 
 

@@ -22,7 +22,7 @@ sys.path.insert(0, f"{ROOT}/scripts")
 import from_help  # noqa: E402
 
 EDGE = {f"{row}{column:02}" for row in range(8) for column in range(18) if row in (0, 7) or column in (0, 17)}
-COMMANDS = "one asm dis boot run debug replay list race map check record explain help".split()
+COMMANDS = "one asm dis boot run debug replay expand list race map profile trace check record explain help".split()
 # What is completed for a line: all of it, and for a file the names in a folder with these.
 FILES = ["first.source", "two words.source", "other.text"]
 COMPLETED = {
@@ -30,6 +30,8 @@ COMPLETED = {
     "ga-bench re": {"replay", "record"},
     "ga-bench help di": {"dis"},
     "ga-bench race --p": {"--place"},
+    "ga-bench trace --no": {"--nodes"},
+    "ga-bench trace --nodes ": set(),
     "ga-bench record --": {"--write", "--help"},
     "ga-bench list fi": {"first.source"},
     "ga-bench check first.source o": {"other.text"},
@@ -56,7 +58,10 @@ COMPLETED = {
     "ga-bench asm <fi": {"first.source"},
     "ga-bench asm <": {*FILES},
     "ga-bench check first.source > o": {"other.text"},
-    "ga-bench asm ": set(),
+    "ga-bench asm ": {*FILES},
+    "ga-bench one ": set(),
+    "ga-bench one 5 t": {"two words.source"},
+    "ga-bench run 708 1 200 fi": {"first.source"},
 }  # fmt: skip
 
 # What bash runs for a line that ends in a Tab: its arguments, and the name of its input.

@@ -13,8 +13,7 @@ screen, of which those that begin with '> ' are typed there, one after the other
 The commands of a page are run in order by one bash, in a folder of their own in which ./ga-bench is PROGRAM
 and examples/ is a copy of the repository's. Standard input is empty.
 
-A command that can't be run is in NOT_RUN below, with the reason. The last line that is printed is
-'N passed, M failed', and the exit status is 0 if M is 0 and N isn't.
+The last line that is printed is 'N passed, M failed', and the exit status is 0 if M is 0 and N isn't.
 """
 import difflib
 import glob
@@ -29,12 +28,6 @@ import tempfile
 
 SECONDS = 120
 ROOT = os.path.dirname(os.path.dirname(os.path.abspath(__file__)))
-
-# Commands that are shown and not run: the page and the command, to the character, and why.
-NOT_RUN = {}
-
-# Tools that a command may name and that aren't on every machine. Without its tool a command isn't run.
-TOOLS = ["m4"]
 
 PROMPT = re.compile(r"\./ga-bench debug [^<|>&]+$")
 
@@ -123,15 +116,7 @@ def run(program, texts):
         return came
 
 
-def why_not(page, text):
-    """Returns why this command isn't run, or None if it is."""
-    for tool in TOOLS:
-        if re.search(rf"(^|[|;&]\s*){tool}\b", text) and not shutil.which(tool):
-            return f"{tool} isn't on PATH"
-    return NOT_RUN.get((page, text))
-
-
-def check(program, page, unused):
+def check(program, page):
     """Runs a page, prints what fails, and returns how many commands passed and failed."""
     with open(f"{ROOT}/{page}", encoding="utf-8") as text:
         lines = text.read().split("\n")
@@ -139,11 +124,8 @@ def check(program, page, unused):
     for block in blocks(lines):
         for number, text, wanted, wrong in commands(block):
             seen.update(number for number, _ in block)
-            unused.discard((page, text))
             if wrong:
                 failures.append((number, text, [wrong]))
-            elif why := why_not(page, text):
-                print(f"{page}:{number}: not run, {why}: $ {text}")
             else:
                 found.append((number, text, wanted.encode()))
     for number, line in enumerate(lines, 1):
@@ -174,12 +156,9 @@ def main(program, *pages):
         print(f"{program} --version failed")
         print("0 passed, 1 failed")
         return 1
-    unused = set() if pages else set(NOT_RUN)
     pages = pages or ["README.md", *sorted(os.path.relpath(it, ROOT) for it in glob.glob(f"{ROOT}/docs/*.md"))]
-    counts = [check(program, page, unused) for page in pages]
-    for page, text in sorted(unused):
-        print(f"FAILED NOT_RUN: no page {page} shows $ {text}")
-    passed, failed = sum(it[0] for it in counts), sum(it[1] for it in counts) + len(unused)
+    counts = [check(program, page) for page in pages]
+    passed, failed = sum(it[0] for it in counts), sum(it[1] for it in counts)
     if not passed + failed:
         failed = 1
         print("no command was found")

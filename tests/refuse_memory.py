@@ -79,6 +79,7 @@ CALLS = [
     (["words_text"], b""),
     (["push_words"], b""),
     (["tokens"], b""),
+    (["origin"], b""),
     (["write_frame"], b""),
     (["read_frames"], b""),
     (["feed"], b""),

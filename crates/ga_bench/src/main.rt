@@ -39,6 +39,7 @@ fn main(rt: HostRuntime) -> ExitCode {
         Ok(Job::Rewrite { files }) => rewrite_status(&rt, &files),
         Ok(job) => match (job.several_files(), job.file()) {
             (Some(files), _) => check_status(&rt, &mut rt.reader(), files),
+            (None, Some(name)) if is_wrong_word(&rt, name, &job) => refuse_missing(&rt),
             (None, Some(name)) => serve_file(&rt, name, &job),
             (None, None) => {
                 let mut reader = rt.reader();
@@ -64,18 +65,35 @@ fn talk_status<Rt: AllocGlobal + Print + Eprint + Files, R: Read + IsTerminal>(
 ) -> u8 {
     match talk_about(rt, reader, loading, name) {
         Ok(()) => status(&Ok(Ending::Done)),
-        // A word that names no file is one that the command line may not have.
-        Err(ServeError::Input(InputFault::NoFile)) => {
-            refuse(
-                rt,
-                refusal(rt.alloc(), InvalidValue, "there is no such FILE"),
-            )
-        }
+        Err(ServeError::Input(InputFault::NoFile)) => refuse_missing(rt),
         Err(fault) => {
             let _ = eprintln!(rt; "ga-bench: {fault}");
             status(&Err(fault))
         }
     }
+}
+
+/// Refuses a command line with a word that names no file. Answers the exit status.
+fn refuse_missing<Rt: AllocGlobal + Print + Eprint>(rt: &Rt) -> u8 {
+    refuse(
+        rt,
+        refusal(rt.alloc(), InvalidValue, "there is no such FILE"),
+    )
+}
+
+/// Whether a word names no file, and so is one that the command line of this job may not have.
+/// Other jobs report it as a fault of their input.
+fn is_wrong_word<R: Files>(rt: &R, name: &str, job: &Job) -> bool {
+    let is_of_job = matches!(
+        job,
+        Job::One { .. }
+            | Job::Asm { .. }
+            | Job::Dis { .. }
+            | Job::Boot { .. }
+            | Job::Run { .. }
+            | Job::Replay { .. }
+    );
+    is_of_job && matches!(fs::metadata(rt, name), Err(error) if error.kind() == NotFound)
 }
 
 /// Talks with the session of a file.

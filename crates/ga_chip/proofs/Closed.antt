@@ -1,6 +1,6 @@
 -- The nodes of a closed set are stuck.
 use Rattle.std.proofs.Common.{◌≡◌, ◌≢◌, ℕ, ◌==◌, Bool, true, false, List, [], ◌∷◌, ◌++◌, ◌⊎◌, inl, inr, length, set, Option, Some, None, refl, sym, ap, ap₂, ◌∙◌, subst, arith, append-nil}
-use Rattle.std.specs.Prelude.{◌||◌, not, is_some, option_map, if◌then◌else◌}
+use Rattle.std.specs.Prelude.{◌||◌, not, is_some, if◌then◌else◌}
 use Rattle.std.specs.List.{list_all}
 use Rattle.std.specs.Option.{option_and_then, option_map_or}
 use Rattle.std.proofs.lemmas.Bool.{and_from, and_parts, cases_eq, eq-eqb, eqb-true, false≢true, not-true}
@@ -20,8 +20,8 @@ use Rattle.ga_node.specs.declared.need.Need.TheVariants as need
 use Rattle.ga_chip.specs.declared.outcome.Outcome.{Outcome}
 use Rattle.ga_chip.specs.declared.outcome.Outcome.TheVariants.{Held, Moved, Stopped, Waits}
 use Rattle.ga_chip.specs.Part.{Part, Asks, Nothing, Own, Feed, Post, Take, Check, after, asks, asks_by, at_cell, input_of, looked_at, take_from}
-use Rattle.ga_chip.specs.Chip.{Chip, cells_after, found_by, part_of, pending_in, state_of, tried}
-use Rattle.ga_chip.specs.Run.{Event, Move, happened, if_moved, is_open, move_in, moves, moves_of, piece_of, pieces, ran, words_left}
+use Rattle.ga_chip.specs.Chip.{Chip, cells_after, found_by, part_of, pending_in, tried}
+use Rattle.ga_chip.specs.Run.{Event, Move, happened, if_moved, is_open, move_in, moves, moves_of, piece_of, pieces, words_left}
 use Rattle.ga_chip.specs.Legal.{IsLegal}
 use Rattle.ga_chip.specs.Stuck.{IsClosed, IsUnfed, LeavesStuck, StandsStill, Stuck, is_dry, is_full, is_shut, is_stuck, is_stuck_by, is_unread}
 use Rattle.ga_chip.proofs.Asked.{among_looked}

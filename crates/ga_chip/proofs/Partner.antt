@@ -1,10 +1,9 @@
 -- The neighbour with which a try has to do, by what the try asks for.
-use Rattle.std.proofs.Common.{◌≡◌, ℕ, List, [], ◌∷◌, Option, Some, None, ap, refl, sym}
+use Rattle.std.proofs.Common.{◌≡◌, ℕ, List, [], ◌∷◌, Option, Some, None, ap, refl}
 use Rattle.std.specs.Option.{option_and_then}
 use Rattle.ga_place.specs.Cell.{cell_of, read_cell}
 use Rattle.ga_place.specs.Side.{neighbour_of, one_side}
 use Rattle.ga_place.specs.declared.side.Side.{Side}
-use Rattle.ga_place.specs.declared.side.Sides.{Sides}
 use Rattle.ga_node.specs.declared.need.Need.{Need}
 use Rattle.ga_node.specs.declared.need.Need.TheVariants as need
 use Rattle.ga_chip.specs.Asks.{told_as}

@@ -8,7 +8,6 @@ use Rattle.std.specs.Option.{option_and_then}
 use Rattle.std.proofs.lemmas.Bool.{cases_eq, eqb-true}
 use Rattle.ga_place.specs.declared.side.Side.{Side}
 use Rattle.ga_place.proofs.SideLemmas.{neighbour_of-IsNodeName}
-use Rattle.std.proofs.lemmas.Grind.{common_steps}
 use Rattle.ga_place.specs.Cell.{index_of, cell_of}
 use Rattle.ga_place.specs.Node.{is_edge}
 use Rattle.ga_chip.specs.Part.{Part, count_at}

@@ -57,8 +57,9 @@ impl Chip {
         ensures { IfOk result (λ chip. chip ≡ reset_chip) }
     {
         let mut parts = Vec::with_capacity(alloc, 144)?;
+        let first = NodePart::reset(0);
         for index in 0..144 {
-            parts.push(NodePart::reset(index))?;
+            parts.push(first.reset_as(index))?;
         }
         let cells = Vec::from_array(alloc, [None; 524])?;
         Ok(Chip {

@@ -3,7 +3,7 @@ ghost use Rattle.ga_place.specs.Cell.{cell_of, index_of, name_at, read_cell};
 ghost use Rattle.ga_place.specs.Side.{is_among, neighbour_of, one_side};
 ghost use Rattle.ga_place.specs.declared.side.Side.{Side};
 ghost use Rattle.ga_node.specs.Need.{is_check, need_of, takes_at};
-ghost use Rattle.ga_node.specs.State.{is_fetch};
+ghost use Rattle.ga_node.specs.State.{is_fetch, reset_state};
 ghost use Rattle.ga_node.specs.declared.need.Need.TheVariants as need;
 ghost use Rattle.ga_chip.specs.Part.{Check, Nothing, Own, Post, Take, after, after_asked, asks, asks_by, at_cell, count_at, input_of, looked_at, stepped, take_from};
 ghost use Rattle.ga_chip.specs.Asks.{told_as};
@@ -97,15 +97,33 @@ impl NodePart {
         requires { index < 144 }
         ensures { result ≡ reset_part (name_at index) }
     {
-        let node = Node::at(index);
+        NodePart::with_reset_state(index, NodeState::reset(Node::at(index)))
+    }
+
+    /// The node at an index in order of name, after reset, made of another one after reset.
+    pub(crate) fn reset_as(&self, index: usize) -> Self
+        requires index { index < 144 }
+        requires reset { (name : ℕ) × (self.now ≡ reset_part name) }
+        ensures { result ≡ reset_part (name_at index) }
+    {
+        NodePart::with_reset_state(index, self.state.reset_as(Node::at(index)))
+    }
+
+    /// The node at an index in order of name, of which this is the state after reset.
+    #[inline(always)]
+    fn with_reset_state(index: usize, state: NodeState) -> Self
+        requires index { index < 144 }
+        requires state { state ≡ reset_state (name_at index) }
+        ensures { result ≡ reset_part (name_at index) }
+    {
         NodePart {
             watch: Watch::new(),
-            state: NodeState::reset(node),
+            state,
             written: Counts::new(),
             read: Counts::new(),
             stream: None,
             opened: false,
-            ports: Ports::new(node),
+            ports: Ports::new(Node::at(index)),
         }
     }
 

@@ -3,30 +3,35 @@ use Rattle.std.proofs.Common.{◌≡◌, ◌<◌, Global, String, Vec, length, m
 use Rattle.std.specs.Prelude.{codes}
 use Rattle.clap.proofs.OnLiterals.{clap_on_literals}
 use Rattle.clap.specs.Words.{takes}
-use Rattle.ga_jobs.specs.declared.Job.TheVariants.{One, Dis, Boot, Race, Map, Check, Record, Rewrite, Explain}
+use Rattle.ga_jobs.specs.declared.Job.TheVariants.{One, Asm, Dis, Boot, Race, Map, Trace, Check, Record, Rewrite, Explain}
 use Rattle.ga_jobs.specs.declared.race.Loading.TheVariants.{Any}
 use Rattle.ga_explain.specs.declared.topic.Topic.{Topic}
 use Rattle.ga_command_line.specs.Explain.{IsOfTable}
 use Rattle.ga_command_line.specs.CommandLine.{IsRight, bench_command}
 use Rattle.ga_command_line.proofs.Opened.{whole_command}
 
-right_line : IsRight (codes "ga-bench" ∷ codes "one" ∷ codes "5" ∷ []) (One 5)
+right_line : IsRight (codes "ga-bench" ∷ codes "one" ∷ codes "5" ∷ []) (One 5 None)
 unfolding whole_command clap_on_literals
-right_line = (refl, (refl, ((lit< tt, (lit< tt, tt)), refl)), lit≤ tt)
+right_line = (refl, (refl, (((lit< tt, (lit< tt, tt)), refl), refl)), lit≤ tt)
 
 code_line : IsRight
-    (codes "ga-bench" ∷ codes "dis" ∷ codes "--code" ∷ codes "2" ∷ []) (Dis (Some 2))
+    (codes "ga-bench" ∷ codes "dis" ∷ codes "--code" ∷ codes "2" ∷ []) (Dis (Some 2) None)
 unfolding whole_command clap_on_literals
-code_line = (refl, (refl, ((lit< tt, (lit< tt, tt)), refl)), lit≤ tt)
+code_line = (refl, (refl, (((lit< tt, (lit< tt, tt)), refl), refl)), lit≤ tt)
 
-all_code_line : IsRight (codes "ga-bench" ∷ codes "dis" ∷ []) (Dis None)
+all_code_line : IsRight (codes "ga-bench" ∷ codes "dis" ∷ []) (Dis None None)
 unfolding whole_command clap_on_literals
-all_code_line = (refl, (refl, refl), tt)
+all_code_line = (refl, (refl, (refl, refl)), tt)
 
 boot_line : (route : String Global) → string_bytes route ≡ codes "708,709"
-    → IsRight (codes "ga-bench" ∷ codes "boot" ∷ codes "708,709" ∷ []) (Boot route)
+    → IsRight (codes "ga-bench" ∷ codes "boot" ∷ codes "708,709" ∷ []) (Boot route None)
 unfolding whole_command clap_on_literals
-boot_line route is = (refl, (refl, ap Some (sym is)), tt)
+boot_line route is = (refl, (refl, (ap Some (sym is), refl)), tt)
+
+asm_line : (file : String Global) → string_bytes file ≡ codes "ring"
+    → IsRight (codes "ga-bench" ∷ codes "asm" ∷ codes "ring" ∷ []) (Asm (Some file))
+unfolding whole_command clap_on_literals
+asm_line file is = (refl, (refl, ap Some is), tt)
 
 check_line : (files : Vec (String Global) Global)
     → map string_bytes files.items ≡ codes "ring" ∷ codes "sum" ∷ []
@@ -67,6 +72,15 @@ map_line : (file : String Global) → string_bytes file ≡ codes "arbiter"
 unfolding whole_command clap_on_literals
 map_line file is =
     (refl, (refl, ((refl, refl), ((lit< tt, (lit< tt, (lit< tt, tt))), refl), ap Some is)), lit≤ tt)
+
+trace_line : (nodes file : String Global) → string_bytes nodes ≡ codes "708,709"
+    → string_bytes file ≡ codes "ring"
+    → IsRight
+    (codes "ga-bench" ∷ codes "trace" ∷ codes "--nodes" ∷ codes "708,709" ∷ codes "ring" ∷ [])
+    (Trace Any None (Some nodes) (Some file))
+unfolding whole_command clap_on_literals
+trace_line nodes file is names =
+    (refl, (refl, ((refl, refl), refl, ap Some is, ap Some names)), tt)
 
 two_topics : takes bench_command
     (codes "ga-bench" ∷ codes "explain" ∷ codes "own" ∷ codes "take" ∷ []) ≡ false

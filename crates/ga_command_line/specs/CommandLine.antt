@@ -13,16 +13,18 @@ use Rattle.ga_command_line.specs.Command.{linked}
 use Rattle.ga_command_line.specs.Debug.{debug_command}
 use Rattle.ga_command_line.specs.Dis.{dis_command}
 use Rattle.ga_command_line.specs.Explain.{IsOfTable, IsTopicAt, explain_command}
-use Rattle.ga_command_line.specs.File.{IsFileAt, files_at, files_command, writing_command}
+use Rattle.ga_command_line.specs.File.{IsFileAt, file_command, files_at, files_command, writing_command}
 use Rattle.ga_command_line.specs.Flag.{is_set}
 use Rattle.ga_command_line.specs.List.{list_command}
 use Rattle.ga_command_line.specs.Loading.{IsLoadingAt}
 use Rattle.ga_command_line.specs.Number.{IsNumberAt, IsNumberIfAt}
 use Rattle.ga_command_line.specs.MapLine.{map_command}
 use Rattle.ga_command_line.specs.One.{one_command}
+use Rattle.ga_command_line.specs.ProfileLine.{IsStartAt, IsStartInRange, profile_command}
 use Rattle.ga_command_line.specs.Race.{race_command}
 use Rattle.ga_command_line.specs.Route.{IsRouteAt}
 use Rattle.ga_command_line.specs.Run.{run_command}
+use Rattle.ga_command_line.specs.TraceLine.{IsListAt, trace_command}
 
 -- the command without its subcommands, of which one is required
 unfoldable pub bare_command : App
@@ -33,15 +35,18 @@ bare_command =
 -- the command of each subcommand
 abbrev pub command_of : Subcommand → App
 command_of sub.One = one_command
-command_of sub.Asm = new_app (codes "asm")
+command_of sub.Asm = file_command (codes "asm")
 command_of sub.Dis = dis_command
 command_of sub.Boot = boot_command
 command_of sub.Run = run_command
 command_of sub.Debug = debug_command
-command_of sub.Replay = new_app (codes "replay")
+command_of sub.Replay = file_command (codes "replay")
+command_of sub.Expand = file_command (codes "expand")
 command_of sub.List = list_command
 command_of sub.Race = race_command
 command_of sub.Map = map_command
+command_of sub.Profile = profile_command
+command_of sub.Trace = trace_command
 command_of sub.Check = files_command (codes "check")
 command_of sub.Record = writing_command (codes "record")
 command_of sub.Explain = explain_command
@@ -49,8 +54,9 @@ command_of sub.Explain = explain_command
 -- the subcommands, in the order of help
 abbrev pub subcommands : List Subcommand
 subcommands =
-    sub.One ∷ sub.Asm ∷ sub.Dis ∷ sub.Boot ∷ sub.Run ∷ sub.Debug ∷ sub.Replay ∷ sub.List ∷ sub.Race
-    ∷ sub.Map ∷ sub.Check ∷ sub.Record ∷ sub.Explain ∷ []
+    sub.One ∷ sub.Asm ∷ sub.Dis ∷ sub.Boot ∷ sub.Run ∷ sub.Debug ∷ sub.Replay ∷ sub.Expand ∷
+    sub.List ∷ sub.Race ∷ sub.Map ∷ sub.Profile ∷ sub.Trace ∷ sub.Check ∷ sub.Record ∷
+    sub.Explain ∷ []
 
 -- the whole command
 unfoldable pub bench_command : App
@@ -58,33 +64,42 @@ bench_command = fold linked bare_command (map command_of subcommands)
 
 -- the name of the subcommand that a job is asked for by
 abbrev pub job_name : Job → Text
-job_name (One tries) = codes "one"
-job_name Asm = codes "asm"
-job_name (Dis code) = codes "dis"
-job_name (Boot route) = codes "boot"
-job_name (Run route workers turns) = codes "run"
+job_name (One tries file) = codes "one"
+job_name (Asm file) = codes "asm"
+job_name (Dis code file) = codes "dis"
+job_name (Boot route file) = codes "boot"
+job_name (Run route workers turns file) = codes "run"
 job_name Debug = codes "debug"
 job_name (Talk loading file) = codes "debug"
-job_name Replay = codes "replay"
+job_name (Replay file) = codes "replay"
+job_name (job.Expand file) = codes "expand"
 job_name (job.List labels file) = codes "list"
 job_name (job.Race loading turns witness file) = codes "race"
 job_name (job.Map loading turns file) = codes "map"
+job_name (job.Profile loading start turns file) = codes "profile"
+job_name (job.Trace loading turns nodes file) = codes "trace"
 job_name (job.Check files) = codes "check"
 job_name (job.Record file) = codes "record"
 job_name (job.Rewrite files) = codes "record"
 job_name (Explain topic) = codes "explain"
 
--- the arguments that a job is asked for by; other jobs have none
+-- the arguments that a job is asked for by
 abbrev pub HasArguments : List Row → Job → Type 0
-HasArguments rows (One tries) = IsNumberAt (codes "TRIES") rows tries
-HasArguments rows (Dis code) = IsNumberIfAt (codes "N") rows code
-HasArguments rows (Boot route) = IsRouteAt rows (string_bytes route)
-HasArguments rows (Run route workers turns) =
+HasArguments rows (One tries file) =
+    IsNumberAt (codes "TRIES") rows tries × IsFileAt rows (option_map string_bytes file)
+HasArguments rows (Asm file) = IsFileAt rows (option_map string_bytes file)
+HasArguments rows (Dis code file) =
+    IsNumberIfAt (codes "N") rows code × IsFileAt rows (option_map string_bytes file)
+HasArguments rows (Boot route file) =
+    IsRouteAt rows (string_bytes route) × IsFileAt rows (option_map string_bytes file)
+HasArguments rows (Run route workers turns file) =
     IsRouteAt rows (string_bytes route) × IsNumberAt (codes "WORKERS") rows workers
-    × IsNumberAt (codes "TURNS") rows turns
+    × IsNumberAt (codes "TURNS") rows turns × IsFileAt rows (option_map string_bytes file)
 HasArguments rows Debug = IsLoadingAt rows Any × IsFileAt rows None
 HasArguments rows (Talk loading file) =
     IsLoadingAt rows loading × IsFileAt rows (Some (string_bytes file))
+HasArguments rows (Replay file) = IsFileAt rows (option_map string_bytes file)
+HasArguments rows (job.Expand file) = IsFileAt rows (option_map string_bytes file)
 HasArguments rows (job.List labels file) =
     (labels ≡ is_set (codes "LABELS") rows) × IsFileAt rows (option_map string_bytes file)
 HasArguments rows (job.Race loading turns witness file) =
@@ -93,6 +108,12 @@ HasArguments rows (job.Race loading turns witness file) =
 HasArguments rows (job.Map loading turns file) =
     IsLoadingAt rows loading × IsNumberIfAt (codes "N") rows turns
     × IsFileAt rows (option_map string_bytes file)
+HasArguments rows (job.Profile loading start turns file) =
+    IsLoadingAt rows loading × IsNumberIfAt (codes "N") rows turns × IsStartAt rows start
+    × IsFileAt rows (option_map string_bytes file)
+HasArguments rows (job.Trace loading turns nodes file) =
+    IsLoadingAt rows loading × IsNumberIfAt (codes "N") rows turns
+    × IsListAt rows (option_map string_bytes nodes) × IsFileAt rows (option_map string_bytes file)
 HasArguments rows (job.Check files) = map string_bytes files.items ≡ files_at rows
 HasArguments rows (job.Record file) =
     (is_set (codes "WRITE") rows ≡ false)
@@ -101,15 +122,17 @@ HasArguments rows (job.Rewrite files) =
     (is_set (codes "WRITE") rows ≡ true) × (map string_bytes files.items ≡ files_at rows)
     × (0 < length files.items)
 HasArguments rows (Explain topic) = IsTopicAt rows topic
-HasArguments rows job = Unit {0}
 
 -- the numbers of a job lie in their ranges, and its topic is one of the table
 abbrev pub InRange : Job → Type 0
-InRange (One tries) = tries ≤ 1000000
-InRange (Dis code) = IfSome code (λ number. number ≤ 64)
-InRange (Run route workers turns) = ((1 ≤ workers) × (workers ≤ 144)) × (turns ≤ 1000000)
+InRange (One tries file) = tries ≤ 1000000
+InRange (Dis code file) = IfSome code (λ number. number ≤ 64)
+InRange (Run route workers turns file) = ((1 ≤ workers) × (workers ≤ 144)) × (turns ≤ 1000000)
 InRange (job.Race loading turns witness file) = IfSome turns (λ number. number ≤ 1000000)
 InRange (job.Map loading turns file) = IfSome turns (λ number. number ≤ 1000000)
+InRange (job.Profile loading start turns file) =
+    IfSome turns (λ number. number ≤ 1000000) × IsStartInRange start
+InRange (job.Trace loading turns nodes file) = IfSome turns (λ number. number ≤ 1000000)
 InRange (Explain topic) = IsOfTable topic
 InRange job = Unit {0}
 

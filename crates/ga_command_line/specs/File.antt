@@ -7,6 +7,10 @@ use Rattle.clap.specs.declared.builder.action.ArgAction.TheVariants.{Append, Set
 abbrev pub IsFileAt : List Row → Option Text → Type 0
 IsFileAt rows file = file ≡ first_of (codes "FILE") rows
 
+-- a subcommand with this name, and a text that may be left out
+unfoldable pub file_command : Text → App
+file_command name = with_rule (new_app name) (new_rule (codes "FILE"))
+
 -- a subcommand with this name, and any number of texts
 unfoldable pub files_command : Text → App
 files_command name =

@@ -13,6 +13,8 @@ pub mod Loading
 pub mod Turns
 pub mod Race
 pub mod MapLine
+pub mod ProfileLine
+pub mod TraceLine
 pub mod Debug
 pub mod CommandLine
 pub mod inner

@@ -2,10 +2,11 @@ ghost use Rattle.std.specs.Prelude.{◌≡◌, ◌≤◌, ℕ, IfErr, IfOk, IfSo
 ghost use Rattle.clap.specs.Words.{found_of, rows_of};
 ghost use Rattle.ga_command_line.specs.inner.Command.{IsCommandOf};
 ghost use Rattle.ga_command_line.specs.CommandLine.{AsksFor, InRange};
-ghost use Rattle.ga_command_line.specs.Dis.{dis_command};
+ghost use Rattle.ga_command_line.specs.Dis.{code_command, dis_command};
 ghost use Rattle.ga_command_line.specs.Number.{IsNumberIfAt};
 
 use crate::command_line::LineError;
+use crate::file::{WORDS, file_in};
 use crate::number::number_if;
 use clap::{Arg, ArgMatches, Command, value_parser};
 use ga_jobs::Job;
@@ -15,18 +16,28 @@ use std::alloc::{AllocError, Global};
 const CODE_LIMIT: u32 = 64;
 
 const HELP: &str = "\
-Reads 1 to 64 words from standard input, each as five hex digits up to 3FFFF, separated by spaces, tabs
-or line ends. Writes a line 'node 000', and a line for each word: a word of code in brackets, a follower
-or a word of data behind a comma. A line 'data' comes before the data, if there is any. The output is
-source text, from which asm makes the same words.
+Reads 1 to 64 words from FILE or standard input, each as five hex digits up to 3FFFF, separated by
+spaces, tabs or line ends. Writes a line 'node 000', and a line for each word: a word of code in
+brackets, a follower or a word of data behind a comma. A line 'data' comes before the data, if there is
+any. The output is source text, from which asm makes the same words.
 
 Example: echo 05872 2C9B2 00001 | ga-bench dis --code 2
 More: Source text in docs/FORMATS.md";
 
-/// The subcommand `dis [--code N]`.
+/// The subcommand `dis [--code N] [FILE]`.
 #[tactic(auto, unfolding(crate::specs::Dis::dis_command))]
 pub fn command<'a>(alloc: Global) -> Result<Command<'a>, AllocError>
     ensures { IfOk result (IsCommandOf dis_command) }
+{
+    let file = Arg::new(alloc, "FILE").help(WORDS);
+    let command = code_command(alloc)?;
+    command.arg(file)
+}
+
+/// The subcommand without FILE.
+#[tactic(auto, unfolding(crate::specs::Dis::code_command))]
+fn code_command<'a>(alloc: Global) -> Result<Command<'a>, AllocError>
+    ensures { IfOk result (IsCommandOf code_command) }
 {
     let code = Arg::new(alloc, "N")
         .long("code")
@@ -47,5 +58,6 @@ pub fn job_of(alloc: Global, found: &ArgMatches<'_>) -> Result<Job, LineError>
         → IsNumberIfAt (codes "N") (rows_of (found_of found.now)) code → error ≡ LineError.Memory) }
 {
     let code = number_if(alloc, found, "N", 0, CODE_LIMIT)?;
-    Ok(Job::Dis { code })
+    let file = file_in(alloc, found)?;
+    Ok(Job::Dis { code, file })
 }

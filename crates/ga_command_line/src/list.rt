@@ -4,7 +4,7 @@ ghost use Rattle.ga_command_line.specs.CommandLine.{AsksFor, InRange};
 ghost use Rattle.ga_command_line.specs.inner.Command.{IsCommandOf};
 ghost use Rattle.ga_command_line.specs.List.{list_command};
 
-use crate::file::file_in;
+use crate::file::{SOURCE_TEXT, file_in};
 use crate::flag::flag_in;
 use clap::{Arg, ArgAction, ArgMatches, Command};
 use ga_jobs::Job;
@@ -28,9 +28,7 @@ pub fn command<'a>(alloc: Global) -> Result<Command<'a>, AllocError>
         .long("labels")
         .action(ArgAction::SetTrue)
         .help("Writes only the labels: the node, the label and its address, a line each");
-    let file = Arg::new(alloc, "FILE").help(
-        "The source text; standard input by default or if it is -",
-    );
+    let file = Arg::new(alloc, "FILE").help(SOURCE_TEXT);
     let command = Command::new(alloc, "list")
         .about(
             "Lists the words of a source text, with their instructions and their lines in the text",

@@ -3,9 +3,10 @@ ghost use Rattle.clap.specs.Words.{found_of, rows_of};
 ghost use Rattle.ga_command_line.specs.inner.Command.{IsCommandOf};
 ghost use Rattle.ga_command_line.specs.CommandLine.{AsksFor, InRange};
 ghost use Rattle.ga_command_line.specs.Number.{IsNumberAt};
-ghost use Rattle.ga_command_line.specs.One.{one_command};
+ghost use Rattle.ga_command_line.specs.One.{one_command, tries_command};
 
 use crate::command_line::LineError;
+use crate::file::{WORDS, file_in};
 use crate::number::number_of;
 use clap::{Arg, ArgMatches, Command, value_parser};
 use ga_jobs::Job;
@@ -15,9 +16,9 @@ use std::alloc::{AllocError, Global};
 const TRIES_LIMIT: u32 = 1_000_000;
 
 const HELP: &str = "\
-Reads 1 to 64 words from standard input, each as five hex digits up to 3FFFF, separated by spaces, tabs
-or line ends. They are put into the memory of node 000 from address 000 on, where the node starts.
-A try is one step if the node needs nothing from outside. Otherwise it does nothing.
+Reads 1 to 64 words from FILE or standard input, each as five hex digits up to 3FFFF, separated by
+spaces, tabs or line ends. They are put into the memory of node 000 from address 000 on, where the node
+starts. A try is one step if the node needs nothing from outside. Otherwise it does nothing.
 
 Writes one line: the registers of the node, its place, the number of its steps, and its need for the
 next one.
@@ -25,10 +26,20 @@ next one.
 Example: echo 04A12 00005 00003 2C9B2 | ga-bench one 5
 More: docs/CHIP.md, and The line in docs/FORMATS.md";
 
-/// The subcommand `one TRIES`.
+/// The subcommand `one TRIES [FILE]`.
 #[tactic(auto, unfolding(crate::specs::One::one_command))]
 pub fn command<'a>(alloc: Global) -> Result<Command<'a>, AllocError>
     ensures { IfOk result (IsCommandOf one_command) }
+{
+    let file = Arg::new(alloc, "FILE").help(WORDS);
+    let command = tries_command(alloc)?;
+    command.arg(file)
+}
+
+/// The subcommand without FILE.
+#[tactic(auto, unfolding(crate::specs::One::tries_command))]
+fn tries_command<'a>(alloc: Global) -> Result<Command<'a>, AllocError>
+    ensures { IfOk result (IsCommandOf tries_command) }
 {
     let tries = Arg::new(alloc, "TRIES")
         .required(true)
@@ -49,5 +60,6 @@ pub fn job_of(alloc: Global, found: &ArgMatches<'_>) -> Result<Job, LineError>
         → error ≡ LineError.Memory) }
 {
     let tries = number_of(alloc, found, "TRIES", 0, TRIES_LIMIT)?;
-    Ok(Job::One { tries })
+    let file = file_in(alloc, found)?;
+    Ok(Job::One { tries, file })
 }

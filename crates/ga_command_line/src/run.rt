@@ -4,9 +4,10 @@ ghost use Rattle.ga_command_line.specs.inner.Command.{IsCommandOf};
 ghost use Rattle.ga_command_line.specs.CommandLine.{AsksFor, InRange};
 ghost use Rattle.ga_command_line.specs.Number.{IsNumberAt};
 ghost use Rattle.ga_command_line.specs.Route.{IsRouteAt};
-ghost use Rattle.ga_command_line.specs.Run.{routed_command, run_command, shared_command};
+ghost use Rattle.ga_command_line.specs.Run.{routed_command, run_command, shared_command, timed_command};
 
 use crate::command_line::LineError;
+use crate::file::{SOURCE_TEXT, file_in};
 use crate::number::number_of;
 use crate::route::route_at;
 use clap::{Arg, ArgMatches, Command, value_parser};
@@ -20,10 +21,10 @@ const WORKERS_LIMIT: u32 = 144;
 const TURNS_LIMIT: u32 = 1_000_000;
 
 const HELP: &str = "\
-Reads source text from standard input, as asm does. It feeds the boot stream, as boot prints it, to the
-first node of a chip after reset. Workers, each a thread, run the nodes of the routes. The nodes are
-assigned to them round robin, in the order in which ROUTE names them. In each turn each worker tries each
-of its nodes once. The turns' sides are right, down, left, up, and again. Other nodes are never tried.
+Reads source text from FILE or standard input, as asm does. It feeds the boot stream, as boot prints it,
+to the first node of a chip after reset. Workers, each a thread, run the nodes of the routes. The nodes
+are assigned to them round robin, in the order in which ROUTE names them. In each turn each worker tries
+each of its nodes once. The turns' sides are right, down, left, up, and again. Other nodes are never tried.
 
 Writes for each of these nodes its registers and stacks, and how many words it wrote at each port and how
 many of them were read, including those of the boot.
@@ -31,10 +32,20 @@ many of them were read, including those of the boot.
 Example: echo 'node 709 main: $5 $7 + @b' | ga-bench run 708,709 1 200
 More: docs/GUIDE.md, and Dumps in docs/FORMATS.md";
 
-/// The subcommand `run ROUTE WORKERS TURNS`.
+/// The subcommand `run ROUTE WORKERS TURNS [FILE]`.
 #[tactic(auto, unfolding(crate::specs::Run::run_command))]
 pub fn command<'a>(alloc: Global) -> Result<Command<'a>, AllocError>
     ensures { IfOk result (IsCommandOf run_command) }
+{
+    let file = Arg::new(alloc, "FILE").help(SOURCE_TEXT);
+    let command = timed_command(alloc)?;
+    command.arg(file)
+}
+
+/// The subcommand without FILE.
+#[tactic(auto, unfolding(crate::specs::Run::timed_command))]
+fn timed_command<'a>(alloc: Global) -> Result<Command<'a>, AllocError>
+    ensures { IfOk result (IsCommandOf timed_command) }
 {
     let turns = Arg::new(alloc, "TURNS")
         .required(true)
@@ -44,7 +55,7 @@ pub fn command<'a>(alloc: Global) -> Result<Command<'a>, AllocError>
     command.arg(turns)
 }
 
-/// The subcommand without TURNS.
+/// The subcommand with ROUTE and WORKERS.
 #[tactic(auto, unfolding(crate::specs::Run::shared_command))]
 fn shared_command<'a>(alloc: Global) -> Result<Command<'a>, AllocError>
     ensures { IfOk result (IsCommandOf shared_command) }
@@ -85,9 +96,11 @@ pub fn job_of(alloc: Global, found: &ArgMatches<'_>) -> Result<Job, LineError>
     let workers = number_of(alloc, found, "WORKERS", 1, WORKERS_LIMIT)?;
     let turns = number_of(alloc, found, "TURNS", 0, TURNS_LIMIT)?;
     let route = route_at(alloc, found)?;
+    let file = file_in(alloc, found)?;
     Ok(Job::Run {
         route,
         workers,
         turns,
+        file,
     })
 }

@@ -1,5 +1,5 @@
 -- Turns of profile 1, one step of a loop at a time; and a turn in which it stops no node.
-use Rattle.std.proofs.Common.{◌≡◌, ◌∙◌, ◌⊎◌, inl, inr, ℕ, zero, suc, ◌+◌, ◌-◌, ◌%◌, ◌<◌, ◌≤◌, Bool, true, false, Option, Some, None, add-zero, ap, ap₂, arith, length, option_map, refl, slice_index_or, subst, sym, zero-add}
+use Rattle.std.proofs.Common.{◌≡◌, ◌≢◌, ◌∙◌, ◌⊎◌, inl, inr, ℕ, zero, suc, ◌+◌, ◌-◌, ◌%◌, ◌<◌, ◌≤◌, Bool, true, false, Option, Some, None, add-zero, ap, ap₂, arith, length, option_map, refl, slice_index_or, subst, sym, zero-add}
 use Rattle.std.specs.Prelude.{if◌then◌else◌}
 use Rattle.std.specs.Option.{option_map_or}
 use Rattle.std.proofs.lemmas.Bool.{cases_lt}
@@ -158,6 +158,23 @@ still_try chip name side = by (is_left_out chip name)
         → (if b then (Stopped, chip) else tried chip name side).1 ≡ chip
     by true none = refl
     by false none = tried_still chip name side (no_step (tried chip name side).0 none)
+
+-- nor does one that isn't Moved in the chip
+pub asleep_still : (chip : Chip) (name : ℕ) (side : Side) → ((tried chip name side).0 ≢ Moved)
+    → (chip ≡ (tried_in_profile_1 chip name side).1)
+    × (0 ≡ moved_by (tried_in_profile_1 chip name side).0)
+asleep_still chip name side still = by (is_left_out chip name)
+  where
+    none : (outcome : Outcome) → (outcome ≢ Moved) → 0 ≡ moved_by outcome
+    none Moved apart = absurd (apart refl)
+    none Waits apart = refl
+    none Held apart = refl
+    none Stopped apart = refl
+
+    by : (b : Bool) → (chip ≡ (if b then (Stopped, chip) else tried chip name side).1)
+        × (0 ≡ moved_by (if b then (Stopped, chip) else tried chip name side).0)
+    by true = (refl, refl)
+    by false = (sym (tried_still chip name side still), none (tried chip name side).0 still)
 
 still_tries : (left index : ℕ) (side : Side) (moved : ℕ) (chip : Chip)
     → (tries_in_profile_1 left index side moved chip).0 ≡ moved

@@ -2,6 +2,7 @@
 
 ghost use Rattle.std.specs.Prelude.{◌≡◌, ◌<◌, ℕ, false, true};
 ghost use Rattle.ga_place.specs.Cell.{name_at};
+ghost use Rattle.ga_chip.specs.Outcome.{moved_by};
 ghost use Rattle.ga_debug.specs.Profile.{did_as, tried_in_profile_1, turn_in_profile_1, turns_in_profile_1, is_left_out, profile_in, profile_line};
 
 use crate::command::Arguments;
@@ -111,9 +112,23 @@ fn turn_in_profile_1(chip: &mut Chip, side: Side) -> u8
     }
     let mut moved = 0;
     for index in 0..144 {
-        moved += try_in_profile_1(chip, Node::at(index), side).moves();
+        moved += steps_in_profile_1(chip, Node::at(index), side);
     }
     moved
+}
+
+/// A try in the first profile. Answers how many steps it made. A node that sleeps isn't looked at.
+fn steps_in_profile_1(chip: &mut Chip, node: Node, side: Side) -> u8
+    ensures chip { chip.new ≡ (tried_in_profile_1 chip.old node side).1 }
+    ensures moved { result ≡ moved_by (tried_in_profile_1 chip.old node side).0 }
+{
+    if chip.is_asleep(node) {
+        return 0;
+    }
+    if is_left_out(chip, node) {
+        return 0;
+    }
+    chip.attempt_step(Try { node, side })
 }
 
 /// Whether the first profile stops no node.

@@ -4,6 +4,7 @@ use Rattle.std.specs.Prelude.{◌∷◌, ◌++◌, [], List, codes, fold}
 use Rattle.ga_explain.specs.Topic.{Entry}
 use Rattle.ga_explain.specs.declared.source.TheConstants.{BAD_TOKEN, NUMBER_RANGE, BAD_NODE, DUPLICATE_NODE, DUPLICATE_LABEL, RESERVED_LABEL, OPEN_BRACKET, BAD_WORD, NO_NODE, EMPTY}
 use Rattle.ga_explain.specs.declared.layout.TheConstants.{UNDEFINED_LABEL, OUT_OF_REACH, UNEXT_ALONE, TOO_LONG}
+use Rattle.ga_explain.specs.declared.larger.TheConstants.{RESERVED_NAME, DUPLICATE_NAME, OPEN_DEFINITION, NO_NEIGHBOUR, UNKNOWN_BODY, TOO_LARGE}
 use Rattle.ga_explain.specs.declared.routes.TheConstants.{BAD_ROUTE, NOT_EDGE, NOT_NEIGHBOUR, REPEATED, OTHER_ROOT, UNREACHED}
 use Rattle.ga_explain.specs.declared.sessions.TheConstants.{BAD_COMMAND, BAD_ADDRESS, BAD_SIDE, BAD_COUNT, BAD_VALUE, NOT_HELD, BAD_PROFILE, NO_GO, SOURCE, ASM, ROUTE, TREE, BOOT, EARLY_REPLY, DIFFERS}
 use Rattle.ga_explain.specs.declared.input.TheConstants.{READ, NO_FILE, FOLDER, NOT_A_FILE, EXISTS, NO_NAME, BAD_TEXT, BAD_CODE, WRITE, REFUSED_WRITE, MEMORY, REFUSED_MEMORY}
@@ -59,6 +60,29 @@ layout_entries =
       UNEXT_ALONE.now,
     ) ∷
     (codes "TooLong", codes "an item that would need the 65th word of its node", TOO_LONG.now) ∷
+    []
+
+-- the faults of texts of the larger language
+unfoldable pub larger_entries : List Entry
+larger_entries = (
+  codes "ReservedName",
+  codes "a name that the language has for something else",
+  RESERVED_NAME.now,
+) ∷
+    (codes "DuplicateName", codes "a name that is defined already", DUPLICATE_NAME.now) ∷ (
+      codes "OpenDefinition",
+      codes "a definition or a use that isn't complete",
+      OPEN_DEFINITION.now,
+    ) ∷ (
+      codes "NoNeighbour",
+      codes "no neighbour of the node, or a direction in which the chip ends",
+      NO_NEIGHBOUR.now,
+    ) ∷
+    (codes "UnknownBody", codes "no body before it has this name", UNKNOWN_BODY.now) ∷ (
+      codes "TooLarge",
+      codes "all 'use' of the text stand for more than 262,144 tokens",
+      TOO_LARGE.now,
+    ) ∷
     []
 
 -- the faults of routes, of trees and of boots
@@ -159,5 +183,5 @@ terms_entries =
 abbrev pub entries : List Entry
 entries =
     fold (λ all group. all ++ group) []
-    (source_entries ∷ layout_entries ∷ routes_entries ∷ sessions_entries ∷ input_entries
-    ∷ needs_entries ∷ terms_entries ∷ [])
+    (source_entries ∷ layout_entries ∷ larger_entries ∷ routes_entries ∷ sessions_entries
+    ∷ input_entries ∷ needs_entries ∷ terms_entries ∷ [])

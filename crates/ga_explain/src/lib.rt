@@ -2,6 +2,7 @@
 #![tactic(auto)]
 
 mod input;
+mod larger;
 mod layout;
 mod needs;
 mod output;

@@ -25,9 +25,9 @@ pub fn topics() -> [Topic; 6]
 
 const BAD_ROUTE: &str = "\
 BadRoute: ROUTE isn't a list of node names, three digits each, with commas and
-no blanks between them, nor several such lists with a / between them. Or the
-second line of a session or of a replay text is missing, or is neither 'place'
-nor 'route' and a ROUTE.
+no blanks between them, nor several such lists with a / between them. Or LIST of
+'trace' isn't such a list. Or the second line of a session or of a replay text
+is missing, or is neither 'place' nor 'route' and a ROUTE.
 
   $ echo 'node 709 .' | ga-bench boot '708, 709'
   ga-bench: route BadRoute

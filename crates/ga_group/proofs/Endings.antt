@@ -119,6 +119,7 @@ module _ (chip : Chip) (legal : IsLegal chip) where
           record {
             one = record { part = part; sides = [] };
             has = untried_there chip.parts part.state.node part (ap (slice_get chip.parts) at ∙ e);
+            may = tt;
             same = refl;
             below = omega (arith, at, inside, count);
           }
@@ -200,6 +201,7 @@ module _ (front back after : List Part) (first last : SeatView) (sides : List Si
             one = was.one;
             has =
                 worked.gained.others part.state.node (not_in_front there.0 part there.1) ∙ was.has;
+            may = tt;
             same = was.same;
             below = was.below;
           }

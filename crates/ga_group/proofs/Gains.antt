@@ -1,21 +1,22 @@
 -- What the tries of nodes leave in a seat, one after another, and what stays of the parts that are
 -- borrowed with it.
-use Rattle.std.proofs.Common.{◌≡◌, ◌≢◌, ◌∙◌, ℕ, ◌==◌, ◌+◌, ◌<◌, zero, suc, Bool, true, false, ◌||◌, ◌⊎◌, inl, inr, List, [], ◌∷◌, ◌++◌, set, take, slice_get, Option, Some, None, option_map, refl, sym, ap, subst, arith, append-nil, append_assoc}
+use Rattle.std.proofs.Common.{◌≡◌, ◌≢◌, ◌∙◌, ℕ, ◌==◌, ◌+◌, ◌<◌, zero, suc, Bool, true, false, ◌||◌, ◌⊎◌, inl, inr, List, [], ◌∷◌, ◌++◌, length, set, take, slice_get, Option, Some, None, option_map, refl, sym, ap, subst, arith, append-nil, append_assoc}
 use Rattle.std.proofs.lemmas.Bool.{cases_eq, eqb-true, true≢false}
 use Rattle.std.proofs.lemmas.Cmp.{nat_eq_equiv}
 use Rattle.std.proofs.lemmas.List.Folds.{list_any-append}
-use Rattle.std.proofs.lemmas.Option.{none-some, same_Some, slice_get-map}
+use Rattle.std.proofs.lemmas.Option.{none-some, same_Some, slice_get-map, slice_get_within}
 use Rattle.ga_place.specs.Cell.{index_of}
 use Rattle.ga_place.specs.Node.{is_among}
 use Rattle.ga_place.proofs.Cells.{one_place}
 use Rattle.ga_place.specs.declared.side.Side.{Side}
+use Rattle.ga_chip.specs.Ahead.{IsFreeFor, ahead}
 use Rattle.ga_chip.specs.Part.{Part, after}
 use Rattle.ga_chip.proofs.Lists.{get-set_else, get-set_here}
 use Rattle.ga_port.specs.declared.seat.Holding.{Holding}
 use Rattle.ga_port.specs.Seat.{CellsId, SeatView, kept, kept_after, tried_in}
 use Rattle.ga_port.proofs.Nodes.{tried_else, tried_here}
 use Rattle.ga_group.specs.Plan.{first_repeated}
-use Rattle.ga_group.specs.inner.Work.{AreLent, HasWorked, HaveGained, IsLent, IsReady, names_of}
+use Rattle.ga_group.specs.inner.Work.{AreAheadBy, AreLent, HasWorkedBy, HaveGained, IsAheadBy, IsLent, IsReady, IsReadyBy, names_of}
 use Rattle.ga_group.proofs.Plans.{is_new, not_behind}
 
 -- ---- names
@@ -201,33 +202,38 @@ names_set (one ∷ parts) zero part new there same =
 names_set (one ∷ parts) (suc index) part new there same =
     ap (λ l. one.state.node ∷ l) (names_set parts index part new there same)
 
+-- the try of a node whose part isn't ahead
+pub lent_tried : (nodes : List (Option Holding)) (part new : Part) (side : Side)
+    (found : Option ℕ) → IsLent part nodes → new.state.node ≡ part.state.node
+    → new ≡ (after part side found).1
+    → IsLent new (tried_in nodes (record { node = part.state.node; side = side }) found)
+lent_tried nodes part new side found lent same is = record {
+  one = kept_after lent.one side found;
+  has = ap (kept (tried_in nodes (record { node = part.state.node; side = side }) found)) same
+      ∙ tried_here nodes
+      (record { node = part.state.node; side = side }) found lent.one lent.has;
+  may = tt;
+  same = ap (λ (p : Part). (after p side found).1) lent.same ∙ sym is;
+  below = subst (λ n. index_of n < 144) (sym same) lent.below;
+}
+
 module _ (parts : List Part) (nodes : List (Option Holding)) (index : ℕ) (part : Part) (side : Side)
-    (found : Option ℕ) where
-  -- all parts are borrowed again
-  pub lent_set : (new : Part) → AreLent parts nodes → first_repeated [] (names_of parts) ≡ None
-      → slice_get parts index ≡ Some part → new.state.node ≡ part.state.node
-      → new ≡ (after part side found).1 → AreLent (set parts index new)
+    (found : Option ℕ) (a b : ℕ → ℕ) where
+  -- all parts are borrowed again, and the others are ahead as before
+  pub lent_set : (new : Part) → AreAheadBy a parts nodes → first_repeated [] (names_of parts) ≡ None
+      → slice_get parts index ≡ Some part → ((at : ℕ) → index ≢ at → b at ≡ a at)
+      → IsAheadBy (b index) new
       (tried_in nodes (record { node = part.state.node; side = side }) found)
-  lent_set new lent once there same is =
+      → AreAheadBy b (set parts index new)
+      (tried_in nodes (record { node = part.state.node; side = side }) found)
+  lent_set new lent once there others_same here =
       record { at = λ at other e. by at other (cases_eq index at) e }
     where
-      mine : IsLent part nodes
-      mine = lent.at index part there
-
-      here : IsLent new (tried_in nodes (record { node = part.state.node; side = side }) found)
-      here = record {
-        one = kept_after mine.one side found;
-        has = ap (kept (tried_in nodes (record { node = part.state.node; side = side }) found)) same
-            ∙ tried_here nodes
-            (record { node = part.state.node; side = side }) found mine.one mine.has;
-        same = ap (λ (p : Part). (after p side found).1) mine.same ∙ sym is;
-        below = subst (λ n. index_of n < 144) (sym same) mine.below;
-      }
-
-      elsewhere : (at : ℕ) (other : Part) → (index ≡ at → ⊥) → slice_get parts at ≡ Some other
-          → IsLent other (tried_in nodes (record { node = part.state.node; side = side }) found)
+      elsewhere : (at : ℕ) (other : Part) → index ≢ at → slice_get parts at ≡ Some other
+          → IsAheadBy (b at) other
+          (tried_in nodes (record { node = part.state.node; side = side }) found)
       elsewhere at other apart e =
-          let its : IsLent other nodes = lent.at at other e in
+          let its : IsAheadBy (a at) other nodes = lent.at at other e in
           let away : index_of other.state.node ≢ index_of part.state.node =
           λ f. apart (one_index [] (names_of parts) index at part.state.node once
           (name_there parts index part there) (name_there parts at other e
@@ -236,18 +242,22 @@ module _ (parts : List Part) (nodes : List (Option Holding)) (index : ℕ) (part
             one = its.one;
             has = tried_else nodes (record { node = part.state.node; side = side }) found
                 other.state.node away ∙ its.has;
-            same = its.same;
+            may = subst (λ k. IsFreeFor k its.one.part) (sym (others_same at apart)) its.may;
+            same = ap (λ k. ahead k its.one.part) (others_same at apart) ∙ its.same;
             below = its.below;
           }
 
       by : (at : ℕ) (other : Part) → (index ≡ at) ⊎ (index ≡ at → ⊥)
           → slice_get (set parts index new) at ≡ Some other
-          → IsLent other (tried_in nodes (record { node = part.state.node; side = side }) found)
+          → IsAheadBy (b at) other
+          (tried_in nodes (record { node = part.state.node; side = side }) found)
       by at other (inl i) e =
-          subst
-          (λ p. IsLent p (tried_in nodes (record { node = part.state.node; side = side }) found))
+          subst (λ n. IsAheadBy (b n) other
+          (tried_in nodes (record { node = part.state.node; side = side }) found)) i
+          (subst (λ p. IsAheadBy (b index) p
+          (tried_in nodes (record { node = part.state.node; side = side }) found))
           (same_Some new other (sym (get-set_here parts index new part there)
-          ∙ ap (slice_get (set parts index new)) i ∙ e)) here
+          ∙ ap (slice_get (set parts index new)) i ∙ e)) here)
       by at other (inr apart) e =
           elsewhere at other apart (sym (get-set_else parts index at new apart) ∙ e)
 
@@ -260,12 +270,13 @@ take_next (other ∷ names) zero name e = ap (λ n. n ∷ []) (same_Some other n
 take_next (other ∷ names) (suc index) name e = ap (λ l. other ∷ l) (take_next names index name e)
 
 pub gained_next : (first nodes : List (Option Holding)) (names : List ℕ) (parts : List Part)
-    (index : ℕ) (part : Part) (side : Side) (found : Option ℕ) → names_of parts ≡ names
-    → first_repeated [] names ≡ None → AreLent parts nodes → slice_get parts index ≡ Some part
+    (index : ℕ) (part : Part) (side : Side) (found : Option ℕ) (a : ℕ → ℕ)
+    → names_of parts ≡ names → first_repeated [] names ≡ None → AreAheadBy a parts nodes
+    → slice_get parts index ≡ Some part
     → HaveGained first nodes (take index names) (side ∷ [])
     → HaveGained first (tried_in nodes (record { node = part.state.node; side = side }) found)
     (take (index + 1) names) (side ∷ [])
-gained_next first nodes names parts index part side found same once lent there gained =
+gained_next first nodes names parts index part side found a same once lent there gained =
     let name = part.state.node in
     let after = tried_in nodes (record { node = name; side = side }) found in
     let mine = lent.at index part there in
@@ -281,17 +292,31 @@ gained_next first nodes names parts index part side found same once lent there g
 
 -- ---- the work of a worker
 
+-- numbers that are the same at each place
+pub ahead_same : (a b : ℕ → ℕ) (parts : List Part) (nodes : List (Option Holding))
+    → ((at : ℕ) → at < length parts → b at ≡ a at) → AreAheadBy a parts nodes
+    → AreAheadBy b parts nodes
+ahead_same a b parts nodes same lent = record {
+  at = λ at part e. subst (λ k. IsAheadBy k part nodes)
+      (sym (same at (slice_get_within parts at part e))) (lent.at at part e);
+}
+
 -- no turn
-pub worked_none : (seat : SeatView) (parts : List Part) → AreLent parts seat.nodes
-    → HasWorked seat seat parts parts []
-worked_none seat parts lent = record
-    { table = refl; names = refl; lent = lent; gained = gained_none seat.nodes (names_of parts) }
+pub worked_none : (a : ℕ → ℕ) (seat : SeatView) (parts : List Part) → ((at : ℕ) → a at ≡ 0)
+    → AreLent parts seat.nodes → HasWorkedBy a seat seat parts parts []
+worked_none a seat parts none lent = record {
+  table = refl;
+  names = refl;
+  lent = ahead_same (λ at. 0) a parts seat.nodes (λ at below. none at) lent;
+  gained = gained_none seat.nodes (names_of parts);
+}
 
 -- some turns behind others
-pub worked_more : (first second third : SeatView) (old parts new : List Part)
-    (sides more : List Side) → HasWorked first second old parts sides
-    → HasWorked second third parts new more → HasWorked first third old new (sides ++ more)
-worked_more first second third old parts new sides more worked again = record {
+pub worked_more : (a b : ℕ → ℕ) (first second third : SeatView) (old parts new : List Part)
+    (sides more : List Side) → HasWorkedBy a first second old parts sides
+    → HasWorkedBy b second third parts new more
+    → HasWorkedBy b first third old new (sides ++ more)
+worked_more a b first second third old parts new sides more worked again = record {
   table = again.table ∙ worked.table;
   names = again.names ∙ worked.names;
   lent = again.lent;
@@ -299,11 +324,22 @@ worked_more first second third old parts new sides more worked again = record {
       (subst (λ l. HaveGained second.nodes third.nodes l more) worked.names again.gained);
 }
 
+-- the nodes are ahead by the same numbers
+pub worked_same : (a b : ℕ → ℕ) (first second : SeatView) (old new : List Part)
+    (sides : List Side) → ((at : ℕ) → b at ≡ a at) → HasWorkedBy a first second old new sides
+    → HasWorkedBy b first second old new sides
+worked_same a b first second old new sides same worked = record {
+  table = worked.table;
+  names = worked.names;
+  lent = ahead_same a b new second.nodes (λ at below. same at) worked.lent;
+  gained = worked.gained;
+}
+
 -- a worker may go on
-pub ready_again : (table : CellsId) (first second : SeatView) (old parts : List Part)
-    (sides : List Side) → IsReady table first old → HasWorked first second old parts sides
-    → IsReady table second parts
-ready_again table first second old parts sides ready worked = record {
+pub ready_again : (a : ℕ → ℕ) (table : CellsId) (first second : SeatView)
+    (old parts : List Part) (sides : List Side) → IsReady table first old
+    → HasWorkedBy a first second old parts sides → IsReadyBy a table second parts
+ready_again a table first second old parts sides ready worked = record {
   own = worked.table ∙ ready.own;
   lent = worked.lent;
   once = ap (first_repeated []) worked.names ∙ ready.once;

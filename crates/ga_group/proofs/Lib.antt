@@ -9,3 +9,4 @@ pub mod Agreeing
 pub mod Orders
 pub mod Endings
 pub mod Known
+pub mod Ahead

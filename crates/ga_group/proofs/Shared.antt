@@ -258,6 +258,7 @@ module _ {before seat other : SeatView} {left right : List Part}
     one = its.one;
     has = left_of_left part.state.node (not_right part.state.node
         (among_at (names_of left) index part.state.node (name_there left index part e))) ∙ its.has;
+    may = tt;
     same = its.same;
     below = its.below;
   }
@@ -268,6 +269,7 @@ module _ {before seat other : SeatView} {left right : List Part}
     one = its.one;
     has = right_of_right part.state.node
         (among_at (names_of right) index part.state.node (name_there right index part e)) ∙ its.has;
+    may = tt;
     same = its.same;
     below = its.below;
   }
@@ -345,6 +347,7 @@ module _ {before seat other : SeatView} {left right : List Part}
         record {
           one = its.one;
           has = merged_left first.nodes second.nodes part.state.node its.one its.has;
+          may = tt;
           same = its.same;
           below = its.below;
         }
@@ -353,6 +356,7 @@ module _ {before seat other : SeatView} {left right : List Part}
         record {
           one = its.one;
           has = of_right part.state.node (among_new right_new right at part back.names e) ∙ its.has;
+          may = tt;
           same = its.same;
           below = its.below;
         }

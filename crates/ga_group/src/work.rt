@@ -1,19 +1,26 @@
 //! The work of one worker: tries of its nodes, turn after turn.
 //!
+//! A node makes its own steps ahead, since these have to do with no other node: in a turn that it
+//! has come past, its try is entered alone.
+//!
 //! A node that waits is tried in each turn too, and such tries come often. So for a node that waits
 //! for a word, is held or is stopped, a worker keeps the cells at which its tries look: then a try
 //! is one look at a cell, as long as nothing is there.
-ghost use Rattle.std.specs.Prelude.{◌≡◌, ◌+◌, ◌≤◌, ◌<◌, ◌^◌, [], ◌∷◌, None, Some, false, length, true};
+ghost use Rattle.std.specs.Prelude.{◌≡◌, ℕ, ◌+◌, ◌-◌, ◌≤◌, ◌<◌, ◌^◌, [], ◌∷◌, None, Some, false, get_or, length, true};
 ghost use Rattle.ga_chip.specs.Asks.{asked_of};
+ghost use Rattle.ga_chip.specs.Run as runs;
 ghost use Rattle.ga_port.specs.Seat.{tried_in};
 ghost use Rattle.ga_group.specs.Workers.{sides_of_turns};
-ghost use Rattle.ga_group.specs.inner.Tried.{HasTried, is_move, steps_in};
-ghost use Rattle.ga_group.specs.inner.Work.{AreKnown, HasWorked, IsKnown, IsLent, IsReady, LooksAt};
+ghost use Rattle.ga_group.specs.inner.Tried.{HasTried, HasTurned, is_move, left, steps_in, sum_from};
+ghost use Rattle.ga_group.specs.inner.Work.{AreKnown, HasWorked, HasWorkedBy, IsAheadBy, IsKnown, IsLent, IsReady, IsReadyBy, LooksAt};
 
 use crate::gate::Gate;
 use ga_chip::{Asks, Looks, NodePart, Outcome, Try, side_of_turn};
 use ga_place::{CellId, Side};
 use ga_port::{Cells, PortSeat};
+
+/// How many turns a node makes at once, at most, if it does its own work.
+const WINDOW: u64 = 128;
 
 /// The tries of a worker over a number of turns: in each it calls the gate, and then tries each of
 /// its nodes once, in order.
@@ -26,76 +33,110 @@ pub(crate) fn work_turns<G: Gate>(
     parts: &mut [NodePart],
 )
     requires ready { IsReady cells.now.table seat.old parts.old }
-    // `looks` has room for 144 nodes, and 2^40 turns of them make less than 2^64 moves
+    // there is room for 144 nodes, and 2^40 turns of them make less than 2^64 moves
     requires few { length parts.old ≤ 144 }
     requires turns { turns < 2 ^ 40 }
     ensures { HasWorked seat.old seat.new parts.old parts.new (sides_of_turns turns) }
 {
     let mut looks: [Option<Looks>; 144] = [None; 144];
+    let mut until = [0; 144];
     let mut moved = 0;
     for turn in 0..turns {
         gate.turn(worker, turn, moved);
-        moved += work_turn(cells, seat, parts, &mut looks, side_of_turn(turn));
+        moved += work_turn(cells, seat, parts, &mut looks, &mut until, turn, turns);
     }
 }
 
-/// One try of each node, all with one side. Answers how many were `Moved`.
+/// The tries of all nodes in a turn. `until` has up to the end of how many turns each node has
+/// come. Answers how many tries were `Moved`.
 #[inline(never)]
 fn work_turn(
     cells: &Cells,
     seat: &mut PortSeat,
     parts: &mut [NodePart],
     looks: &mut [Option<Looks>],
-    side: Side,
+    until: &mut [u64],
+    turn: u64,
+    end: u64,
 ) -> u64
-    requires ready { IsReady cells.now.table seat.old parts.old }
+    requires ready { IsReadyBy (left until.old turn 0) cells.now.table seat.old parts.old }
     requires known { AreKnown parts.old looks.old }
-    requires enough { length parts.old ≤ length looks.old }
-    ensures worked { HasWorked seat.old seat.new parts.old parts.new (side ∷ []) }
+    requires enough { (length parts.old ≤ length looks.old)
+        × (length parts.old ≤ length until.old) }
+    requires turn { (turn < end) × (end < 2 ^ 40) }
+    requires within { (at : ℕ) → get_or until.old at 0 ≤ end }
+    ensures worked { HasWorkedBy (left until.new (turn + 1) 0) seat.old seat.new parts.old
+        parts.new (runs.side_of_turn turn ∷ []) }
     ensures known { AreKnown parts.new looks.new }
-    ensures same { length looks.new ≡ length looks.old }
-    // each try that was `Moved` is a step more of its node
-    ensures moved { steps_in parts.new ≡ steps_in parts.old + result }
+    ensures same { (length looks.new ≡ length looks.old)
+        × (length until.new ≡ length until.old) }
+    ensures within { (at : ℕ) → get_or until.new at 0 ≤ end }
+    // each try that was `Moved` is a step more of its node; steps ahead aren't tries yet
+    ensures moved { steps_in parts.new + sum_from (left until.old turn 0) 0 (length parts.old)
+        ≡ steps_in parts.old + result
+        + sum_from (left until.new (turn + 1) 0) 0 (length parts.old) }
     ensures few { result ≤ length parts.old }
 {
     let mut moved = 0;
     for (index, part) in parts.iter_mut().enumerate() {
-        if try_node(cells, seat, part, &mut looks[index], side) {
+        if try_node(
+            cells,
+            seat,
+            part,
+            &mut looks[index],
+            &mut until[index],
+            turn,
+            end,
+        ) {
             moved += 1;
         }
     }
     moved
 }
 
-/// One try of a node that names a side, at the cells. Answers whether it was `Moved`. Most tries
-/// are the node's own work, and touch no cell, or a look that finds nothing.
+/// The try of a node in a turn, at the cells. If it is a step of the node's own, the node goes
+/// ahead before the end of the turns. Answers whether the try was `Moved`.
 #[inline(always)]
 fn try_node(
     cells: &Cells,
     seat: &mut PortSeat,
     part: &mut NodePart,
     looks: &mut Option<Looks>,
-    side: Side,
+    until: &mut u64,
+    turn: u64,
+    end: u64,
 ) -> bool
     requires own { seat.old.table ≡ cells.now.table }
-    requires lent { IsLent part.old seat.old.nodes }
+    requires ahead { IsAheadBy (until.old - turn) part.old seat.old.nodes }
     requires known { IsKnown part.old looks.old }
+    requires turn { (turn < end) × (end < 2 ^ 40) }
+    requires within { until.old ≤ end }
     ensures own { seat.new.table ≡ seat.old.table }
     ensures node { part.new.state.node ≡ part.old.state.node }
     ensures known { IsKnown part.new looks.new }
-    ensures tried { HasTried (record { node = part.old.state.node; side = side })
-        seat.old.nodes seat.new.nodes part.old part.new result }
+    ensures within { until.new ≤ end }
+    ensures turned { HasTurned turn until.old until.new
+        (record { node = part.old.state.node; side = runs.side_of_turn turn }) seat.old.nodes
+        seat.new.nodes part.old part.new result }
 {
     let node = part.node();
-    if part.done_if_own() {
+    let side = side_of_turn(turn);
+    if *until > turn {
         cells.own(seat, Try { node, side });
         return true;
     }
-    try_other(cells, seat, part, looks, side)
+    let made = part.run_own(WINDOW.min(end - turn));
+    if made == 0 {
+        return try_other(cells, seat, part, looks, side);
+    }
+    *until = turn + made;
+    cells.own(seat, Try { node, side });
+    true
 }
 
-/// The same for a node that does no work of its own. (It is a cold function of its own, so that the
-/// code of a node's own work is one piece, and the next node's follows without a jump.)
+/// One try of a node that names a side, by a node that does no work of its own. Answers whether it
+/// was `Moved`. (It is a cold function of its own, so that the code of a node's own work is one
+/// piece, and the next node's follows without a jump.)
 #[cold]
 #[inline(never)]
 fn try_other(

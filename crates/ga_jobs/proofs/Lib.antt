@@ -11,3 +11,5 @@ mod WorkedOutputs
 mod WorkedSources
 mod Judged
 mod Sourcing
+mod Told
+mod Traced

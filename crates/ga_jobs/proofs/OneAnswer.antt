@@ -3,7 +3,7 @@ use Rattle.std.proofs.Common.{◌≡◌, ◌∙◌, sym, ℕ, Bool, true, false,
 use Rattle.std.specs.Prelude.{MatchBool, string_bytes}
 use Rattle.ga_asm.specs.Text.{AtMostOne}
 use Rattle.ga_jobs.specs.declared.Job.{Job}
-use Rattle.ga_jobs.specs.declared.Job.TheVariants.{Map, Race, Run, Talk}
+use Rattle.ga_jobs.specs.declared.Job.TheVariants.{Expand, Map, Profile, Race, Run, Talk, Trace}
 use Rattle.ga_jobs.specs.declared.fault.ServeError.TheVariants.{Input}
 use Rattle.ga_jobs.specs.declared.fault.InputFault.TheVariants.{TooLong}
 use Rattle.ga_jobs.proofs.OneOutput.{one_outputs}
@@ -40,13 +40,17 @@ within_limit job input only =
 
 pub one_output : (job : Job) (input : List ℕ) → HasOneOutput job input
 unfolding IsJobOutput
-one_output (Run route workers turns) input =
+one_output (Run route workers turns file) input =
     let runs = run_outputs (string_bytes route) input workers turns in
     record {
-      texts = alike_within (Run route workers turns) input AreTextsOrEqual refused_alike runs.texts;
-      alone = λ single. within_limit (Run route workers turns) input (runs.alone single);
+      texts = alike_within (Run route workers turns file) input AreTextsOrEqual refused_alike
+          runs.texts;
+      alone = λ single. within_limit (Run route workers turns file) input (runs.alone single);
     }
 one_output (Race loading turns witness file) input = tt
 one_output (Talk loading file) input = tt
+one_output (Expand file) input = tt
 one_output (Map loading turns file) input = tt
+one_output (Profile loading start turns file) input = tt
+one_output (Trace loading turns nodes file) input = tt
 one_output job input = within_limit job input (λ one other p q. first_of (cc, search one_outputs))

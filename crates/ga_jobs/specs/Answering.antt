@@ -2,7 +2,7 @@
 use Rattle.std.specs.Prelude.{◌≡◌, ◌&&◌, ℕ, Bool, List, length, nat_lt, MatchBool, Result, Err}
 use Rattle.ga_asm.specs.Text.{AtMostOne}
 use Rattle.ga_jobs.specs.declared.Job.{Job}
-use Rattle.ga_jobs.specs.declared.Job.TheVariants.{Map, Race, Run, Talk}
+use Rattle.ga_jobs.specs.declared.Job.TheVariants.{Expand, Map, Profile, Race, Run, Talk, Trace}
 use Rattle.ga_jobs.specs.declared.fault.ServeError.{ServeError}
 use Rattle.ga_jobs.specs.declared.fault.ServeError.TheVariants.{Input}
 use Rattle.ga_jobs.specs.declared.fault.InputFault.TheVariants.{TooLong}
@@ -25,11 +25,15 @@ IsOutput job input answer =
 -- Two answers of a job to one input are equal, except for the job `run`, since the order of its
 -- tries is free: two answers of it are both texts or equal, and those of a single worker are equal.
 abbrev pub HasOneOutput : Job → List ℕ → Type 0
-HasOneOutput (Run route workers turns) input =
-    HasRuns workers (IsOutput (Run route workers turns) input)
+HasOneOutput (Run route workers turns file) input =
+    HasRuns workers (IsOutput (Run route workers turns file) input)
 -- the text of `race` behind its first words is free
 HasOneOutput (Race loading turns witness file) input = Unit {0}
 -- the faults of a session that is opened aren't compared
 HasOneOutput (Talk loading file) input = Unit {0}
+-- the lines of an expansion are free
+HasOneOutput (Expand file) input = Unit {0}
 HasOneOutput (Map loading turns file) input = Unit {0}
+HasOneOutput (Profile loading start turns file) input = Unit {0}
+HasOneOutput (Trace loading turns nodes file) input = Unit {0}
 HasOneOutput job input = AtMostOne (IsOutput job input)

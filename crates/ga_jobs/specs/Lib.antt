@@ -1,5 +1,6 @@
 -- The jobs: what each reads, and what it may answer to an input, by the page of its name.
-use Rattle.std.specs.Prelude.{◌≡◌, Bool, true, false, List, [], ◌∷◌, ℕ, String, codes, Option, Some, None, Result, Ok, length, map, nat_lt, string_bytes, if◌then◌else◌}
+use Rattle.std.specs.Prelude.{◌≡◌, Bool, true, false, List, [], ◌∷◌, ℕ, String, codes, Option, Some, None, Result, Ok, length, map, nat_lt, option_map, string_bytes, if◌then◌else◌}
+use Rattle.std.specs.Option.{option_and_then}
 use Rattle.std.specs.Str.{bytes_eq}
 use Rattle.ga_explain.specs.Output.{explain_output}
 use Rattle.ga_jobs.specs.declared.Job.{Job}
@@ -9,13 +10,16 @@ use Rattle.ga_jobs.specs.Asm.{IsAsmOutput}
 use Rattle.ga_jobs.specs.Boot.{IsBootOutput}
 use Rattle.ga_jobs.specs.Debug.{IsDebugOutput}
 use Rattle.ga_jobs.specs.Dis.{dis_output}
+use Rattle.ga_jobs.specs.ExpandJob.{IsExpandOutput}
 use Rattle.ga_jobs.specs.Listing.{IsListOutput}
 use Rattle.ga_jobs.specs.MapJob.{IsMapOutput}
 use Rattle.ga_jobs.specs.One.{one_output}
+use Rattle.ga_jobs.specs.ProfileJob.{IsProfileOutput}
 use Rattle.ga_jobs.specs.Race.{IsRaceOutput}
 use Rattle.ga_jobs.specs.Replay.{IsReplayOutput}
 use Rattle.ga_jobs.specs.Run.{IsRunOutput}
 use Rattle.ga_jobs.specs.Session.{IsSessionOutput}
+use Rattle.ga_jobs.specs.TraceJob.{IsTraceOutput}
 use Rattle.ga_jobs.specs.Transcript.{IsCheckOutput, IsRecordOutput}
 pub mod Fault
 pub mod Shown
@@ -24,6 +28,7 @@ pub mod TextFault
 pub mod TranscriptFault
 pub mod Transcript
 pub mod Report
+pub mod ExpandJob
 pub mod Listing
 pub mod Text
 pub mod One
@@ -37,6 +42,8 @@ pub mod Replay
 pub mod Race
 pub mod Session
 pub mod MapJob
+pub mod ProfileJob
+pub mod TraceJob
 pub mod SourceName
 pub mod Sourced
 pub mod Debug
@@ -48,15 +55,16 @@ pub mod inner
 
 -- what a job may answer to an input that is not too long
 unfoldable pub IsJobOutput : Job → List ℕ → Result (List ℕ) ServeError → Type 0
-IsJobOutput (job.One tries) input answer = answer ≡ one_output tries input
-IsJobOutput job.Asm input answer = IsAsmOutput input answer
-IsJobOutput (job.Dis code) input answer = answer ≡ dis_output code input
-IsJobOutput (job.Boot route) input answer = IsBootOutput (string_bytes route) input answer
-IsJobOutput (job.Run route workers turns) input answer =
+IsJobOutput (job.One tries file) input answer = answer ≡ one_output tries input
+IsJobOutput (job.Asm file) input answer = IsAsmOutput input answer
+IsJobOutput (job.Dis code file) input answer = answer ≡ dis_output code input
+IsJobOutput (job.Boot route file) input answer = IsBootOutput (string_bytes route) input answer
+IsJobOutput (job.Run route workers turns file) input answer =
     IsRunOutput (string_bytes route) workers turns input answer
 IsJobOutput job.Debug input answer = IsDebugOutput input answer
 IsJobOutput (job.Talk loading file) input answer = IsSessionOutput loading input answer
-IsJobOutput job.Replay input answer = IsReplayOutput input answer
+IsJobOutput (job.Replay file) input answer = IsReplayOutput input answer
+IsJobOutput (job.Expand file) input answer = IsExpandOutput input answer
 IsJobOutput (job.List labels file) input answer = IsListOutput labels input answer
 IsJobOutput (job.Check files) input answer = IsCheckOutput input answer
 IsJobOutput (job.Record file) input answer = IsRecordOutput input answer
@@ -64,6 +72,10 @@ IsJobOutput (job.Rewrite files) input answer = IsRecordOutput input answer
 IsJobOutput (job.Race loading turns witness file) input answer =
     IsRaceOutput loading turns witness input answer
 IsJobOutput (job.Map loading turns file) input answer = IsMapOutput loading turns input answer
+IsJobOutput (job.Profile loading start turns file) input answer =
+    IsProfileOutput loading start turns input answer
+IsJobOutput (job.Trace loading turns nodes file) input answer =
+    IsTraceOutput loading turns (option_map string_bytes nodes) input answer
 IsJobOutput (job.Explain topic) input answer = answer ≡ Ok (explain_output topic)
 
 -- each job except `explain` reads an input
@@ -80,13 +92,25 @@ abbrev pub only_file : {A : Type 0} → List (String A) → Option (List ℕ)
 only_file (file ∷ []) = named_file file
 only_file files = None
 
+abbrev pub given_file : {A : Type 0} → Option (String A) → Option (List ℕ)
+given_file file = option_and_then named_file file
+
 -- the file that a job reads in place of standard input
 abbrev pub file_of : Job → Option (List ℕ)
-file_of (job.List labels (Some file)) = named_file file
+file_of (job.One tries file) = given_file file
+file_of (job.Asm file) = given_file file
+file_of (job.Dis code file) = given_file file
+file_of (job.Boot route file) = given_file file
+file_of (job.Run route workers turns file) = given_file file
+file_of (job.Replay file) = given_file file
+file_of (job.Expand file) = given_file file
+file_of (job.List labels file) = given_file file
 file_of (job.Check files) = only_file files.items
-file_of (job.Record (Some file)) = named_file file
-file_of (job.Race loading turns witness (Some file)) = named_file file
-file_of (job.Map loading turns (Some file)) = named_file file
+file_of (job.Record file) = given_file file
+file_of (job.Race loading turns witness file) = given_file file
+file_of (job.Map loading turns file) = given_file file
+file_of (job.Profile loading start turns file) = given_file file
+file_of (job.Trace loading turns nodes file) = given_file file
 file_of (job.Talk loading file) = named_file file
 file_of job = None
 
@@ -98,5 +122,5 @@ several_files_of job = None
 
 -- the job that is handed the means to start threads
 abbrev pub needs_threads : Job → Bool
-needs_threads (job.Run route workers turns) = true
+needs_threads (job.Run route workers turns file) = true
 needs_threads job = false

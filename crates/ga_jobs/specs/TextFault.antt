@@ -4,10 +4,13 @@ use Rattle.ga_pack.specs.Model.LayoutFault.{asm_kind_name}
 use Rattle.ga_pack.specs.Model.Token.{source_kind_name}
 use Rattle.ga_asm.specs.declared.text.TextError.{TextError}
 use Rattle.ga_asm.specs.declared.text.TextError.TheVariants as text_error
+use Rattle.ga_expand.specs.Error.{kind_name}
+use Rattle.ga_expand.specs.declared.error.ExpandError.{ExpandError}
+use Rattle.ga_expand.specs.declared.error.ExpandErrorKind.TheVariants as expand_kind
 use Rattle.ga_explain.specs.Output.{meaning_of}
 use Rattle.ga_jobs.specs.declared.fault.ServeError.{ServeError}
 use Rattle.ga_jobs.specs.declared.fault.ServeError.TheVariants.{Shown, Memory}
-use Rattle.ga_jobs.specs.declared.fault.TextFault.TheVariants.{Source, Asm}
+use Rattle.ga_jobs.specs.declared.fault.TextFault.TheVariants.{Source, Asm, Expand}
 use Rattle.ga_jobs.specs.Shown.{shown_text}
 
 -- the fault of a source text, or of its program, with the line of its place, a caret and what it
@@ -20,3 +23,11 @@ shown_fault text (text_error.Asm error) =
     let meaning = meaning_of (asm_kind_name error.kind) in
     Shown (Asm error) (shown_text text error.line (Some error.column) meaning)
 shown_fault text text_error.Memory = Memory
+
+-- the fault of a text of the larger language, with the line of its place, a caret and what it means
+abbrev pub shown_expand_fault : List ℕ → ExpandError → ServeError
+shown_expand_fault text error = elim error.kind [
+  | expand_kind.Memory ↦ Memory
+  | _ ↦ let meaning = meaning_of (kind_name error.kind) in
+      Shown (Expand error) (shown_text text error.line (Some error.column) meaning)
+]

@@ -33,6 +33,7 @@ pub fn answer<Rt: AllocGlobal + Threads + Clock + Sync>(
             route,
             workers,
             turns,
+            ..
         } => {
             within_limit(job, input)?;
             run::output(rt, route, *workers, *turns, input)

@@ -10,6 +10,7 @@ ghost use Rattle.ga_jobs.specs.declared.fault.WordsFault.TheVariants.{BadWord};
 use crate::shown::ShownText;
 use ga_asm::{AsmError, TextError};
 use ga_debug::ReplayError;
+use ga_expand::ExpandError;
 use ga_group::PlanError;
 use ga_path::{BootError, NamesError, RouteError, TreeError};
 use ga_place::Node;
@@ -82,6 +83,9 @@ pub enum TextFault {
     Source(SourceError),
     #[error("asm {0}")]
     Asm(AsmError),
+    /// The fault of a text of the larger language.
+    #[error("expand {0}")]
+    Expand(ExpandError),
     /// The fault of a source in a file with a name of its own.
     #[error("source {0}:{1}")]
     SourceOf(ShownText, SourceError),

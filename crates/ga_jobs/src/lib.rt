@@ -4,7 +4,7 @@
 #![tactic(auto)]
 
 ghost use Rattle.std.specs.Prelude.{◌≡◌, IfSome, is_some, map, not, option_map, string_bytes};
-ghost use Rattle.ga_jobs.specs.{IsJobOutput, file_of, needs_threads, only_file, reads_input, several_files_of};
+ghost use Rattle.ga_jobs.specs.{IsJobOutput, file_of, given_file, named_file, needs_threads, only_file, reads_input, several_files_of};
 ghost use Rattle.ga_jobs.specs.Fault.{Answers};
 
 mod answering;
@@ -14,12 +14,14 @@ pub mod check;
 pub mod debug;
 pub mod dis;
 mod engine;
+pub mod expand;
 mod explain;
 mod fault;
 pub mod list;
 pub mod map;
 mod meaning;
 pub mod one;
+pub mod profile;
 pub mod race;
 mod race_text;
 mod reading;
@@ -35,6 +37,7 @@ mod source_name;
 mod sourced;
 mod text;
 mod text_fault;
+pub mod trace;
 mod transcript_fault;
 mod tree;
 mod witness;
@@ -55,30 +58,38 @@ pub use crate::sourced::Sourced;
 pub use crate::writes::Writes;
 pub use crate::writing::write_output;
 use ga_explain::Topic;
+use ga_profile::WindowStart;
 use std::alloc::Global;
 
-/// What a command line asks for, one variant for each subcommand.
+/// What a command line asks for, one variant for each subcommand. The input is in the file, or
+/// comes from standard input if there is none.
 #[derive(Debug, PartialEq, Eq, Drop)]
 pub enum Job {
     /// One node runs the words of the input, for as many tries.
     One {
         tries: u32,
+        file: Option<String>,
     },
     /// The words of the nodes of a source text.
-    Asm,
+    Asm {
+        file: Option<String>,
+    },
     /// The source text of the words of the input, of which the first ones, or all, are code.
     Dis {
         code: Option<u32>,
+        file: Option<String>,
     },
     /// The boot stream of one route or more through the nodes of a source text.
     Boot {
         route: String,
+        file: Option<String>,
     },
     /// The nodes of one route or more after a run of workers, booted from a source text.
     Run {
         route: String,
         workers: u32,
         turns: u32,
+        file: Option<String>,
     },
     /// The replies to the commands of a replay text.
     Debug,
@@ -89,20 +100,25 @@ pub enum Job {
         file: String,
     },
     /// How many stated outcomes of a replay text hold.
-    Replay,
-    /// The words of a source text with their instructions, or only its labels. The text is in the
-    /// file, or comes from standard input if there is none.
+    Replay {
+        file: Option<String>,
+    },
+    /// The plain source text that a text of the larger language expands to.
+    Expand {
+        file: Option<String>,
+    },
+    /// The words of a source text with their instructions, or only its labels.
     List {
         labels: bool,
         file: Option<String>,
     },
-    /// How many commands a transcript has, if each has the expected reply. The transcript is in the
-    /// file, or comes from standard input if there is none. As a job it has one input: several
-    /// files are inputs of as many jobs, and [`FileReport`] has what is reported of each.
+    /// How many commands a transcript has, if each has the expected reply. As a job it has one
+    /// input: several files are inputs of as many jobs, and [`FileReport`] has what is reported of
+    /// each.
     Check {
         files: Vec<String>,
     },
-    /// A transcript with the replies that come, from a file or standard input too.
+    /// A transcript with the replies that come.
     Record {
         file: Option<String>,
     },
@@ -111,19 +127,33 @@ pub enum Job {
     Rewrite {
         files: Vec<String>,
     },
-    /// What one run of a chip shows of all its runs. The session or the source text is in the file,
-    /// or comes from standard input if there is none.
+    /// What one run of a chip shows of all its runs, by a session or source text.
     Race {
         loading: Loading,
         turns: Option<u32>,
         witness: bool,
         file: Option<String>,
     },
-    /// The picture of a chip, after the commands of its session and turns until rest. The session
-    /// or the source text is in the file, or comes from standard input if there is none.
+    /// The picture of a chip, after the commands of its session and turns until rest.
     Map {
         loading: Loading,
         turns: Option<u32>,
+        file: Option<String>,
+    },
+    /// What each node of a chip does in a run, after the commands of its session, the bottleneck,
+    /// and who waits at the end.
+    Profile {
+        loading: Loading,
+        start: WindowStart,
+        turns: Option<u32>,
+        file: Option<String>,
+    },
+    /// The waveform of a chip, after the commands of its session: turns until rest. It shows the
+    /// nodes that a text names, or those of the program.
+    Trace {
+        loading: Loading,
+        turns: Option<u32>,
+        nodes: Option<String>,
         file: Option<String>,
     },
     /// What a name means that the program writes, or all these names.
@@ -157,24 +187,44 @@ impl Job {
         ensures { option_map (λ name. name.now) result ≡ file_of self.now }
     {
         match self {
+            Job::One { file, .. }
+            | Job::Asm { file }
+            | Job::Dis { file, .. }
+            | Job::Boot { file, .. }
+            | Job::Run { file, .. }
+            | Job::Replay { file }
+            | Job::Expand { file }
+            | Job::List { file, .. }
+            | Job::Record { file }
+            | Job::Race { file, .. }
+            | Job::Map { file, .. }
+            | Job::Profile { file, .. }
+            | Job::Trace { file, .. } => given_file(file),
+            Job::Talk { file, .. } => named_file(file),
             Job::Check { files } => only_file(files),
-            Job::List {
-                file: Some(file),
-                ..
-            }
-            | Job::Record { file: Some(file) }
-            | Job::Race {
-                file: Some(file),
-                ..
-            }
-            | Job::Map {
-                file: Some(file),
-                ..
-            }
-            | Job::Talk { file, .. }
-                if file.as_str() != "-" => { Some(file.as_str()) }
-            _ => None,
+            Job::Debug | Job::Rewrite { .. } | Job::Explain { .. } => None,
         }
+    }
+}
+
+/// The name of a file that may be left out, unless it is `-`.
+fn given_file(file: &Option<String>) -> Option<&str>
+    ensures { option_map (λ name. name.now) result ≡ given_file file.now }
+{
+    match file {
+        Some(file) => named_file(file),
+        None => None,
+    }
+}
+
+/// The name of a file, unless it is `-`.
+fn named_file(file: &String) -> Option<&str>
+    ensures { option_map (λ name. name.now) result ≡ named_file file.now }
+{
+    if file.as_str() == "-" {
+        None
+    } else {
+        Some(file.as_str())
     }
 }
 
@@ -183,7 +233,7 @@ fn only_file(files: &[String]) -> Option<&str>
     ensures { option_map (λ name. name.now) result ≡ only_file files.now }
 {
     match files {
-        [file] if file.as_str() != "-" => Some(file.as_str()),
+        [file] => named_file(file),
         _ => None,
     }
 }
@@ -195,14 +245,15 @@ fn output(alloc: Global, job: &Job, input: &[u8]) -> Option<Result<String, Serve
     ensures none { is_some result ≡ not (needs_threads job.now) }
 {
     match job {
-        Job::One { tries } => Some(one::output(alloc, *tries, input)),
-        Job::Asm => Some(asm::output(alloc, input)),
-        Job::Dis { code } => Some(dis::output(alloc, *code, input)),
-        Job::Boot { route } => Some(boot::output(alloc, route, input)),
+        Job::One { tries, .. } => Some(one::output(alloc, *tries, input)),
+        Job::Asm { .. } => Some(asm::output(alloc, input)),
+        Job::Dis { code, .. } => Some(dis::output(alloc, *code, input)),
+        Job::Boot { route, .. } => Some(boot::output(alloc, route, input)),
         Job::Run { .. } => None,
         Job::Debug => Some(debug::output(alloc, input)),
         Job::Talk { loading, .. } => Some(session::output(alloc, loading, input)),
-        Job::Replay => Some(replay::output(alloc, input)),
+        Job::Replay { .. } => Some(replay::output(alloc, input)),
+        Job::Expand { .. } => Some(expand::output(alloc, input)),
         Job::List { labels, .. } => Some(list::output(alloc, *labels, input)),
         Job::Check { .. } => Some(check::output(alloc, input)),
         Job::Record { .. } | Job::Rewrite { .. } => Some(record::output(alloc, input)),
@@ -213,6 +264,18 @@ fn output(alloc: Global, job: &Job, input: &[u8]) -> Option<Result<String, Serve
             ..
         } => Some(race::output(alloc, loading, *turns, *witness, input)),
         Job::Map { loading, turns, .. } => Some(map::output(alloc, loading, *turns, input)),
+        Job::Profile {
+            loading,
+            start,
+            turns,
+            ..
+        } => Some(profile::output(alloc, loading, *start, *turns, input)),
+        Job::Trace {
+            loading,
+            turns,
+            nodes,
+            ..
+        } => Some(trace::output(alloc, loading, *turns, nodes, input)),
         Job::Explain { topic } => Some(explain::output(alloc, *topic)),
     }
 }

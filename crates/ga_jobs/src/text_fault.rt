@@ -1,9 +1,10 @@
 ghost use Rattle.std.specs.Prelude.{◌≡◌, IfOk};
-ghost use Rattle.ga_jobs.specs.TextFault.{shown_fault};
+ghost use Rattle.ga_jobs.specs.TextFault.{shown_expand_fault, shown_fault};
 
 use crate::fault::{ServeError, TextFault};
 use crate::shown::ShownText;
 use ga_asm::TextError;
+use ga_expand::{ExpandError, ExpandErrorKind};
 use ga_explain::meaning;
 use std::alloc::{AllocError, Global};
 
@@ -26,4 +27,22 @@ pub fn shown_fault(alloc: Global, text: &str, error: TextError) -> Result<ServeE
         }
         TextError::Memory => Ok(ServeError::Memory),
     }
+}
+
+/// The fault of a text of the larger language, with the lines that are shown at its place. Fails
+/// only when out of memory.
+pub fn shown_expand_fault(
+    alloc: Global,
+    text: &str,
+    error: ExpandError,
+) -> Result<ServeError, AllocError>
+    ensures { IfOk result (λ fault. fault ≡ shown_expand_fault text.now error) }
+{
+    if error.kind == ExpandErrorKind::Memory {
+        return Ok(ServeError::Memory);
+    }
+    let meaning = meaning(alloc, error.kind.name())?;
+    let shown = ShownText::new(alloc, text, error.line, Some(error.column), meaning)?;
+    let fault = TextFault::Expand(error);
+    Ok(ServeError::Shown { fault, shown })
 }

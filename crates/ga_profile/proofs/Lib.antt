@@ -1,4 +1,8 @@
 pub mod Keeping
 pub mod Passing
+pub mod Ranking
+pub mod Trailing
 pub mod Writing
 mod Worked
+mod WorkedPath
+mod WorkedLines

@@ -19,10 +19,9 @@ use Rattle.ga_profile.specs.declared.node_turns.TurnCounts.{TurnCounts}
 use Rattle.ga_profile.specs.declared.node_turns.Wait.TheVariants as wait
 use Rattle.ga_profile.specs.declared.passes.Passes.{Passes}
 use Rattle.ga_profile.specs.declared.share.Share.TheVariants as share
-use Rattle.ga_profile.specs.declared.window.Window.{Window}
 use Rattle.ga_profile.specs.declared.window.WindowStart.TheVariants.{FirstNode, LastNode, Turn}
 use Rattle.ga_profile.specs.Bar.{bar}
-use Rattle.ga_profile.specs.Bottleneck.{judge, sentence, use_of}
+use Rattle.ga_profile.specs.Bottleneck.{busy_text, is_spread, judge, most_on_path, path_text, sentence, times_text, use_of}
 use Rattle.ga_profile.specs.NodePass.{pass_of}
 use Rattle.ga_profile.specs.NodeTurns.{NO_TURNS, after_step, turns_between, turns_in}
 use Rattle.ga_profile.specs.Passes.{passes_in, place_of}
@@ -136,12 +135,17 @@ half_up : share_of 3 24 ≡ share.Percent 13
 unfolding share_of
 half_up = refl
 
+-- a cell that is too wide moves what is behind it, and keeps its blank
+wide_cell : cell 3 (codes "1234") ≡ codes " 1234"
+unfolding cell
+wide_cell = refl
+
 -- the line of 708 in a window of 24 turns
 abbrev line_708 : NodeTurns
 line_708 = record turns_708 { counts = record counts_708 { boots = 0 } }
 
-line_of_708 : row 708 line_708 None 24
-    ≡ codes "708     25    8   13   54  |######??!!!~~           |     1     1       .     .\n"
+line_of_708 : row 708 line_708 None 12 24
+    ≡ codes "708    25    8   13   54 |######??!!!~~           |   50    1     1      .     .\n"
 unfolding row shares words bar share_of cell digits
 line_of_708 = refl
 
@@ -151,22 +155,48 @@ unfolding digits
 window_line = refl
 
 -- the bottleneck, by the use of the busiest
-one_node : judge 66 false 4 ≡ found.OneNode
+one_node : judge 660000 false 4 true ≡ found.OneNode
 one_node = refl
 
-two_nodes : judge 66 false 8 ≡ found.EachNode
+two_nodes : judge 660000 false 8 true ≡ found.EachNode
 two_nodes = refl
 
-too_few : judge 65 false 4 ≡ found.NoNode
+too_few : judge 659999 false 4 true ≡ found.NoNode
 too_few = refl
 
-a_ring : judge 66 true 4 ≡ found.Deadlock
+on_path : judge 659999 false 4 false ≡ found.OnPath
+on_path = refl
+
+a_ring : judge 660000 true 4 true ≡ found.Deadlock
 a_ring = refl
 
-of_709 : sentence found.OneNode (codes " 709") 86
+-- three nodes have 4 % of the path, and none has half
+one_after_other : is_spread (40 ∷ 30 ∷ 26 ∷ 4 ∷ []) 0 100 ≡ true
+one_after_other = refl
+
+half_of_path : is_spread (50 ∷ 46 ∷ 4 ∷ []) 0 100 ≡ false
+half_of_path = refl
+
+two_on_path : is_spread (49 ∷ 48 ∷ 3 ∷ []) 0 100 ≡ false
+two_on_path = refl
+
+first_of_most : most_on_path (3 ∷ 7 ∷ 7 ∷ 5 ∷ []) 4 ≡ 1
+first_of_most = refl
+
+of_709 : sentence found.OneNode (codes " 709") 866000 []
     ≡ codes "Bottleneck: the work of 709, in 86 % of the turns.\nThe run gets shorter if this node does less.\n"
-unfolding sentence digits
+unfolding sentence busy_text digits
 of_709 = refl
+
+of_several : sentence found.NoNode (codes " 709 710") 137000 []
+    ≡ codes "Bottleneck: no single node, one after the other. Busiest: 709 710, in 13 % of the turns.\nSide by side, the same work takes up to 7.2 times fewer turns.\n"
+unfolding sentence busy_text times_text digits
+of_several = refl
+
+of_708 : sentence found.OnPath [] 520000 (path_text 708 850000)
+    ≡ codes "Bottleneck: 708. The run waits for it in 85 % of the turns.\nThe run gets shorter if this node is done earlier.\n"
+unfolding sentence path_text digits
+of_708 = refl
 
 -- ---- passes
 
@@ -213,10 +243,14 @@ no_mean : pass_of (record four_times { count = 3 }) ≡ None
 unfolding four_times
 no_mean = refl
 
--- a node with a pass works 70 of 100 turns, whatever it works in all
-its_use : use_of 5 (Some (record { turns = 10; works = 7 })) 100 ≡ 70
+-- a node with a pass works in 70 % of its turns, whatever it works in all
+its_use : use_of 5 (Some (record { turns = 10; works = 7 })) 100 ≡ 700000
 its_use = refl
 
-means_of_pass : means (record { turns = 10; works = 7 }) ≡ codes "      10     7\n"
+-- one step in a million turns is a use
+least_use : use_of 1 None 1000000 ≡ 1
+least_use = refl
+
+means_of_pass : means (record { turns = 10; works = 7 }) ≡ codes "     10     7\n"
 unfolding means cell digits
 means_of_pass = refl

@@ -35,20 +35,22 @@ item_more f n =
     ∙ ap (λ l. l ++ f n ∷ []) (sym (map_is_flat f (range_with_len 0 n)))
 
 -- the line of a node, read at any default
-pub row_read : (nodes : List NodeTurns) (passes : List (Option NodePass)) (turns index name : ℕ)
-    (other : NodeTurns) (pass : Option NodePass) (text new : List ℕ) → index < length nodes
-    → index < length passes → name ≡ name_at index
+pub row_read : (nodes : List NodeTurns) (passes : List (Option NodePass)) (path : List ℕ)
+    (turns index name : ℕ) (other : NodeTurns) (pass : Option NodePass) (text new : List ℕ)
+    → index < length nodes → index < length passes → name ≡ name_at index
     → new ≡ text ++ row_if (get_or nodes index other).began name (get_or nodes index other)
-    (get_or passes index pass) turns
-    → new ≡ text ++ row_at nodes passes turns index
-row_read nodes passes turns index name other pass text new within in_passes named wrote =
+    (get_or passes index pass) (get_or path index 0) turns
+    → new ≡ text ++ row_at nodes passes path turns index
+row_read nodes passes path turns index name other pass text new within in_passes named wrote =
     let did = get_or nodes index NO_TURNS in
+    let on_path = get_or path index 0 in
     wrote
-    ∙ ap (λ (one : NodeTurns). text ++ row_if one.began name one (get_or passes index pass) turns)
+    ∙ ap (λ (one : NodeTurns). text
+    ++ row_if one.began name one (get_or passes index pass) on_path turns)
     (get_or_default nodes index other NO_TURNS within)
-    ∙ ap (λ (p : Option NodePass). text ++ row_if did.began name did p turns)
+    ∙ ap (λ (p : Option NodePass). text ++ row_if did.began name did p on_path turns)
     (get_or_default passes index pass None in_passes)
-    ∙ ap (λ n. text ++ row_if did.began n did (get_or passes index None) turns) named
+    ∙ ap (λ n. text ++ row_if did.began n did (get_or passes index None) on_path turns) named
 
 -- and how much of its turns it works
 pub use_read : (nodes : List NodeTurns) (passes : List (Option NodePass)) (turns index : ℕ)

@@ -9,4 +9,9 @@ pub mod Bottleneck
 pub mod Text
 pub mod Passes
 pub mod NodePass
+pub mod Marks
+pub mod Path
+pub mod Rank
+pub mod Kinds
+pub mod Lines
 pub mod inner

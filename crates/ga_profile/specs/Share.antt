@@ -1,5 +1,5 @@
 -- Shares of turns, and cells of a table.
-use Rattle.std.specs.Prelude.{ℕ, ◌+◌, ◌-◌, ◌*◌, ◌/◌, ◌==◌, List, ◌++◌, codes, length, nat_lt, replicate, if◌then◌else◌}
+use Rattle.std.specs.Prelude.{ℕ, ◌+◌, ◌-◌, ◌*◌, ◌/◌, ◌==◌, List, ◌++◌, codes, length, max, nat_lt, replicate, if◌then◌else◌}
 use Rattle.std.specs.Fmt.{decimal}
 use Rattle.ga_profile.specs.declared.share.Share.{Share}
 use Rattle.ga_profile.specs.declared.share.Share.TheVariants.{None, BelowOne, Percent}
@@ -19,9 +19,9 @@ share_text None = codes "."
 share_text BelowOne = codes "<1"
 share_text (Percent number) = decimal number
 
--- a text at the right of a column of this width
+-- a text at the right of a column of this width, behind at least one blank
 unfoldable pub cell : ℕ → List ℕ → List ℕ
-cell width text = replicate (width - length text) 32 ++ text
+cell width text = replicate (max (width - length text) 1) 32 ++ text
 
 abbrev pub number_cell : ℕ → ℕ → List ℕ
 number_cell width number = cell width (decimal number)

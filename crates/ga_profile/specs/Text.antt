@@ -7,6 +7,7 @@ use Rattle.ga_profile.specs.declared.node_pass.NodePass.{NodePass}
 use Rattle.ga_profile.specs.declared.node_turns.NodeTurns.{NodeTurns}
 use Rattle.ga_profile.specs.declared.window.Window.{Window}
 use Rattle.ga_profile.specs.Bottleneck.{bottleneck_text}
+use Rattle.ga_profile.specs.Lines.{lines_text}
 use Rattle.ga_profile.specs.Table.{HEAD, LEGEND, rows}
 use Rattle.ga_profile.specs.Window.{length_of}
 
@@ -16,8 +17,10 @@ window_text window =
     decimal (length_of window) ++ codes " turns"
     ++ (codes " from turn " ++ decimal window.first ++ codes " on\n")
 
--- The window; a line for each node that began; and the bottleneck.
-unfoldable pub profile_text : Window → List NodeTurns → List (Option NodePass) → Chip → List ℕ
-profile_text window nodes passes chip =
-    concat (window_text window ∷ HEAD ∷ rows nodes passes (length_of window) ∷ LEGEND
-    ∷ bottleneck_text chip nodes passes (length_of window) ∷ [])
+-- The window; a line for each node that began; the bottleneck; and where the path goes.
+unfoldable pub profile_text : Window → List NodeTurns → List (Option NodePass) → List ℕ → List ℕ
+    → Chip → List ℕ
+profile_text window nodes passes path lines chip =
+    concat (window_text window ∷ HEAD ∷ rows nodes passes path (length_of window) ∷ LEGEND
+    ∷ bottleneck_text chip nodes passes path (length_of window)
+    ∷ lines_text path lines (length_of window) ∷ [])

@@ -1,3 +1,4 @@
 pub mod Kept
 pub mod KeptPasses
 pub mod PlaceRead
+pub mod Trails

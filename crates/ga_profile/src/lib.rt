@@ -3,15 +3,22 @@
 
 mod bar;
 mod bottleneck;
+mod kinds;
+mod lines;
+mod marks;
 mod node_pass;
 mod node_turns;
 mod pass_watch;
 mod passes;
+mod path;
+mod path_watch;
 mod profile;
+mod rank;
 mod self_jump;
 mod share;
 mod table;
 mod text;
+mod trail;
 mod turn_watch;
 mod window;
 

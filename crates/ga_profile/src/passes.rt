@@ -109,7 +109,7 @@ fn slot_at(place: Place) -> Option<usize>
 }
 
 /// The word of memory at an address.
-fn word_at(address: u16) -> Option<usize>
+pub(crate) fn word_at(address: u16) -> Option<usize>
     ensures word { result ≡ spec.word_at address }
     ensures bound { IfSome result (λ word. word < 64) }
 {

@@ -3,11 +3,14 @@ ghost use Rattle.std.specs.Prelude.{◌≡◌, IfOk, length};
 ghost use Rattle.ga_chip.specs.Chip.{state_of};
 ghost use Rattle.ga_chip.specs.Run.{ran, turns_of};
 ghost use Rattle.ga_profile.specs.NodePass.{node_passes};
+ghost use Rattle.ga_profile.specs.Lines.{line_turns};
+ghost use Rattle.ga_profile.specs.Path.{path_turns};
 ghost use Rattle.ga_profile.specs.Profile as spec;
 ghost use Rattle.ga_profile.specs.Profile.{chip_at_end, nodes_in, window_in};
 
 use crate::node_pass::{NodePass, node_passes};
 use crate::node_turns::{NodeTurns, Wait, turns_between, wait_to_take, waited};
+use crate::path::{line_turns, path_turns};
 use crate::turn_watch::TurnWatch;
 use crate::window::{Window, WindowStart, window_of};
 use ga_chip::Chip;
@@ -25,10 +28,17 @@ pub struct Profile {
     pub nodes: Vec<NodeTurns>,
     /// The pass of each node, in order of name, if it makes three.
     pub passes: Vec<Option<NodePass>>,
+    /// How many turns of the window each node has on the path, in order of name.
+    pub path: Vec<u64>,
+    /// How many turns each line has on the path, of the ten nodes with the most turns on it, the
+    /// node with the most first: 64 for the words of its memory, and one for all other code.
+    pub lines: Vec<u64>,
     /// The chip at the end of the window.
     pub chip: Chip,
     ghost all: { length nodes.items ≡ 144 },
     ghost each: { length passes.items ≡ 144 },
+    ghost paths: { length path.items ≡ 144 },
+    ghost places: { length lines.items ≡ 650 },
 }
 
 /// What each node does in a run of a chip: in its turns until no node moves but those that spin, or
@@ -44,6 +54,10 @@ pub fn measure(
         profile.nodes.items ≡ nodes_in (window_in start most chip.now) chip.now) }
     ensures passes { IfOk result (λ profile.
         profile.passes.items ≡ node_passes (window_in start most chip.now) chip.now) }
+    ensures path { IfOk result (λ profile.
+        profile.path.items ≡ path_turns (window_in start most chip.now) chip.now) }
+    ensures lines { IfOk result (λ profile. profile.lines.items
+        ≡ line_turns (window_in start most chip.now) chip.now profile.path.items) }
     ensures chip { IfOk result (λ profile.
         profile.chip ≡ chip_at_end (window_in start most chip.now) chip.now) }
 {
@@ -61,17 +75,25 @@ fn profile_in(alloc: Global, chip: &Chip, window: Window) -> Result<Profile, All
         profile.nodes.items ≡ nodes_in window chip.now) }
     ensures passes { IfOk result (λ profile.
         profile.passes.items ≡ node_passes window chip.now) }
+    ensures path { IfOk result (λ profile.
+        profile.path.items ≡ path_turns window chip.now) }
+    ensures lines { IfOk result (λ profile.
+        profile.lines.items ≡ line_turns window chip.now profile.path.items) }
     ensures chip { IfOk result (λ profile. profile.chip ≡ chip_at_end window chip.now) }
 {
     let passes = node_passes(alloc, chip, window)?;
-    let mut chip = chip.copied(alloc)?;
-    let watched = watched(&mut chip, window.first, window.end);
-    let nodes = ended(alloc, &chip, window, &watched)?;
+    let mut copy = chip.copied(alloc)?;
+    let watched = watched(&mut copy, window.first, window.end);
+    let path = path_turns(alloc, chip, window, &watched)?;
+    let lines = line_turns(alloc, chip, window, &watched, path.as_slice())?;
+    let nodes = ended(alloc, &copy, window, &watched)?;
     Ok(Profile {
         window,
         nodes,
         passes,
-        chip,
+        path,
+        lines,
+        chip: copy,
     })
 }
 

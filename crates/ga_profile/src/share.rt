@@ -81,13 +81,13 @@ pub(crate) fn push_number(
     push_cell(text, width, shown.as_str())
 }
 
-/// Adds a text at the right of a column.
+/// Adds a text at the right of a column, behind at least one blank.
 #[tactic(auto, unfolding(crate::specs::Share::cell))]
-fn push_cell(text: &mut String, width: usize, shown: &str) -> Result<(), AllocError>
+pub(crate) fn push_cell(text: &mut String, width: usize, shown: &str) -> Result<(), AllocError>
     ensures { OnOk result (string_bytes text.new
         ≡ string_bytes text.old ++ cell width shown.now) }
 {
-    push_blanks(text, width.saturating_sub(shown.len()))?;
+    push_blanks(text, width.saturating_sub(shown.len()).max(1))?;
     text.push_str(shown)?;
     Ok(())
 }

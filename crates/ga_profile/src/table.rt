@@ -16,9 +16,11 @@ use std::fmt::Write;
 pub(crate) fn push_head(text: &mut String) -> Result<(), AllocError>
     ensures { OnOk result (string_bytes text.new ≡ string_bytes text.old ++ HEAD) }
 {
-    text.push_str("      share of the turns, % 0                    100   words         a pass\n")?;
     text.push_str(
-        "node  work take read rest  |-----+-----+-----+------|    in   out   turns works\n",
+        "    share of the turns, % 0                    100         words       a pass\n",
+    )?;
+    text.push_str(
+        "node work take read rest |-----+-----+-----+------| path   in   out  turns works\n",
     )?;
     Ok(())
 }
@@ -29,7 +31,8 @@ pub(crate) fn push_legend(text: &mut String) -> Result<(), AllocError>
     ensures { OnOk result (string_bytes text.new ≡ string_bytes text.old ++ LEGEND) }
 {
     text.push_str("# works  ? waits for a word  ! waits for its word to be read\n")?;
-    text.push_str("rest: b boots  ~ spins  x stopped  blank idle\n")
+    text.push_str("rest: b boots  ~ spins  x stopped  blank idle\n")?;
+    text.push_str("path: the run waits for this node\n")
 }
 
 /// Adds the lines of all nodes that began.
@@ -39,12 +42,14 @@ pub(crate) fn push_rows(
     alloc: Global,
     nodes: &[NodeTurns],
     passes: &[Option<NodePass>],
+    path: &[u64],
     turns: u64,
 ) -> Result<(), AllocError>
     requires nodes { length nodes.now ≡ 144 }
     requires passes { length passes.now ≡ 144 }
+    requires path { length path.now ≡ 144 }
     ensures { OnOk result (string_bytes text.new
-        ≡ string_bytes text.old ++ rows nodes.now passes.now turns) }
+        ≡ string_bytes text.old ++ rows nodes.now passes.now path.now turns) }
 {
     for index in 0..144 {
         push_row(
@@ -53,6 +58,7 @@ pub(crate) fn push_rows(
             Node::at(index),
             &nodes[index],
             passes[index],
+            path[index],
             turns,
         )?;
     }
@@ -66,13 +72,14 @@ fn push_row(
     node: Node,
     did: &NodeTurns,
     pass: Option<NodePass>,
+    path: u64,
     turns: u64,
 ) -> Result<(), AllocError>
     ensures { OnOk result (string_bytes text.new
-        ≡ string_bytes text.old ++ spec.row_if did.now.began node did.now pass turns) }
+        ≡ string_bytes text.old ++ spec.row_if did.now.began node did.now pass path turns) }
 {
     match did.began {
-        Some(_) => push_line(text, alloc, node, did, pass, turns),
+        Some(_) => push_line(text, alloc, node, did, pass, path, turns),
         None => Ok(()),
     }
 }
@@ -85,17 +92,18 @@ fn push_line(
     node: Node,
     did: &NodeTurns,
     pass: Option<NodePass>,
+    path: u64,
     turns: u64,
 ) -> Result<(), AllocError>
     ensures { OnOk result (string_bytes text.new
-        ≡ string_bytes text.old ++ row node did.now pass turns) }
+        ≡ string_bytes text.old ++ row node did.now pass path turns) }
 {
     write!(text, "{node}")?;
     push_shares(text, alloc, did, turns)?;
-    text.push_str("  |")?;
+    text.push_str(" |")?;
     push_bar(text, &did.counts, turns)?;
     text.push_str("|")?;
-    push_words(text, alloc, did)?;
+    push_words(text, alloc, did, path, turns)?;
     push_pass(text, alloc, pass)
 }
 
@@ -112,7 +120,7 @@ fn push_shares(
         ≡ string_bytes text.old ++ shares did.now turns) }
 {
     let counts = &did.counts;
-    push_share(text, alloc, 7, share_of(counts.works, turns))?;
+    push_share(text, alloc, 6, share_of(counts.works, turns))?;
     push_share(text, alloc, 5, share_of(counts.word_waits, turns))?;
     push_share(text, alloc, 5, share_of(counts.reader_waits, turns))?;
     push_share(text, alloc, 5, share_of(rest_of(did, turns), turns))
@@ -129,12 +137,20 @@ fn rest_of(did: &NodeTurns, turns: u64) -> u64
         .saturating_sub(counts.reader_waits)
 }
 
-/// Adds how many words a node took and posted.
+/// Adds the share of the turns that a node has on the path, and how many words it took and posted.
 #[tactic(auto, unfolding(crate::specs::Table::words))]
-fn push_words(text: &mut String, alloc: Global, did: &NodeTurns) -> Result<(), AllocError>
-    ensures { OnOk result (string_bytes text.new ≡ string_bytes text.old ++ words did.now) }
+fn push_words(
+    text: &mut String,
+    alloc: Global,
+    did: &NodeTurns,
+    path: u64,
+    turns: u64,
+) -> Result<(), AllocError>
+    ensures { OnOk result (string_bytes text.new
+        ≡ string_bytes text.old ++ words did.now path turns) }
 {
-    push_number(text, alloc, 6, did.taken)?;
+    push_share(text, alloc, 5, share_of(path, turns))?;
+    push_number(text, alloc, 5, did.taken)?;
     push_number(text, alloc, 6, did.posted)
 }
 
@@ -146,7 +162,7 @@ fn push_pass(text: &mut String, alloc: Global, pass: Option<NodePass>) -> Result
 {
     match pass {
         Some(pass) => push_means(text, alloc, pass),
-        None => text.push_str("       .     .\n"),
+        None => text.push_str("      .     .\n"),
     }
 }
 
@@ -155,7 +171,7 @@ fn push_pass(text: &mut String, alloc: Global, pass: Option<NodePass>) -> Result
 fn push_means(text: &mut String, alloc: Global, pass: NodePass) -> Result<(), AllocError>
     ensures { OnOk result (string_bytes text.new ≡ string_bytes text.old ++ means pass) }
 {
-    push_number(text, alloc, 8, pass.turns)?;
+    push_number(text, alloc, 7, pass.turns)?;
     push_number(text, alloc, 6, pass.works)?;
     text.push_str("\n")
 }

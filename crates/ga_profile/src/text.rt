@@ -3,6 +3,7 @@ ghost use Rattle.std.specs.Prelude.{◌≡◌, ◌++◌, IfOk, OnOk, string_byte
 ghost use Rattle.ga_profile.specs.Text.{profile_text, window_text};
 
 use crate::bottleneck::push_bottleneck;
+use crate::lines::push_lines;
 use crate::profile::Profile;
 use crate::table::{push_head, push_legend, push_rows};
 use crate::window::Window;
@@ -10,24 +11,28 @@ use std::alloc::{AllocError, Global};
 use std::fmt::Write;
 
 /// A profile as text: its window; a line for each node that began, with the shares of the turns in
-/// which it worked and waited, a bar of them, and how many words it took and posted; and the
-/// bottleneck, with what to change. Each line ends with LF. Fails only when out of memory. (The
-/// text is this project's own: profile.)
+/// which it worked and waited, a bar of them, its share of the path, and how many words it took and
+/// posted; the bottleneck, with what to change; and the words of memory with the most turns on the
+/// path. Each line ends with LF. Fails only when out of memory. (The text is this project's own:
+/// profile.)
 #[tactic(auto, unfolding(crate::specs::Text::profile_text))]
 pub fn profile_text(alloc: Global, profile: &Profile) -> Result<String, AllocError>
     ensures { IfOk result (λ text. string_bytes text
         ≡ profile_text profile.now.window profile.now.nodes.items
-        profile.now.passes.items profile.now.chip) }
+        profile.now.passes.items profile.now.path.items profile.now.lines.items
+        profile.now.chip) }
 {
     let turns = profile.window.length();
     let nodes = profile.nodes.as_slice();
     let passes = profile.passes.as_slice();
+    let path = profile.path.as_slice();
     let mut text = String::new(alloc);
     push_window(&mut text, profile.window)?;
     push_head(&mut text)?;
-    push_rows(&mut text, alloc, nodes, passes, turns)?;
+    push_rows(&mut text, alloc, nodes, passes, path, turns)?;
     push_legend(&mut text)?;
-    push_bottleneck(&mut text, alloc, &profile.chip, nodes, passes, turns)?;
+    push_bottleneck(&mut text, alloc, profile)?;
+    push_lines(&mut text, alloc, path, profile.lines.as_slice(), turns)?;
     Ok(text)
 }
 

@@ -20,7 +20,7 @@ use crate::runs::{chip_text_told, run_workers_told};
 use crate::serving::serve_told;
 use crate::sessions::{begin_told, command_told, reply_into_told};
 use crate::told::Told;
-use crate::words::{push_words_told, tokens_told, words_text_told};
+use crate::words::{origin_told, push_words_told, tokens_told, words_text_told};
 use std::alloc::AllocError;
 use std::env;
 use std::io::Read;
@@ -86,6 +86,7 @@ fn told_alone<Rt: AllocGlobal + Threads + Clock + Sync>(
         "begin" => begin_told(alloc),
         "push_words" => push_words_told(alloc)?,
         "tokens" => tokens_told(alloc)?,
+        "origin" => origin_told(alloc)?,
         "write_frame" => write_frame_told(alloc)?,
         "read_frames" => read_frames_told(alloc)?,
         "feed" => feed_told(alloc)?,

@@ -1,6 +1,7 @@
 //! Calls of words and of source text.
 use crate::told::Told;
-use ga_source::tokens;
+use ga_expand::expand;
+use ga_source::{Place, tokens};
 use ga_word::{Word18, push_words, words_text};
 use std::alloc::{AllocError, Global};
 
@@ -36,4 +37,15 @@ pub fn tokens_told(alloc: Global) -> Result<Told, AllocError> {
     let text = String::from_str(alloc, TEXT)?;
     let is_answered = tokens(alloc, &text).is_ok();
     Ok(Told::answered(is_answered, text.as_str() == TEXT))
+}
+
+/// The place where a token of a borrowed expansion was written.
+pub fn origin_told(alloc: Global) -> Result<Told, AllocError> {
+    let Ok(expansion) = expand(alloc, TEXT) else {
+        return Err(AllocError);
+    };
+    let text = String::from_str(alloc, &expansion.text)?;
+    let first = Place { line: 1, column: 1 };
+    let is_answered = expansion.origin(alloc, first).is_ok();
+    Ok(Told::answered(is_answered, expansion.text == text))
 }

@@ -2,7 +2,7 @@
 ghost use Rattle.std.specs.Prelude.{◌≡◌, ◌++◌, List, ℕ, Ok, OnOk};
 ghost use Rattle.ga_jobs.specs.Answering.{IsOutput};
 
-use crate::streams::{LINE, WORDS, run_of};
+use crate::streams::{FIVE_TRIES, LINE, WORDS, run_of};
 use ga_jobs::{Ending, Job, ServeError, answer, answer_alone, serve, status};
 use std::test::Fail;
 use std::thread::Threads;
@@ -26,13 +26,13 @@ fn served(
 #[test]
 fn composes(rt: HostRuntime) {
     let mut output = Vec::new(rt.alloc());
-    let outcome = served(&rt, &Job::One { tries: 5 }, WORDS.as_bytes(), &mut output);
+    let outcome = served(&rt, &FIVE_TRIES, WORDS.as_bytes(), &mut output);
     assert!(rt; status(&outcome) == 0 && output.as_slice() == LINE.as_bytes());
 }
 
 #[test]
 fn answers_bytes_in_memory(rt: HostRuntime) -> Result<(), Fail> {
-    let one = Job::One { tries: 5 };
+    let one = FIVE_TRIES;
     let text = answer(&rt, &one, WORDS.as_bytes())?;
     assert!(rt; text.as_str() == LINE);
     let alone = answer_alone(rt.alloc(), &one, WORDS.as_bytes()).ok_or("threads")??;

@@ -1,8 +1,9 @@
 //! Every job, by readers and writers that fail at each call in turn, or take and give one byte at a
 //! call.
-use crate::streams::{WORDS, boot_of, run_of, sink_of, source_of};
+use crate::streams::{FIVE_TRIES, WORDS, boot_of, run_of, sink_of, source_of};
 use ga_explain::Topic;
 use ga_jobs::{Ending, Job, Loading, ServeError, serve};
+use ga_profile::WindowStart;
 use std::alloc::Global;
 use std::test::Fail;
 use std::thread::Threads;
@@ -10,6 +11,9 @@ use std::time::Clock;
 
 /// Two nodes of which the second adds 5 and 7.
 const SOURCE: &str = "node 709 main: $5 $7 + @b";
+
+/// A text of the larger language.
+const LARGER: &str = "const FIVE 5\nnode 709 to 710 b! FIVE !b";
 
 /// A session of a node that is held, and a view of it.
 const SESSION: &str =
@@ -29,17 +33,22 @@ const PIECE: usize = 16;
 /// How many calls are made at the most.
 const MOST: u32 = 1000;
 
-/// A job of each subcommand but `map`, and an input that it accepts.
+/// A job of each subcommand, and an input that it accepts.
 fn jobs(alloc: Global) -> Result<Vec<(Job, &'static str)>, Fail> {
     let topic = Topic::named(alloc, "NotHeld")?;
     let mut jobs = Vec::new(alloc);
-    jobs.push((Job::One { tries: 5 }, WORDS))?;
-    jobs.push((Job::Asm, SOURCE))?;
-    jobs.push((Job::Dis { code: Some(2) }, WORDS))?;
+    jobs.push((FIVE_TRIES, WORDS))?;
+    jobs.push((Job::Asm { file: None }, SOURCE))?;
+    let words = Job::Dis {
+        code: Some(2),
+        file: None,
+    };
+    jobs.push((words, WORDS))?;
     jobs.push((boot_of(alloc, "708,709")?, SOURCE))?;
     jobs.push((run_of(alloc, "708,709", 1, 200)?, SOURCE))?;
     jobs.push((Job::Debug, SESSION))?;
-    jobs.push((Job::Replay, STEPS))?;
+    jobs.push((Job::Replay { file: None }, STEPS))?;
+    jobs.push((Job::Expand { file: None }, LARGER))?;
     let listed = Job::List {
         labels: false,
         file: None,
@@ -60,7 +69,33 @@ fn jobs(alloc: Global) -> Result<Vec<(Job, &'static str)>, Fail> {
     };
     jobs.push((raced, TRANSCRIPT))?;
     jobs.push((Job::Explain { topic }, ""))?;
+    push_pictures(&mut jobs)?;
     Ok(jobs)
+}
+
+/// The jobs that show what happened in a run.
+fn push_pictures(jobs: &mut Vec<(Job, &'static str)>) -> Result<(), Fail> {
+    let map = Job::Map {
+        loading: Loading::Any,
+        turns: None,
+        file: None,
+    };
+    jobs.push((map, TRANSCRIPT))?;
+    let profile = Job::Profile {
+        loading: Loading::Place,
+        start: WindowStart::LastNode,
+        turns: Some(40),
+        file: None,
+    };
+    jobs.push((profile, SOURCE))?;
+    let trace = Job::Trace {
+        loading: Loading::Place,
+        turns: Some(4),
+        nodes: None,
+        file: None,
+    };
+    jobs.push((trace, SOURCE))?;
+    Ok(())
 }
 
 /// What a job writes for an input, by reads and writes of at most this many bytes, and how many

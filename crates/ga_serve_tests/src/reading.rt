@@ -1,5 +1,5 @@
 //! Inputs are read up to the limit, whatever the pieces they come in.
-use crate::streams::{LINE, Restless, WORDS, sink_of, source_of};
+use crate::streams::{FIVE_TRIES, LINE, Restless, WORDS, sink_of, source_of};
 use ga_jobs::{Ending, Job, Reads, ServeError, WordsFault, read_input, serve};
 use std::alloc::{AllocError, Global};
 use std::io::ErrorKind;
@@ -19,7 +19,7 @@ fn padded(alloc: Global, len: usize) -> Result<Vec<u8>, AllocError> {
 fn is_served(rt: &(impl AllocGlobal + Threads + Clock + Sync), input: &[u8], most: usize) -> bool {
     let mut reader = source_of(input, most);
     let mut writer = sink_of(rt.alloc(), 8192);
-    let outcome = serve(rt, &mut reader, &mut writer, &Job::One { tries: 5 });
+    let outcome = serve(rt, &mut reader, &mut writer, &FIVE_TRIES);
     outcome == Ok(Ending::Done) && writer.taken.as_slice() == LINE.as_bytes()
 }
 
@@ -31,7 +31,7 @@ fn left_of(
 ) -> Option<usize> {
     let mut reader = source_of(input, most);
     let mut writer = sink_of(rt.alloc(), 8192);
-    match serve(rt, &mut reader, &mut writer, &Job::One { tries: 5 }) {
+    match serve(rt, &mut reader, &mut writer, &FIVE_TRIES) {
         Ok(_) => None,
         Err(_) => Some(reader.bytes.len()),
     }
@@ -81,7 +81,7 @@ fn reads_so_many_times(rt: HostRuntime) {
             calls: 0,
         };
         let mut writer = sink_of(rt.alloc(), 8192);
-        let outcome = serve(&rt, &mut reader, &mut writer, &Job::One { tries: 5 });
+        let outcome = serve(&rt, &mut reader, &mut writer, &FIVE_TRIES);
         assert!(rt; outcome == expected);
         assert!(rt; reader.calls == 2_097_152 && writer.calls == 0);
     }

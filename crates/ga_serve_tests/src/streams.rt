@@ -110,10 +110,17 @@ pub const WORDS: &str = "04A12 00005 00003 2C9B2";
 pub const LINE: &str =
     "node 000 P 003 A 00005 B 15D R 00000 S 00000 T 00003 C 0 io 00000 at fetch steps 5 need own\n";
 
+/// The job `one 5`.
+pub const FIVE_TRIES: Job = Job::One {
+    tries: 5,
+    file: None,
+};
+
 /// The boot of a route.
 pub fn boot_of(alloc: Global, route: &str) -> Result<Job, Fail> {
     let route = String::from_str(alloc, route)?;
-    Ok(Job::Boot { route })
+    let file = None;
+    Ok(Job::Boot { route, file })
 }
 
 /// The run of a route by these numbers of workers and turns.
@@ -123,5 +130,6 @@ pub fn run_of(alloc: Global, route: &str, workers: u32, turns: u32) -> Result<Jo
         route,
         workers,
         turns,
+        file: None,
     })
 }

@@ -1,5 +1,5 @@
 //! Writes that are interrupted, and a writer that takes nothing.
-use crate::streams::{LINE, WORDS, sink_of, source_of};
+use crate::streams::{FIVE_TRIES, LINE, WORDS, sink_of, source_of};
 use ga_jobs::{Ending, Job, ServeError, serve};
 use std::io::ErrorKind;
 use std::thread::Threads;
@@ -11,7 +11,7 @@ fn writes_on(rt: &(impl AllocGlobal + Threads + Clock + Sync), call: u32) -> boo
     writer.fails_at = Some(call);
     writer.kind = ErrorKind::Interrupted;
     let mut reader = source_of(WORDS.as_bytes(), 8192);
-    let outcome = serve(rt, &mut reader, &mut writer, &Job::One { tries: 5 });
+    let outcome = serve(rt, &mut reader, &mut writer, &FIVE_TRIES);
     outcome == Ok(Ending::Done) && writer.taken.as_slice() == LINE.as_bytes()
 }
 
@@ -27,7 +27,7 @@ fn goes_on_behind_an_interrupted_write(rt: HostRuntime) {
 fn fails_where_nothing_is_taken(rt: HostRuntime) {
     let mut writer = sink_of(rt.alloc(), 0);
     let mut reader = source_of(WORDS.as_bytes(), 8192);
-    let outcome = serve(&rt, &mut reader, &mut writer, &Job::One { tries: 5 });
+    let outcome = serve(&rt, &mut reader, &mut writer, &FIVE_TRIES);
     assert!(rt; outcome == Err(ServeError::Write));
     assert!(rt; writer.calls == 1);
 }

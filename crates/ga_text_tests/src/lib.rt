@@ -5,6 +5,8 @@
 #![tactic(auto)]
 
 #[cfg(test)]
+mod expanding;
+#[cfg(test)]
 mod frames;
 #[cfg(test)]
 mod packing;

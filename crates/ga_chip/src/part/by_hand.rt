@@ -110,21 +110,4 @@ impl NodePart {
     {
         self.check(empty)
     }
-
-    /// The fast path of a try that asks for `Own`, as most do: makes its change to the node and
-    /// answers true. If the try asks for something else it answers false and changes nothing. It
-    /// may also do so if the node takes a word of its stream, or is about to fetch and has a
-    /// breakpoint or a pass. After false, call `asks`.
-    #[inline(always)]
-    pub fn done_if_own(&mut self) -> bool
-        ensures asks { result ≡ true → (side : Side) → asked_of self.old side ≡ Asks.Own }
-        ensures quick { need_of self.old.state ≡ need.Own → is_fetch self.old.state.place ≡ false
-            → result ≡ true }
-        ensures part { result ≡ true → (side : Side)
-            → (Moved, self.new) ≡ after self.old side None }
-        ensures same { result ≡ false → self.new ≡ self.old }
-        ensures node { self.new.state.node ≡ self.old.state.node }
-    {
-        self.try_own()
-    }
 }

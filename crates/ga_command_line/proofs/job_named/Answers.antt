@@ -4,8 +4,10 @@ use Rattle.std.specs.Str.{bytes_eq}
 use Rattle.std.proofs.lemmas.Bool.{false≢true}
 use Rattle.clap.specs.Words.{Row, Text, found_of, rows_of}
 use Rattle.ga_jobs.specs.declared.Job.{Job}
-use Rattle.ga_jobs.specs.declared.Job.TheVariants.{Asm, Map, Race, Run}
+use Rattle.ga_jobs.specs.declared.Job.TheVariants.{Asm, Boot, Dis, Map, One, Profile, Race, Run, Trace}
 use Rattle.ga_jobs.specs.declared.race.Loading.{Loading}
+use Rattle.ga_profile.specs.declared.window.WindowStart.{WindowStart}
+use Rattle.ga_command_line.specs.ProfileLine.{IsStartAt, IsStartInRange}
 use Rattle.ga_command_line.specs.declared.command_line.LineError.{LineError}
 use Rattle.ga_command_line.specs.declared.command_line.LineError.TheVariants.{Memory}
 use Rattle.ga_command_line.specs.CommandLine.{AsksFor, InRange}
@@ -19,7 +21,7 @@ pub returns-in_default-clause-right : goal.returns-in_default-clause-right
 returns-in_default-clause-right c =
     λ asked. elim asked as (λ job. AsksFor (c.args.name.now, rows_of (found_of c.args.found.now))
     job → InRange job → c.missing.result ≡ Memory) [
-      | Asm ↦ λ asks within. absurd (c.in_default.not-asm asks.0)
+      | Asm file ↦ λ asks within. absurd (c.in_default.not-asm asks.0)
       | _ ↦ λ asks within. absurd (search rules)
     ]
 
@@ -33,8 +35,8 @@ run_right : (name : Text) (rows : List Row) (result : Result Job LineError) → 
 run_right name rows (Ok job) is right = right
 run_right name rows (Err error) is right =
     λ asked. elim asked as (λ job. AsksFor (name, rows) job → InRange job → error ≡ Memory) [
-      | Run route workers turns ↦
-          λ asks within. right (string_bytes route) workers turns within asks.1
+      | Run route workers turns file ↦ λ asks within.
+          right (string_bytes route) workers turns within (asks.1.0, asks.1.1, asks.1.2)
       | _ ↦ λ asks within. absurd (false≢true
           (sym (ap (λ (text : Text). bytes_eq text (codes "run")) (sym is ∙ asks.0))))
     ]
@@ -43,6 +45,59 @@ pub returns-in-run-clause-right : goal.returns-in-run-clause-right
 returns-in-run-clause-right c =
     run_right c.args.name.now (rows_of (found_of c.args.found.now)) c.job_of-in-run.result
     c.in-run.is c.job_of-in-run.ensures.right
+
+-- and the name `one` for tries of one node alone
+one_right : (name : Text) (rows : List Row) (result : Result Job LineError) → name ≡ codes "one"
+    → IfErr result (λ error. (tries : ℕ) → tries ≤ 1000000 → IsNumberAt (codes "TRIES") rows tries
+    → error ≡ Memory)
+    → IfErr result (λ error. (job : Job) → AsksFor (name, rows) job → InRange job → error ≡ Memory)
+one_right name rows (Ok job) is right = right
+one_right name rows (Err error) is right =
+    λ asked. elim asked as (λ job. AsksFor (name, rows) job → InRange job → error ≡ Memory) [
+      | One tries file ↦ λ asks within. right tries within asks.1.0
+      | _ ↦ λ asks within. absurd (false≢true
+          (sym (ap (λ (text : Text). bytes_eq text (codes "one")) (sym is ∙ asks.0))))
+    ]
+
+pub returns-in-one-clause-right : goal.returns-in-one-clause-right
+returns-in-one-clause-right c =
+    one_right c.args.name.now (rows_of (found_of c.args.found.now)) c.job_of.result
+    c.in-one.is c.job_of.ensures.right
+
+-- and the name `dis` for the text of words alone
+dis_right : (name : Text) (rows : List Row) (result : Result Job LineError) → name ≡ codes "dis"
+    → IfErr result (λ error. (code : Option ℕ) → IfSome code (λ number. number ≤ 64)
+    → IsNumberIfAt (codes "N") rows code → error ≡ Memory)
+    → IfErr result (λ error. (job : Job) → AsksFor (name, rows) job → InRange job → error ≡ Memory)
+dis_right name rows (Ok job) is right = right
+dis_right name rows (Err error) is right =
+    λ asked. elim asked as (λ job. AsksFor (name, rows) job → InRange job → error ≡ Memory) [
+      | Dis code file ↦ λ asks within. right code within asks.1.0
+      | _ ↦ λ asks within. absurd (false≢true
+          (sym (ap (λ (text : Text). bytes_eq text (codes "dis")) (sym is ∙ asks.0))))
+    ]
+
+pub returns-in-dis-clause-right : goal.returns-in-dis-clause-right
+returns-in-dis-clause-right c =
+    dis_right c.args.name.now (rows_of (found_of c.args.found.now)) c.job_of-in-dis.result
+    c.in-dis.is c.job_of-in-dis.ensures.right
+
+-- and the name `boot` for a boot stream alone
+boot_right : (name : Text) (rows : List Row) (result : Result Job LineError) → name ≡ codes "boot"
+    → IfErr result (λ error. (route : Text) → IsRouteAt rows route → error ≡ Memory)
+    → IfErr result (λ error. (job : Job) → AsksFor (name, rows) job → InRange job → error ≡ Memory)
+boot_right name rows (Ok job) is right = right
+boot_right name rows (Err error) is right =
+    λ asked. elim asked as (λ job. AsksFor (name, rows) job → InRange job → error ≡ Memory) [
+      | Boot route file ↦ λ asks within. right (string_bytes route) asks.1.0
+      | _ ↦ λ asks within. absurd (false≢true
+          (sym (ap (λ (text : Text). bytes_eq text (codes "boot")) (sym is ∙ asks.0))))
+    ]
+
+pub returns-in-boot-clause-right : goal.returns-in-boot-clause-right
+returns-in-boot-clause-right c =
+    boot_right c.args.name.now (rows_of (found_of c.args.found.now)) c.job_of-in-boot.result
+    c.in-boot.is c.job_of-in-boot.ensures.right
 
 -- and the name `race` for a verdict alone
 race_right : (name : Text) (rows : List Row) (result : Result Job LineError) → name ≡ codes "race"
@@ -82,6 +137,49 @@ pub returns-in-map-clause-right : goal.returns-in-map-clause-right
 returns-in-map-clause-right c =
     map_right c.args.name.now (rows_of (found_of c.args.found.now)) c.job_of-in-map.result
     c.in-map.is c.job_of-in-map.ensures.right
+
+-- and the name `profile` for a profile alone
+profile_right : (name : Text) (rows : List Row) (result : Result Job LineError)
+    → name ≡ codes "profile"
+    → IfErr result (λ error. (loading : Loading) (start : WindowStart) (turns : Option ℕ)
+    → IfSome turns (λ number. number ≤ 1000000) → IsStartInRange start
+    → IsLoadingAt rows loading → IsNumberIfAt (codes "N") rows turns → IsStartAt rows start
+    → error ≡ Memory)
+    → IfErr result (λ error. (job : Job) → AsksFor (name, rows) job → InRange job → error ≡ Memory)
+profile_right name rows (Ok job) is right = right
+profile_right name rows (Err error) is right =
+    λ asked. elim asked as (λ job. AsksFor (name, rows) job → InRange job → error ≡ Memory) [
+      | Profile loading start turns file ↦ λ asks within.
+          right loading start turns within.0 within.1 asks.1.0 asks.1.1 asks.1.2
+      | _ ↦ λ asks within. absurd (false≢true
+          (sym (ap (λ (text : Text). bytes_eq text (codes "profile")) (sym is ∙ asks.0))))
+    ]
+
+pub returns-in-profile-clause-right : goal.returns-in-profile-clause-right
+returns-in-profile-clause-right c =
+    profile_right c.args.name.now (rows_of (found_of c.args.found.now)) c.job_of-in-profile.result
+    c.in-profile.is c.job_of-in-profile.ensures.right
+
+-- and the name `trace` for a waveform alone
+trace_right : (name : Text) (rows : List Row) (result : Result Job LineError)
+    → name ≡ codes "trace"
+    → IfErr result (λ error. (loading : Loading) (turns : Option ℕ)
+    → IfSome turns (λ number. number ≤ 1000000) → IsLoadingAt rows loading
+    → IsNumberIfAt (codes "N") rows turns → error ≡ Memory)
+    → IfErr result (λ error. (job : Job) → AsksFor (name, rows) job → InRange job → error ≡ Memory)
+trace_right name rows (Ok job) is right = right
+trace_right name rows (Err error) is right =
+    λ asked. elim asked as (λ job. AsksFor (name, rows) job → InRange job → error ≡ Memory) [
+      | Trace loading turns nodes file ↦
+          λ asks within. right loading turns within asks.1.0 asks.1.1
+      | _ ↦ λ asks within. absurd (false≢true
+          (sym (ap (λ (text : Text). bytes_eq text (codes "trace")) (sym is ∙ asks.0))))
+    ]
+
+pub returns-in-trace-clause-right : goal.returns-in-trace-clause-right
+returns-in-trace-clause-right c =
+    trace_right c.args.name.now (rows_of (found_of c.args.found.now)) c.job_of-in-trace.result
+    c.in-trace.is c.job_of-in-trace.ensures.right
 
 -- and the name `record` for a recording alone
 record_right : (name : Text) (rows : List Row) (result : Result Job LineError)

@@ -4,6 +4,7 @@ use Rattle.std.specs.List.{concat}
 use Rattle.ga_place.specs.Cell.{index_of}
 use Rattle.ga_place.specs.Node.{IsNodeName, is_among}
 use Rattle.ga_place.specs.declared.side.Side.{Side}
+use Rattle.ga_chip.specs.Ahead.{IsFreeFor, ahead}
 use Rattle.ga_chip.specs.Asks.{asked_of, look_of, looks_of}
 use Rattle.ga_chip.specs.declared.outcome.Try.{Try}
 use Rattle.ga_chip.specs.Part.{Part}
@@ -15,22 +16,38 @@ use Rattle.ga_group.specs.Plan.{first_repeated, groups_in}
 abbrev pub names_of : List Part → List ℕ
 names_of parts = map (λ part. part.state.node) parts
 
--- the seat has this part of its node
-pub record IsLent (part : Part) (nodes : List (Option Holding)) : Type 0 where
+-- The seat has the node of this part. The part has made this many own steps more than the node
+-- there.
+pub record IsAheadBy (made : ℕ) (part : Part) (nodes : List (Option Holding)) : Type 0 where
   pub one : Holding
   pub has : kept nodes part.state.node ≡ Some one
-  pub same : one.part ≡ part
+  pub may : IsFreeFor made one.part
+  pub same : ahead made one.part ≡ part
   pub below : index_of part.state.node < 144
 
+-- so with each of some parts, by the number for its place
+pub record AreAheadBy (made : ℕ → ℕ) (parts : List Part)
+    (nodes : List (Option Holding)) : Type 0 where
+  pub at : (index : ℕ) (part : Part) → slice_get parts index ≡ Some part
+      → IsAheadBy (made index) part nodes
+
+-- the seat has this part of its node
+abbrev pub IsLent : Part → List (Option Holding) → Type 0
+IsLent part nodes = IsAheadBy 0 part nodes
+
 -- so with each of some parts
-pub record AreLent (parts : List Part) (nodes : List (Option Holding)) : Type 0 where
-  pub at : (index : ℕ) (part : Part) → slice_get parts index ≡ Some part → IsLent part nodes
+abbrev pub AreLent : List Part → List (Option Holding) → Type 0
+AreLent parts nodes = AreAheadBy (λ index. 0) parts nodes
 
 -- A worker may try the nodes of these parts with this seat: no node has two of the parts.
-pub record IsReady (table : CellsId) (seat : SeatView) (parts : List Part) : Type 0 where
+pub record IsReadyBy (made : ℕ → ℕ) (table : CellsId) (seat : SeatView)
+    (parts : List Part) : Type 0 where
   pub own : seat.table ≡ table
-  pub lent : AreLent parts seat.nodes
+  pub lent : AreAheadBy made parts seat.nodes
   pub once : first_repeated [] (names_of parts) ≡ None
+
+abbrev pub IsReady : CellsId → SeatView → List Part → Type 0
+IsReady table seat parts = IsReadyBy (λ index. 0) table seat parts
 
 -- The nodes with these names have got tries that name these sides, and of the others nothing has
 -- changed.
@@ -41,13 +58,16 @@ pub record HaveGained (old new : List (Option Holding)) (names : List ℕ)
   pub others : (name : ℕ) → is_among name names ≡ false → kept new name ≡ kept old name
 
 -- A seat, and the parts that are borrowed with it, after a worker's tries: each node of these parts
--- has got tries that name these sides.
-pub record HasWorked (before after : SeatView) (old new : List Part)
+-- has got tries that name these sides, and its part may be ahead of the seat.
+pub record HasWorkedBy (made : ℕ → ℕ) (before after : SeatView) (old new : List Part)
     (sides : List Side) : Type 0 where
   pub table : after.table ≡ before.table
   pub names : names_of new ≡ names_of old
-  pub lent : AreLent new after.nodes
+  pub lent : AreAheadBy made new after.nodes
   pub gained : HaveGained before.nodes after.nodes (names_of old) sides
+
+abbrev pub HasWorked : SeatView → SeatView → List Part → List Part → List Side → Type 0
+HasWorked before after old new sides = HasWorkedBy (λ index. 0) before after old new sides
 
 -- Parts, nodes and groups of nodes are in one order.
 pub record AreGrouped {A : Type 0} (groups : List (Vec ℕ A)) (nodes : List ℕ)

@@ -30,3 +30,15 @@ unfolding IsJobOutput
 returns-in-Map-clause-answer c =
     subst (λ job. Answers string_bytes (IsJobOutput job c.args.input.now) c.output-in-Map.result)
     (sym c.in-Map.is) c.output-in-Map.ensures
+
+pub returns-in-Profile-clause-answer : goal.returns-in-Profile-clause-answer
+unfolding IsJobOutput
+returns-in-Profile-clause-answer c =
+    subst (λ job. Answers string_bytes (IsJobOutput job c.args.input.now)
+    c.output-in-Profile.result) (sym c.in-Profile.is) c.output-in-Profile.ensures
+
+pub returns-in-Trace-clause-answer : goal.returns-in-Trace-clause-answer
+unfolding IsJobOutput
+returns-in-Trace-clause-answer c =
+    subst (λ job. Answers string_bytes (IsJobOutput job c.args.input.now) c.output-in-Trace.result)
+    (sym c.in-Trace.is) c.output-in-Trace.ensures

@@ -1,5 +1,5 @@
 -- What an observer keeps of the passes of a run.
-use Rattle.std.specs.Prelude.{◌≡◌, ℕ, ◌<◌, List, get_or, length}
+use Rattle.std.specs.Prelude.{◌≡◌, ℕ, ◌<◌, List, get_or}
 use Rattle.ga_observe.specs.declared.step.Step.{Step}
 use Rattle.ga_profile.specs.declared.passes.Passes.{Passes}
 use Rattle.ga_profile.specs.Passes.{NO_PASSES, passes_in}

@@ -1,4 +1,4 @@
-use Rattle.std.proofs.Common.{◌∙◌, ap, refl, subst, sym}
+use Rattle.std.proofs.Common.{refl, subst, sym}
 use Rattle.std.specs.Prelude.{[]}
 use Rattle.ga_observe.specs.Seen.{steps_seen, turns_numbered}
 use Rattle.ga_profile.specs.inner.KeptPasses.{KeptPasses}

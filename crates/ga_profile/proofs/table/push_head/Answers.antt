@@ -6,7 +6,7 @@ pub returns : goal.returns
 unfolding HEAD
 returns c =
     let second =
-    codes "node  work take read rest  |-----+-----+-----+------|    in   out   turns works\n" in
+    codes "node work take read rest |-----+-----+-----+------| path   in   out  turns works\n" in
     c.in_ok-push_str-2.ensures.bytes ∙ ap (λ text. text ++ second) c.in_ok-push_str.ensures.bytes
     ∙ append_assoc (string_bytes c.args.text.now)
-    (codes "      share of the turns, % 0                    100   words         a pass\n") second
+    (codes "    share of the turns, % 0                    100         words       a pass\n") second

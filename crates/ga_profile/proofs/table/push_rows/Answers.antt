@@ -8,14 +8,16 @@ pub loop-index-preserved : goal.loop-index-preserved
 loop-index-preserved c =
     let nodes = c.args.nodes.now in
     let passes = c.args.passes.now in
+    let path = c.args.path.now in
     let index = c.loop-index.index in
     let text = string_bytes c.loop-index.text in
     let within : index < length nodes = omega (arith, c.requires.nodes, c.loop-index-test.true) in
     let in_passes : index < length passes =
     omega (arith, c.requires.passes, c.loop-index-test.true) in
-    part_more (row_at nodes passes c.args.turns) index (string_bytes c.args.text.now) text _
+    part_more (row_at nodes passes path c.args.turns) index (string_bytes c.args.text.now) text _
     c.loop-index.invariant
-    (row_read nodes passes c.args.turns index c.at.result _ _ text _ within in_passes c.at.ensures
+    (row_read nodes passes path c.args.turns index c.at.result _ _ text _ within in_passes
+    c.at.ensures
     c.in_ok-push_row.ensures)
 
 pub returns : goal.returns
@@ -24,5 +26,5 @@ returns c =
     let all : c.loop-index.index ≡ 144 = omega arith in
     c.loop-index.invariant
     ∙ ap (λ count. string_bytes c.args.text.now
-    ++ flat_map (row_at c.args.nodes.now c.args.passes.now c.args.turns)
+    ++ flat_map (row_at c.args.nodes.now c.args.passes.now c.args.path.now c.args.turns)
     (range_with_len 0 count)) all

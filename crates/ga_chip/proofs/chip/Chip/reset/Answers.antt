@@ -10,7 +10,7 @@ use Rattle.ga_chip.proofs.chip.Chip.reset.Goals as goal
 pub loop-index-preserved : goal.loop-index-preserved
 loop-index-preserved c =
     c.in_ok-push.ensures.items
-    ∙ ap₂ (λ l part. l ++ part ∷ []) c.loop-index.invariant c.reset.ensures
+    ∙ ap₂ (λ l part. l ++ part ∷ []) c.loop-index.invariant c.reset_as.ensures
     ∙ places_next (λ index. reset_part (name_at index)) c.loop-index.index
 
 pub invariant_of-result : goal.invariant_of-result

@@ -1,4 +1,4 @@
-use Rattle.std.proofs.Common.{◌≡◌, ◌∙◌, ◌+◌, ◌-◌, ◌*◌, ◌^◌, ◌<◌, ◌≤◌, length, ap, refl, subst, sym, arith}
+use Rattle.std.proofs.Common.{◌≡◌, ◌∙◌, ◌+◌, ◌-◌, length, ap, refl, subst, sym, arith}
 use Rattle.ga_chip.specs.Grow.{LedgersGrow}
 use Rattle.ga_chip.specs.Run.{moves, ran, turns_of}
 use Rattle.ga_chip.proofs.AheadLoop.{turns_few}

@@ -1,4 +1,4 @@
-use Rattle.std.proofs.Common.{ap, refl}
+use Rattle.std.proofs.Common.{ap}
 use Rattle.std.specs.Prelude.{replicate}
 use Rattle.ga_profile.proofs.Keeping.{kept_none}
 use Rattle.ga_profile.proofs.turn_watch.TurnWatch.new.Goals as goal

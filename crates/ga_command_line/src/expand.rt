@@ -1,0 +1,39 @@
+ghost use Rattle.std.specs.Prelude.{IfOk, codes};
+ghost use Rattle.clap.specs.Words.{found_of, rows_of};
+ghost use Rattle.ga_command_line.specs.CommandLine.{AsksFor, InRange};
+ghost use Rattle.ga_command_line.specs.File.{file_command};
+ghost use Rattle.ga_command_line.specs.inner.Command.{IsCommandOf};
+
+use crate::file::file_in;
+use clap::{Arg, ArgMatches, Command};
+use ga_jobs::Job;
+use std::alloc::{AllocError, Global};
+
+const HELP: &str = "\
+Reads from FILE, or from standard input if FILE is left out or is -, text of a larger language: source
+text with constants, numbers below zero, characters, several sides, directions, and shared bodies. Writes
+source text, which asm and all others read.
+
+Example: printf 'const ONE -1\nnode 709 to 710 b! ONE !b' | ga-bench expand | ga-bench asm
+More: Larger source text in docs/FORMATS.md";
+
+/// The subcommand `expand [FILE]`.
+#[tactic(auto, unfolding(crate::specs::File::file_command))]
+pub fn command<'a>(alloc: Global) -> Result<Command<'a>, AllocError>
+    ensures { IfOk result (IsCommandOf (file_command (codes "expand"))) }
+{
+    let file = Arg::new(alloc, "FILE").help("The text; standard input by default or if it is -");
+    let command = Command::new(alloc, "expand")
+        .about("Expands constants, sides, directions and shared bodies to source text")
+        .after_help(HELP);
+    command.arg(file)
+}
+
+/// The job for the arguments of `expand`.
+pub fn job_of(alloc: Global, found: &ArgMatches<'_>) -> Result<Job, AllocError>
+    ensures in_range { IfOk result InRange }
+    ensures asked { IfOk result (AsksFor (codes "expand", rows_of (found_of found.now))) }
+{
+    let file = file_in(alloc, found)?;
+    Ok(Job::Expand { file })
+}

@@ -1,0 +1,13 @@
+mod Numerals
+mod TokenTexts
+mod Written
+mod Names
+mod Stages
+mod Taking
+mod Tokens
+mod Steps
+mod Origins
+mod Lists
+mod TokensRead
+mod PlainTexts
+mod WorkedExpansions

@@ -1,0 +1,227 @@
+-- Lists of the code, as definitions have them.
+use Rattle.std.proofs.Common.{◌≡◌, ◌∙◌, ◌+◌, ◌-◌, ◌<◌, ◌≤◌, ℕ, Bool, true, false, List, [], ◌∷◌, ◌++◌, length, map, get_or, take, Option, Some, None, Result, Ok, refl, sym, ap, append_assoc, arith}
+use Rattle.std.specs.Prelude.{◌==◌, nat_lt, option_map, slice_get, if◌then◌else◌}
+use Rattle.std.specs.Borrow.{Bor}
+use Rattle.std.specs.List.{find, list_any, position}
+use Rattle.std.specs.Option.{is_some, option_and_then, unwrap_or}
+use Rattle.std.specs.Str.{bytes_eq}
+use Rattle.std.proofs.lemmas.Bool.Decides.{nat_tests}
+use Rattle.std.proofs.lemmas.List.{length-map, map-append, take_more}
+use Rattle.std.proofs.lemmas.Option.{slice_get-map}
+use Rattle.ga_expand.specs.declared.bodies.Part as part
+use Rattle.ga_expand.specs.declared.bodies.SharedBody as body
+use Rattle.ga_pack.specs.Model.Text.{Place}
+use Rattle.ga_expand.specs.declared.error.ExpandErrorKind.TheVariants.{TooLarge}
+use Rattle.ga_expand.specs.Error.{Fault}
+use Rattle.ga_expand.specs.Bodies.{Arguments, Draft, Part, Reading, SharedBody, Tokens, Unfolding, begun, behind, behind_all, body_named, failed, filled, missing, unless_ended, use_of, used}
+use Rattle.ga_expand.specs.Constants.{is_among}
+use Rattle.ga_expand.specs.Expanding.{Body, Piece, Stage}
+use Rattle.ga_expand.specs.declared.piece.Piece as here
+use Rattle.ga_expand.specs.inner.Bodies.{body_in, filled_in, part_in, texts_in}
+use Rattle.ga_expand.specs.inner.Piece.{piece_in}
+use Rattle.ga_expand.proofs.Origins.{position_map}
+
+-- ---- names
+
+pub names_among : (names : List (Bor (List ℕ))) (text : List ℕ)
+    → list_any (λ name. bytes_eq text name.now) names ≡ is_among (texts_in names) text
+names_among [] text = refl
+names_among (name ∷ names) text = rw (names_among names text) refl
+
+pub number_named : (names : List (Bor (List ℕ))) (text : List ℕ)
+    → position (λ name. bytes_eq name text) (texts_in names)
+    ≡ position (λ name. bytes_eq name.now text) names
+number_named names text = position_map (λ name. name.now) (λ name. bytes_eq name text) names
+
+found_by : (entry : body.SharedBody) (o : Option body.SharedBody) (p : Option SharedBody) (b : Bool)
+    → option_map body_in o ≡ p
+    → option_map body_in (if b then Some entry else o) ≡ (if b then Some (body_in entry) else p)
+found_by entry o p true e = refl
+found_by entry o p false e = e
+
+pub body_found : (bodies : List body.SharedBody) (name : List ℕ)
+    → option_map body_in (find (λ body. bytes_eq body.name.now name) bodies)
+    ≡ body_named (map body_in bodies) name
+body_found [] name = refl
+body_found (entry ∷ bodies) name =
+    found_by entry (find (λ body. bytes_eq body.name.now name) bodies)
+    (body_named (map body_in bodies) name) (bytes_eq entry.name.now name) (body_found bodies name)
+
+-- ---- what a `use` stands for
+
+filled_by : (arguments : List part.Part) (one : part.Part) (o : Option ℕ)
+    → part_in (unwrap_or (option_and_then (slice_get arguments) o) one)
+    ≡ unwrap_or (option_and_then (slice_get (map part_in arguments)) o) (part_in one)
+filled_by arguments one None = refl
+filled_by arguments one (Some n) =
+    by (slice_get arguments n)
+    ∙ ap (λ o. unwrap_or o (part_in one)) (sym (slice_get-map part_in arguments n))
+  where
+    by : (o : Option part.Part) → part_in (unwrap_or o one)
+        ≡ unwrap_or (option_map part_in o) (part_in one)
+    by None = refl
+    by (Some x) = refl
+
+pub filled_parts : (arguments parts : List part.Part)
+    → map part_in (map (filled_in arguments) parts)
+    ≡ map (filled (map part_in arguments)) (map part_in parts)
+filled_parts arguments [] = refl
+filled_parts arguments (one ∷ parts) =
+    rw (filled_by arguments one one.parameter, filled_parts arguments parts) refl
+
+pub with_filled : (old arguments parts : List part.Part)
+    → map part_in (old ++ map (filled_in arguments) parts)
+    ≡ map part_in old ++ map (filled (map part_in arguments)) (map part_in parts)
+with_filled old arguments parts =
+    map-append part_in old (map (filled_in arguments) parts)
+    ∙ ap (λ ps. map part_in old ++ ps) (filled_parts arguments parts)
+
+pub behind_one_more : (stage : Stage) (parts : List Part) (one : Part)
+    → behind_all stage (parts ++ one ∷ []) ≡ behind (behind_all stage parts) one.piece.text
+behind_one_more stage [] one = refl
+behind_one_more stage (part ∷ parts) one =
+    behind_one_more (behind stage part.piece.text) parts one
+
+-- one token more of a body
+module _ (arguments body : List part.Part) (i : ℕ) (one new : part.Part) (inside : i < length body)
+    (at : one ≡ get_or body i one) (is : new ≡ filled_in arguments one) where
+  one_more : map (filled_in arguments) (take (i + 1) body)
+      ≡ map (filled_in arguments) (take i body) ++ new ∷ []
+  one_more =
+      ap (map (filled_in arguments)) (take_more body i one inside
+      ∙ ap (λ (x : part.Part). take i body ++ x ∷ []) (sym at))
+      ∙ map-append (filled_in arguments) (take i body) (one ∷ [])
+      ∙ ap (λ (x : part.Part). map (filled_in arguments) (take i body) ++ x ∷ []) (sym is)
+
+  pub parts_more : (old before after : List part.Part)
+      → before ≡ old ++ map (filled_in arguments) (take i body) → after ≡ before ++ new ∷ []
+      → after ≡ old ++ map (filled_in arguments) (take (i + 1) body)
+  parts_more old before after b a =
+      a ∙ ap (λ (ps : List part.Part). ps ++ new ∷ []) b
+      ∙ append_assoc old (map (filled_in arguments) (take i body)) (new ∷ [])
+      ∙ ap (λ (ps : List part.Part). old ++ ps) (sym one_more)
+
+  pub stage_more : (before after : Stage)
+      → before ≡ behind_all Body (map part_in (map (filled_in arguments) (take i body)))
+      → after ≡ behind before new.piece.text.now
+      → after ≡ behind_all Body (map part_in (map (filled_in arguments) (take (i + 1) body)))
+  stage_more before after b a =
+      let so_far = map (filled_in arguments) (take i body) in
+      a ∙ ap (λ (s : Stage). behind s new.piece.text.now) b
+      ∙ sym (behind_one_more Body (map part_in so_far) (part_in new))
+      ∙ ap (behind_all Body) (sym (ap (map part_in) one_more
+      ∙ map-append part_in so_far (new ∷ [])))
+
+-- the tokens of a `use` whose arguments are all there
+pub used_up : (now : Unfolding) (place : Place) (more : ℕ) (old new body arguments : List part.Part)
+    (stage : Stage) → more ≡ 0 → now.parts ≡ map part_in old
+    → new ≡ old ++ map (filled_in arguments) body
+    → stage ≡ behind_all Body (map part_in (map (filled_in arguments) body))
+    → ◌≡◌ {A = Result Unfolding Fault}
+    (Ok (missing now place more (map part_in body) (map part_in arguments)))
+    (Ok (record now { parts = map part_in new; reading = Tokens stage }))
+used_up now place more old new body arguments stage none had is after =
+    let all = map (filled (map part_in arguments)) (map part_in body) in
+    let parts : now.parts ++ all ≡ map part_in new =
+    ap (λ (ps : List Part). ps ++ all) had ∙ sym (with_filled old arguments body)
+    ∙ ap (map part_in) (sym is) in
+    let last : behind_all Body all ≡ stage =
+    ap (behind_all Body) (sym (filled_parts arguments body)) ∙ sym after in
+    ap {B = Result Unfolding Fault}
+    (λ (m : ℕ). Ok (missing now place m (map part_in body) (map part_in arguments))) none
+    ∙ ap {B = Result Unfolding Fault}
+    (λ (ps : List Part). Ok (record now { parts = ps; reading = Tokens (behind_all Body all) }))
+    parts
+    ∙ ap {B = Result Unfolding Fault}
+    (λ (s : Stage). Ok (record now { parts = map part_in new; reading = Tokens s })) last
+
+pub other_reading : (now : Unfolding) (next : Reading) (place : Place) (more : ℕ)
+    (parts arguments : List Part)
+    → missing (record now { reading = next }) place more parts arguments
+    ≡ missing now place more parts arguments
+other_reading now next place more parts arguments = by (more == 0)
+  where
+    by : (b : Bool) → ◌≡◌ {A = Unfolding} (if b then used (record now { reading = next }) parts
+        arguments else record now { reading = Arguments place (more - 1) parts arguments })
+        (if b then used now parts arguments
+        else record now { reading = Arguments place (more - 1) parts arguments })
+    by true = refl
+    by false = refl
+
+-- ---- the body that a `use` names
+
+is_some_map : {X Y : Type 0} (f : X → Y) (o : Option X) → is_some (option_map f o) ≡ is_some o
+is_some_map f None = refl
+is_some_map f (Some x) = refl
+
+module _ (bodies : List body.SharedBody) (name : List ℕ) (o : Option (Bor body.SharedBody))
+    (e : option_map (λ body. body.now) o ≡ find (λ body. bytes_eq body.name.now name) bodies) where
+  pub the_found : option_map (λ body. body_in body.now) o ≡ body_named (map body_in bodies) name
+  the_found = by o ∙ ap (option_map body_in) e ∙ body_found bodies name
+    where
+      by : (p : Option (Bor body.SharedBody)) → option_map (λ body. body_in body.now) p
+          ≡ option_map body_in (option_map (λ body. body.now) p)
+      by None = refl
+      by (Some x) = refl
+
+  pub is_found : is_some o ≡ is_some (body_named (map body_in bodies) name)
+  is_found = sym (is_some_map (λ body. body_in body.now) o) ∙ ap is_some the_found
+
+pub too_large : (now : Unfolding) (start place : Place) (one : body.SharedBody)
+    → now.left < length one.parts.items
+    → use_of now start place (Some (body_in one)) ≡ failed TooLarge place
+too_large now start place one h =
+    let is : nat_lt now.left (length (map part_in one.parts.items)) ≡ true =
+    grind (arith, nat_tests, length-map one.parts.items part_in) in
+    rw is refl
+
+pub not_too_large : (now : Unfolding) (start place : Place) (one : body.SharedBody)
+    → length one.parts.items ≤ now.left
+    → use_of now start place (Some (body_in one)) ≡ Ok (begun now start (body_in one))
+not_too_large now start place one h =
+    let is : nat_lt now.left (length (map part_in one.parts.items)) ≡ false =
+    grind (arith, nat_tests, length-map one.parts.items part_in) in
+    rw is refl
+
+-- what a `use` begins, as the code has it
+pub begun_by : (now : Unfolding) (next : Reading) (place : Place) (one : body.SharedBody)
+    (parts arguments : List part.Part) (left : ℕ) → left ≡ now.left - length one.parts.items
+    → parts ≡ one.parts.items → arguments ≡ []
+    → missing (record now { left = left; reading = next }) place one.arity (map part_in parts)
+    (map part_in arguments) ≡ begun now place (body_in one)
+begun_by now next place one parts arguments left less same none =
+    let fewer : left ≡ now.left - length (map part_in one.parts.items) =
+    less ∙ ap (λ (n : ℕ). now.left - n) (sym (length-map one.parts.items part_in)) in
+    other_reading (record now { left = left }) next place one.arity (map part_in parts)
+    (map part_in arguments)
+    ∙ ap (λ (n : ℕ). missing (record now { left = n }) place one.arity (map part_in parts)
+    (map part_in arguments)) fewer
+    ∙ ap (λ (ps : List part.Part). missing
+    (record now { left = now.left - length (map part_in one.parts.items) }) place one.arity
+    (map part_in ps) (map part_in arguments)) same
+    ∙ ap (λ (ps : List part.Part). missing
+    (record now { left = now.left - length (map part_in one.parts.items) }) place one.arity
+    (map part_in one.parts.items) (map part_in ps)) none
+
+-- ---- all tokens
+
+pub all_pieces : (old new : List here.Piece) (parts : List part.Part)
+    → new ≡ old ++ map (λ part. part.piece) parts
+    → map piece_in old ++ map (λ part. part.piece) (map part_in parts) ≡ map piece_in new
+all_pieces old new parts is =
+    ap (λ (ps : List Piece). map piece_in old ++ ps) (sym (by parts))
+    ∙ sym (ap (map piece_in) is ∙ map-append piece_in old (map (λ part. part.piece) parts))
+  where
+    by : (parts : List part.Part) → map piece_in (map (λ part. part.piece) parts)
+        ≡ map (λ part. part.piece) (map part_in parts)
+    by [] = refl
+    by (one ∷ parts) = ap (λ (ps : List Piece). piece_in one.piece ∷ ps) (by parts)
+
+-- ---- the end of a body
+
+pub uncut : {X : Type 0} (f : X → Draft) (o : Option X) (draft : Option Draft) (place : Place)
+    (next : Result Unfolding Fault) → option_map f o ≡ draft → is_some o ≡ false
+    → unless_ended draft place next ≡ next
+uncut f None draft place next e some =
+    ap (λ (d : Option Draft). unless_ended d place next) (sym e)
+uncut f (Some x) draft place next e some = absurd (cc)

@@ -1,0 +1,333 @@
+-- The tokens of a text are taken one by one.
+use Rattle.std.proofs.Common.{◌≡◌, ◌≢◌, ◌∙◌, ◌+◌, ◌/◌, ◌%◌, ◌<◌, ◌≤◌, ℕ, zero, suc, Bool, true, false, not, List, [], ◌∷◌, ◌++◌, length, map, get_or, drop, refl, sym, ap, subst, append-nil, append_assoc, Ok, Err, Result, Option, Some, None, arith, lit<}
+use Rattle.std.specs.Prelude.{IfErr, IfOk, nat_lt, if◌then◌else◌}
+use Rattle.std.specs.Fmt.{digit_glyph}
+use Rattle.std.specs.List.{list_all}
+use Rattle.std.specs.Option.{is_some}
+use Rattle.std.specs.Str.{IsAscii}
+use Rattle.std.proofs.lemmas.Bool.{and_from}
+use Rattle.std.proofs.lemmas.Bool.Decides.{nat_tests}
+use Rattle.std.proofs.lemmas.List.{drop_all, length-map}
+use Rattle.std.proofs.lemmas.List.Folds.{list_all-append}
+use Rattle.ga_word.specs.Hex.{hex_digits}
+use Rattle.ga_word.specs.Text.{is_blank}
+use Rattle.ga_pack.specs.Model.Text.{Place, texts_of}
+use Rattle.ga_pack.specs.Model.Token as model
+use Rattle.ga_pack.specs.Model.Token.{Token as Meaning, is_name, meaning_of}
+use Rattle.ga_place.specs.Node.{node_named}
+use Rattle.ga_place.specs.Side.{Direction}
+use Rattle.ga_word.specs.Op.{takes_dest}
+use Rattle.ga_source.specs.Token.{place_of}
+use Rattle.ga_expand.specs.declared.error.ExpandErrorKind.{ExpandErrorKind}
+use Rattle.ga_expand.specs.declared.error.ExpandErrorKind.TheVariants.{BadToken, DuplicateName, Memory, ReservedName}
+use Rattle.ga_expand.specs.declared.error.ExpandError.{ExpandError}
+use Rattle.ga_expand.specs.declared.expander.Expander.{Expander}
+use Rattle.ga_expand.specs.declared.expansion.Expansion.{Expansion}
+use Rattle.ga_expand.specs.Error.{Fault, fault_of}
+use Rattle.ga_expand.specs.Constants.{Constants, constant_named, is_kept, number_of, value_of}
+use Rattle.ga_expand.specs.Expanding.{Body, Head, Naming, NodeName, Piece, Scope, Stage, Step, Towards, Value, Valuing, directed, ended, expansion_from, further, in_node, is_ascii, is_const, is_to, item_at, number_step, number_text, onto, pieces_of, plain_at, same_or, silent, stage_by, start, step_at, valued, with_constant, with_stage, word_at, word_by, word_of, word_step}
+use Rattle.ga_expand.specs.Places.{direction_named, port_named, port_towards}
+use Rattle.ga_expand.specs.Literal.{literal_of}
+use Rattle.ga_expand.specs.Bodies.{unfolded}
+use Rattle.ga_expand.specs.Texts.{IsExpansion, expanded, expansion}
+use Rattle.ga_expand.specs.declared.piece.Piece as here
+use Rattle.ga_expand.specs.inner.Piece.{piece_in}
+use Rattle.ga_expand.specs.inner.Plain.{is_token, is_written}
+use Rattle.ga_expand.specs.inner.Scope.{HasFailed, HasTaken, IsFresh, Progress, scope_of}
+use Rattle.ga_expand.specs.inner.Writing.{Finished}
+use Rattle.ga_expand.proofs.TokenTexts.{blank_texts}
+use Rattle.ga_expand.proofs.Tokens.{left_at}
+
+-- ---- one token more
+
+onto_onto : (done pieces : List Piece) (rest : Result (List Piece) Fault)
+    → onto (done ++ pieces) rest ≡ onto done (onto pieces rest)
+onto_onto done pieces (Ok others) = ap Ok (append_assoc done pieces others)
+onto_onto done pieces (Err fault) = refl
+
+-- a token that is expanded is written as one
+digit_below : (d : ℕ) → d < 16 → not (is_blank (digit_glyph true d)) ≡ true
+digit_below d h = grind (arith, nat_tests)
+
+digit_ascii : (d : ℕ) → d < 16 → nat_lt (digit_glyph true d) 128 ≡ true
+digit_ascii d h = grind (arith, nat_tests)
+
+module _ (p : ℕ → Bool) (each : (d : ℕ) → d < 16 → p (digit_glyph true d) ≡ true) where
+  all_digits : (width n : ℕ) → list_all p (hex_digits width n) ≡ true
+  unfolding hex_digits
+  all_digits zero n = refl
+  all_digits (suc width) n =
+      let last : p (digit_glyph true (n % 16)) ≡ true = each (n % 16) (omega arith) in
+      list_all-append p (hex_digits width (n / 16)) (digit_glyph true (n % 16) ∷ [])
+      ∙ and_from (list_all p (hex_digits width (n / 16)))
+      (list_all p (digit_glyph true (n % 16) ∷ [])) (all_digits width (n / 16))
+      (and_from (p (digit_glyph true (n % 16))) true last refl)
+
+number_written : (n : ℕ) (place : Place)
+    → is_written (record { text = number_text n; place = place }) ≡ true
+number_written n place =
+    rw (
+      all_digits (λ c. not (is_blank c)) digit_below 5 n,
+      all_digits (λ c. nat_lt c 128) digit_ascii 5 n,
+    ) refl
+
+same_written : (text t : List ℕ) (place : Place) (b : Bool) → is_ascii text ≡ b
+    → is_token text ≡ true
+    → ◌≡◌ {A = Result (List ℕ) ExpandErrorKind} (if b then Ok text else Err BadToken) (Ok t)
+    → is_written (record { text = t; place = place }) ≡ true
+same_written text t place true ascii is e =
+    let same : text ≡ t = cc in
+    subst (λ w. is_written (record { text = w; place = place }) ≡ true) same
+    (and_from (is_token text) (is_ascii text) is ascii)
+same_written text t place false ascii is e = absurd (cc)
+
+number_or_same : (text t : List ℕ) (place : Place) (number : Option ℕ) → is_token text ≡ true
+    → same_or number text ≡ Ok t → is_written (record { text = t; place = place }) ≡ true
+number_or_same text t place (Some n) is e =
+    let same : number_text n ≡ t = cc in
+    subst (λ w. is_written (record { text = w; place = place }) ≡ true) same
+    (number_written n place)
+number_or_same text t place None is e = same_written text t place (is_ascii text) refl is e
+
+word_by_written : (constants : Constants) (text t : List ℕ) (place : Place)
+    (form : Result (Option ℕ) ExpandErrorKind) → is_token text ≡ true
+    → word_by constants text form ≡ Ok t
+    → is_written (record { text = t; place = place }) ≡ true
+word_by_written constants text t place (Err kind) is e = absurd (cc)
+word_by_written constants text t place (Ok (Some n)) is e =
+    number_or_same text t place (Some n) is e
+word_by_written constants text t place (Ok None) is e =
+    number_or_same text t place (constant_named constants text) is e
+
+word_written : (constants : Constants) (text t : List ℕ) (place : Place) → is_token text ≡ true
+    → word_of constants text ≡ Ok t → is_written (record { text = t; place = place }) ≡ true
+unfolding word_of
+word_written constants text t place is e =
+    word_by_written constants text t place (literal_of text) is e
+
+-- what a step leaves
+record Sound (made : Step) : Type 0 where
+  written : list_all is_written made.pieces ≡ true
+  fresh : IsFresh made.scope
+
+sound_silent : (scope : Scope) (made : Step) → IsFresh scope → silent scope ≡ Ok made → Sound made
+sound_silent scope made h e =
+    let same : record { scope = scope; pieces = [] } ≡ made = cc in
+    subst Sound same (record { written = refl; fresh = h })
+
+sound_one : (scope : Scope) (piece : Piece) (made : Step) → IsFresh scope
+    → is_written piece ≡ true
+    → ◌≡◌ {A = Result Step ExpandErrorKind} (Ok (record { scope = scope; pieces = piece ∷ [] }))
+    (Ok made) → Sound made
+sound_one scope piece made h is e =
+    let same : record { scope = scope; pieces = piece ∷ [] } ≡ made = cc in
+    subst Sound same
+    (record { written = and_from (is_written piece) true is refl; fresh = h })
+
+sound_word : (scope : Scope) (place : Place) (word : Result (List ℕ) ExpandErrorKind)
+    (made : Step) → IsFresh scope
+    → ((t : List ℕ) → word ≡ Ok t → is_written (record { text = t; place = place }) ≡ true)
+    → word_step scope place word ≡ Ok made → Sound made
+sound_word scope place (Err kind) made f h e = absurd (cc)
+sound_word scope place (Ok t) made f h e =
+    sound_one scope (record { text = t; place = place }) made f (h t refl) e
+
+sound_at : (scope : Scope) (piece : Piece) (made : Step) → IsFresh scope
+    → is_token piece.text ≡ true → word_at scope piece ≡ Ok made → Sound made
+sound_at scope piece made f is e =
+    sound_word scope piece.place (word_of scope.constants piece.text) made f
+    (λ t g. word_written scope.constants piece.text t piece.place is g) e
+
+sound_number : (scope : Scope) (place : Place) (n : Result ℕ ExpandErrorKind) (made : Step)
+    → IsFresh scope → number_step scope place n ≡ Ok made → Sound made
+sound_number scope place (Err kind) made f e = absurd (cc)
+sound_number scope place (Ok n) made f e =
+    sound_one scope (record { text = number_text n; place = place }) made f
+    (number_written n place) e
+
+-- what is behind a token of the plain language is no value of a constant
+op_fresh : (scope : Scope) (b : Bool) → IsFresh (with_stage scope (if b then Value else Body))
+op_fresh scope true = tt
+op_fresh scope false = tt
+
+plain_fresh : (scope : Scope) (t : Meaning) → IsFresh (with_stage scope (stage_by t))
+plain_fresh scope (model.op o) = op_fresh scope (takes_dest o)
+plain_fresh scope model.node = tt
+plain_fresh scope model.comma = tt
+plain_fresh scope t = tt
+
+sound_plain : (scope : Scope) (piece : Piece) (made : Step) → is_token piece.text ≡ true
+    → plain_at scope piece ≡ Ok made → Sound made
+sound_plain scope piece made is e =
+    sound_at (with_stage scope (stage_by (meaning_of piece.text))) piece made
+    (plain_fresh scope (meaning_of piece.text)) is e
+
+sound_first : (scope : Scope) (piece : Piece) (made : Step) (b : Bool)
+    → is_token piece.text ≡ true
+    → (if b then silent (with_stage scope (Naming piece.place)) else plain_at scope piece)
+    ≡ Ok made → Sound made
+sound_first scope piece made true is e =
+    sound_silent (with_stage scope (Naming piece.place)) made tt e
+sound_first scope piece made false is e = sound_plain scope piece made is e
+
+sound_new : (scope : Scope) (text : List ℕ) (place : Place) (made : Step) (o : Option ℕ)
+    → number_of scope.constants text ≡ o → (if is_some o then Err DuplicateName
+    else silent (with_stage scope (Valuing text place))) ≡ Ok made → Sound made
+sound_new scope text place made None new e =
+    sound_silent (with_stage scope (Valuing text place)) made new e
+sound_new scope text place made (Some n) new e = absurd (cc)
+
+sound_named : (scope : Scope) (text : List ℕ) (place : Place) (made : Step) (a b : Bool)
+    → (if not a then Err BadToken else if b then Err ReservedName
+    else if is_some (number_of scope.constants text) then Err DuplicateName
+    else silent (with_stage scope (Valuing text place))) ≡ Ok made → Sound made
+sound_named scope text place made false b e = absurd (cc)
+sound_named scope text place made true true e = absurd (cc)
+sound_named scope text place made true false e =
+    sound_new scope text place made (number_of scope.constants text) refl e
+
+sound_valued : (scope : Scope) (name : List ℕ) (value : Result ℕ ExpandErrorKind)
+    (made : Step) → valued scope name value ≡ Ok made → Sound made
+sound_valued scope name (Err kind) made e = absurd (cc)
+sound_valued scope name (Ok n) made e = sound_silent (with_constant scope name n) made tt e
+
+sound_directed : (scope : Scope) (name : ℕ) (piece : Piece) (made : Step) (o : Option Direction)
+    → is_token piece.text ≡ true → directed scope name piece o ≡ Ok made → Sound made
+sound_directed scope name piece made None is e = sound_plain scope piece made is e
+sound_directed scope name piece made (Some direction) is e =
+    sound_number (with_stage scope Body) piece.place (port_towards name direction) made tt e
+
+sound_item : (scope : Scope) (name : ℕ) (piece : Piece) (made : Step) (b : Bool)
+    → is_token piece.text ≡ true
+    → (if b then silent (with_stage scope (Towards name piece.place))
+    else directed scope name piece (direction_named piece.text)) ≡ Ok made → Sound made
+sound_item scope name piece made true is e =
+    sound_silent (with_stage scope (Towards name piece.place)) made tt e
+sound_item scope name piece made false is e =
+    sound_directed scope name piece made (direction_named piece.text) is e
+
+sound_body : (scope : Scope) (node : Option ℕ) (piece : Piece) (made : Step)
+    → is_token piece.text ≡ true → item_at scope node piece ≡ Ok made → Sound made
+sound_body scope None piece made is e = sound_plain scope piece made is e
+sound_body scope (Some name) piece made is e =
+    sound_item scope name piece made (is_to piece.text) is e
+
+sound_step : (scope : Scope) (piece : Piece) (stage : Stage) (made : Step)
+    → is_token piece.text ≡ true → step_at scope piece stage ≡ Ok made → Sound made
+unfolding step_at
+sound_step scope piece Head made is e = sound_first scope piece made (is_const piece.text) is e
+sound_step scope piece (Naming place) made is e =
+    sound_named scope piece.text place made (is_name piece.text) (is_kept piece.text) e
+sound_step scope piece (Valuing name place) made is e =
+    sound_valued scope name (value_of scope.constants piece.text) made e
+sound_step scope piece Body made is e = sound_body scope scope.node piece made is e
+sound_step scope piece NodeName made is e =
+    sound_at (in_node scope (node_named piece.text)) piece made tt is e
+sound_step scope piece Value made is e = sound_plain scope piece made is e
+sound_step scope piece (Towards name place) made is e =
+    sound_number (with_stage scope Body) place (port_named name piece.text) made tt e
+
+-- ---- the tokens that are left
+
+pub started : (all : List Piece) (expander : Expander) → scope_of expander ≡ start
+    → expander.writer.text.items ≡ [] → expander.writer.origins.items ≡ []
+    → Progress all expander (drop 0 all)
+started all expander at none no_origins = record {
+  done = [];
+  fresh = subst IsFresh (sym at) tt;
+  written = record {
+    texts = λ c rest blank. ap (λ (t : List ℕ). texts_of (t ++ c ∷ rest)) none
+        ∙ blank_texts c rest blank;
+    places = ap (map place_of) no_origins;
+    first = λ _. none;
+    ascii = subst IsAscii (sym none) (λ i. lit< tt);
+  };
+  whole = nothing_done (expansion_from (scope_of expander) all)
+      ∙ ap (λ s. expansion_from s all) at;
+}
+  where
+    nothing_done : (rest : Result (List Piece) Fault) → onto [] rest ≡ rest
+    nothing_done (Ok pieces) = refl
+    nothing_done (Err fault) = refl
+
+-- what is left at a token
+module _ (pieces : List here.Piece) (index : ℕ) (piece other : here.Piece)
+    (inside : index < length pieces) (at : piece ≡ get_or pieces index other) where
+  pub taken : (before after : Expander)
+      → Progress (map piece_in pieces) before (drop index (map piece_in pieces))
+      → HasTaken before after (piece_in piece)
+      → Progress (map piece_in pieces) after (drop (index + 1) (map piece_in pieces))
+  unfolding expansion_from
+  taken before after so_far (made, is, has) =
+      let rest = drop (index + 1) (map piece_in pieces) in
+      let sound = sound_step (scope_of before) (piece_in piece) (scope_of before).stage made
+      piece.token is in
+      record {
+        done = so_far.done ++ made.pieces;
+        fresh = subst IsFresh (sym has.scope) sound.fresh;
+        written = has.written so_far.done so_far.written sound.written;
+        whole = onto_onto so_far.done made.pieces (expansion_from (scope_of after) rest)
+            ∙ ap (λ (s : Scope). onto so_far.done (onto made.pieces (expansion_from s rest)))
+            has.scope
+            ∙ ap (λ (r : Result Step ExpandErrorKind). onto so_far.done
+            (further (piece_in piece).place r (λ next. expansion_from next rest))) (sym is)
+            ∙ ap (λ (ps : List Piece). onto so_far.done (expansion_from (scope_of before) ps))
+            (sym (left_at piece_in pieces index piece other inside at))
+            ∙ so_far.whole;
+      }
+
+  pub failed : (expander : Expander) (fault : Fault)
+      → Progress (map piece_in pieces) expander (drop index (map piece_in pieces))
+      → HasFailed expander (piece_in piece) fault
+      → expansion_from start (map piece_in pieces) ≡ Err fault
+  unfolding expansion_from
+  failed expander fault so_far (is, at_place) =
+      let rest = drop (index + 1) (map piece_in pieces) in
+      sym so_far.whole
+      ∙ ap (λ (ps : List Piece). onto so_far.done (expansion_from (scope_of expander) ps))
+      (left_at piece_in pieces index piece other inside at)
+      ∙ ap (λ (r : Result Step ExpandErrorKind). onto so_far.done
+      (further (piece_in piece).place r (λ next. expansion_from next rest))) is
+      ∙ ap (λ (place : Place). Err (record { kind = fault.kind; place = place })) at_place
+
+-- ---- no token is left
+
+module _ (text : List ℕ) (expander : Expander) (pieces : List here.Piece) (index : ℕ)
+    (end : length pieces ≤ index) (unfolds : unfolded (pieces_of text) ≡ Ok (map piece_in pieces))
+    (so_far : Progress (map piece_in pieces) expander (drop index (map piece_in pieces))) where
+  at_end : onto so_far.done (ended (scope_of expander).stage) ≡ expansion text
+  unfolding expansion_from expansion
+  at_end =
+      let none : drop index (map piece_in pieces) ≡ [] =
+      drop_all index (map piece_in pieces)
+      (omega (arith, end, length-map pieces piece_in)) in
+      ap (λ (ps : List Piece). onto so_far.done (expansion_from (scope_of expander) ps)) (sym none)
+      ∙ so_far.whole ∙ ap expanded (sym unfolds)
+
+  all_taken : (made : Expansion) → ended (scope_of expander).stage ≡ Ok []
+      → Finished expander.writer made → IsExpansion text made
+  all_taken made e finished =
+      let both = finished so_far.done so_far.written in
+      record {
+        pieces = so_far.done;
+        is = sym at_end ∙ ap (onto so_far.done) e ∙ ap Ok (append-nil so_far.done);
+        tokens = both.0;
+        places = both.1;
+      }
+
+  left_open : (fault : Fault) → ended (scope_of expander).stage ≡ Err fault
+      → expansion text ≡ Err fault
+  left_open fault e = sym at_end ∙ ap (onto so_far.done) e
+
+  pub made_whole : (result : Result Expansion ExpandError)
+      → IfOk result (λ made. (ended (scope_of expander).stage ≡ Ok [])
+      × Finished expander.writer made) → IfOk result (λ made. IsExpansion text made)
+  made_whole (Ok made) h = all_taken made h.0 h.1
+  made_whole (Err error) h = tt
+
+  pub fault_at_end : (result : Result Expansion ExpandError)
+      → IfErr result (λ error. error.kind ≢ Memory
+      → ended (scope_of expander).stage ≡ Err (fault_of error))
+      → IfErr result (λ error. error.kind ≢ Memory → expansion text ≡ Err (fault_of error))
+  fault_at_end (Ok made) h = tt
+  fault_at_end (Err error) h = λ some. left_open (fault_of error) (h some)

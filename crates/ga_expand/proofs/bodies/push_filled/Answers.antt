@@ -1,0 +1,18 @@
+use Rattle.ga_expand.specs.inner.Scope.{stage_of}
+use Rattle.ga_expand.proofs.Lists.{parts_more, stage_more}
+use Rattle.ga_expand.proofs.bodies.push_filled.Goals as goal
+
+pub loop-part-preserved : goal.loop-part-preserved
+loop-part-preserved c =
+    let arguments = c.args.arguments.now in
+    let body = c.args.body.now in
+    let one = c.part-item.result in
+    let new = c.filled-part.result in
+    record {
+      parts = parts_more arguments body c.loop-part.part-index one new c.loop-part-test.true
+          c.part-item.is c.filled-part.ensures c.args.parts.now.items c.loop-part.parts.items
+          c.push.new.self.items c.loop-part.invariant.parts c.in_ok-push.ensures.items;
+      stage = stage_more arguments body c.loop-part.part-index one new c.loop-part-test.true
+          c.part-item.is c.filled-part.ensures (stage_of c.loop-part.stage)
+          (stage_of c.behind-stage.result) c.loop-part.invariant.stage c.behind-stage.ensures;
+    }

@@ -1,0 +1,8 @@
+use Rattle.std.proofs.Common.{◌∙◌}
+use Rattle.ga_expand.proofs.Names.{lookup_constants}
+use Rattle.ga_expand.proofs.constants.Constants.number_of.Goals as goal
+
+pub returns : goal.returns
+returns c =
+    c.copied.ensures ∙ c.get.ensures.value
+    ∙ lookup_constants c.args.name.bytes c.args.self.now.values.entries

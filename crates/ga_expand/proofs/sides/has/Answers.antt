@@ -1,0 +1,13 @@
+use Rattle.std.proofs.Common.{rules, tests}
+use Rattle.std.specs.Prelude.{◌==◌}
+use Rattle.std.specs.Str.{bytes_eq}
+use Rattle.std.proofs.lemmas.Iterator.Search.{any_from_yields_List}
+use Rattle.std.proofs.lemmas.Iterator.Splits.{YieldsList-from_slice_split}
+use Rattle.ga_expand.proofs.sides.has.Goals as goal
+
+pub returns : goal.returns
+returns c =
+    any_from_yields_List (λ part. bytes_eq part c.args.name.now) _ _ _ c.any.ensures.ran
+    (YieldsList-from_slice_split _ (λ b. b == 124) c.args.text.now c.split.ensures.rest
+    c.split.ensures.done c.split.ensures.closure (λ x r q k. search (rules, tests)))
+    (λ x b q k. search (rules, tests))

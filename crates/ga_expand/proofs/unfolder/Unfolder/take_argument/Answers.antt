@@ -1,0 +1,34 @@
+use Rattle.std.proofs.Common.{◌≡◌, ◌∙◌, ◌++◌, ◌∷◌, [], List, Ok, Result, ap, map, subst, sym}
+use Rattle.std.proofs.lemmas.List.{map-append}
+use Rattle.ga_source.specs.Token.{place_of}
+use Rattle.ga_expand.specs.Bodies.{Part, Unfolding, ends, missing, part_at, read_at}
+use Rattle.ga_expand.specs.Error.{Fault}
+use Rattle.ga_expand.specs.inner.Bodies.{Read, draft_in, part_in, reading_in, state_of}
+use Rattle.ga_expand.specs.inner.Piece.{piece_in}
+use Rattle.ga_expand.proofs.Lists.{other_reading, uncut}
+use Rattle.ga_expand.proofs.unfolder.Unfolder.take_argument.Goals as goal
+
+pub returns : goal.returns
+unfolding read_at
+returns c =
+    let self = c.args.self.now in
+    let now = state_of self in
+    let piece = piece_in c.args.piece in
+    let place = place_of c.args.start in
+    let parts = map part_in self.used.items in
+    let old = map part_in self.arguments.items in
+    let new = map part_in c.push.new.self.items in
+    let more : new ≡ old ++ part_at now piece ∷ [] =
+    ap (map part_in) c.in_ok-push.ensures.items
+    ∙ map-append part_in self.arguments.items (c.part_at-part.result ∷ [])
+    ∙ ap (λ (one : Part). old ++ one ∷ []) c.part_at-part.ensures in
+    let after : Result Unfolding Fault =
+    Ok (missing now place c.args.more parts (old ++ part_at now piece ∷ [])) in
+    subst (λ answer. Read c.await_arguments.new.self answer c.await_arguments.result)
+    (ap {B = Result Unfolding Fault} Ok
+    (other_reading now (reading_in self.used.items c.push.new.self.items self.reading) place
+    c.args.more parts new)
+    ∙ ap {B = Result Unfolding Fault}
+    (λ (ps : List Part). Ok (missing now place c.args.more parts ps)) more
+    ∙ sym (uncut draft_in c.ending.result (ends now.draft piece.text) place after c.ending.ensures
+    (sym c.is_some.ensures ∙ c.if-is_some.false))) c.await_arguments.ensures

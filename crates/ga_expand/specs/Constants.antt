@@ -1,0 +1,64 @@
+-- Constants, the names that they may have, and the values that tokens write.
+use Rattle.std.specs.Prelude.{◌||◌, ◌==◌, ◌^◌, ℕ, Bool, List, [], ◌∷◌, codes, nat_lt, Option, Some, None, Result, Ok, Err, if◌then◌else◌}
+use Rattle.std.specs.List.{list_any}
+use Rattle.std.specs.Option.{option_or}
+use Rattle.std.specs.Str.{bytes_eq}
+use Rattle.ga_pack.specs.Model.Token.{is_name, is_reserved, number_named}
+use Rattle.ga_expand.specs.declared.error.ExpandErrorKind.{ExpandErrorKind}
+use Rattle.ga_expand.specs.declared.error.ExpandErrorKind.TheVariants.{BadToken, NumberRange}
+use Rattle.ga_expand.specs.Literal.{literal_of, numeral}
+
+-- names and their numbers
+abbrev pub Constants : Type 0
+Constants = List (List ℕ × ℕ)
+
+abbrev pub number_of : Constants → List ℕ → Option ℕ
+number_of [] text = None
+number_of (constant ∷ constants) text =
+    if bytes_eq text constant.0 then Some constant.1 else number_of constants text
+
+-- the number of the constant that a token names
+abbrev pub constant_named : Constants → List ℕ → Option ℕ
+constant_named constants text = if is_name text then number_of constants text else None
+
+-- The words of the larger language. Some are kept for what it is to have.
+abbrev pub words_of_definitions : List (List ℕ)
+words_of_definitions =
+    codes "const" ∷ codes "body" ∷ codes "end" ∷ codes "use" ∷ codes "include" ∷ []
+
+abbrev pub words_of_places : List (List ℕ)
+words_of_places =
+    codes "to" ∷ codes "north" ∷ codes "east" ∷ codes "south" ∷ codes "west" ∷ []
+
+abbrev pub is_among : List (List ℕ) → List ℕ → Bool
+is_among words text = list_any (λ word. bytes_eq text word) words
+
+-- no constant has the name of an opcode or of a number, or a word of either language
+abbrev pub is_kept : List ℕ → Bool
+is_kept text =
+    is_reserved text || is_among words_of_definitions text || is_among words_of_places text
+
+-- ---- the value of a constant
+
+-- a number in the plain language
+abbrev pub as_hex : List ℕ → Option ℕ
+as_hex [] = None
+as_hex (c ∷ digits) = if c == 36 then numeral 16 8 digits else None
+
+abbrev pub as_number : List ℕ → Option ℕ
+as_number text = option_or (number_named text) (option_or (numeral 10 8 text) (as_hex text))
+
+abbrev pub in_range : Option ℕ → Result ℕ ExpandErrorKind
+in_range None = Err BadToken
+in_range (Some n) = if nat_lt n (2 ^ 18) then Ok n else Err NumberRange
+
+abbrev pub value_by : Constants → List ℕ → Result (Option ℕ) ExpandErrorKind
+    → Result ℕ ExpandErrorKind
+value_by constants text (Err kind) = Err kind
+value_by constants text (Ok (Some n)) = Ok n
+value_by constants text (Ok None) =
+    in_range (option_or (constant_named constants text) (as_number text))
+
+-- The number that a token writes: in a form of either language, or as the name of a constant.
+unfoldable pub value_of : Constants → List ℕ → Result ℕ ExpandErrorKind
+value_of constants text = value_by constants text (literal_of text)

@@ -1,0 +1,10 @@
+pub mod Error
+pub mod Sides
+pub mod Literal
+pub mod Constants
+pub mod Places
+pub mod Expanding
+pub mod Bodies
+pub mod Texts
+pub mod Laws
+pub mod inner

@@ -1,0 +1,79 @@
+//! Shared bodies, and the tokens that a `use` of one stands for.
+ghost use Rattle.std.specs.Prelude.{◌≡◌, ◌++◌, IfOk, OnOk, map, option_map};
+ghost use Rattle.std.specs.List.{find};
+ghost use Rattle.std.specs.Str.{bytes_eq};
+ghost use Rattle.ga_expand.specs.Bodies as model;
+ghost use Rattle.ga_expand.specs.Expanding.{Body};
+ghost use Rattle.ga_expand.specs.inner.Bodies.{filled_in, part_in};
+ghost use Rattle.ga_expand.specs.inner.Scope.{stage_of};
+
+use crate::expander::{Stage, stage_behind};
+use crate::piece::Piece;
+use std::alloc::AllocError;
+
+/// A token of a body or of the text. In a body it may be the name of a parameter, which has a
+/// number from 0.
+#[derive(Clone, Copy)]
+pub(crate) struct Part<'a> {
+    pub(crate) piece: Piece<'a>,
+    pub(crate) parameter: Option<usize>,
+}
+
+#[derive(Drop)]
+pub(crate) struct SharedBody<'a> {
+    pub(crate) name: &'a [u8],
+    /// How many arguments a `use` of it has.
+    pub(crate) arity: usize,
+    pub(crate) parts: Vec<Part<'a>>,
+}
+
+/// The body with a name.
+pub(crate) fn body_named<'b, 'a>(
+    bodies: &'b [SharedBody<'a>],
+    name: &[u8],
+) -> Option<&'b SharedBody<'a>>
+    ensures { option_map (λ body. body.now) result
+        ≡ find (λ body. bytes_eq body.name.now name.now) bodies.now }
+{
+    bodies.iter().find(|body| body.name == name)
+}
+
+/// What is behind a token, by what it is for.
+pub(crate) fn behind(stage: Stage, text: &[u8]) -> Stage
+    ensures { stage_of result ≡ model.behind (stage_of stage) text.now }
+{
+    match stage {
+        Stage::NodeName => Stage::Body,
+        _ => stage_behind(text),
+    }
+}
+
+/// The argument, if a token is a parameter's name.
+fn filled<'a>(arguments: &[Part<'a>], part: Part<'a>) -> Part<'a>
+    ensures { result ≡ filled_in arguments.now part.entry }
+{
+    match part.parameter {
+        Some(number) => arguments.get(number).copied().unwrap_or(part),
+        None => part,
+    }
+}
+
+/// Adds what a `use` stands for, and returns what is behind it.
+pub(crate) fn push_filled<'a>(
+    parts: &mut Vec<Part<'a>>,
+    body: &[Part<'a>],
+    arguments: &[Part<'a>],
+) -> Result<Stage, AllocError>
+    ensures parts { OnOk result (parts.new.items ≡ parts.old.items
+        ++ map (filled_in arguments.now) body.now) }
+    ensures stage { IfOk result (λ stage. stage_of stage ≡ model.behind_all Body
+        (map part_in (map (filled_in arguments.now) body.now))) }
+{
+    let mut stage = Stage::Body;
+    for part in body {
+        let part = filled(arguments, *part);
+        stage = behind(stage, part.piece.text);
+        parts.push(part)?;
+    }
+    Ok(stage)
+}

@@ -1,0 +1,223 @@
+//! Constants, their names and their values.
+ghost use Rattle.std.specs.Prelude.{◌≡◌, ◌≢◌, ◌++◌, ◌∷◌, ℕ, [], IfErr, None, OnOk, codes, option_map, Ok, if◌then◌else◌, Some};
+ghost use Rattle.std.specs.List.{list_all};
+ghost use Rattle.std.specs.Option.{is_some};
+ghost use Rattle.std.specs.Str.{bytes_eq};
+ghost use Rattle.ga_pack.specs.Model.Token as plain;
+ghost use Rattle.ga_pack.specs.Model.Token.{is_name};
+ghost use Rattle.ga_expand.specs.Constants as model;
+ghost use Rattle.ga_expand.specs.declared.error.ExpandErrorKind.TheVariants.{Memory};
+ghost use Rattle.ga_expand.specs.inner.Constants.{constants_in};
+
+use crate::error::ExpandErrorKind;
+use crate::literal::{literal, numeral};
+use ga_source::Name;
+use ga_word::{Op, Word18};
+use indexmap::IndexMap;
+use std::alloc::Global;
+use std::str;
+
+/// The constants so far, in their order.
+#[derive(Drop)]
+pub(crate) struct Constants {
+    values: IndexMap<Name, Word18>,
+}
+
+impl Constants {
+    pub(crate) fn new(alloc: Global) -> Self
+        ensures { result.values.entries ≡ [] }
+    {
+        Constants {
+            values: IndexMap::new(alloc),
+        }
+    }
+
+    /// The number of the constant that a token names.
+    pub(crate) fn named(&self, text: &[u8]) -> Option<Word18>
+        ensures { result ≡ model.constant_named (constants_in self.now.values.entries) text.now }
+    {
+        if self.values.is_empty() {
+            return None;
+        }
+        self.number_of(name_in(text)?)
+    }
+
+    /// The number of the constant with a name.
+    fn number_of(&self, name: Name) -> Option<Word18>
+        ensures { result ≡ model.number_of (constants_in self.now.values.entries) name.bytes }
+    {
+        self.values.get(&name).copied()
+    }
+
+    /// Whether a constant has a name.
+    pub(crate) fn has(&self, name: Name) -> bool
+        ensures { result ≡ is_some (model.number_of (constants_in self.now.values.entries)
+            name.bytes) }
+    {
+        self.number_of(name).is_some()
+    }
+
+    /// Adds a constant.
+    pub(crate) fn define(&mut self, name: Name, value: Word18) -> Result<(), ExpandErrorKind>
+        requires { model.number_of (constants_in self.old.values.entries) name.bytes ≡ None }
+        ensures ok { OnOk result (constants_in self.new.values.entries
+            ≡ constants_in self.old.values.entries ++ (name.bytes, value) ∷ []) }
+        ensures err { IfErr result (λ kind. kind ≡ Memory) }
+    {
+        self.values.insert(name, value)?;
+        Ok(())
+    }
+
+    /// The number that a token writes, in a form of either language or as the name of a constant.
+    #[tactic(auto, unfolding(crate::specs::Constants::value_of))]
+    pub(crate) fn value(&self, text: &[u8]) -> Result<Word18, ExpandErrorKind>
+        ensures { result ≡ model.value_of (constants_in self.now.values.entries) text.now }
+    {
+        match literal(text) {
+            Ok(Some(number)) => Ok(number),
+            Ok(None) => self.plain_value(text),
+            Err(kind) => Err(kind),
+        }
+    }
+
+    /// The number of the constant that a token names, or that it writes in the plain language.
+    fn plain_value(&self, text: &[u8]) -> Result<Word18, ExpandErrorKind>
+        ensures { result ≡ model.value_by (constants_in self.now.values.entries) text.now
+            (Ok None) }
+    {
+        if let Some(number) = self.named(text) {
+            return Ok(number);
+        }
+        match number(text) {
+            Some(number) => Word18::new(number).ok_or(ExpandErrorKind::NumberRange),
+            None => Err(ExpandErrorKind::BadToken),
+        }
+    }
+}
+
+/// The number that a token writes in the plain language.
+fn number(text: &[u8]) -> Option<u32>
+    ensures { result ≡ model.as_number text.now }
+{
+    if let Some(number) = address_named(text) {
+        return Some(number);
+    }
+    match numeral(10, 8, text) {
+        Some(number) => Some(number),
+        None => hex(text),
+    }
+}
+
+/// The number behind `$`.
+fn hex(text: &[u8]) -> Option<u32>
+    ensures { result ≡ model.as_hex text.now }
+{
+    let (first, digits) = text.split_first()?;
+    if *first != b'$' {
+        return None;
+    }
+    numeral(16, 8, digits)
+}
+
+/// The numbers that have a name in the plain language.
+fn address_named(text: &[u8]) -> Option<u32>
+    ensures { result ≡ plain.number_named text.now }
+{
+    let address = match text {
+        b"right" => 0x1D5,
+        b"down" => 0x115,
+        b"left" => 0x175,
+        b"up" => 0x145,
+        b"io" => 0x15D,
+        b"rdlu" => 0x1A5,
+        b"warm" => 0x0A9,
+        _ => return None,
+    };
+    Some(address)
+}
+
+/// The name that a token is.
+pub(crate) fn name_in(text: &[u8]) -> Option<Name>
+    ensures { option_map (λ name. name.bytes) result
+        ≡ (if is_name text.now then Some text.now else None) }
+{
+    if !is_name(text) {
+        return None;
+    }
+    match str::from_utf8(text) {
+        Ok(name) => Name::new(name),
+        Err(_) => None,
+    }
+}
+
+/// One to sixteen letters and digits, the first no digit.
+pub(crate) fn is_name(text: &[u8]) -> bool
+    ensures { result ≡ plain.is_name text.now }
+{
+    match text.split_first() {
+        Some((first, rest)) => {
+            is_letter(*first) && rest.len() < 16 && are_letters_or_digits(rest)
+        }
+        None => false,
+    }
+}
+
+fn are_letters_or_digits(text: &[u8]) -> bool
+    ensures { result ≡ list_all plain.is_letter_or_digit text.now }
+{
+    text.iter().all(|byte| is_letter_or_digit(*byte))
+}
+
+/// An ASCII letter or `_`.
+fn is_letter(byte: u8) -> bool
+    ensures { result ≡ plain.is_letter byte }
+{
+    matches!(byte, b'A'..=b'Z' | b'a'..=b'z' | b'_')
+}
+
+fn is_letter_or_digit(byte: u8) -> bool
+    ensures { result ≡ plain.is_letter_or_digit byte }
+{
+    is_letter(byte) || byte.is_ascii_digit()
+}
+
+/// Whether no definition may give a name.
+pub(crate) fn is_kept(name: &[u8]) -> bool
+    ensures { result ≡ model.is_kept name.now }
+{
+    is_reserved(name) || is_of_definitions(name) || is_of_places(name)
+}
+
+#[tactic(auto, unfolding(ga_pack::specs::Model::Token::is_reserved))]
+fn is_reserved(name: &[u8]) -> bool
+    ensures { result ≡ plain.is_reserved name.now }
+{
+    Op::from_bytes(name).is_some() || address_named(name).is_some() || is_fixed(name)
+}
+
+fn is_fixed(name: &[u8]) -> bool
+    ensures { result ≡ is_some (plain.as_fixed name.now) }
+{
+    matches!(
+        name,
+        b"node" | b"align" | b"data" | b"[" | b"]" | b"," | b"/"
+    )
+}
+
+fn is_of_definitions(name: &[u8]) -> bool
+    ensures { result ≡ model.is_among model.words_of_definitions name.now }
+{
+    matches!(name, b"const" | b"body" | b"end" | b"use") || is_include(name)
+}
+
+fn is_of_places(name: &[u8]) -> bool
+    ensures { result ≡ model.is_among model.words_of_places name.now }
+{
+    matches!(name, b"to" | b"north" | b"east" | b"south" | b"west")
+}
+
+fn is_include(name: &[u8]) -> bool
+    ensures { result ≡ bytes_eq name.now (codes "include") }
+{
+    name == b"include".as_slice()
+}

@@ -1,0 +1,19 @@
+//! A larger source language, which expands to the plain one, token by token.
+#![tactic(auto)]
+
+mod bodies;
+mod constants;
+mod error;
+mod expander;
+mod expansion;
+mod literal;
+mod piece;
+mod places;
+mod sides;
+mod spelling;
+mod unfolder;
+mod unfolding;
+mod writing;
+
+pub use error::{ExpandError, ExpandErrorKind};
+pub use expansion::{Expansion, expand};

@@ -1,0 +1,43 @@
+-- The job `profile`: what it writes.
+use Rattle.std.specs.Prelude.{◌≡◌, ◌++◌, ℕ, List, codes, Option, Result, Ok, Err}
+use Rattle.ga_asm.specs.Image.{ImageView}
+use Rattle.ga_profile.specs.Lines.{line_turns}
+use Rattle.ga_profile.specs.NodePass.{node_passes}
+use Rattle.ga_profile.specs.Path.{path_turns}
+use Rattle.ga_profile.specs.Profile.{chip_at_end, nodes_in, window_in}
+use Rattle.ga_profile.specs.Text.{profile_text}
+use Rattle.ga_profile.specs.declared.profile.Profile.{Profile}
+use Rattle.ga_profile.specs.declared.window.Window.{Window}
+use Rattle.ga_profile.specs.declared.window.WindowStart.{WindowStart}
+use Rattle.ga_transcript.specs.Live.{LiveView}
+use Rattle.ga_waits.specs.Folded.{nodes_text}
+use Rattle.ga_jobs.specs.declared.fault.ServeError.{ServeError}
+use Rattle.ga_jobs.specs.declared.race.Loading.{Loading}
+use Rattle.ga_jobs.specs.Race.{most_turns}
+use Rattle.ga_jobs.specs.Session.{IsSession}
+
+-- the profile of a window of the run of a session's chip, and who waits for whom at its end
+abbrev pub profile_in : LiveView → Window → List ℕ
+profile_in live window =
+    (profile_text window (nodes_in window live.chip) (node_passes window live.chip)
+    (path_turns window live.chip) (line_turns window live.chip (path_turns window live.chip))
+    (chip_at_end window live.chip) ++ codes "At the end:\n")
+    ++ nodes_text live.program.images (chip_at_end window live.chip)
+
+-- the same in at most a number of turns
+abbrev pub profile_after : LiveView → WindowStart → ℕ → List ℕ
+profile_after live start turns = profile_in live (window_in start turns live.chip)
+
+-- the text of a measured profile, with the labels of a program
+abbrev pub told : List (ℕ × ImageView) → Profile → List ℕ
+told images profile =
+    (profile_text profile.window profile.nodes.items profile.passes.items profile.path.items
+    profile.lines.items profile.chip ++ codes "At the end:\n") ++ nodes_text images profile.chip
+
+-- the profile of the session that an input opens, or the first fault of that session
+abbrev pub IsProfileOutput : Loading → WindowStart → Option ℕ → List ℕ
+    → Result (List ℕ) ServeError → Type 0
+IsProfileOutput loading start turns input (Ok text) =
+    (live : LiveView) × IsSession loading input (Ok live)
+    × (text ≡ profile_after live start (most_turns turns))
+IsProfileOutput loading start turns input (Err fault) = IsSession loading input (Err fault)

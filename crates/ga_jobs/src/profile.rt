@@ -1,0 +1,54 @@
+ghost use Rattle.std.specs.Prelude.{◌≡◌, IfOk, string_bytes};
+ghost use Rattle.ga_jobs.specs.Fault.{Answers};
+ghost use Rattle.ga_jobs.specs.ProfileJob.{IsProfileOutput, profile_after, told};
+
+use crate::fault::ServeError;
+use crate::race::{Loading, TURNS};
+use crate::session::open_session;
+use ga_asm::Images;
+use ga_profile::{Profile, WindowStart, measure, profile_text};
+use ga_transcript::Live;
+use ga_waits::nodes;
+use std::alloc::{AllocError, Global};
+
+/// What each node of the input's chip does in a run, the bottleneck, and who waits at the end. The
+/// commands behind the head of a session are done first. Then come at most `turns` turns (by
+/// default 1,000,000), until no node moves but those that spin. The profile begins as `start` says.
+pub fn output(
+    alloc: Global,
+    loading: &Loading,
+    start: WindowStart,
+    turns: Option<u32>,
+    input: &[u8],
+) -> Result<String, ServeError>
+    ensures { Answers string_bytes
+        (IsProfileOutput loading.now start turns input.now) result }
+{
+    let live = open_session(alloc, loading, input)?;
+    let text = profile_after(alloc, &live, start, turns.unwrap_or(TURNS))?;
+    Ok(text)
+}
+
+/// The profile of the chip of a session, and who waits for whom at the end of its window.
+fn profile_after(
+    alloc: Global,
+    live: &Live,
+    start: WindowStart,
+    turns: u32,
+) -> Result<String, AllocError>
+    ensures { IfOk result (λ text. string_bytes text ≡ profile_after live.now start turns) }
+{
+    let profile = measure(alloc, live.chip(), start, turns)?;
+    told(alloc, &profile, live.images())
+}
+
+/// A profile as text, and who waits for whom at the end of its window.
+fn told(alloc: Global, profile: &Profile, images: &Images) -> Result<String, AllocError>
+    ensures { IfOk result (λ text. string_bytes text ≡ told images.now profile.now) }
+{
+    let mut text = profile_text(alloc, profile)?;
+    text.push_str("At the end:\n")?;
+    let waits = nodes(alloc, &profile.chip, Some(images))?;
+    text.push_str(waits.as_str())?;
+    Ok(text)
+}

@@ -1,0 +1,65 @@
+-- The definitions of the lines of the path at worked values.
+use Rattle.std.proofs.Common.{◌≡◌, ℕ, ◌+◌, ◌*◌, [], ◌∷◌, refl}
+use Rattle.std.specs.Prelude.{codes, replicate}
+use Rattle.std.specs.Fmt.{digits}
+use Rattle.ga_word.specs.Hex.{hex_digits}
+use Rattle.ga_word.specs.Op.{op_with}
+use Rattle.ga_pack.specs.Decoded.{reading_of}
+use Rattle.ga_node.specs.declared.place.Place.TheVariants.{Slot1}
+use Rattle.ga_observe.specs.declared.step.Deed.TheVariants as did
+use Rattle.ga_observe.specs.declared.step.Step.{Step}
+use Rattle.ga_trace.specs.At.{at_word}
+use Rattle.ga_profile.specs.declared.kinds.Kinds.TheVariants.{Nodes, Lines}
+use Rattle.ga_profile.specs.Kinds.{kind_of}
+use Rattle.ga_profile.specs.Lines.{line_row}
+use Rattle.ga_profile.specs.Rank.{rank_of, ranked}
+use Rattle.ga_profile.specs.Share.{cell, share_of}
+
+-- the first of the largest has rank 0
+second_of_largest : rank_of (3 ∷ 7 ∷ 7 ∷ 5 ∷ []) 2 ≡ 1
+unfolding rank_of
+second_of_largest = refl
+
+smallest : rank_of (3 ∷ 7 ∷ 7 ∷ 5 ∷ []) 0 ≡ 3
+unfolding rank_of
+smallest = refl
+
+third : ranked (3 ∷ 7 ∷ 7 ∷ 5 ∷ []) 2 ≡ 3
+unfolding ranked rank_of
+third = refl
+
+-- 709 runs slot 1 of the word before P
+abbrev a_step : ℕ → Step
+a_step p = record {
+  node = 709;
+  number = 0;
+  turn = 0;
+  place = Slot1;
+  p = p;
+  word = 0;
+  deed = did.Own;
+}
+
+its_node : kind_of Nodes (a_step 4) ≡ 135
+its_node = refl
+
+-- if 709 has rank 3
+its_word : kind_of (Lines (replicate 144 3)) (a_step 4) ≡ 3 * 65 + 3
+unfolding at_word reading_of op_with
+its_word = refl
+
+of_port : kind_of (Lines (replicate 144 3)) (a_step 0x1B5) ≡ 3 * 65 + 64
+unfolding at_word reading_of op_with
+of_port = refl
+
+no_leader : kind_of (Lines (replicate 144 77)) (a_step 4) ≡ 10 * 65 + 3
+unfolding at_word reading_of op_with
+no_leader = refl
+
+a_line : line_row 709 11 1000 11225 ≡ codes "   9   709   00B\n"
+unfolding line_row share_of cell digits hex_digits
+a_line = refl
+
+other_code : line_row 709 64 1000 11225 ≡ codes "   9   709     .\n"
+unfolding line_row share_of cell digits hex_digits
+other_code = refl

@@ -1,0 +1,262 @@
+"""Expands texts of the larger language, after "Larger source text" in docs/FORMATS.md. It shares nothing with the program.
+
+`expansion` gives the tokens of the plain text, each with the place where it was written, or raises the first `Fault`.
+"""
+import re
+from collections import namedtuple
+
+from assembler import LEAPS, NAME, NODE, NUMBER, NUMBERS, RESERVED, Fault
+from schedules import PORTS, neighbours, side_to
+
+Piece = namedtuple("Piece", "text line column")
+# How many parameters it has, and its tokens, each with its number if it is one of them.
+Body = namedtuple("Body", "arity parts")
+WORDS = {"const", "body", "end", "use", "include", "to", "north", "east", "south", "west"}
+SIDES = re.compile(r"(right|down|left|up)(\|(right|down|left|up))+")
+MOST_TOKENS, MOST_BYTES = 262144, 64
+
+
+def fault_at(piece, name):
+    return Fault(f"expand {piece.line}:{piece.column} {name}", (piece.line, piece.column))
+
+
+def pieces_of(text):
+    """The tokens of a text that aren't in its comments."""
+    for line, row in enumerate(text.split("\n"), 1):
+        for found in re.finditer(r"[^ \t\r]+", row):
+            if found[0] == "\\":
+                break
+            yield Piece(found[0], line, found.start() + 1)
+
+
+def literal_of(piece):
+    """The number of a token in a form that the plain language lacks, or None."""
+    text = piece.text
+    if re.fullmatch("-[0-9]{1,8}", text):
+        if int(text) < -0x20000:
+            raise fault_at(piece, "NumberRange")
+        return int(text) % 0x40000
+    if re.fullmatch("%[01]{1,18}", text):
+        return int(text[1:], 2)
+    if re.fullmatch("'[!-~]'", text):
+        return ord(text[1])
+    if SIDES.fullmatch(text):
+        bits = {"right": 0x080, "down": 0x040, "left": 0x020, "up": 0x010}
+        return 0x155 ^ sum(bits[side] for side in {*text.split("|")})
+    return None
+
+
+def value_of(piece, constants):
+    """The number of a constant's value."""
+    number = literal_of(piece)
+    if number is None and piece.text in constants:
+        number = constants[piece.text]
+    if number is None and piece.text in NUMBERS:
+        number = NUMBERS[piece.text]
+    if number is None and NUMBER.fullmatch(piece.text):
+        number = int(piece.text[1:], 16) if piece.text[0] == "$" else int(piece.text)
+    if number is None:
+        raise fault_at(piece, "BadToken")
+    if number > 0x3FFFF:
+        raise fault_at(piece, "NumberRange")
+    return number
+
+
+class Unfolder:
+    """Puts the tokens of bodies in place of each `use`, token by token."""
+
+    def __init__(self):
+        self.constants, self.bodies, self.left = set(), {}, MOST_TOKENS
+        self.definitions, self.parts = [], []
+        # The token `body` of the body that is being defined, and its parameters.
+        self.body, self.parameters = None, []
+
+    def unfolded(self, pieces):
+        pieces = iter(pieces)
+        piece = next(pieces, None)
+        while piece and piece.text in ("const", "body"):
+            piece = self.constant(piece, pieces) if piece.text == "const" else self.definition(piece, pieces)
+        self.tokens(piece, pieces)
+        return self.definitions + [piece for piece, _ in self.parts]
+
+    def constant(self, const, pieces):
+        name, value = next(pieces, None), next(pieces, None)
+        if name and name.text in self.bodies:
+            raise fault_at(name, "DuplicateName")
+        self.definitions += [it for it in (const, name, value) if it]
+        self.constants |= {name.text} if name else set()
+        return next(pieces, None)
+
+    def check_name(self, piece, taken):
+        if not NAME.fullmatch(piece.text):
+            raise fault_at(piece, "BadToken")
+        if piece.text in RESERVED or piece.text in WORDS:
+            raise fault_at(piece, "ReservedName")
+        if piece.text in taken:
+            raise fault_at(piece, "DuplicateName")
+
+    def definition(self, body, pieces):
+        name = next(pieces, None)
+        if not name:
+            raise fault_at(body, "OpenDefinition")
+        self.check_name(name, {*self.bodies, *self.constants})
+        self.body, self.parameters = body, []
+        piece = next(pieces, None)
+        while piece and piece.line == body.line:
+            check_length(piece)
+            self.check_name(piece, self.parameters)
+            self.parameters.append(piece.text)
+            piece = next(pieces, None)
+        if not self.tokens(piece, pieces):
+            raise fault_at(body, "OpenDefinition")
+        self.bodies[name.text] = Body(len(self.parameters), self.parts)
+        self.body, self.parameters, self.parts = None, [], []
+        return next(pieces, None)
+
+    def part(self, piece):
+        """A token, with its number if it is a parameter's name."""
+        return piece, self.parameters.index(piece.text) if piece.text in self.parameters else None
+
+    def tokens(self, piece, pieces):
+        """The tokens of a body or of the text. Returns whether a body ends."""
+        stage = "item"
+        while piece:
+            if self.body:
+                check_length(piece)
+                if piece.text == "end":
+                    return True
+            if stage == "item" and piece.text == "use":
+                parts = self.used(piece, pieces)
+            else:
+                parts = [self.part(piece)]
+            self.parts += parts
+            for it, _ in parts:
+                stage = stage_behind(stage, it.text)
+            piece = next(pieces, None)
+        return False
+
+    def used(self, use, pieces):
+        """The tokens that a `use` stands for."""
+        name = self.behind(use, pieces)
+        if self.body:
+            check_length(name)
+        if name.text not in self.bodies:
+            raise fault_at(name, "UnknownBody")
+        body = self.bodies[name.text]
+        if len(body.parts) > self.left:
+            raise fault_at(name, "TooLarge")
+        self.left -= len(body.parts)
+        arguments = []
+        for _ in range(body.arity):
+            piece = self.behind(use, pieces)
+            check_length(piece)
+            arguments.append(self.part(piece))
+        return [(it, number) if number is None else arguments[number] for it, number in body.parts]
+
+    def behind(self, use, pieces):
+        """The next token, which belongs to a `use`."""
+        piece = next(pieces, None)
+        if piece is None and self.body:
+            raise fault_at(self.body, "OpenDefinition")
+        if piece is None or self.body and piece.text == "end":
+            raise fault_at(use, "OpenDefinition")
+        return piece
+
+
+def check_length(piece):
+    """Refuses a token that may stand in many places, if it is too long."""
+    if len(piece.text.encode()) > MOST_BYTES:
+        raise fault_at(piece, "BadToken")
+
+
+def stage_behind(stage, text):
+    """What may stand behind a token."""
+    if stage == "node":
+        return "item"
+    return "node" if text == "node" else "value" if text == "," or text in LEAPS else "item"
+
+
+class Expander:
+    """Expands the tokens of a text one after the other."""
+
+    def __init__(self, pieces):
+        self.pieces, self.at = pieces, 0
+        self.constants, self.node, self.written = {}, None, []
+
+    def take(self):
+        self.at += 1
+        return self.pieces[self.at - 1] if self.at <= len(self.pieces) else None
+
+    def word(self, piece):
+        number = literal_of(piece)
+        if number is None:
+            number = self.constants.get(piece.text)
+        if number is None and not piece.text.isascii():
+            raise fault_at(piece, "BadToken")
+        self.written.append(piece if number is None else piece._replace(text=f"${number:05X}"))
+
+    def expand(self):
+        while self.at < len(self.pieces) and self.pieces[self.at].text == "const":
+            self.definition()
+        stage = "value"
+        while piece := self.take():
+            stage = self.piece_in(stage, piece)
+        return self.written
+
+    def definition(self):
+        const, name, value = self.take(), self.take(), self.take()
+        if name and not NAME.fullmatch(name.text):
+            raise fault_at(name, "BadToken")
+        if name and (name.text in RESERVED or name.text in WORDS):
+            raise fault_at(name, "ReservedName")
+        if name and name.text in self.constants:
+            raise fault_at(name, "DuplicateName")
+        if not value:
+            raise fault_at(const, "OpenDefinition")
+        self.constants[name.text] = value_of(value, self.constants)
+
+    def piece_in(self, stage, piece):
+        """Expands a token where an item may begin, a value or the name of a node. Returns what may stand behind it."""
+        if stage == "node":
+            self.word(piece)
+            self.node = piece.text if NODE.fullmatch(piece.text) else None
+            return "item"
+        number = self.port(piece) if stage == "item" and self.node else None
+        if number is not None:
+            self.written.append(piece._replace(text=f"${number:05X}"))
+            return "item"
+        self.word(piece)
+        return stage_behind(stage, piece.text)
+
+    def port(self, piece):
+        """The port that a direction or `to` and its neighbour name, or None."""
+        row, column = divmod(int(self.node), 100)
+        places = {
+            "north": (row + 1, column), "south": (row - 1, column), "east": (row, column + 1), "west": (row, column - 1),
+        }  # fmt: skip
+        if piece.text == "to":
+            other = self.take()
+            if not other or not NODE.fullmatch(other.text):
+                raise fault_at(other or piece, "BadNode")
+            there, at = divmod(int(other.text), 100), other
+        elif piece.text in places:
+            there, at = places[piece.text], piece
+        else:
+            return None
+        other = there[0] * 100 + there[1]
+        if other not in neighbours(int(self.node)).values():
+            raise fault_at(at, "NoNeighbour")
+        return int(PORTS[side_to(int(self.node), other)], 16)
+
+
+def expansion(text):
+    """The tokens of the plain text that a text of the larger language expands to."""
+    return Expander(Unfolder().unfolded(pieces_of(text))).expand()
+
+
+def expanded_text(pieces):
+    """A text with these tokens: each is on the line of the one before if they were written on one line."""
+    text = ""
+    for before, piece in zip([None, *pieces], pieces):
+        text += ("" if before is None else " " if before.line == piece.line else "\n") + piece.text
+    return text + "\n"

@@ -1,0 +1,345 @@
+"""The text of `profile`, worked out from the tries of a run.
+
+`record` makes the run again, one try after the other. In front of each turn `where` shows P, the place, the opcode and the
+need of each node, and `expect NNN at` the address of its word in execution; the outcome of a try shows who moved. Nothing
+here is taken from `profile` itself, and no chip is run.
+"""
+import re
+from collections import Counter, namedtuple
+from dataclasses import dataclass, field
+from itertools import accumulate
+
+from assembler import NAME
+from replies import LOADER, STOPPED
+from schedules import neighbours
+
+NODES = [100 * row + column for row in range(8) for column in range(18)]
+# The bytes of the tries of one session. Their lines have 31 bytes for each node and turn.
+MOST_BYTES = 900000
+WAITS = re.compile(
+    rf"(\d{{3}}) P (\w{{3}})(?: {NAME.pattern}(?:[+]\d+)?)? (?P<place>fetch|slot[0-3]|{LOADER})(?: (?P<op>\S+))? "
+    rf"(?P<need>own|input|{STOPPED}|take|post|check)(?P<rest>$| .*|,.*)"
+)
+# A side at which a node takes, posts or checks, with the neighbour there.
+SIDE = re.compile(r" ?(?P<side>right|down|left|up) of (?P<node>\d{3})\b.*")
+SLOTS = ["slot0", "slot1", "slot2", "slot3"]
+# What a node does in a turn, in the order in which a bar has it, and the sign.
+SIGNS = {"boots": "b", "works": "#", "takes": "?", "reads": "!", "spins": "~", "stops": "x"}
+HEAD = """\
+    share of the turns, % 0                    100         words       a pass
+node work take read rest |-----+-----+-----+------| path   in   out  turns works
+"""
+LEGEND = """\
+# works  ? waits for a word  ! waits for its word to be read
+rest: b boots  ~ spins  x stopped  blank idle
+path: the run waits for this node
+"""
+# What the profile of a run that isn't worked out has to look like.
+SHARE = r"(?:\.|<1|\d{1,3})"
+PROFILE = [
+    rf"\d+ turns from turn \d+ on\n{re.escape(HEAD)}",
+    rf"(?:\d{{3}}(?: +{SHARE}){{4}} \|b*#*\?*!*~*x* *\| +{SHARE}(?: +\d+){{2}}(?: +\d+){{2}}\n|"
+    rf"\d{{3}}(?: +{SHARE}){{4}} \|b*#*\?*!*~*x* *\| +{SHARE}(?: +\d+){{2}}      \.     \.\n)*",
+    re.escape(LEGEND),
+    r"Bottleneck: [^\n]*\n(?:(?:The run gets|Side by side,) [^\n]*\n|(?:ring(?: \d{3})+\n)*)",
+    rf"path  node  word  where the path goes\n(?: +{SHARE}   \d{{3}}   (?:  \.|0[0-3][0-9A-F])\n){{0,10}}",
+    r"At the end:\n(?:\d{3} P [^\n]*\n)*(?:idle:(?: \d{3})+\n)?(?:ring(?: \d{3})+\n)*",
+]
+
+# What a node is about to do: P, its place, the opcode there, its need, the neighbours at the sides that the need names, and
+# the address of the word in execution.
+State = namedtuple("State", "p place op need sides at")
+IDLE = State(0x1A5, "fetch", None, "take", {}, 0x1A5)
+
+
+def idle(node):
+    """The state of a node that hasn't started: it takes from all its neighbours."""
+    return IDLE._replace(sides=neighbours(node))
+
+
+# A step: the turn, how many steps the node made before it in the run, its state in front of it, and whether it is a jump of
+# a word of memory to itself.
+Step = namedtuple("Step", "turn number state is_self_jump")
+# A step on a path: its turn, its place among all steps, the word of memory in execution, or None, and what it waited for: the
+# node, the need and the side of the step that ends the wait.
+Move = namedtuple("Move", "turn order word awaited")
+
+
+def states_of(lines):
+    """The states of the started nodes, but for `at`, by the lines of `where`."""
+    found = [WAITS.fullmatch(line) for line in lines if not line.startswith("ring ")]
+    return {
+        int(it[1]): State(int(it[2], 16), it["place"], it["op"], it["need"].split()[0], sides_in(it["rest"]), None)
+        for it in found
+    }
+
+
+def sides_in(text):
+    """The neighbours that a line of `where` names behind a need, by side. A neighbour's own sides have no ` and ` between
+    them."""
+    found = [SIDE.fullmatch(it) for it in text.split(" and ")]
+    return {it["side"]: int(it["node"]) for it in found if it}
+
+
+class TooLong(Exception):
+    """The sessions that show a run would be too long."""
+
+
+class Run:
+    """A run of at most some turns behind the commands of a session: how many turns it has, and which nodes move. `session`
+    gives the replies to commands behind a head, or None if their text would be too long."""
+
+    def __init__(self, session, head, commands, turns):
+        views = [f"regs {node:03}" for node in NODES]
+        replies = session(head, [*commands, *views, f"run {turns}", *views])
+        if replies is None:
+            raise TooLong
+        replies = replies[len(commands) :]
+        counts = [[int(re.search(r" steps (\d+) ", it[0])[1]) for it in part] for part in (replies[:144], replies[145:])]
+        self.turns = int(replies[144][0].split()[1])
+        self.nodes = [node for node, *pair in zip(NODES, *counts) if pair[0] != pair[1]]
+        self.session, self.head, self.commands = session, head, commands
+
+    def look(self):
+        """Makes the tries, a session for a part of the turns, which begins with a turn that tries the right side."""
+        self.where, outcomes = [], []
+        part = max(4, MOST_BYTES // (31 * len(self.nodes) + 8) // 4 * 4)
+        for first in range(0, self.turns + 1, part):
+            some = range(first, min(first + part, self.turns + 1))
+            lines = [line for turn in some for line in self.lines_of(turn)]
+            replies = self.session(self.head, [*self.commands, f"turn {first}", *lines])
+            if replies is None:
+                raise TooLong
+            replies = replies[len(self.commands) + 1 :]
+            width = 1 + 2 * len(self.nodes)
+            for begin in range(0, len(replies), width):
+                self.where.append(replies[begin])
+                outcomes.append(replies[begin + 1 : begin + width])
+        return self.steps_by(outcomes)
+
+    def nodes_behind(self, turns):
+        """Who waits for whom behind some turns."""
+        replies = self.session(self.head, [*self.commands, f"turn {turns}", "nodes"])
+        if replies is None:
+            raise TooLong
+        return "".join(f"{line}\n" for line in replies[-1])
+
+    def lines_of(self, turn):
+        tries = ((f"expect {node:03} at 000", f"try {node:03} {'rdlu'[turn % 4]}") for node in self.nodes)
+        return ["where", *(line for pair in tries for line in pair)]
+
+    def steps_by(self, outcomes):
+        steps = {node: [] for node in NODES}
+        states = [states_of(it) for it in self.where]
+        for turn in range(self.turns):
+            for index, node in enumerate(self.nodes):
+                (at,), (outcome,) = outcomes[turn][2 * index : 2 * index + 2]
+                if outcome == "moved":
+                    state = states[turn].get(node, idle(node))._replace(at=int(at[-3:], 16) if at != "ok" else 0)
+                    after = states[turn + 1][node]
+                    steps[node].append(Step(turn, len(steps[node]), state, jumps_to_itself(state, after)))
+        return steps
+
+
+def is_memory(address):
+    return address % 0x200 < 0x80
+
+
+def jumps_to_itself(before, after):
+    """Whether a step runs a word of memory that only jumps to itself. P has ten bits, and `at` nine of them."""
+    address = before.p & 0x200 | before.at
+    return before.place == "slot0" and before.op == "jump" and is_memory(address) and after.p == address
+
+
+@dataclass
+class Doing:
+    """What a node did in a window, up to a step."""
+
+    began: int | None = None
+    last: int | None = None
+    is_spinning: bool = False
+    counts: Counter = field(default_factory=Counter)
+    taken: int = 0
+    posted: int = 0
+
+    def wait(self, kind, turns):
+        if self.began is not None and kind:
+            self.counts[kind] += max(turns, 0)
+
+    def turns_between(self, first, turn):
+        """How many turns of the window are behind the last step and in front of a turn."""
+        return turn - first if self.last is None else min(turn - first, turn - self.last - 1)
+
+
+def awaited(state):
+    """What a node in this state waits for, if it can't move."""
+    if state.need == "take":
+        return None if state.place == "fetch" else "takes"
+    return {"post": "reads", "check": "reads", "stopped": "stops"}.get(state.need)
+
+
+def doing_of(steps, first):
+    """What a node did in a window, by its steps up to the window's end."""
+    it = Doing()
+    for step in steps:
+        state = step.state
+        if state.need in ("take", "check"):
+            it.wait(awaited(state), it.turns_between(first, step.turn))
+        if it.began is None and state.place == "fetch" and is_memory(state.p):
+            it.began = step.turn
+        it.is_spinning = it.is_spinning or step.is_self_jump
+        if step.turn >= first:
+            it.counts["spins" if it.is_spinning else "boots" if it.began is None else "works"] += 1
+            it.taken += it.began is not None and state.need == "take"
+            it.posted += it.began is not None and state.need == "post"
+        if not it.is_spinning:
+            it.last = step.turn
+    return it
+
+
+def pass_of(steps, first):
+    """The turns and the steps of a pass in the mean, by the place that a node passes most, the first of these."""
+    passed = {}
+    for step in steps:
+        state = step.state
+        if step.turn >= first and state.need in ("take", "post") and state.place in SLOTS and is_memory(state.at):
+            passed.setdefault((state.at % 64, state.place), []).append(step)
+    most = max((passed[place] for place in sorted(passed)), key=len, default=[])
+    if len(most) < 4:
+        return None
+    passes = len(most) - 1
+    return (most[-1].turn - most[0].turn) // passes, (most[-1].number - most[0].number) // passes
+
+
+def moves_of(steps):
+    """The steps of each node, for paths, and those that post, take and pass a check, by node and side."""
+    moves, ports = {node: [] for node in steps}, {}
+    order = sorted((step.turn, index, step) for index, some in enumerate(steps.values()) for step in some)
+    for place, (turn, index, step) in enumerate(order):
+        node, awaited = NODES[index], None
+        if step.state.need in ("take", "post", "check") and step.state.sides:
+            side = [*step.state.sides][0]
+            if len(step.state.sides) > 1:
+                side = ["right", "down", "left", "up"][turn % 4]
+            ports.setdefault((node, step.state.need, side), []).append(Move(turn, place, None, None))
+            ends = {"take": "post", "check": "take"}.get(step.state.need)
+            awaited = ends and (step.state.sides[side], ends, side)
+        word = step.state.at % 64 if is_memory(step.state.at) else None
+        moves[node].append(Move(turn, place, word, awaited))
+    return moves, ports
+
+
+def before_on_path(moves, ports, node, move):
+    """The node and the step in front of a step on the path: the one that it waited for, or its node's own step before."""
+    own = max((it for it in moves[node] if it.order < move.order), key=lambda it: it.order, default=None)
+    others = [it for it in ports.get(move.awaited, []) if it.order < move.order]
+    if others and move.turn - (own.turn if own else -1) > 1 and (own is None or others[-1].turn > own.turn):
+        there = move.awaited[0]
+        return there, next(it for it in moves[there] if it.order == others[-1].order)
+    return node, own
+
+
+def path_of(steps, first, node):
+    """How many turns of a window from a turn on each word of a node has on the path to the last step of a node."""
+    moves, ports = moves_of(steps)
+    turns = Counter()
+    move = max(moves[node], key=lambda it: it.order, default=None)
+    while move is not None:
+        there, before = before_on_path(moves, ports, node, move)
+        own = move.turn + 1 - first
+        turns[node, move.word] += max(0, own if before is None else min(own, move.turn - before.turn))
+        node, move = there, before
+    return turns
+
+
+def share(turns, length):
+    if not turns or not length:
+        return "."
+    return "<1" if turns * 100 < length else str((turns * 200 + length) // (length * 2))
+
+
+def bar(counts, length):
+    """24 columns, each of which shows the turn in its middle."""
+    ends = [*zip(SIGNS.values(), accumulate(counts[kind] for kind in SIGNS))]
+    middles = [(2 * column + 1) * length for column in range(24)]
+    return "".join(next((sign for sign, end in ends if middle < 48 * end), " ") for middle in middles)
+
+
+def cells(*columns):
+    """Texts at the right of columns, each behind at least one blank."""
+    return "".join(" " + str(text).rjust(width - 1) for width, text in columns)
+
+
+def row(node, it, mean, on_path, length):
+    works, takes, reads = it.counts["works"], it.counts["takes"], it.counts["reads"]
+    did = (works, takes, reads, max(length - works - takes - reads, 0))
+    shares = cells(*zip((6, 5, 5, 5), (share(turns, length) for turns in did)))
+    turns, steps = mean or (".", ".")
+    numbers = cells((5, share(on_path, length)), (5, it.taken), (6, it.posted), (7, turns), (6, steps))
+    return f"{node:03}{shares} |{bar(it.counts, length)}|{numbers}\n"
+
+
+def lines_text(turns, on_path, length):
+    """The ten words with the most turns on the path, of the ten nodes with the most."""
+    ranks = sorted(NODES, key=lambda node: (-on_path[node], node))[:10]
+    found = [(-turns[node, word], rank, word) for rank, node in enumerate(ranks) for word in range(64)]
+    found += [(-turns[node, None], rank, 64) for rank, node in enumerate(ranks)]
+    shown = [(-less, ranks[rank], "." if word == 64 else f"{word:03X}") for less, rank, word in sorted(found)[:10] if less]
+    rows = (cells((4, share(most, length)), (6, f"{node:03}"), (6, word)) for most, node, word in shown)
+    return "path  node  word  where the path goes\n" + "".join(f"{row}\n" for row in rows)
+
+
+def bottleneck(uses, on_path, length, rings):
+    """The sentence, by the use of each node in parts per million, and by its turns on the path."""
+    most = max(uses.values())
+    busy = [node for node, used in uses.items() if used and used * 10 >= most * 9]
+    names = " ".join(f"{node:03}" for node in busy)
+    longest = max(on_path.values())
+    spread = sum(turns * 100 >= length * 4 for turns in on_path.values()) >= 3 and longest * 100 < length * 50
+    if rings:
+        return "Bottleneck: the deadlock. The nodes of a ring wait for one another for good.\n"
+    if not most:
+        return "Bottleneck: none. No node works in these turns.\n"
+    if most < 660000 and not spread:
+        first = next(node for node, turns in on_path.items() if turns == longest)
+        waits = f"{first:03}. The run waits for it in {per_million(longest, length) // 10000} % of the turns."
+        return f"Bottleneck: {waits}\nThe run gets shorter if this node is done earlier.\n"
+    if most < 660000:
+        gain = 10000000 // most
+        who = "no single node, one after the other. Busiest:"
+        change = f"Side by side, the same work takes up to {gain // 10}.{gain % 10} times fewer turns."
+    elif len(busy) == 1:
+        who, change = "the work of", "The run gets shorter if this node does less."
+    else:
+        who, change = "the work of each of", "The run gets much shorter only if all of them do less."
+    return f"Bottleneck: {who} {names}, in {most // 10000} % of the turns.\n{change}\n"
+
+
+def per_million(part, whole):
+    return part * 1000000 // whole if whole else 0
+
+
+def profile_text(run, where="last"):
+    """The profile of a run, from the turn in which the last or the first node began, or from the one with a number."""
+    steps = run.look()
+    whole = [doing_of(it, 0) for it in steps.values()]
+    began = [it.began for it in whole if it.began is not None] or [0]
+    first = {"last": max(began), "first": min(began)}.get(where)
+    first = int(where) if first is None else first
+    last = max((it.last for it in whole if it.last is not None), default=-1)
+    end, length = last + 1, max(last + 1 - first, 0)
+    steps = {node: [step for step in some if step.turn < end] for node, some in steps.items()}
+    nodes = {node: doing_of(some, first) for node, some in steps.items()}
+    ended = states_of(run.where[end])
+    for node, it in nodes.items():
+        it.wait(awaited(ended.get(node, IDLE)), it.turns_between(first, end))
+    passes = {node: pass_of(some, first) for node, some in steps.items()}
+    uses = {node: per_million(*reversed(passes[node] or (length, it.counts["works"]))) for node, it in nodes.items()}
+    latest = max(NODES, key=lambda node: (-1 if nodes[node].last is None else nodes[node].last, node))
+    found = path_of(steps, first, latest)
+    on_path = {node: sum(turns for (other, _), turns in found.items() if other == node) for node in NODES}
+    rings = "".join(f"{line}\n" for line in run.where[end] if line.startswith("ring "))
+    rows = (row(node, it, passes[node], on_path[node], length) for node, it in nodes.items() if it.began is not None)
+    table = f"{length} turns from turn {first} on\n{HEAD}{''.join(rows)}{LEGEND}"
+    text = table + bottleneck(uses, on_path, length, rings) + rings + lines_text(found, on_path, length)
+    return f"{text}At the end:\n{run.nodes_behind(end)}"
