@@ -11,5 +11,5 @@ mod WorkedOutputs
 mod WorkedSources
 mod Judged
 mod Sourcing
-mod Told
+mod WithWaits
 mod Traced

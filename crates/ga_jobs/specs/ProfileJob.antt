@@ -29,8 +29,8 @@ abbrev pub profile_after : LiveView → WindowStart → ℕ → List ℕ
 profile_after live start turns = profile_in live (window_in start turns live.chip)
 
 -- the text of a measured profile, with the labels of a program
-abbrev pub told : List (ℕ × ImageView) → Profile → List ℕ
-told images profile =
+abbrev pub with_waits : List (ℕ × ImageView) → Profile → List ℕ
+with_waits images profile =
     (profile_text profile.window profile.nodes.items profile.passes.items profile.path.items
     profile.lines.items profile.chip ++ codes "At the end:\n") ++ nodes_text images profile.chip
 

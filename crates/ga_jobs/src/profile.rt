@@ -1,6 +1,6 @@
 ghost use Rattle.std.specs.Prelude.{◌≡◌, IfOk, string_bytes};
 ghost use Rattle.ga_jobs.specs.Fault.{Answers};
-ghost use Rattle.ga_jobs.specs.ProfileJob.{IsProfileOutput, profile_after, told};
+ghost use Rattle.ga_jobs.specs.ProfileJob.{IsProfileOutput, profile_after, with_waits};
 
 use crate::fault::ServeError;
 use crate::race::{Loading, TURNS};
@@ -39,12 +39,12 @@ fn profile_after(
     ensures { IfOk result (λ text. string_bytes text ≡ profile_after live.now start turns) }
 {
     let profile = measure(alloc, live.chip(), start, turns)?;
-    told(alloc, &profile, live.images())
+    with_waits(alloc, &profile, live.images())
 }
 
 /// A profile as text, and who waits for whom at the end of its window.
-fn told(alloc: Global, profile: &Profile, images: &Images) -> Result<String, AllocError>
-    ensures { IfOk result (λ text. string_bytes text ≡ told images.now profile.now) }
+fn with_waits(alloc: Global, profile: &Profile, images: &Images) -> Result<String, AllocError>
+    ensures { IfOk result (λ text. string_bytes text ≡ with_waits images.now profile.now) }
 {
     let mut text = profile_text(alloc, profile)?;
     text.push_str("At the end:\n")?;

@@ -7,7 +7,7 @@ ghost use Rattle.ga_profile.specs.Lines.{line_turns};
 ghost use Rattle.ga_profile.specs.Path as spec;
 ghost use Rattle.ga_profile.specs.Path.{path_in, path_turns};
 ghost use Rattle.ga_profile.specs.Profile as profile_spec;
-ghost use Rattle.ga_profile.specs.inner.Trails.{IsTrailOf, KeptTrails};
+ghost use Rattle.ga_profile.specs.inner.Trails.{KeptTrails};
 
 use crate::kinds::Kinds;
 use crate::lines::node_ranks;
@@ -33,8 +33,7 @@ pub(crate) fn path_turns(
     ensures turns { IfOk result (λ turns. turns.items ≡ path_turns window chip.now) }
     ensures all { IfOk result (λ turns. length turns.items ≡ 144) }
 {
-    let trail = path_trail(alloc, chip, window, nodes, Kinds::Nodes)?;
-    let turns = first_turns(alloc, &trail, 144)?;
+    let turns = kind_turns(alloc, chip, window, nodes, Kinds::Nodes, 144)?;
     Ok(turns)
 }
 
@@ -53,8 +52,29 @@ pub(crate) fn line_turns(
     ensures all { IfOk result (λ turns. length turns.items ≡ 650) }
 {
     let ranks = node_ranks(paths);
-    let trail = path_trail(alloc, chip, window, nodes, Kinds::Lines(ranks))?;
-    let turns = first_turns(alloc, &trail, 650)?;
+    let turns = kind_turns(alloc, chip, window, nodes, Kinds::Lines(ranks), 650)?;
+    Ok(turns)
+}
+
+/// How many turns each of the first kinds of steps has on the path to the last step of a window.
+fn kind_turns(
+    alloc: Global,
+    chip: &Chip,
+    window: Window,
+    nodes: &[NodeTurns],
+    kinds: Kinds,
+    count: usize,
+) -> Result<Vec<u64>, AllocError>
+    requires nodes { nodes.now ≡ profile_spec.watched window.first window.end chip.now }
+    requires all { length nodes.now ≡ 144 }
+    requires count { count ≤ 715 }
+    ensures turns { IfOk result (λ turns. turns.items
+        ≡ map (λ kind. spec.turns_of (kind_of kinds) kind (path_in window chip.now))
+        (range_with_len 0 count)) }
+    ensures all { IfOk result (λ turns. length turns.items ≡ count) }
+{
+    let trails = all_trails(alloc, chip, window, kinds)?;
+    let turns = first_turns(alloc, &trails[last_node(nodes) * 9], count)?;
     Ok(turns)
 }
 
@@ -70,23 +90,6 @@ fn first_turns(alloc: Global, trail: &Trail, count: usize) -> Result<Vec<u64>, A
         turns.push(trail.turns[kind])?;
     }
     Ok(turns)
-}
-
-/// How many turns each kind of step has on the path to the last step of a window.
-fn path_trail(
-    alloc: Global,
-    chip: &Chip,
-    window: Window,
-    nodes: &[NodeTurns],
-    kinds: Kinds,
-) -> Result<Trail, AllocError>
-    requires nodes { nodes.now ≡ profile_spec.watched window.first window.end chip.now }
-    requires all { length nodes.now ≡ 144 }
-    ensures { IfOk result (λ trail. IsTrailOf (kind_of kinds) (path_in window chip.now) trail) }
-{
-    let trails = all_trails(alloc, chip, window, kinds)?;
-    let trail = trails[last_node(nodes) * 9];
-    Ok(trail)
 }
 
 /// The turns of the paths to the last steps with each mark.

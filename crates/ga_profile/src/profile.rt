@@ -63,8 +63,8 @@ pub fn measure(
 {
     let made = turns_to_rest(alloc, chip, most)?;
     let mut copy = chip.copied(alloc)?;
-    let all = watched(&mut copy, 0, made);
-    let window = window_of(start, &all, made);
+    let all = watched(alloc, &mut copy, 0, made)?;
+    let window = window_of(start, all.as_slice(), made);
     profile_in(alloc, chip, window)
 }
 
@@ -83,10 +83,10 @@ fn profile_in(alloc: Global, chip: &Chip, window: Window) -> Result<Profile, All
 {
     let passes = node_passes(alloc, chip, window)?;
     let mut copy = chip.copied(alloc)?;
-    let watched = watched(&mut copy, window.first, window.end);
-    let path = path_turns(alloc, chip, window, &watched)?;
-    let lines = line_turns(alloc, chip, window, &watched, path.as_slice())?;
-    let nodes = ended(alloc, &copy, window, &watched)?;
+    let watched = watched(alloc, &mut copy, window.first, window.end)?;
+    let path = path_turns(alloc, chip, window, watched.as_slice())?;
+    let lines = line_turns(alloc, chip, window, watched.as_slice(), path.as_slice())?;
+    let nodes = ended(alloc, &copy, window, watched.as_slice())?;
     Ok(Profile {
         window,
         nodes,
@@ -106,13 +106,19 @@ fn turns_to_rest(alloc: Global, chip: &Chip, most: u32) -> Result<u32, AllocErro
 }
 
 /// Makes turns of a chip. Answers what each node did in them from a turn on, up to its last step.
-fn watched(chip: &mut Chip, from: u64, count: u32) -> [NodeTurns; 144]
-    ensures chip { chip.new ≡ ran chip.old (turns_of count) }
-    ensures nodes { result ≡ spec.watched from count chip.old }
+fn watched(
+    alloc: Global,
+    chip: &mut Chip,
+    from: u64,
+    count: u32,
+) -> Result<Vec<NodeTurns>, AllocError>
+    ensures chip { IfOk result (λ _. chip.new ≡ ran chip.old (turns_of count)) }
+    ensures nodes { IfOk result (λ nodes. nodes.items ≡ spec.watched from count chip.old) }
+    ensures all { IfOk result (λ nodes. length nodes.items ≡ 144) }
 {
-    let mut watch = TurnWatch::new(from);
+    let mut watch = TurnWatch::new(alloc, from)?;
     let _moved = turns(chip, &mut watch, count);
-    watch.nodes
+    Ok(watch.nodes)
 }
 
 /// The turns of all nodes with those behind their last steps, up to the end of a window.

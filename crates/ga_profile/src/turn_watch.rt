@@ -1,28 +1,40 @@
 //! An observer of what each node does in the turns of a window.
-ghost use Rattle.std.specs.Prelude.{◌≡◌, []};
+ghost use Rattle.std.specs.Prelude.{◌≡◌, [], IfOk, length, replicate};
+ghost use Rattle.ga_profile.specs.NodeTurns.{NO_TURNS};
 ghost use Rattle.ga_profile.specs.inner.Kept.{Kept};
 
 use crate::node_turns::{NodeTurns, after_step, no_turns};
 use ga_observe::{Observer, Step};
+use std::alloc::{AllocError, Global};
 
 /// What each node did in a window from a turn on.
-#[derive(Clone, Copy)]
+#[derive(Drop)]
 pub(crate) struct TurnWatch {
     from: u64,
-    pub(crate) nodes: [NodeTurns; 144],
+    pub(crate) nodes: Vec<NodeTurns>,
+    ghost all: { length nodes.items ≡ 144 },
 }
 
 impl TurnWatch {
     /// A window from a turn on.
-    pub(crate) fn new(from: u64) -> Self
-        ensures from { result.from ≡ from }
-        ensures kept { Kept from result.nodes [] }
+    pub(crate) fn new(alloc: Global, from: u64) -> Result<Self, AllocError>
+        ensures from { IfOk result (λ watch. watch.from ≡ from) }
+        ensures kept { IfOk result (λ watch. Kept from watch.nodes.items []) }
     {
-        TurnWatch {
+        Ok(TurnWatch {
             from,
-            nodes: [no_turns(); 144],
-        }
+            nodes: unseen(alloc)?,
+        })
     }
+}
+
+/// No turns, for each node.
+fn unseen(alloc: Global) -> Result<Vec<NodeTurns>, AllocError>
+    ensures { IfOk result (λ nodes. nodes.items ≡ replicate 144 NO_TURNS) }
+{
+    let none = no_turns();
+    let nodes = vec![in alloc; none; 144]?;
+    Ok(nodes)
 }
 
 impl Observer for TurnWatch {
@@ -30,7 +42,7 @@ impl Observer for TurnWatch {
     ghost use Rattle.ga_profile.specs.inner.Kept.{Kept};
 
     ghost has_seen = { λ begun watch steps. (watch.from ≡ begun.from)
-        × Kept begun.from watch.nodes steps };
+        × Kept begun.from watch.nodes.items steps };
 
     fn see(&mut self, step: Step) {
         let index = step.node.index();

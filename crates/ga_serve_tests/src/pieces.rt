@@ -69,33 +69,39 @@ fn jobs(alloc: Global) -> Result<Vec<(Job, &'static str)>, Fail> {
     };
     jobs.push((raced, TRANSCRIPT))?;
     jobs.push((Job::Explain { topic }, ""))?;
-    push_pictures(&mut jobs)?;
+    jobs.push((map_job(), TRANSCRIPT))?;
+    jobs.push((profile_job(), SOURCE))?;
+    jobs.push((trace_job(), SOURCE))?;
     Ok(jobs)
 }
 
-/// The jobs that show what happened in a run.
-fn push_pictures(jobs: &mut Vec<(Job, &'static str)>) -> Result<(), Fail> {
-    let map = Job::Map {
+/// The picture of a chip at rest.
+fn map_job() -> Job {
+    Job::Map {
         loading: Loading::Any,
         turns: None,
         file: None,
-    };
-    jobs.push((map, TRANSCRIPT))?;
-    let profile = Job::Profile {
+    }
+}
+
+/// What the nodes of a chip do in 40 turns.
+fn profile_job() -> Job {
+    Job::Profile {
         loading: Loading::Place,
         start: WindowStart::LastNode,
         turns: Some(40),
         file: None,
-    };
-    jobs.push((profile, SOURCE))?;
-    let trace = Job::Trace {
+    }
+}
+
+/// The waveform of four turns.
+fn trace_job() -> Job {
+    Job::Trace {
         loading: Loading::Place,
         turns: Some(4),
         nodes: None,
         file: None,
-    };
-    jobs.push((trace, SOURCE))?;
-    Ok(())
+    }
 }
 
 /// What a job writes for an input, by reads and writes of at most this many bytes, and how many

@@ -1,4 +1,4 @@
--- What is told of a measured profile is that of its window.
+-- The text of a measured profile is that of its window.
 use Rattle.std.proofs.Common.{◌≡◌, ◌∙◌, ℕ, List, Result, Ok, Err, IfOk}
 use Rattle.ga_asm.specs.Image.{ImageView}
 use Rattle.ga_chip.specs.Chip.{Chip}
@@ -9,18 +9,18 @@ use Rattle.ga_profile.specs.Profile.{chip_at_end, nodes_in, window_in}
 use Rattle.ga_profile.specs.declared.profile.Profile.{Profile}
 use Rattle.ga_profile.specs.declared.window.WindowStart.{WindowStart}
 use Rattle.ga_transcript.specs.Live.{LiveView}
-use Rattle.ga_jobs.specs.ProfileJob.{profile_after, told}
+use Rattle.ga_jobs.specs.ProfileJob.{profile_after, with_waits}
 
-pub told_of : (live : LiveView) (start : WindowStart) (most : ℕ) (profile : Profile) (chip : Chip)
-    (images : List (ℕ × ImageView)) → chip ≡ live.chip → images ≡ live.program.images
+pub with_waits_of : (live : LiveView) (start : WindowStart) (most : ℕ) (profile : Profile)
+    (chip : Chip) (images : List (ℕ × ImageView)) → chip ≡ live.chip → images ≡ live.program.images
     → profile.window ≡ window_in start most chip
     → profile.nodes.items ≡ nodes_in (window_in start most chip) chip
     → profile.passes.items ≡ node_passes (window_in start most chip) chip
     → profile.path.items ≡ path_turns (window_in start most chip) chip
     → profile.lines.items ≡ line_turns (window_in start most chip) chip profile.path.items
     → profile.chip ≡ chip_at_end (window_in start most chip) chip
-    → told images profile ≡ profile_after live start most
-told_of live start most profile chip images c i w n p a l e = cc (c, i, w, n, p, a, l, e)
+    → with_waits images profile ≡ profile_after live start most
+with_waits_of live start most profile chip images c i w n p a l e = cc (c, i, w, n, p, a, l, e)
 
 pub if_ok : {A E : Type 0} (result : Result A E) (bytes : A → List ℕ) {one other : List ℕ}
     → IfOk result (λ a. bytes a ≡ one) → one ≡ other → IfOk result (λ a. bytes a ≡ other)
