@@ -30,7 +30,7 @@ import re
 from collections import namedtuple
 
 from assembler import Fault, images_of
-from expander import expanded_text, expansion
+from expander import expanded_text, expansion, pieces_of
 from operands import COMMANDS, IN_REPLAYS, command_of
 from outputs import (
     asm_output, boot_output, dis_output, judge_reached, labels_output, list_output, routes_of, rows_of, tree_of,
@@ -133,10 +133,13 @@ class Job:
         if "NAME" in kinds and self.values and self.values[0] not in EXPLAINED[()].split():
             raise ValueError("no such name")
 
+    def has_file(self):
+        given = self.kind.values[-1:] == ["FILE"] and len(self.values) == len(self.kind.values)
+        return given and self.values[-1] != "-"
+
     def file(self):
         """The file that is read in place of standard input, or None."""
-        given = self.kind.values[-1:] == ["FILE"] and len(self.values) == len(self.kind.values)
-        return self.values[-1] if given and self.values[-1] not in ("-", "/dev/stdin") else None
+        return self.values[-1] if self.has_file() and self.values[-1] != "/dev/stdin" else None
 
     def demand_file(self):
         if self.name in DEMANDING and self.file() is not None and not os.path.exists(self.file()):
@@ -194,7 +197,8 @@ def meaning_of(name, text):
 def reported(job, fault, text):
     """The expected standard error: the fault, and behind it what some subcommands show of the text."""
     shown = fault.behind
-    if job.name in SHOWING and fault.place:
+    is_of_source = job.has_file() and re.match("(source|asm|expand) ", fault.text)
+    if fault.place and (job.name in SHOWING or is_of_source):
         line, column = fault.place
         rows = [*text.split("\n"), ""]
         row = rows[line - 1].removesuffix("\r" if line < len(rows) - 1 else "")
@@ -536,6 +540,33 @@ def transcript_of(output):
     return transcript
 
 
+def output_of(ask, job, text, answer):
+    """The expected output. The text of a FILE with a fault of source text is read in the larger language."""
+    try:
+        return job.kind.answer(ask, job, text, answer)
+    except Fault as fault:
+        if not job.has_file() or not re.match("(source|asm) ", fault.text):
+            raise
+    pieces = [*expansion(text)]
+    plain = expanded_text(pieces)
+    try:
+        return job.kind.answer(ask, job, plain, answer)
+    except Fault as fault:
+        raise written_fault(fault, text, plain, pieces) from None
+
+
+def written_fault(fault, text, plain, pieces):
+    """A fault of an expansion, at the place where its token was written; the expansion's end is the text's end."""
+    if not re.match("(source|asm) ", fault.text):
+        return fault
+    written = {(it.line, it.column): piece for it, piece in zip(pieces_of(plain), pieces)}
+    rows = text.split("\n")
+    end = len(rows), len(rows[-1]) + 1
+    piece = written.get(fault.place)
+    place = (piece.line, piece.column) if piece else end
+    return Fault(re.sub(r"\d+:\d+", f"{place[0]}:{place[1]}", fault.text), place)
+
+
 def judge(ask, args, data, answer):
     if HELP & {*args} and answer.status == 0 and answer.output and not answer.error:
         return
@@ -548,7 +579,7 @@ def judge(ask, args, data, answer):
         return
     try:
         text = job.input_of(data) if job.name != "explain" else ""
-        output = job.kind.answer(ask, job, text, answer)
+        output = output_of(ask, job, text, answer)
         wanted = Answer(int(job.name == "race" and not output.startswith("no race")), output, "")
     except Fault as fault:
         wanted = Answer(1, "", reported(job, fault, text))

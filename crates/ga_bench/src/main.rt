@@ -17,7 +17,7 @@ use ga_command_line::{LineError, job, refusal};
 use ga_jobs::record::replacement;
 use ga_jobs::{
     Ending, FileReport, InputFault, Job, Loading, Reads, ServeError, ShownText, Sourced, Writes,
-    answer, fault_in_source, open_session, read_input, serve, session_source, source_named,
+    fault_in_source, open_file, read_input, serve, serve_file, session_source, source_named,
     source_path, status, write_output,
 };
 use ga_prompt::{Conversation, SaveFault, Saves};
@@ -40,7 +40,7 @@ fn main(rt: HostRuntime) -> ExitCode {
         Ok(job) => match (job.several_files(), job.file()) {
             (Some(files), _) => check_status(&rt, &mut rt.reader(), files),
             (None, Some(name)) if is_wrong_word(&rt, name, &job) => refuse_missing(&rt),
-            (None, Some(name)) => serve_file(&rt, name, &job),
+            (None, Some(name)) => serve_named(&rt, name, &job),
             (None, None) => {
                 let mut reader = rt.reader();
                 if job.reads_input() && reader.is_terminal() {
@@ -111,7 +111,7 @@ fn talk_about<Rt: AllocGlobal + Print + Files, R: Read + IsTerminal>(
     };
     let live = match sourced(rt, name, named, &input)? {
         Some(transcript) => transcript.open_session(alloc)?,
-        None => open_session(alloc, loading, &input)?,
+        None => open_file(alloc, loading, &input)?,
     };
     let mut conversation = Conversation::new(alloc, live, reader.is_terminal())?;
     let Ok(mut lines) = BufReader::new(alloc, reader) else {
@@ -308,35 +308,45 @@ fn regular<R: Files>(rt: &R, name: &str) -> Result<R::File, ServeError> {
 }
 
 /// Serves a job whose input is the file with a name. Answers the exit status.
-fn serve_file<Rt: AllocGlobal + Print + Eprint + Threads + Clock + Sync + Files>(
+fn serve_named<Rt: AllocGlobal + Print + Eprint + Threads + Clock + Sync + Files>(
     rt: &Rt,
     name: &str,
     job: &Job,
 ) -> u8
     ensures { HasStatus result }
 {
-    if let Job::Check { .. } | Job::Record { .. } = job {
-        let outcome = serve_transcript(rt, &mut io::writer(rt), name, job);
-        return reported(rt, &outcome);
-    }
-    match opened(rt, name) {
-        Ok(mut reader) => serve_job(rt, &mut reader, &mut io::writer(rt), job),
-        Err(fault) => reported(rt, &Err(fault)),
-    }
+    let outcome = served(rt, &mut io::writer(rt), name, job);
+    reported(rt, &outcome)
 }
 
-/// Serves the job `check` or `record` for the file with a name, whose head may name its source.
-fn serve_transcript<Rt: AllocGlobal + Threads + Clock + Sync + Files, W: Write>(
+/// Serves a job for the file with a name. If that is a transcript, its head may name its source.
+fn served<Rt: AllocGlobal + Threads + Clock + Sync + Files, W: Write>(
     rt: &Rt,
     writer: &mut W,
     name: &str,
     job: &Job,
 ) -> Result<Ending, ServeError> {
     let input = read_input(rt.alloc(), &mut opened(rt, name)?, &mut Reads::default())?;
-    let text = match (sourced(rt, name, source_named(&input), &input)?, job) {
-        (Some(transcript), Job::Record { .. }) => transcript.record(rt.alloc())?,
-        (Some(transcript), _) => transcript.check(rt.alloc())?,
-        (None, _) => answer(rt, job, &input)?,
+    let named = match job {
+        Job::Check { .. } | Job::Record { .. } => source_named(&input),
+        _ => None,
+    };
+    match sourced(rt, name, named, &input)? {
+        Some(transcript) => serve_transcript(rt.alloc(), writer, &transcript, job),
+        None => serve_file(rt, writer, job, &input),
+    }
+}
+
+/// Serves the job `check` or `record` for a transcript whose head names its source.
+fn serve_transcript<W: Write>(
+    alloc: Global,
+    writer: &mut W,
+    transcript: &Sourced,
+    job: &Job,
+) -> Result<Ending, ServeError> {
+    let text = match job {
+        Job::Record { .. } => transcript.record(alloc)?,
+        _ => transcript.check(alloc)?,
     };
     write_output(writer, text.as_bytes(), &mut Writes::default())?;
     Ok(Ending::Done)

@@ -13,3 +13,4 @@ mod Judged
 mod Sourcing
 mod WithWaits
 mod Traced
+mod FileAnswers

@@ -51,6 +51,7 @@ pub mod Answering
 pub mod Reading
 pub mod Writing
 pub mod Engine
+pub mod Larger
 pub mod inner
 
 -- what a job may answer to an input that is not too long

@@ -83,7 +83,7 @@ fn respond<Rt: AllocGlobal + Threads + Clock + Sync, W: Write>(
 }
 
 /// How a job ended, by the text that it wrote.
-fn ending_of(job: &Job, text: &str) -> Ending
+pub(crate) fn ending_of(job: &Job, text: &str) -> Ending
     ensures { result ≡ ending_of job.now text.now }
 {
     match job {

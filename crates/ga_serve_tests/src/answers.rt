@@ -2,8 +2,11 @@
 ghost use Rattle.std.specs.Prelude.{◌≡◌, ◌++◌, List, ℕ, Ok, OnOk};
 ghost use Rattle.ga_jobs.specs.Answering.{IsOutput};
 
-use crate::streams::{FIVE_TRIES, LINE, WORDS, run_of};
-use ga_jobs::{Ending, Job, ServeError, answer, answer_alone, serve, status};
+use crate::streams::{FIVE_TRIES, LARGER, LARGER_IMAGES, LINE, WORDS, run_of};
+use ga_jobs::{
+    Ending, Job, Loading, ServeError, answer, answer_alone, answer_file, open_file, serve,
+    serve_file, status,
+};
 use std::test::Fail;
 use std::thread::Threads;
 use std::time::Clock;
@@ -39,5 +42,18 @@ fn answers_bytes_in_memory(rt: HostRuntime) -> Result<(), Fail> {
     assert!(rt; alone == text);
     let run = run_of(rt.alloc(), "708", 1, 1)?;
     assert!(rt; answer_alone(rt.alloc(), &run, b"node 708 dup").is_none());
+    Ok(())
+}
+
+#[test]
+fn answers_a_file_of_the_larger_language(rt: HostRuntime) -> Result<(), Fail> {
+    let job = Job::Asm { file: None };
+    let text = answer_file(&rt, &job, LARGER.as_bytes())?;
+    assert!(rt; text.as_str() == LARGER_IMAGES);
+    let mut output = Vec::new(rt.alloc());
+    assert!(rt; serve_file(&rt, &mut output, &job, LARGER.as_bytes()) == Ok(Ending::Done));
+    assert!(rt; output.as_slice() == LARGER_IMAGES.as_bytes());
+    let live = open_file(rt.alloc(), &Loading::Place, LARGER.as_bytes())?;
+    assert!(rt; live.images().images().len() == 1);
     Ok(())
 }

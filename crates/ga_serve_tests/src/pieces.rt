@@ -1,6 +1,6 @@
 //! Every job, by readers and writers that fail at each call in turn, or take and give one byte at a
 //! call.
-use crate::streams::{FIVE_TRIES, WORDS, boot_of, run_of, sink_of, source_of};
+use crate::streams::{FIVE_TRIES, LARGER, WORDS, boot_of, run_of, sink_of, source_of};
 use ga_explain::Topic;
 use ga_jobs::{Ending, Job, Loading, ServeError, serve};
 use ga_profile::WindowStart;
@@ -11,9 +11,6 @@ use std::time::Clock;
 
 /// Two nodes of which the second adds 5 and 7.
 const SOURCE: &str = "node 709 main: $5 $7 + @b";
-
-/// A text of the larger language.
-const LARGER: &str = "const FIVE 5\nnode 709 to 710 b! FIVE !b";
 
 /// A session of a node that is held, and a view of it.
 const SESSION: &str =

@@ -110,6 +110,12 @@ pub const WORDS: &str = "04A12 00005 00003 2C9B2";
 pub const LINE: &str =
     "node 000 P 003 A 00005 B 15D R 00000 S 00000 T 00003 C 0 io 00000 at fetch steps 5 need own\n";
 
+/// A text of the larger language.
+pub const LARGER: &str = "const FIVE 5\nnode 709 to 710 b! FIVE !b";
+
+/// What `asm` writes of the text that it expands to.
+pub const LARGER_IMAGES: &str = "node 709 entry 000 code 4 words 4\n04B12 00175 00005 089B2\n";
+
 /// The job `one 5`.
 pub const FIVE_TRIES: Job = Job::One {
     tries: 5,
