@@ -23,9 +23,9 @@ use Rattle.ga_pack.specs.Followers.{is_followed}
 use Rattle.ga_pack.specs.Slots.{dest_bound, op_fits}
 use Rattle.ga_place.specs.Node.{node_named}
 use Rattle.ga_pack.specs.Model.Token as model
-use Rattle.ga_pack.specs.Model.Token.{Token, as_fixed, as_hex, as_label, as_name, as_node, as_op, fixed, is_letter, is_letter_or_digit, is_name, is_node, label_from, meaning_at, meaning_of, meanings, number_named}
+use Rattle.ga_pack.specs.Model.Token.{Token, as_fixed, as_hex, as_label, as_name, as_node, as_op, fixed, is_letter, is_letter_or_digit, is_name, is_node, is_reserved, label_from, meaning_at, meaning_of, meanings, number_named}
 use Rattle.ga_expand.specs.Constants.{constant_named}
-use Rattle.ga_expand.specs.Expanding.{Body, Head, Naming, NodeName, Piece, Scope, Stage, Towards, Value, Valuing, expansion_from, further, is_ascii, is_const, is_to, item_at, onto, piece_at, pieces_of, stage_by, start, step_at, word_at, word_of, word_step}
+use Rattle.ga_expand.specs.Expanding.{Body, Head, Naming, NodeName, Piece, Scope, Stage, Towards, Value, Valuing, expansion_from, further, is_ascii, is_const, is_to, item_at, label_in, onto, piece_at, pieces_of, stage_by, start, step_at, word_at, word_of, word_step}
 use Rattle.ga_expand.specs.Bodies as bodies
 use Rattle.ga_expand.specs.Bodies.{Part, Tokens, Unfolding, first, is_body, is_use, read_at, unfolded, unfolded_from}
 use Rattle.ga_expand.specs.Error.{Fault}
@@ -374,6 +374,45 @@ no_direction text e =
       other_word text (codes "west") refl e,
     ) refl
 
+-- a token that begins with `&` is malformed
+no_label_there : (front text : List ℕ) → label_from (38 ∷ front) text ≡ None
+no_label_there front [] = refl
+no_label_there front (c ∷ []) = by (c == 58)
+  where
+    by : (b : Bool) → ◌≡◌ {A = Option Token} (if b && false then Some (model.label (38 ∷ front))
+        else None) None
+    by true = refl
+    by false = refl
+no_label_there front (c ∷ d ∷ cs) = no_label_there (front ++ c ∷ []) (d ∷ cs)
+
+label_none : (cs : List ℕ) → as_label (38 ∷ cs) ≡ None
+label_none [] = refl
+label_none (d ∷ cs) = no_label_there [] (d ∷ cs)
+
+decimal_none : (cs : List ℕ) → model.numeral 10 (38 ∷ cs) ≡ None
+decimal_none cs = by (nat_le 1 (length (38 ∷ cs)) && nat_le (length (38 ∷ cs)) 8)
+  where
+    by : (b : Bool) → ◌≡◌ {A = Option ℕ} (if b && false
+        then Some (digits_value 10 (38 ∷ cs)) else None) None
+    by true = refl
+    by false = refl
+
+malformed : (cs : List ℕ) → is_bad (meaning_of (38 ∷ cs)) ≡ true
+unfolding meaning_of
+malformed cs = rw (decimal_none cs, label_none cs) refl
+
+no_address : (text : List ℕ) → is_bad (meaning_of text) ≡ false → label_in text ≡ None
+no_address [] good = refl
+no_address (c ∷ cs) good = by (c == 38) refl
+  where
+    by : (b : Bool) → (c == 38) ≡ b → ◌≡◌ {A = Option (List ℕ)}
+        (if b && is_name cs && not (is_reserved cs) then Some cs else None) None
+    by false is = refl
+    by true is =
+        let bad : is_bad (meaning_of (c ∷ cs)) ≡ true =
+        ap (λ (d : ℕ). is_bad (meaning_of (d ∷ cs))) (eqb-true c 38 is) ∙ malformed cs in
+        absurd (cc)
+
 -- whether the next token is the name of a node
 abbrev is_naming : Stage → Bool
 is_naming NodeName = true
@@ -466,8 +505,9 @@ pieces_stay at Body (piece ∷ pieces) h =
     let two = and_parts (not (is_name_token t) && not (is_bad t))
     (all_placed (stage_by t) (meanings (is_node t) (texts_in pieces))) h in
     let one = and_parts (not (is_name_token t)) (not (is_bad t)) two.0 in
-    item_stay at piece pieces (not-true (is_name_token t) one.0) (not-true (is_bad t) one.1)
-    two.1 (pieces_stay at (stage_by t) pieces)
+    rw (no_address piece.text (not-true (is_bad t) one.1))
+    (item_stay at piece pieces (not-true (is_name_token t) one.0) (not-true (is_bad t) one.1)
+    two.1 (pieces_stay at (stage_by t) pieces))
 pieces_stay at Value (piece ∷ pieces) h =
     let t = meaning_of piece.text in
     let two = and_parts (not (is_bad t))

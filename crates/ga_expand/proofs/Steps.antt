@@ -1,11 +1,11 @@
 -- The tokens of a text are taken one by one.
 use Rattle.std.proofs.Common.{◌≡◌, ◌≢◌, ◌∙◌, ◌+◌, ◌/◌, ◌%◌, ◌<◌, ◌≤◌, ℕ, zero, suc, Bool, true, false, not, List, [], ◌∷◌, ◌++◌, length, map, get_or, drop, refl, sym, ap, subst, append-nil, append_assoc, Ok, Err, Result, Option, Some, None, arith, lit<}
-use Rattle.std.specs.Prelude.{IfErr, IfOk, nat_lt, if◌then◌else◌}
+use Rattle.std.specs.Prelude.{◌==◌, ◌&&◌, IfErr, IfOk, codes, nat_lt, if◌then◌else◌}
 use Rattle.std.specs.Fmt.{digit_glyph}
 use Rattle.std.specs.List.{list_all}
 use Rattle.std.specs.Option.{is_some}
-use Rattle.std.specs.Str.{IsAscii}
-use Rattle.std.proofs.lemmas.Bool.{and_from}
+use Rattle.std.specs.Str.{IsAscii, bytes_eq}
+use Rattle.std.proofs.lemmas.Bool.{and_from, and_parts}
 use Rattle.std.proofs.lemmas.Bool.Decides.{nat_tests}
 use Rattle.std.proofs.lemmas.List.{drop_all, length-map}
 use Rattle.std.proofs.lemmas.List.Folds.{list_all-append}
@@ -13,7 +13,7 @@ use Rattle.ga_word.specs.Hex.{hex_digits}
 use Rattle.ga_word.specs.Text.{is_blank}
 use Rattle.ga_pack.specs.Model.Text.{Place, texts_of}
 use Rattle.ga_pack.specs.Model.Token as model
-use Rattle.ga_pack.specs.Model.Token.{Token as Meaning, is_name, meaning_of}
+use Rattle.ga_pack.specs.Model.Token.{Token as Meaning, is_letter, is_letter_or_digit, is_name, is_reserved, meaning_of}
 use Rattle.ga_place.specs.Node.{node_named}
 use Rattle.ga_place.specs.Side.{Direction}
 use Rattle.ga_word.specs.Op.{takes_dest}
@@ -25,7 +25,7 @@ use Rattle.ga_expand.specs.declared.expander.Expander.{Expander}
 use Rattle.ga_expand.specs.declared.expansion.Expansion.{Expansion}
 use Rattle.ga_expand.specs.Error.{Fault, fault_of}
 use Rattle.ga_expand.specs.Constants.{Constants, constant_named, is_kept, number_of, value_of}
-use Rattle.ga_expand.specs.Expanding.{Body, Head, Naming, NodeName, Piece, Scope, Stage, Step, Towards, Value, Valuing, directed, ended, expansion_from, further, in_node, is_ascii, is_const, is_to, item_at, number_step, number_text, onto, pieces_of, plain_at, same_or, silent, stage_by, start, step_at, valued, with_constant, with_stage, word_at, word_by, word_of, word_step}
+use Rattle.ga_expand.specs.Expanding.{Body, Head, Naming, NodeName, Piece, Scope, Stage, Step, Towards, Value, Valuing, address_texts, addressed, all_at, directed, ended, expansion_from, further, in_node, is_ascii, is_const, is_to, item_at, label_in, number_step, number_text, onto, pieces_of, plain_at, same_or, silent, stage_by, start, step_at, valued, with_constant, with_stage, word_at, word_by, word_of, word_step}
 use Rattle.ga_expand.specs.Places.{direction_named, port_named, port_towards}
 use Rattle.ga_expand.specs.Literal.{literal_of}
 use Rattle.ga_expand.specs.Bodies.{unfolded}
@@ -212,6 +212,78 @@ sound_body scope None piece made is e = sound_plain scope piece made is e
 sound_body scope (Some name) piece made is e =
     sound_item scope name piece made (is_to piece.text) is e
 
+-- a name is written as a token
+letter_written : (c : ℕ) → is_letter_or_digit c ≡ true
+    → (not (is_blank c) ≡ true) × (nat_lt c 128 ≡ true)
+letter_written c h = (grind (arith, nat_tests), grind (arith, nat_tests))
+
+letters_written : (text : List ℕ) → list_all is_letter_or_digit text ≡ true
+    → (list_all (λ c. not (is_blank c)) text ≡ true) × (is_ascii text ≡ true)
+letters_written [] h = (refl, refl)
+letters_written (c ∷ cs) h =
+    let two = and_parts (is_letter_or_digit c) (list_all is_letter_or_digit cs) h in
+    let first = letter_written c two.0 in
+    let more = letters_written cs two.1 in (
+      and_from (not (is_blank c)) (list_all (λ c. not (is_blank c)) cs) first.0 more.0,
+      and_from (nat_lt c 128) (is_ascii cs) first.1 more.1,
+    )
+
+no_comment : (c : ℕ) (cs : List ℕ) → is_letter c ≡ true
+    → not (bytes_eq (c ∷ cs) (codes "\\")) ≡ true
+no_comment c cs h =
+    let other : (c == 92) ≡ false = grind (arith, nat_tests) in
+    rw other refl
+
+label_written : (name : List ℕ) (place : Place) → is_name name ≡ true
+    → is_written (record { text = name; place = place }) ≡ true
+label_written [] place h = absurd (cc)
+label_written (c ∷ cs) place h =
+    let both = and_parts (is_letter c && nat_lt (length cs) 16)
+    (list_all is_letter_or_digit cs) h in
+    let first = and_parts (is_letter c) (nat_lt (length cs) 16) both.0 in
+    let letter : is_letter_or_digit c ≡ true = rw first.0 refl in
+    let all = letters_written (c ∷ cs)
+    (and_from (is_letter_or_digit c) (list_all is_letter_or_digit cs) letter both.1) in
+    and_from (is_token (c ∷ cs)) (is_ascii (c ∷ cs))
+    (and_from (not (bytes_eq (c ∷ cs) (codes "\\"))) (list_all (λ c. not (is_blank c)) (c ∷ cs))
+    (no_comment c cs first.0) all.0) all.1
+
+named_label : (text : List ℕ) (label : List ℕ) → label_in text ≡ Some label
+    → is_name label ≡ true
+named_label [] label e = absurd (cc)
+named_label (c ∷ name) label e =
+    by ((c == 38) && is_name name && not (is_reserved name)) refl e
+  where
+    by : (b : Bool) → ((c == 38) && is_name name && not (is_reserved name)) ≡ b
+        → ◌≡◌ {A = Option (List ℕ)} (if b then Some name else None) (Some label)
+        → is_name label ≡ true
+    by true is e =
+        let same : name ≡ label = cc in
+        let two = and_parts ((c == 38) && is_name name) (not (is_reserved name)) is in
+        subst (λ n. is_name n ≡ true) same (and_parts (c == 38) (is_name name) two.0).1
+    by false is e = absurd (cc)
+
+address_written : (label : List ℕ) (place : Place) → is_name label ≡ true
+    → list_all is_written (all_at place (address_texts label)) ≡ true
+address_written label place h =
+    let piece : Piece = record { text = label; place = place } in
+    and_from (is_written piece) true (label_written label place h) refl
+
+sound_addressed : (scope : Scope) (piece : Piece) (made : Step) (o : Option (List ℕ))
+    → label_in piece.text ≡ o → is_token piece.text ≡ true
+    → addressed scope piece o ≡ Ok made → Sound made
+sound_addressed scope piece made None none is e = sound_body scope scope.node piece made is e
+sound_addressed scope piece made (Some label) some is e =
+    let step : Step = record {
+      scope = with_stage scope Body;
+      pieces = all_at piece.place (address_texts label);
+    } in
+    let same : step ≡ made = cc in
+    subst Sound same (record {
+      written = address_written label piece.place (named_label piece.text label some);
+      fresh = tt;
+    })
+
 sound_step : (scope : Scope) (piece : Piece) (stage : Stage) (made : Step)
     → is_token piece.text ≡ true → step_at scope piece stage ≡ Ok made → Sound made
 unfolding step_at
@@ -220,7 +292,8 @@ sound_step scope piece (Naming place) made is e =
     sound_named scope piece.text place made (is_name piece.text) (is_kept piece.text) e
 sound_step scope piece (Valuing name place) made is e =
     sound_valued scope name (value_of scope.constants piece.text) made e
-sound_step scope piece Body made is e = sound_body scope scope.node piece made is e
+sound_step scope piece Body made is e =
+    sound_addressed scope piece made (label_in piece.text) refl is e
 sound_step scope piece NodeName made is e =
     sound_at (in_node scope (node_named piece.text)) piece made tt is e
 sound_step scope piece Value made is e = sound_plain scope piece made is e

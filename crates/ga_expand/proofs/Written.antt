@@ -14,7 +14,7 @@ use Rattle.ga_source.specs.declared.token.Place as here
 use Rattle.ga_expand.specs.declared.writing.Writer.{Writer}
 use Rattle.ga_expand.specs.Expanding.{Piece, is_ascii}
 use Rattle.ga_expand.specs.inner.Plain.{is_token, is_written}
-use Rattle.ga_expand.specs.inner.Writing.{IsSeparated, Written}
+use Rattle.ga_expand.specs.inner.Writing.{HasAdded, HasAddedAll, IsSeparated, Written}
 use Rattle.ga_expand.proofs.TokenTexts.{texts_of-nothing, token_texts}
 
 -- ---- the tokens
@@ -109,6 +109,18 @@ added old new separated text place s texts places pieces w is =
           (separated_ascii old.origins.items old.text.items separated s w.ascii)
           (all_ascii text two.1));
     }
+
+pub none_added : (writer : Writer) → HasAddedAll writer writer []
+none_added writer pieces w all = subst (Written writer) (sym (append-nil pieces)) w
+
+-- a token, and then others
+pub then_all : (before between after : Writer) (piece : Piece) (others : List Piece)
+    → HasAdded before between piece → HasAddedAll between after others
+    → HasAddedAll before after (piece ∷ others)
+then_all before between after piece others one more pieces w all =
+    let two = and_parts (is_written piece) (list_all is_written others) all in
+    subst (Written after) (append_assoc pieces (piece ∷ []) others)
+    (more (pieces ++ piece ∷ []) (one pieces w two.0) two.1)
 
 -- ---- the text of a writer that has written all
 

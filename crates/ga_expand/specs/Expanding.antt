@@ -1,11 +1,11 @@
 -- Which tokens those of the larger language expand to, and where each was written.
-use Rattle.std.specs.Prelude.{ℕ, Bool, List, [], ◌∷◌, ◌++◌, map, nat_lt, Option, Some, None, Result, Ok, Err, if◌then◌else◌, codes, not}
+use Rattle.std.specs.Prelude.{◌==◌, ◌&&◌, ℕ, Bool, List, [], ◌∷◌, ◌++◌, map, nat_lt, Option, Some, None, Result, Ok, Err, if◌then◌else◌, codes, not}
 use Rattle.std.specs.List.{list_all}
 use Rattle.std.specs.Option.{is_some}
 use Rattle.std.specs.Str.{bytes_eq}
 use Rattle.ga_word.specs.Hex.{hex_digits}
 use Rattle.ga_pack.specs.Model.Text.{Lexeme, Place, lexemes}
-use Rattle.ga_pack.specs.Model.Token.{Token, comma, is_name, meaning_of, node, op}
+use Rattle.ga_pack.specs.Model.Token.{Token, comma, is_name, is_reserved, meaning_of, node, op}
 use Rattle.ga_place.specs.Node.{node_named}
 use Rattle.ga_place.specs.Side.{Direction}
 use Rattle.ga_word.specs.Op.{takes_dest}
@@ -159,6 +159,26 @@ item_at scope (Some name) piece =
     if is_to piece.text then silent (with_stage scope (Towards name piece.place))
     else directed scope name piece (direction_named piece.text)
 
+-- the label whose address a token is: a name behind `&` that isn't reserved
+abbrev pub label_in : List ℕ → Option (List ℕ)
+label_in [] = None
+label_in (c ∷ name) =
+    if (c == 38) && is_name name && not (is_reserved name) then Some name else None
+
+-- a word that fetches the next one, and that one, the address of a label
+abbrev pub address_texts : List ℕ → List (List ℕ)
+address_texts label =
+    codes "[" ∷ codes "@p" ∷ codes "." ∷ codes "." ∷ codes "." ∷ codes "]" ∷ codes "," ∷ label ∷ []
+
+abbrev pub all_at : Place → List (List ℕ) → List Piece
+all_at place texts = map (λ text. record { text = text; place = place }) texts
+
+-- The address of a label is put on the stack. A name behind `&` is no constant's.
+abbrev pub addressed : Scope → Piece → Option (List ℕ) → Result Step ExpandErrorKind
+addressed scope piece None = item_at scope scope.node piece
+addressed scope piece (Some label) =
+    Ok (record { scope = with_stage scope Body; pieces = all_at piece.place (address_texts label) })
+
 abbrev pub in_node : Scope → Option ℕ → Scope
 in_node scope name = record { constants = scope.constants; node = name; stage = Body }
 
@@ -169,7 +189,7 @@ step_at scope piece Head =
 step_at scope piece (Naming place) = named scope piece.text place
 step_at scope piece (Valuing name place) =
     valued scope name (value_of scope.constants piece.text)
-step_at scope piece Body = item_at scope scope.node piece
+step_at scope piece Body = addressed scope piece (label_in piece.text)
 step_at scope piece NodeName = word_at (in_node scope (node_named piece.text)) piece
 step_at scope piece Value = plain_at scope piece
 step_at scope piece (Towards name place) =

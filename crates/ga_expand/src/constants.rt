@@ -189,7 +189,7 @@ pub(crate) fn is_kept(name: &[u8]) -> bool
 }
 
 #[tactic(auto, unfolding(ga_pack::specs::Model::Token::is_reserved))]
-fn is_reserved(name: &[u8]) -> bool
+pub(crate) fn is_reserved(name: &[u8]) -> bool
     ensures { result ≡ plain.is_reserved name.now }
 {
     Op::from_bytes(name).is_some() || address_named(name).is_some() || is_fixed(name)

@@ -1,5 +1,5 @@
 //! A text is expanded token by token.
-ghost use Rattle.std.specs.Prelude.{◌≡◌, ◌≢◌, ℕ, [], IfErr, IfOk, Err, None, Ok, OnOk};
+ghost use Rattle.std.specs.Prelude.{◌≡◌, ◌≢◌, ℕ, [], IfErr, IfOk, Err, None, Ok, OnOk, Some, option_map};
 ghost use Rattle.std.specs.Str.{IsAscii};
 ghost use Rattle.ga_source.specs.Token.{place_of};
 ghost use Rattle.ga_expand.specs.Constants.{number_of, value_of};
@@ -15,7 +15,7 @@ ghost use Rattle.ga_expand.specs.inner.Piece.{piece_here, piece_in};
 ghost use Rattle.ga_expand.specs.inner.Scope.{HasFailed, HasTaken, HasWritten, IsFresh, Took, mark_stage, scope_of, stage_of};
 ghost use Rattle.ga_expand.specs.inner.Writing.{Finished};
 
-use crate::constants::{Constants, is_kept, name_in};
+use crate::constants::{Constants, is_kept, is_name, is_reserved, name_in};
 use crate::error::{ExpandError, ExpandErrorKind};
 use crate::expansion::Expansion;
 use crate::piece::Piece;
@@ -93,7 +93,7 @@ impl Expander {
             Stage::Head => self.take_first(text, place),
             Stage::Naming(start) => self.take_name(text, start),
             Stage::Valuing(name, _) => self.take_value(name, text),
-            Stage::Body => self.take_item(text, place),
+            Stage::Body => self.take_body(text, place),
             Stage::NodeName => self.take_node(text, place),
             Stage::Value => self.take_plain(text, place),
             Stage::Towards(node, start) => self.take_neighbour(node, text, start),
@@ -110,6 +110,32 @@ impl Expander {
             return Ok(());
         }
         self.take_plain(text, place)
+    }
+
+    /// The address of a label, or another token where an item may begin.
+    fn take_body(&mut self, text: &[u8], place: Place) -> Result<(), ExpandErrorKind>
+        ensures { Took self.old self.new (model.addressed (scope_of self.old)
+            (piece_here text.now place) (model.label_in text.now)) result }
+    {
+        match label_in(text) {
+            Some(label) => self.take_label(label, text, place),
+            None => self.take_item(text, place),
+        }
+    }
+
+    /// A label whose address is put on the stack.
+    fn take_label(
+        &mut self,
+        label: &[u8],
+        text: &[u8],
+        place: Place,
+    ) -> Result<(), ExpandErrorKind>
+        ensures { Took self.old self.new (model.addressed (scope_of self.old)
+            (piece_here text.now place) (Some label.now)) result }
+    {
+        self.writer.push_address(label, place)?;
+        self.stage = Stage::Body;
+        Ok(())
     }
 
     /// A token where an item may begin.
@@ -251,6 +277,18 @@ impl Expander {
             Stage::Towards(_, start) => Err(error_at(ExpandErrorKind::BadNode, start)),
             _ => Ok(self.writer.finish()?),
         }
+    }
+}
+
+/// The label whose address a token is.
+fn label_in(text: &[u8]) -> Option<&[u8]>
+    ensures { option_map (λ label. label.now) result ≡ model.label_in text.now }
+{
+    let (first, name) = text.split_first()?;
+    if *first == b'&' && is_name(name) && !is_reserved(name) {
+        Some(name)
+    } else {
+        None
     }
 }
 

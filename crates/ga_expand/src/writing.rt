@@ -1,8 +1,10 @@
 //! The text of an expansion, token by token.
 ghost use Rattle.std.specs.Prelude.{◌≡◌, ◌++◌, IfOk, IsUtf8, OnOk, [], string_bytes};
 ghost use Rattle.std.specs.Str.{IsAscii};
-ghost use Rattle.ga_expand.specs.inner.Piece.{piece_of, text_of};
-ghost use Rattle.ga_expand.specs.inner.Writing.{Finished, HasAdded, IsSeparated};
+ghost use Rattle.ga_source.specs.Token.{place_of};
+ghost use Rattle.ga_expand.specs.Expanding.{address_texts, all_at};
+ghost use Rattle.ga_expand.specs.inner.Piece.{piece_here, piece_of, text_of};
+ghost use Rattle.ga_expand.specs.inner.Writing.{Finished, HasAdded, HasAddedAll, IsSeparated};
 
 use crate::expansion::Expansion;
 use crate::spelling::Spelling;
@@ -36,6 +38,28 @@ impl Writer {
         push_spelling(&mut self.text, spelling)?;
         self.origins.push(place)?;
         Ok(())
+    }
+
+    /// Adds a word that fetches the next one, and that one, the address of a label.
+    pub(crate) fn push_address(&mut self, label: &[u8], place: Place) -> Result<(), AllocError>
+        ensures { OnOk result (HasAddedAll self.old self.new
+            (all_at (place_of place) (address_texts label.now))) }
+    {
+        self.push_text(b"[", place)?;
+        self.push_text(b"@p", place)?;
+        self.push_text(b".", place)?;
+        self.push_text(b".", place)?;
+        self.push_text(b".", place)?;
+        self.push_text(b"]", place)?;
+        self.push_text(b",", place)?;
+        self.push_text(label, place)?;
+        Ok(())
+    }
+
+    fn push_text(&mut self, text: &[u8], place: Place) -> Result<(), AllocError>
+        ensures { OnOk result (HasAdded self.old self.new (piece_here text.now place)) }
+    {
+        self.push(&Spelling::Same(text), place)
     }
 
     /// Adds the blank between the last token and one of a line.

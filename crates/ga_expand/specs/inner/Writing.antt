@@ -1,5 +1,6 @@
 -- What a writer has written.
 use Rattle.std.specs.Prelude.{◌≡◌, ℕ, true, List, [], ◌∷◌, ◌++◌, map, string_bytes}
+use Rattle.std.specs.List.{list_all}
 use Rattle.std.specs.Str.{IsAscii}
 use Rattle.ga_word.specs.Text.{is_blank}
 use Rattle.ga_pack.specs.Model.Text.{texts_of}
@@ -29,6 +30,12 @@ abbrev pub HasAdded : Writer → Writer → Piece → Type 0
 HasAdded before after piece =
     (pieces : List Piece) → Written before pieces → is_written piece ≡ true
     → Written after (pieces ++ piece ∷ [])
+
+-- tokens are added
+abbrev pub HasAddedAll : Writer → Writer → List Piece → Type 0
+HasAddedAll before after added =
+    (pieces : List Piece) → Written before pieces → list_all is_written added ≡ true
+    → Written after (pieces ++ added)
 
 -- the text has the tokens that were written, and each has its place
 abbrev pub Finished : Writer → Expansion → Type 0
