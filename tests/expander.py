@@ -169,11 +169,43 @@ def check_length(piece):
         raise fault_at(piece, "BadToken")
 
 
+def spread(pieces):
+    """The tokens with a section for each node of a list, in place of the list's section."""
+    done, left, at = [], MOST_TOKENS, 0
+    while at < len(pieces):
+        end = at + (2 if pieces[at].text == "node" else 1)
+        section = pieces[at:end]
+        if len(section) == 2 and "," in section[1].text:
+            while end < len(pieces) and pieces[end].text != "node":
+                end += 1
+            section = copies(*section, pieces[at + 2 : end], left)
+            left -= len(section)
+        done += section
+        at = end
+    return done
+
+
+def copies(node, names, tokens, left):
+    """The sections that one with a list of nodes stands for."""
+    nodes = names.text.split(",")
+    if not all(NODE.fullmatch(it) for it in nodes):
+        raise fault_at(names, "BadNode")
+    if len(nodes) * (2 + len(tokens)) > left:
+        raise fault_at(names, "TooLarge")
+    for it in tokens:
+        check_length(it)
+    return [it for name in nodes for it in (node, names._replace(text=name), *tokens)]
+
+
 def stage_behind(stage, text):
     """What may stand behind a token."""
     if stage == "node":
         return "item"
     return "node" if text == "node" else "value" if text == "," or text in LEAPS else "item"
+
+
+def is_label(text):
+    return NAME.fullmatch(text) and text not in RESERVED
 
 
 class Expander:
@@ -221,6 +253,9 @@ class Expander:
             self.word(piece)
             self.node = piece.text if NODE.fullmatch(piece.text) else None
             return "item"
+        if stage == "item" and piece.text[0] == "&" and is_label(piece.text[1:]):
+            self.written += [piece._replace(text=it) for it in ("[", "@p", ".", ".", ".", "]", ",", piece.text[1:])]
+            return "item"
         number = self.port(piece) if stage == "item" and self.node else None
         if number is not None:
             self.written.append(piece._replace(text=f"${number:05X}"))
@@ -251,7 +286,7 @@ class Expander:
 
 def expansion(text):
     """The tokens of the plain text that a text of the larger language expands to."""
-    return Expander(Unfolder().unfolded(pieces_of(text))).expand()
+    return Expander(spread(Unfolder().unfolded(pieces_of(text)))).expand()
 
 
 def expanded_text(pieces):

@@ -9,5 +9,6 @@ mod Steps
 mod Origins
 mod Lists
 mod TokensRead
+mod Copies
 mod PlainTexts
 mod WorkedExpansions

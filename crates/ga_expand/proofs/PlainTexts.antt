@@ -1,6 +1,6 @@
 -- A text of the plain language expands to itself.
 use Rattle.std.proofs.Common.{◌≡◌, ◌∙◌, ◌/◌, ◌%◌, ℕ, Bool, true, false, not, List, [], ◌∷◌, ◌++◌, length, map, refl, sym, ap, subst, append-nil, append_assoc, Ok, Option, Result, Some, None, arith, eqb-true, suc}
-use Rattle.std.specs.Prelude.{◌==◌, ◌&&◌, codes, nat_le, nat_lt, if◌then◌else◌}
+use Rattle.std.specs.Prelude.{◌==◌, ◌&&◌, ◌^◌, codes, nat_le, nat_lt, if◌then◌else◌}
 use Rattle.std.specs.Char.{is_digit}
 use Rattle.std.specs.List.{find, list_all, list_any}
 use Rattle.std.specs.Option.{option_map, option_or, unwrap_or}
@@ -29,10 +29,12 @@ use Rattle.ga_expand.specs.Expanding.{Body, Head, Naming, NodeName, Piece, Scope
 use Rattle.ga_expand.specs.Bodies as bodies
 use Rattle.ga_expand.specs.Bodies.{Part, Tokens, Unfolding, first, is_body, is_use, read_at, unfolded, unfolded_from}
 use Rattle.ga_expand.specs.Error.{Fault}
+use Rattle.ga_expand.specs.NodeLists.{NoList, NodeNext, Section, Spreading, in_section, is_list, spread, spread_from, with_piece}
 use Rattle.ga_expand.specs.Texts.{expanded, expansion}
 use Rattle.ga_expand.specs.Places.{direction_named}
 use Rattle.ga_expand.specs.Laws.{PlainStays}
 use Rattle.ga_expand.specs.Literal.{as_character, literal_of}
+use Rattle.ga_expand.proofs.Stages.{is_naming, naming}
 use Rattle.ga_expand.specs.Sides.{as_sides}
 
 -- ---- characters with which no form of the larger language begins
@@ -413,21 +415,6 @@ no_address (c ∷ cs) good = by (c == 38) refl
         ap (λ (d : ℕ). is_bad (meaning_of (d ∷ cs))) (eqb-true c 38 is) ∙ malformed cs in
         absurd (cc)
 
--- whether the next token is the name of a node
-abbrev is_naming : Stage → Bool
-is_naming NodeName = true
-is_naming stage = false
-
-op_naming : (b : Bool) → is_naming (if b then Value else Body) ≡ false
-op_naming true = refl
-op_naming false = refl
-
-naming : (t : Token) → is_node t ≡ is_naming (stage_by t)
-naming (model.op o) = sym (op_naming (takes_dest o))
-naming model.node = refl
-naming model.comma = refl
-naming t = refl
-
 name_is_good : (t : Token) → is_node_name t ≡ true → (is_bad t ≡ false) × (is_node t ≡ false)
 name_is_good (model.node_name n) e = (refl, refl)
 name_is_good (model.bad k) e = absurd (cc)
@@ -658,6 +645,209 @@ first_unfolds (piece ∷ pieces) ts e h =
     (pieces_unfold (stage_by t) pieces (next_placed (stage_by t) t (is_node t)
     (is_naming (stage_by t)) (texts_in pieces) (naming t) placed) (as_part piece ∷ []))
 
+-- ---- no section of a plain text has a list
+
+-- what is no name of a node is none by its meaning either
+record Unnamed (o : Option Token) : Type 0 where
+  unnamed : (t : Token) → o ≡ Some t → is_node_name t ≡ false
+
+unnamed_none : Unnamed None
+unnamed_none = record { unnamed = λ t e. absurd (cc) }
+
+unnamed_some : (t : Token) → is_node_name t ≡ false → Unnamed (Some t)
+unnamed_some t h =
+    record { unnamed = λ s e. let same : t ≡ s = cc in subst (λ u. is_node_name u ≡ false) same h }
+
+unnamed_if : (b : Bool) (o : Option Token) → Unnamed o → Unnamed (if b then o else None)
+unnamed_if true o h = h
+unnamed_if false o h = unnamed_none
+
+unnamed_map : {X : Type 0} (f : X → Token) (o : Option X)
+    → ((x : X) → is_node_name (f x) ≡ false) → Unnamed (option_map f o)
+unnamed_map f None h = unnamed_none
+unnamed_map f (Some x) h = unnamed_some (f x) (h x)
+
+unnamed_either : (a b : Option Token) → Unnamed a → Unnamed b → Unnamed (option_or a b)
+unnamed_either None b g h = h
+unnamed_either (Some t) b g h = g
+
+ranged_unnamed : (n : ℕ) → is_node_name (model.ranged n) ≡ false
+ranged_unnamed n = by (nat_lt n (2 ^ 18))
+  where
+    by : (b : Bool)
+        → is_node_name (if b then model.number n else model.bad kind.NumberRange) ≡ false
+    by true = refl
+    by false = refl
+
+hex_unnamed : (text : List ℕ) → Unnamed (as_hex text)
+hex_unnamed [] = unnamed_none
+hex_unnamed (c ∷ digits) =
+    unnamed_if (c == 36) (option_map model.ranged (model.numeral 16 digits))
+    (unnamed_map model.ranged (model.numeral 16 digits) ranged_unnamed)
+
+label_unnamed : (front text : List ℕ) → Unnamed (label_from front text)
+label_unnamed front [] = unnamed_none
+label_unnamed front (c ∷ []) =
+    unnamed_if ((c == 58) && is_name front) (Some (model.label front))
+    (unnamed_some (model.label front) refl)
+label_unnamed front (c ∷ d ∷ cs) = label_unnamed (front ++ c ∷ []) (d ∷ cs)
+
+found_unnamed : (text : List ℕ) (entries : List (List ℕ × Token))
+    → list_all (λ entry. not (is_node_name entry.1)) entries ≡ true
+    → Unnamed (option_map (λ entry. entry.1) (find (λ entry. bytes_eq entry.0 text) entries))
+found_unnamed text [] h = unnamed_none
+found_unnamed text (entry ∷ entries) h =
+    let two = and_parts (not (is_node_name entry.1))
+    (list_all (λ entry. not (is_node_name entry.1)) entries) h in
+    by (bytes_eq entry.0 text) (not-true (is_node_name entry.1) two.0)
+    (find (λ entry. bytes_eq entry.0 text) entries) (found_unnamed text entries two.1)
+  where
+    by : (b : Bool) → is_node_name entry.1 ≡ false → (others : Option (List ℕ × Token))
+        → Unnamed (option_map (λ entry. entry.1) others)
+        → Unnamed (option_map (λ entry. entry.1) (if b then Some entry else others))
+    by true other others more = unnamed_some entry.1 other
+    by false other others more = more
+
+unnamed_whole : (o : Option Token) (k : SourceErrorKind) → Unnamed o
+    → is_node_name (unwrap_or o (model.bad k)) ≡ false
+unnamed_whole None k g = refl
+unnamed_whole (Some t) k g = g.unnamed t refl
+
+plain_unnamed : (text : List ℕ) → is_node_name (meaning_of text) ≡ false
+unfolding meaning_of
+plain_unnamed text =
+    unnamed_whole
+    (option_or (as_op text) (option_or (option_map model.number (number_named text))
+    (option_or (as_fixed text) (option_or (option_map model.ranged (model.numeral 10 text))
+    (option_or (as_hex text) (option_or (as_label text) (as_name text))))))) kind.BadToken
+    (unnamed_either (as_op text) _
+    (unnamed_map model.op (find (λ o. bytes_eq (name_of o) text) opcodes) (λ o. refl))
+    (unnamed_either (option_map model.number (number_named text)) _
+    (unnamed_map model.number (number_named text) (λ n. refl))
+    (unnamed_either (as_fixed text) _ (found_unnamed text fixed refl)
+    (unnamed_either (option_map model.ranged (model.numeral 10 text)) _
+    (unnamed_map model.ranged (model.numeral 10 text) ranged_unnamed)
+    (unnamed_either (as_hex text) _ (hex_unnamed text)
+    (unnamed_either (as_label text) (as_name text) (label_unnamed [] text)
+    (unnamed_if (is_name text) (Some (model.name text))
+    (unnamed_some (model.name text) refl))))))))
+
+decimal_no_comma : (c : ℕ) → is_digit c 10 ≡ true → (c == 44) ≡ false
+decimal_no_comma c h = grind (arith, nat_tests)
+
+digits_no_list : (text : List ℕ) → list_all (λ c. is_digit c 10) text ≡ true
+    → is_list text ≡ false
+digits_no_list [] h = refl
+digits_no_list (c ∷ cs) h =
+    let two = and_parts (is_digit c 10) (list_all (λ c. is_digit c 10) cs) h in
+    rw (decimal_no_comma c two.0, digits_no_list cs two.1) refl
+
+named_by : (text : List ℕ) (b : Bool)
+    → ((length text == 3) && list_all (λ c. is_digit c 10) text
+    && (nat_lt (digits_value 10 text / 100) 8 && nat_lt (digits_value 10 text % 100) 18)) ≡ b
+    → is_node_name (unwrap_or (if b then Some (model.node_name (digits_value 10 text)) else None)
+    (meaning_of text)) ≡ true → is_list text ≡ false
+named_by text true is e =
+    let both = and_parts ((length text == 3) && list_all (λ c. is_digit c 10) text)
+    (nat_lt (digits_value 10 text / 100) 8 && nat_lt (digits_value 10 text % 100) 18) is in
+    digits_no_list text
+    (and_parts (length text == 3) (list_all (λ c. is_digit c 10) text) both.0).1
+named_by text false is e = let none = plain_unnamed text in absurd (cc)
+
+no_list : (text : List ℕ) → is_node_name (meaning_at true text) ≡ true → is_list text ≡ false
+unfolding meaning_at
+no_list text e =
+    named_by text ((length text == 3) && list_all (λ c. is_digit c 10) text
+    && (nat_lt (digits_value 10 text / 100) 8 && nat_lt (digits_value 10 text % 100) 18)) refl e
+
+abbrev plain_spread : List Piece → Section → Spreading
+plain_spread done section =
+    record { done = done; left = bodies.most_unfolded; section = section }
+
+-- the section of a token, behind `node` or not, and the `node` in front
+abbrev section_by : Bool → Piece → Section
+section_by true node = NodeNext node
+section_by false node = NoList
+
+abbrev in_front : Bool → Piece → List Piece
+in_front true node = node ∷ []
+in_front false node = []
+
+abbrev SpreadsAt : Bool → List Piece → Type 0
+SpreadsAt b pieces = (done : List Piece) (node : Piece)
+    → spread_from (plain_spread done (section_by b node)) pieces
+    ≡ Ok (done ++ (in_front b node ++ pieces))
+
+item_spreads : (piece : Piece) (pieces done : List Piece) (b : Bool) → SpreadsAt b pieces
+    → spread_from (if b then in_section (plain_spread done NoList) (NodeNext piece)
+    else with_piece (plain_spread done NoList) piece) pieces ≡ Ok (done ++ piece ∷ pieces)
+item_spreads piece pieces done true more = more done piece
+item_spreads piece pieces done false more =
+    more (done ++ piece ∷ []) piece ∙ ap Ok (append_assoc done (piece ∷ []) pieces)
+
+name_spreads : (node piece : Piece) (pieces done : List Piece) → is_list piece.text ≡ false
+    → SpreadsAt false pieces
+    → spread_from (plain_spread done (NodeNext node)) (piece ∷ pieces)
+    ≡ Ok (done ++ node ∷ piece ∷ pieces)
+unfolding spread_from
+name_spreads node piece pieces done none more =
+    rw none (more ((done ++ node ∷ []) ++ piece ∷ []) piece
+    ∙ ap Ok (append_assoc (done ++ node ∷ []) (piece ∷ []) pieces
+    ∙ append_assoc done (node ∷ []) (piece ∷ pieces)))
+
+pieces_spread : (stage : Stage) (pieces : List Piece)
+    → all_placed stage (meanings (is_naming stage) (texts_in pieces)) ≡ true
+    → SpreadsAt (is_naming stage) pieces
+unfolding meanings meaning_at spread_from
+pieces_spread Body [] h done node = ap Ok (sym (append-nil done))
+pieces_spread Value [] h done node = ap Ok (sym (append-nil done))
+pieces_spread NodeName [] h done node = refl
+pieces_spread Head [] h done node = absurd (cc)
+pieces_spread (Naming place) [] h done node = absurd (cc)
+pieces_spread (Valuing name place) [] h done node = absurd (cc)
+pieces_spread (Towards name place) [] h done node = absurd (cc)
+pieces_spread Body (piece ∷ pieces) h done node =
+    let t = meaning_of piece.text in
+    let two = and_parts (not (is_name_token t) && not (is_bad t))
+    (all_placed (stage_by t) (meanings (is_node t) (texts_in pieces))) h in
+    item_spreads piece pieces done (is_node t) (subst (λ b. SpreadsAt b pieces) (sym (naming t))
+    (pieces_spread (stage_by t) pieces (next_placed (stage_by t) t (is_node t)
+    (is_naming (stage_by t)) (texts_in pieces) (naming t) two.1)))
+pieces_spread Value (piece ∷ pieces) h done node =
+    let t = meaning_of piece.text in
+    let two = and_parts (not (is_bad t))
+    (all_placed (stage_by t) (meanings (is_node t) (texts_in pieces))) h in
+    item_spreads piece pieces done (is_node t) (subst (λ b. SpreadsAt b pieces) (sym (naming t))
+    (pieces_spread (stage_by t) pieces (next_placed (stage_by t) t (is_node t)
+    (is_naming (stage_by t)) (texts_in pieces) (naming t) two.1)))
+pieces_spread NodeName (piece ∷ pieces) h done node =
+    let t = meaning_at true piece.text in
+    let two = and_parts (is_node_name t)
+    (all_placed Body (meanings (is_node t) (texts_in pieces))) h in
+    let good = name_is_good t two.0 in
+    name_spreads node piece pieces done (no_list piece.text two.0)
+    (pieces_spread Body pieces
+    (next_placed Body t (is_node t) false (texts_in pieces) good.1 two.1))
+pieces_spread Head (piece ∷ pieces) h done node = absurd (cc)
+pieces_spread (Naming place) (piece ∷ pieces) h done node = absurd (cc)
+pieces_spread (Valuing name place) (piece ∷ pieces) h done node = absurd (cc)
+pieces_spread (Towards name place) (piece ∷ pieces) h done node = absurd (cc)
+
+first_spreads : (pieces : List Piece) (ts : List Token)
+    → meanings false (texts_in pieces) ≡ model.node ∷ ts → all_placed NodeName ts ≡ true
+    → spread (Ok pieces) ≡ Ok pieces
+unfolding meanings meaning_at spread_from
+first_spreads [] ts e h = absurd (cc)
+first_spreads (piece ∷ pieces) ts e h =
+    let t = meaning_of piece.text in
+    let node : t ≡ model.node = cc in
+    let left : meanings (is_node t) (texts_in pieces) ≡ ts = cc in
+    let placed : all_placed (stage_by t) (meanings (is_node t) (texts_in pieces)) ≡ true =
+    ap (λ ts. all_placed (stage_by t) ts) left ∙ ap (λ t. all_placed (stage_by t) ts) node ∙ h in
+    item_spreads piece pieces [] (is_node t) (subst (λ b. SpreadsAt b pieces) (sym (naming t))
+    (pieces_spread (stage_by t) pieces (next_placed (stage_by t) t (is_node t)
+    (is_naming (stage_by t)) (texts_in pieces) (naming t) placed)))
+
 -- ---- the tokens of a program
 
 value_placed : (v : source.Value) (rest : List Token) → all_placed Body rest ≡ true
@@ -733,13 +923,14 @@ sections_placed seen (s ∷ ss) (new, items, more) =
 
 source_stays : (pieces : List Piece) (ts : List Token) (ss : List source.Section)
     → meanings false (texts_in pieces) ≡ ts → source.Source ts ss
-    → expanded (unfolded pieces) ≡ Ok pieces
+    → expanded (spread (unfolded pieces)) ≡ Ok pieces
 unfolding source.Source
 source_stays pieces ts [] e h = absurd h
 source_stays pieces ts (s ∷ ss) e h =
     let others = model.node_name s.name ∷ source.items_tokens s.items (source.text_tokens ss) in
     let placed = sections_placed [] (s ∷ ss) h.1 in
-    ap expanded (first_unfolds pieces others (e ∙ h.0) placed)
+    ap (λ r. expanded (spread r)) (first_unfolds pieces others (e ∙ h.0) placed)
+    ∙ ap expanded (first_spreads pieces others (e ∙ h.0) placed)
     ∙ first_stays pieces others (e ∙ h.0) placed
 
 texts_are : (text : List ℕ) → map (λ piece. piece.text) (pieces_of text) ≡ texts_of text

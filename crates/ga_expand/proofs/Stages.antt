@@ -5,13 +5,13 @@ use Rattle.std.specs.List.{find}
 use Rattle.std.specs.Option.{option_map, option_or, unwrap_or}
 use Rattle.std.specs.Str.{bytes_eq}
 use Rattle.std.proofs.lemmas.Slice.Eq.{bytes_eq-Decides}
-use Rattle.ga_word.specs.Op.{name_of, opcodes}
+use Rattle.ga_word.specs.Op.{name_of, opcodes, takes_dest}
 use Rattle.ga_word.specs.declared.op.Op.{Op}
 use Rattle.ga_pack.specs.declared.error_kind.SourceErrorKind.{SourceErrorKind}
 use Rattle.ga_pack.specs.declared.error_kind.SourceErrorKind.TheVariants as kind
 use Rattle.ga_pack.specs.Model.Token as model
-use Rattle.ga_pack.specs.Model.Token.{Token, as_fixed, as_hex, as_label, as_name, as_op, fixed, is_name, label_from, meaning_of, number_named, numeral, ranged}
-use Rattle.ga_expand.specs.Expanding.{Body, stage_by}
+use Rattle.ga_pack.specs.Model.Token.{Token, as_fixed, as_hex, as_label, as_name, as_op, fixed, is_name, is_node, label_from, meaning_of, number_named, numeral, ranged}
+use Rattle.ga_expand.specs.Expanding.{Body, NodeName, Stage, Value, stage_by}
 use Rattle.ga_expand.specs.inner.Scope.{mark_stage}
 
 pub of_op : (text : List ℕ) (o : Op) → find (λ o. bytes_eq (name_of o) text) opcodes ≡ Some o
@@ -164,3 +164,18 @@ of_no_op text e = by (bytes_eq text (codes "node")) (bytes_eq text (codes ",")) 
     by true b f g = same_text text (codes "node") node_means f
     by false true f g = same_text text (codes ",") comma_means g
     by false false f g = rw (f, g) (sym (other_quiet text e f g))
+
+-- whether the next token is the name of a node
+abbrev pub is_naming : Stage → Bool
+is_naming NodeName = true
+is_naming stage = false
+
+op_naming : (b : Bool) → is_naming (if b then Value else Body) ≡ false
+op_naming true = refl
+op_naming false = refl
+
+pub naming : (t : Token) → is_node t ≡ is_naming (stage_by t)
+naming (model.op o) = sym (op_naming (takes_dest o))
+naming model.node = refl
+naming model.comma = refl
+naming t = refl

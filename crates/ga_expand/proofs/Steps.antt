@@ -29,6 +29,7 @@ use Rattle.ga_expand.specs.Expanding.{Body, Head, Naming, NodeName, Piece, Scope
 use Rattle.ga_expand.specs.Places.{direction_named, port_named, port_towards}
 use Rattle.ga_expand.specs.Literal.{literal_of}
 use Rattle.ga_expand.specs.Bodies.{unfolded}
+use Rattle.ga_expand.specs.NodeLists.{spread}
 use Rattle.ga_expand.specs.Texts.{IsExpansion, expanded, expansion}
 use Rattle.ga_expand.specs.declared.piece.Piece as here
 use Rattle.ga_expand.specs.inner.Piece.{piece_in}
@@ -366,7 +367,8 @@ module _ (pieces : List here.Piece) (index : ℕ) (piece other : here.Piece)
 -- ---- no token is left
 
 module _ (text : List ℕ) (expander : Expander) (pieces : List here.Piece) (index : ℕ)
-    (end : length pieces ≤ index) (unfolds : unfolded (pieces_of text) ≡ Ok (map piece_in pieces))
+    (end : length pieces ≤ index)
+    (unfolds : spread (unfolded (pieces_of text)) ≡ Ok (map piece_in pieces))
     (so_far : Progress (map piece_in pieces) expander (drop index (map piece_in pieces))) where
   at_end : onto so_far.done (ended (scope_of expander).stage) ≡ expansion text
   unfolding expansion_from expansion

@@ -10,6 +10,7 @@ use Rattle.ga_expand.specs.declared.piece.Piece as here
 use Rattle.ga_expand.specs.Error.{Fault, fault_of}
 use Rattle.ga_expand.specs.Texts.{expanded, expansion}
 use Rattle.ga_expand.specs.Expanding.{Piece, expansion_from, pieces_of, start}
+use Rattle.ga_expand.specs.NodeLists.{spread}
 use Rattle.ga_expand.specs.inner.Piece.{piece_in, token_piece}
 use Rattle.ga_expand.proofs.Tokens.{left_at}
 
@@ -81,10 +82,15 @@ whole_err (Err error) text now e h = λ some. e ∙ h some
 pub not_unfolded : (text : List ℕ) (fault : Fault) → unfolded (pieces_of text) ≡ Err fault
     → expansion text ≡ Err fault
 unfolding expansion
-not_unfolded text fault e = ap expanded e
+not_unfolded text fault e = ap (λ r. expanded (spread r)) e
+
+pub not_spread : (text : List ℕ) (fault : Fault)
+    → spread (unfolded (pieces_of text)) ≡ Err fault → expansion text ≡ Err fault
+unfolding expansion
+not_spread text fault e = ap expanded e
 
 pub not_expanded : (text : List ℕ) (pieces : List Piece) (fault : Fault)
-    → unfolded (pieces_of text) ≡ Ok pieces → expansion_from start pieces ≡ Err fault
+    → spread (unfolded (pieces_of text)) ≡ Ok pieces → expansion_from start pieces ≡ Err fault
     → expansion text ≡ Err fault
 unfolding expansion
 not_expanded text pieces fault e h = ap expanded e ∙ h

@@ -11,6 +11,7 @@ use Rattle.ga_expand.specs.Constants.{value_of}
 use Rattle.ga_expand.specs.Error.{Fault}
 use Rattle.ga_expand.specs.Expanding.{Piece, expansion_from, pieces_of, step_at, word_of}
 use Rattle.ga_expand.specs.Bodies.{Part, SharedBody, Unfolding, first, read_at, unfolded_from, use_of}
+use Rattle.ga_expand.specs.NodeLists.{Spreading, list_ended, spread_from, start_spread}
 use Rattle.ga_expand.specs.Texts.{expansion}
 use Rattle.ga_expand.specs.Literal.{literal_of}
 use Rattle.ga_expand.specs.Places.{port_named, port_towards}
@@ -93,7 +94,7 @@ failed kind line column =
 constant_and_neighbour : ◌≡◌ {A = Expansion} (expansion (codes "const A 'A' node 708 A to 709 b!"))
     (Ok (at (codes "node") 1 13 ∷ at (codes "708") 1 18 ∷ at (codes "$00041") 1 22
     ∷ at (codes "$001D5") 1 24 ∷ at (codes "b!") 1 31 ∷ []))
-unfolding expansion unfolded_from read_at expansion_from pieces_of lexemes step_at word_of
+unfolding expansion unfolded_from read_at spread_from expansion_from pieces_of lexemes step_at word_of
     literal_of value_of meaning_of
     is_reserved hex_digits at
 constant_and_neighbour = refl
@@ -103,35 +104,35 @@ labels_stay : ◌≡◌ {A = Expansion} (expansion (codes "node 708 east: jump t
     (Ok (at (codes "node") 1 1 ∷ at (codes "708") 1 6 ∷ at (codes "east:") 1 10
     ∷ at (codes "jump") 1 16 ∷ at (codes "to") 1 21 ∷ at (codes ",") 1 24 ∷ at (codes "east") 1 26
     ∷ []))
-unfolding expansion unfolded_from read_at expansion_from pieces_of lexemes step_at word_of
+unfolding expansion unfolded_from read_at spread_from expansion_from pieces_of lexemes step_at word_of
     literal_of meaning_of at
 labels_stay = refl
 
 open_definition : ◌≡◌ {A = Expansion} (expansion (codes "const A 1 const B"))
     (failed OpenDefinition 1 11)
-unfolding expansion unfolded_from read_at expansion_from pieces_of lexemes step_at literal_of
-    value_of is_reserved failed
+unfolding expansion unfolded_from read_at spread_from expansion_from pieces_of lexemes step_at literal_of
+    value_of is_reserved meaning_of failed
 open_definition = refl
 
 reserved_name : ◌≡◌ {A = Expansion} (expansion (codes "const dup 1")) (failed ReservedName 1 7)
-unfolding expansion unfolded_from read_at expansion_from pieces_of lexemes step_at is_reserved
-    failed
+unfolding expansion unfolded_from read_at spread_from expansion_from pieces_of lexemes step_at is_reserved
+    meaning_of failed
 reserved_name = refl
 
 duplicate_name : ◌≡◌ {A = Expansion} (expansion (codes "const A 1 const A 2"))
     (failed DuplicateName 1 17)
-unfolding expansion unfolded_from read_at expansion_from pieces_of lexemes step_at literal_of
-    value_of is_reserved failed
+unfolding expansion unfolded_from read_at spread_from expansion_from pieces_of lexemes step_at literal_of
+    value_of is_reserved meaning_of failed
 duplicate_name = refl
 
 no_value : ◌≡◌ {A = Expansion} (expansion (codes "const A B")) (failed BadToken 1 9)
-unfolding expansion unfolded_from read_at expansion_from pieces_of lexemes step_at literal_of
-    value_of is_reserved failed
+unfolding expansion unfolded_from read_at spread_from expansion_from pieces_of lexemes step_at literal_of
+    value_of is_reserved meaning_of failed
 no_value = refl
 
 no_neighbour : ◌≡◌ {A = Expansion} (expansion (codes "node 708 dup to 710"))
     (failed NoNeighbour 1 17)
-unfolding expansion unfolded_from read_at expansion_from pieces_of lexemes step_at word_of
+unfolding expansion unfolded_from read_at spread_from expansion_from pieces_of lexemes step_at word_of
     literal_of meaning_of failed
 no_neighbour = refl
 
@@ -142,7 +143,7 @@ one_argument : ◌≡◌ {A = Expansion}
     (expansion (codes "body PUT X\nX b! end node 708 use PUT 5 dup"))
     (Ok (at (codes "node") 2 10 ∷ at (codes "708") 2 15 ∷ at (codes "5") 2 27 ∷ at (codes "b!") 2 3
     ∷ at (codes "dup") 2 29 ∷ []))
-unfolding expansion unfolded_from read_at expansion_from pieces_of lexemes step_at word_of
+unfolding expansion unfolded_from read_at spread_from expansion_from pieces_of lexemes step_at word_of
     literal_of meaning_of is_reserved at
 one_argument = refl
 
@@ -151,7 +152,7 @@ two_uses : ◌≡◌ {A = Expansion} (expansion (codes
     "body STEP X\nto X a! end body TWICE X\nuse STEP X use STEP X end node 708 use TWICE 709"))
     (Ok (at (codes "node") 3 27 ∷ at (codes "708") 3 32 ∷ at (codes "$001D5") 2 1
     ∷ at (codes "a!") 2 6 ∷ at (codes "$001D5") 2 1 ∷ at (codes "a!") 2 6 ∷ []))
-unfolding expansion unfolded_from read_at expansion_from pieces_of lexemes step_at word_of
+unfolding expansion unfolded_from read_at spread_from expansion_from pieces_of lexemes step_at word_of
     literal_of meaning_of is_reserved hex_digits at
 two_uses = refl
 
@@ -160,14 +161,14 @@ own_parameters : ◌≡◌ {A = Expansion}
     (expansion (codes "body A\nX end body B X\nuse A X end node 708 use B 5"))
     (Ok (at (codes "node") 3 13 ∷ at (codes "708") 3 18 ∷ at (codes "X") 2 1 ∷ at (codes "5") 3 28
     ∷ []))
-unfolding expansion unfolded_from read_at expansion_from pieces_of lexemes step_at word_of
+unfolding expansion unfolded_from read_at spread_from expansion_from pieces_of lexemes step_at word_of
     literal_of meaning_of is_reserved at
 own_parameters = refl
 
 use_is_a_label : ◌≡◌ {A = Expansion} (expansion (codes "node 708 use: jump use"))
     (Ok (at (codes "node") 1 1 ∷ at (codes "708") 1 6 ∷ at (codes "use:") 1 10
     ∷ at (codes "jump") 1 15 ∷ at (codes "use") 1 20 ∷ []))
-unfolding expansion unfolded_from read_at expansion_from pieces_of lexemes step_at word_of
+unfolding expansion unfolded_from read_at spread_from expansion_from pieces_of lexemes step_at word_of
     literal_of meaning_of at
 use_is_a_label = refl
 
@@ -217,3 +218,45 @@ too_many : ◌≡◌ {A = Result Unfolding Fault}
     (Err (record { kind = TooLarge; place = record { line = 2; column = 5 } }))
 unfolding two_tokens
 too_many = refl
+
+-- ---- lists of nodes
+
+-- `to` is by the node of the copy
+two_nodes : ◌≡◌ {A = Expansion} (expansion (codes "node 708,710 to 709 b!"))
+    (Ok (at (codes "node") 1 1 ∷ at (codes "708") 1 6 ∷ at (codes "$001D5") 1 14
+    ∷ at (codes "b!") 1 21 ∷ at (codes "node") 1 1 ∷ at (codes "710") 1 6
+    ∷ at (codes "$00175") 1 14 ∷ at (codes "b!") 1 21 ∷ []))
+unfolding expansion unfolded_from read_at spread_from expansion_from pieces_of lexemes step_at
+    word_of literal_of meaning_of hex_digits at
+two_nodes = refl
+
+no_list : ◌≡◌ {A = Expansion} (expansion (codes "node 708,99 dup")) (failed BadNode 1 6)
+unfolding expansion unfolded_from read_at spread_from pieces_of lexemes meaning_of failed
+no_list = refl
+
+-- four tokens where three are left
+too_many_copies : ◌≡◌ {A = Result Spreading Fault}
+    (list_ended (record start_spread { left = 3 }) (at (codes "node") 1 1)
+    (at (codes "708,709") 1 6) [])
+    (Err (record { kind = TooLarge; place = record { line = 1; column = 6 } }))
+unfolding at
+too_many_copies = refl
+
+-- ---- addresses of labels
+
+-- the name is a label's, and not the constant's
+address_of_a_label : ◌≡◌ {A = Expansion} (expansion (codes "const A 1 node 708 &A"))
+    (Ok (at (codes "node") 1 11 ∷ at (codes "708") 1 16 ∷ at (codes "[") 1 20
+    ∷ at (codes "@p") 1 20 ∷ at (codes ".") 1 20 ∷ at (codes ".") 1 20 ∷ at (codes ".") 1 20
+    ∷ at (codes "]") 1 20 ∷ at (codes ",") 1 20 ∷ at (codes "A") 1 20 ∷ []))
+unfolding expansion unfolded_from read_at spread_from expansion_from pieces_of lexemes step_at
+    word_of literal_of value_of meaning_of is_reserved at
+address_of_a_label = refl
+
+-- no name, and one that is reserved
+no_address : ◌≡◌ {A = Expansion} (expansion (codes "node 708 & &dup"))
+    (Ok (at (codes "node") 1 1 ∷ at (codes "708") 1 6 ∷ at (codes "&") 1 10
+    ∷ at (codes "&dup") 1 12 ∷ []))
+unfolding expansion unfolded_from read_at spread_from expansion_from pieces_of lexemes step_at
+    word_of literal_of meaning_of is_reserved at
+no_address = refl

@@ -5,6 +5,7 @@ pub mod Constants
 pub mod Places
 pub mod Expanding
 pub mod Bodies
+pub mod NodeLists
 pub mod Texts
 pub mod Laws
 pub mod inner

@@ -8,15 +8,16 @@ use Rattle.ga_expand.specs.declared.expansion.Expansion as written
 use Rattle.ga_expand.specs.Bodies.{unfolded}
 use Rattle.ga_expand.specs.Error.{Fault}
 use Rattle.ga_expand.specs.Expanding.{Piece, expansion_from, pieces_of, start}
+use Rattle.ga_expand.specs.NodeLists.{spread}
 
 abbrev pub expanded : Result (List Piece) Fault → Result (List Piece) Fault
 expanded (Ok pieces) = expansion_from start pieces
 expanded (Err fault) = Err fault
 
--- The tokens that a text expands to, or its first error. First each `use` is replaced, and then
--- each token is expanded.
+-- The tokens that a text expands to, or its first error. First each `use` is replaced, then each
+-- list of nodes, and then each token is expanded.
 unfoldable pub expansion : List ℕ → Result (List Piece) Fault
-expansion text = expanded (unfolded (pieces_of text))
+expansion text = expanded (spread (unfolded (pieces_of text)))
 
 -- The text of an expansion has the tokens that a text expands to, and each has its place.
 pub record IsExpansion (text : List ℕ) (made : written.Expansion) : Type 0 where

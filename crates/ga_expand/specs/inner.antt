@@ -5,3 +5,4 @@ pub mod Writing
 pub mod Places
 pub mod Scope
 pub mod Bodies
+pub mod NodeLists

@@ -10,7 +10,8 @@ use std::fmt;
 /// own: profile.)
 #[derive(Clone, Copy, Debug, PartialEq, Eq)]
 pub enum ExpandErrorKind {
-    /// A token with a character that isn't ASCII, or no name or value where a definition needs one.
+    /// A token with a character that isn't ASCII, or no name or value where a definition needs one;
+    /// or a token of more than 64 bytes that may stand in many places.
     BadToken,
     /// A number that a word of 18 bits can't hold.
     NumberRange,
@@ -23,9 +24,10 @@ pub enum ExpandErrorKind {
     OpenDefinition,
     /// A name behind `use` that no body before it has.
     UnknownBody,
-    /// A `use` by which all stand for more than 262,144 tokens.
+    /// A `use` by which all stand for more than 262,144 tokens, or a list of nodes by which the
+    /// copies of all have more.
     TooLarge,
-    /// No name of a node behind `to`.
+    /// No name of a node behind `to`, or in a list of nodes.
     BadNode,
     /// A node behind `to` that is no neighbour, or a direction in which the grid ends.
     NoNeighbour,

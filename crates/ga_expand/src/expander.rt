@@ -124,12 +124,7 @@ impl Expander {
     }
 
     /// A label whose address is put on the stack.
-    fn take_label(
-        &mut self,
-        label: &[u8],
-        text: &[u8],
-        place: Place,
-    ) -> Result<(), ExpandErrorKind>
+    fn take_label(&mut self, label: &[u8], text: &[u8], place: Place) -> Result<(), ExpandErrorKind>
         ensures { Took self.old self.new (model.addressed (scope_of self.old)
             (piece_here text.now place) (Some label.now)) result }
     {

@@ -9,7 +9,7 @@ ghost use Rattle.ga_expand.specs.declared.error.ExpandErrorKind.TheVariants.{Mem
 
 use crate::error::ExpandError;
 use crate::expander::Expander;
-use crate::unfolding::unfold;
+use crate::node_lists::sections;
 use ga_source::{Place, Token, tokens};
 use std::alloc::{AllocError, Global};
 
@@ -67,7 +67,7 @@ pub fn expand(alloc: Global, source: &str) -> Result<Expansion, ExpandError>
     // a text of the plain language stays as it is
     ensures plain { PlainStays source.now }
 {
-    let pieces = unfold(alloc, source)?;
+    let pieces = sections(alloc, source)?;
     let mut expander = Expander::new(alloc);
     for piece in &pieces {
         expander.take(*piece)?;

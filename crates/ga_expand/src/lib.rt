@@ -7,6 +7,7 @@ mod error;
 mod expander;
 mod expansion;
 mod literal;
+mod node_lists;
 mod piece;
 mod places;
 mod sides;

@@ -20,11 +20,11 @@ use ga_source::Place;
 use std::alloc::{AllocError, Global};
 use std::mem;
 
-/// The most bytes of a token of a body, and of an argument.
-const LONGEST: usize = 64;
+/// The most bytes of a token of a body, of an argument, and of a token that is copied.
+pub(crate) const LONGEST: usize = 64;
 
-/// The most tokens that all `use`s of a text stand for.
-const MOST_UNFOLDED: usize = 262_144;
+/// The most tokens that all `use`s of a text stand for, and those that all its lists stand for.
+pub(crate) const MOST_UNFOLDED: usize = 262_144;
 
 /// The body that is being defined: the place of its `body`, and its name.
 #[derive(Clone, Copy)]
