@@ -80,7 +80,7 @@ larger_entries = (
     ) ∷
     (codes "UnknownBody", codes "no body before it has this name", UNKNOWN_BODY.now) ∷ (
       codes "TooLarge",
-      codes "all 'use' of the text stand for more than 262,144 tokens",
+      codes "all 'use' of the text, or all its lists, stand for more than 262,144 tokens",
       TOO_LARGE.now,
     ) ∷
     []

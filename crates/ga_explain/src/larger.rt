@@ -37,7 +37,7 @@ pub fn topics() -> [Topic; 6]
         ),
         topic!(
             "TooLarge",
-            "all 'use' of the text stand for more than 262,144 tokens",
+            "all 'use' of the text, or all its lists, stand for more than 262,144 tokens",
             TOO_LARGE,
         ),
     ]
@@ -128,14 +128,15 @@ Fixed:
 
 const TOO_LARGE: &str = "\
 TooLarge: with this 'use' all of the text stand for more than 262,144 tokens.
-Those in bodies count, too.
+Those in bodies count, too. Or the sections of all lists of nodes, as of 'node
+708,709', have more.
 
   $ { echo body B; seq 9999; echo end node 709; yes use B | head -n 27; } |
     ga-bench expand
   ga-bench: expand 10028:5 TooLarge
     use B
         ^
-  all 'use' of the text stand for more than 262,144 tokens
+  all 'use' of the text, or all its lists, stand for more than 262,144 tokens
 
 Fixed:
 
