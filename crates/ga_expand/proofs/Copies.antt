@@ -62,21 +62,6 @@ node_token (c ∷ cs) h =
     and_from (not (bytes_eq text (codes "\\"))) (list_all (λ c. not (is_blank c)) text)
     (digit_no_comment c cs first) (digits_are_written text digits)
 
--- one name more
-pub names_more : (place : Place) (texts : List (Bor (List ℕ))) (i : ℕ) (text : Bor (List ℕ))
-    (old new : List here.Piece) (one : here.Piece) → i < length texts → text ≡ get_or texts i text
-    → piece_in one ≡ name_at place text.now
-    → map piece_in old ≡ map (λ t. name_at place t.now) (take i texts) → new ≡ old ++ one ∷ []
-    → map piece_in new ≡ map (λ t. name_at place t.now) (take (i + 1) texts)
-names_more place texts i text old new one inside at is so_far more =
-    let named : Bor (List ℕ) → Piece = λ t. name_at place t.now in
-    ap (map piece_in) more ∙ map-append piece_in old (one ∷ [])
-    ∙ ap (λ (ps : List Piece). ps ++ piece_in one ∷ []) so_far
-    ∙ ap (λ (p : Piece). map named (take i texts) ++ p ∷ []) is
-    ∙ sym (ap (map named) (take_more texts i text inside
-    ∙ ap (λ (t : Bor (List ℕ)). take i texts ++ t ∷ []) (sym at))
-    ∙ map-append named (take i texts) (text ∷ []))
-
 pub names_all : (place : Place) (texts : List (Bor (List ℕ)))
     → map (λ t. name_at place t.now) texts ≡ map (name_at place) (texts_in texts)
 names_all place [] = refl

@@ -79,11 +79,6 @@ pub whole_err : {A : Type 0} (result : Result A ExpandError) (text : List ℕ) (
 whole_err (Ok a) text now e h = tt
 whole_err (Err error) text now e h = λ some. e ∙ h some
 
-pub not_unfolded : (text : List ℕ) (fault : Fault) → unfolded (pieces_of text) ≡ Err fault
-    → expansion text ≡ Err fault
-unfolding expansion
-not_unfolded text fault e = ap (λ r. expanded (spread r)) e
-
 pub not_spread : (text : List ℕ) (fault : Fault)
     → spread (unfolded (pieces_of text)) ≡ Err fault → expansion text ≡ Err fault
 unfolding expansion

@@ -94,9 +94,8 @@ failed kind line column =
 constant_and_neighbour : ◌≡◌ {A = Expansion} (expansion (codes "const A 'A' node 708 A to 709 b!"))
     (Ok (at (codes "node") 1 13 ∷ at (codes "708") 1 18 ∷ at (codes "$00041") 1 22
     ∷ at (codes "$001D5") 1 24 ∷ at (codes "b!") 1 31 ∷ []))
-unfolding expansion unfolded_from read_at spread_from expansion_from pieces_of lexemes step_at word_of
-    literal_of value_of meaning_of
-    is_reserved hex_digits at
+unfolding expansion unfolded_from read_at spread_from expansion_from pieces_of lexemes step_at
+    word_of literal_of value_of meaning_of is_reserved hex_digits at
 constant_and_neighbour = refl
 
 -- behind an opcode that takes a destination, and behind `,`, `to` and `east` are names of labels
@@ -104,36 +103,36 @@ labels_stay : ◌≡◌ {A = Expansion} (expansion (codes "node 708 east: jump t
     (Ok (at (codes "node") 1 1 ∷ at (codes "708") 1 6 ∷ at (codes "east:") 1 10
     ∷ at (codes "jump") 1 16 ∷ at (codes "to") 1 21 ∷ at (codes ",") 1 24 ∷ at (codes "east") 1 26
     ∷ []))
-unfolding expansion unfolded_from read_at spread_from expansion_from pieces_of lexemes step_at word_of
-    literal_of meaning_of at
+unfolding expansion unfolded_from read_at spread_from expansion_from pieces_of lexemes step_at
+    word_of literal_of meaning_of at
 labels_stay = refl
 
 open_definition : ◌≡◌ {A = Expansion} (expansion (codes "const A 1 const B"))
     (failed OpenDefinition 1 11)
-unfolding expansion unfolded_from read_at spread_from expansion_from pieces_of lexemes step_at literal_of
-    value_of is_reserved meaning_of failed
+unfolding expansion unfolded_from read_at spread_from expansion_from pieces_of lexemes step_at
+    literal_of value_of is_reserved meaning_of failed
 open_definition = refl
 
 reserved_name : ◌≡◌ {A = Expansion} (expansion (codes "const dup 1")) (failed ReservedName 1 7)
-unfolding expansion unfolded_from read_at spread_from expansion_from pieces_of lexemes step_at is_reserved
-    meaning_of failed
+unfolding expansion unfolded_from read_at spread_from expansion_from pieces_of lexemes step_at
+    is_reserved meaning_of failed
 reserved_name = refl
 
 duplicate_name : ◌≡◌ {A = Expansion} (expansion (codes "const A 1 const A 2"))
     (failed DuplicateName 1 17)
-unfolding expansion unfolded_from read_at spread_from expansion_from pieces_of lexemes step_at literal_of
-    value_of is_reserved meaning_of failed
+unfolding expansion unfolded_from read_at spread_from expansion_from pieces_of lexemes step_at
+    literal_of value_of is_reserved meaning_of failed
 duplicate_name = refl
 
 no_value : ◌≡◌ {A = Expansion} (expansion (codes "const A B")) (failed BadToken 1 9)
-unfolding expansion unfolded_from read_at spread_from expansion_from pieces_of lexemes step_at literal_of
-    value_of is_reserved meaning_of failed
+unfolding expansion unfolded_from read_at spread_from expansion_from pieces_of lexemes step_at
+    literal_of value_of is_reserved meaning_of failed
 no_value = refl
 
 no_neighbour : ◌≡◌ {A = Expansion} (expansion (codes "node 708 dup to 710"))
     (failed NoNeighbour 1 17)
-unfolding expansion unfolded_from read_at spread_from expansion_from pieces_of lexemes step_at word_of
-    literal_of meaning_of failed
+unfolding expansion unfolded_from read_at spread_from expansion_from pieces_of lexemes step_at
+    word_of literal_of meaning_of failed
 no_neighbour = refl
 
 -- ---- shared bodies
@@ -143,8 +142,8 @@ one_argument : ◌≡◌ {A = Expansion}
     (expansion (codes "body PUT X\nX b! end node 708 use PUT 5 dup"))
     (Ok (at (codes "node") 2 10 ∷ at (codes "708") 2 15 ∷ at (codes "5") 2 27 ∷ at (codes "b!") 2 3
     ∷ at (codes "dup") 2 29 ∷ []))
-unfolding expansion unfolded_from read_at spread_from expansion_from pieces_of lexemes step_at word_of
-    literal_of meaning_of is_reserved at
+unfolding expansion unfolded_from read_at spread_from expansion_from pieces_of lexemes step_at
+    word_of literal_of meaning_of is_reserved at
 one_argument = refl
 
 -- a body that uses another one, in which `to` is by the node of the `use`
@@ -152,8 +151,8 @@ two_uses : ◌≡◌ {A = Expansion} (expansion (codes
     "body STEP X\nto X a! end body TWICE X\nuse STEP X use STEP X end node 708 use TWICE 709"))
     (Ok (at (codes "node") 3 27 ∷ at (codes "708") 3 32 ∷ at (codes "$001D5") 2 1
     ∷ at (codes "a!") 2 6 ∷ at (codes "$001D5") 2 1 ∷ at (codes "a!") 2 6 ∷ []))
-unfolding expansion unfolded_from read_at spread_from expansion_from pieces_of lexemes step_at word_of
-    literal_of meaning_of is_reserved hex_digits at
+unfolding expansion unfolded_from read_at spread_from expansion_from pieces_of lexemes step_at
+    word_of literal_of meaning_of is_reserved hex_digits at
 two_uses = refl
 
 -- the X of the body A is no parameter of B
@@ -161,15 +160,15 @@ own_parameters : ◌≡◌ {A = Expansion}
     (expansion (codes "body A\nX end body B X\nuse A X end node 708 use B 5"))
     (Ok (at (codes "node") 3 13 ∷ at (codes "708") 3 18 ∷ at (codes "X") 2 1 ∷ at (codes "5") 3 28
     ∷ []))
-unfolding expansion unfolded_from read_at spread_from expansion_from pieces_of lexemes step_at word_of
-    literal_of meaning_of is_reserved at
+unfolding expansion unfolded_from read_at spread_from expansion_from pieces_of lexemes step_at
+    word_of literal_of meaning_of is_reserved at
 own_parameters = refl
 
 use_is_a_label : ◌≡◌ {A = Expansion} (expansion (codes "node 708 use: jump use"))
     (Ok (at (codes "node") 1 1 ∷ at (codes "708") 1 6 ∷ at (codes "use:") 1 10
     ∷ at (codes "jump") 1 15 ∷ at (codes "use") 1 20 ∷ []))
-unfolding expansion unfolded_from read_at spread_from expansion_from pieces_of lexemes step_at word_of
-    literal_of meaning_of at
+unfolding expansion unfolded_from read_at spread_from expansion_from pieces_of lexemes step_at
+    word_of literal_of meaning_of at
 use_is_a_label = refl
 
 no_body : ◌≡◌ {A = Expansion} (expansion (codes "node 708 use A")) (failed UnknownBody 1 14)
