@@ -29,7 +29,9 @@ fn copies_by_their_node(rt: HostRuntime) -> Result<(), Fail> {
     let made = expand(rt.alloc(), "node 708,710 to 709 b!").map_err(|_| "refused")?;
     let expected = "node 708 $001D5 b! node 710 $00175 b!";
     assert!(rt; made.text.split_whitespace().eq(expected.split_whitespace()));
-    let error = expand(rt.alloc(), "node 708,99 dup").err().ok_or("accepted")?;
+    let error = expand(rt.alloc(), "node 708,99 dup")
+        .err()
+        .ok_or("accepted")?;
     assert!(rt; error.kind == ExpandErrorKind::BadNode && error.column == 6);
     Ok(())
 }
