@@ -2,8 +2,9 @@
 """Makes the syntax files for Vim and VS Code from the program's words: scripts/for_editors.py PROGRAM [FOLDER]
 
 It writes editors/vim/syntax/ and editors/vscode/syntaxes/ into the repository or into FOLDER. The words are the
-program's: opcodes as `dis` shows them, reserved words those in `explain ReservedLabel` that `asm` refuses as labels, and
-commands the lines of `help` at the prompt. Run it when they have changed; tests/editors.py compares.
+program's: opcodes as `dis` shows them, reserved words those in `explain ReservedLabel` that `asm` refuses as labels,
+words of the larger language those of LARGER that `expand` refuses as names of constants, and commands the lines of
+`help` at the prompt. Run it when they have changed; tests/editors.py compares.
 
 `tokens` has one entry for each kind of token, for both editors: a new kind is a new entry.
 """
@@ -19,13 +20,16 @@ ROOT = os.path.dirname(os.path.dirname(os.path.abspath(__file__)))
 MADE = "Made by scripts/for_editors.py from the program's words; change that, and not this file."
 
 # Lists of words: opcodes without a destination, and those with one; reserved words that are numbers, and the others;
-# commands with a node behind them and without, in transcripts, and which of them sessions and replay texts have.
-Words = namedtuple("Words", "opcodes jumps numbers keywords node_commands commands session")
+# words of the larger language that are numbers, and the others; commands with a node behind them and without, in
+# transcripts, and which of them sessions and replay texts have.
+Words = namedtuple("Words", "opcodes jumps numbers keywords directions larger node_commands commands session")
 # A kind of token: its name, what Vim and VS Code show it as, and its pattern, in what Python and Oniguruma share.
 Token = namedtuple("Token", "name vim scope pattern")
 
 NAME = "[A-Za-z_][A-Za-z0-9_]{0,15}"
 NODE = "[0-7](?:0[0-9]|1[0-7])"
+LARGER = "const body end use to north east south west".split()
+SIDE = "(?:right|down|left|up)"
 # A number behind a command. Registers and labels may look like hex digits, too.
 VALUE = "(?:x?[0-9][0-9A-Fa-f]{0,6}|[A-F][0-9A-F]{1,6})"
 HEAD = "profile 2\nplace\nnode 000 .\ngo\n"
@@ -53,6 +57,13 @@ def reserved(program, known):
             yield word, ran(program, f"node 000 jump {word}", "asm").startswith("node ")
 
 
+def larger(program):
+    """The words of the larger language, each with whether it is a number."""
+    for word in LARGER:
+        if "ReservedName" in ran(program, f"const {word} 1\n", "expand"):
+            yield word, "$" in ran(program, f"node 308 {word}\n", "expand")
+
+
 def refuses(program, mark, command, *arguments):
     """Whether this command isn't known behind `go`, with the mark in front of it."""
     return ran(program, f"{HEAD}{mark}{command}\n", *arguments).endswith("refused BadCommand\n")
@@ -69,7 +80,7 @@ def helped(program):
 
 def read_words(program):
     every = dict(opcodes(program))
-    named = dict(reserved(program, every))
+    named, added = dict(reserved(program, every)), dict(larger(program))
     forms = {name: words for name, words in helped(program) if not refuses(program, "> ", name, "record")}
     at_nodes = [name for name, words in forms.items() if words.startswith(" NNN")]
     return Words(
@@ -77,6 +88,8 @@ def read_words(program):
         [name for name, jumps in every.items() if jumps],
         [name for name, is_number in named.items() if is_number],
         [name for name, is_number in named.items() if not is_number],
+        [name for name, is_number in added.items() if is_number],
+        [name for name, is_number in added.items() if not is_number],
         at_nodes,
         [name for name in forms if name not in at_nodes],
         [name for name in forms if not refuses(program, "", name, "debug")],
@@ -87,7 +100,18 @@ def any_of(words):
     return "(?:" + "|".join(re.sub(r"(\W)", r"\\\1", word) for word in words) + ")"
 
 
-def tokens(words):
+def added_tokens(words):
+    """The kinds of tokens that only the larger language has."""
+    return [
+        Token("Keyword", "PreProc", "keyword.other", any_of(words.larger)),
+        Token("NumberName", "Constant", "constant.language", any_of(words.directions)),
+        Token("NumberName", "Constant", "constant.language", rf"{SIDE}(?:\|{SIDE})+"),
+        Token("Number", "Number", "constant.numeric", "(?:-[0-9]{1,8}|%[01]{1,18}|'[!-~]')"),
+        Token("Name", "Identifier", "variable.other", "&" + NAME),
+    ]
+
+
+def tokens(words, is_larger):
     """The kinds of tokens of source text. The first that fits is shown."""
     every = words.opcodes + words.jumps + words.numbers + words.keywords
     sections = [word for word in words.keywords if word != "node"]
@@ -100,11 +124,17 @@ def tokens(words):
         Token("NumberName", "Constant", "constant.language", any_of(words.numbers)),
         Token("Node", "PreProc", "keyword.other", "node"),
         Token("Keyword", "PreProc", "keyword.other", any_of(sections)),
+        *(added_tokens(words) if is_larger else []),
         Token("Mark", "Delimiter", "punctuation.definition", any_of(["[", "]", ",", "/"])),
         Token("Number", "Number", "constant.numeric", r"(?:[0-9]{1,8}|\$[0-9A-Fa-f]{1,8})"),
         Token("Name", "Identifier", "variable.other", NAME),
         Token("Error", "Error", "invalid.illegal", r"\S+"),
     ]
+
+
+def node_names(is_larger):
+    """What may stand behind `node`."""
+    return rf"{NODE}(?:,{NODE})*" if is_larger else NODE
 
 
 # What else is shown, and as what. In Vim each name is used in one file only, or a file that includes another changes it.
@@ -130,7 +160,8 @@ SHOWN = {
 
 def vim(pattern):
     """A pattern as Vim has it."""
-    very_magic = pattern.replace(r"(?!\S)", r"\S@!").replace("(?:", "%(").replace('"', r"\"")
+    very_magic = re.sub(r"[%&](?!\()", r"\\\g<0>", pattern.replace("(?:", "%("))
+    very_magic = very_magic.replace(r"(?!\S)", r"\S@!").replace('"', r"\"")
     return f'"\\v{very_magic}"'
 
 
@@ -149,14 +180,17 @@ def vim_file(what, name, lines, links):
     return "\n".join([*head, *(it.rstrip("\n") for it in lines), "", *links, "", f'let b:current_syntax = "{name}"', ""])
 
 
-def vim_source(words):
+def vim_source(words, is_larger=False):
     lines = ['" Of two that begin at one place, Vim takes the later one.', vim_match("BadNode", r"\S+", "contained")]
-    for it in reversed(tokens(words)):
+    for it in reversed(tokens(words, is_larger)):
         pattern = it.pattern if it.name == "Comment" else it.pattern + r"(?!\S)"
         more = ["nextgroup=gaNodeName,gaBadNode,gaComment skipwhite skipempty"] if it.name == "Node" else []
         lines += [vim_match(it.name, r"(?<!\S)" + pattern, *more)]
-    lines += [vim_match("NodeName", whole(NODE), "contained")]
-    links = [(it.name, it.vim) for it in tokens(words)] + [(name, SHOWN[name][0]) for name in ("NodeName", "BadNode")]
+    lines += [vim_match("NodeName", whole(node_names(is_larger)), "contained")]
+    links = [(it.name, it.vim) for it in tokens(words, is_larger)]
+    links += [(name, SHOWN[name][0]) for name in ("NodeName", "BadNode")]
+    if is_larger:
+        return vim_file("larger source text", "galarger", lines, links)
     return vim_file("source text", "gasource", lines, links)
 
 
@@ -223,15 +257,16 @@ def grammar(name, title, repository, patterns):
     return json.dumps(found, indent=2) + "\n"
 
 
-def vscode_source(words):
-    node = rf"(?<!\S)(node)(?:[ \t]+({NODE})(?!\S)|[ \t]+(?!\\(?!\S))(\S+)|(?!\S))"
+def vscode_source(words, is_larger=False):
+    node = rf"(?<!\S)(node)(?:[ \t]+({node_names(is_larger)})(?!\S)|[ \t]+(?!\\(?!\S))(\S+)|(?!\S))"
     patterns = []
-    for it in tokens(words):
+    for it in tokens(words, is_larger):
         end = "" if it.name == "Comment" else r"(?!\S)"
         patterns += [scoped(it.scope) | {"match": rf"(?<!\S){it.pattern}{end}"}]
         if it.name == "Node":
             patterns[-1] = {"match": node, "captures": captured("Head", "NodeName", "BadNode")}
-    return grammar("source", "ga-bench source", {"token": {"patterns": patterns}}, [{"include": "#token"}])
+    name, title = ("larger", "ga-bench larger source") if is_larger else ("source", "ga-bench source")
+    return grammar(name, title, {"token": {"patterns": patterns}}, [{"include": "#token"}])
 
 
 HEAD_PATTERNS = [
@@ -291,9 +326,11 @@ def made(program):
     words = read_words(program)
     return {
         "editors/vim/syntax/gasource.vim": vim_source(words),
+        "editors/vim/syntax/galarger.vim": vim_source(words, is_larger=True),
         "editors/vim/syntax/gasession.vim": vim_session(words),
         "editors/vim/syntax/gatranscript.vim": vim_transcript(words),
         "editors/vscode/syntaxes/source.tmLanguage.json": vscode_source(words),
+        "editors/vscode/syntaxes/larger.tmLanguage.json": vscode_source(words, is_larger=True),
         "editors/vscode/syntaxes/session.tmLanguage.json": vscode_session(words),
         "editors/vscode/syntaxes/transcript.tmLanguage.json": vscode_transcript(words),
     }

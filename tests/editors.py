@@ -31,6 +31,8 @@ VSCODE, VIM = f"{ROOT}/editors/vscode", f"{ROOT}/editors/vim"
 SECONDS = 60
 JUMPS = {"jump", "call", "next", "if", "-if"}
 NUMBERS = {"right", "down", "left", "up", "io", "rdlu", "warm"}
+LARGER = {"const", "body", "end", "use", "to"}
+DIRECTIONS = {"north", "east", "south", "west"}
 # Commands without a node behind them.
 OF_CHIP = {"turn", "run", "breaks", "where", "nodes", "map"}
 # What a sign is, with its group of Vim and its scope of VS Code.
@@ -72,6 +74,15 @@ MORE = {
         ("  node 820 node \\", "node,bad node,node,comment"),
         ("; ex @p @+ é :", "opcode,opcode,opcode,opcode,error,error"),
     ],
+    "faults.larger": [
+        ("const ONE_1 -5 \\ 1", "keyword,name,number,comment,comment"),
+        ("body PUT WHERE value end use PUT east", "keyword,name,name,name,keyword,keyword,name,name of a number"),
+        ("node 709,710,0x1 node 709,710 node 708", "node,bad node,node,name of a node,node,name of a node"),
+        ("to 709 north ' 'A' '\\' '' 'AB' '~'", "keyword,number,name of a number,error,number,number,error,error,number"),
+        ("%101 %2 % -123456789 - -1 include", "number,error,error,error,opcode,number,name"),
+        ("up|down up|io right|left|up|down |up", "name of a number,error,name of a number,error"),
+        ("&again & &1 to: - &x", "name,error,error,label,opcode,name"),
+    ],
     "named.transcript": [
         ("profile 2", "head,head"),
         ("route 708,709/708,608", "place,path"),
@@ -105,6 +116,8 @@ FAULTS = {
     "two words.source": ("node 000 main: jump mian\n", "UndefinedLabel", 1, 21),
     "node.source": ("node 820\n", "BadNode", 1, 6),
     "unext.source": ("node 000\n  unext\n", "UnextAlone", 2, 3),
+    "label.larger": ("body B\n  jump gone\nend\nnode 708 use B\n", "UndefinedLabel", 2, 8),
+    "neighbour.larger": ("node 708\n  to 710 b!\n", "NoNeighbour", 2, 6),
     "head.transcript": ("profile 2\nplace\nnode 000\n  foo\ngo\n> turn 4\nmoved 5\n", "BadToken", 4, 3),
     "reply.transcript": ("profile 2\nplace\nnode 000 .\ngo\n> turn 4\nmoved 5\n", "differs", 5, 0),
     "early.transcript": ("profile 2\nplace\nnode 000 .\ngo\nfoo\n> turn 4\nmoved 4\n", "EarlyReply", 5, 0),
@@ -114,10 +127,11 @@ FAULTS = {
 }
 GOOD = {
     "good.source": "node 000 main: . again: jump again\n",
+    "good.larger": "node 000,001 main: . again: jump again\n",
     "good.transcript": "profile 2\nplace\nnode 000 .\ngo\n> turn 4\nmoved 4\n",
     "good.replay": "profile 2\nplace\nnode 000 .\ngo\nturn 4 = 4\n",
 }
-TASKS = {".source": 0, ".transcript": 1, ".replay": 2}
+TASKS = {".source": 0, ".larger": 0, ".transcript": 1, ".replay": 2}
 
 
 class Counts:
@@ -146,11 +160,27 @@ def opcodes_of_page():
 # What each sign of a text is.
 
 
+NAME = r"[A-Za-z_][A-Za-z0-9_]{0,15}"
+
+
+def kind_in_larger(token, before):
+    """What a token is that only the larger language has, or none of it."""
+    if before == "node" and re.fullmatch(r"[0-7](0\d|1[0-7])(,[0-7](0\d|1[0-7]))+", token):
+        return "name of a node"
+    sides = token.split("|")
+    fits = {
+        "keyword": token in LARGER,
+        "name of a number": token in DIRECTIONS or len(sides) > 1 and {*sides} <= {"right", "down", "left", "up"},
+        "number": re.fullmatch(r"-\d{1,8}|%[01]{1,18}|'[!-~]'", token),
+        "name": re.fullmatch("&" + NAME, token),
+    }
+    return next((kind for kind, fit in fits.items() if fit and before != "node"), None)
+
+
 def kind_of_token(token, before, opcodes):
     """What a token of source text is, behind the token before it."""
     if before == "node":
         return "name of a node" if re.fullmatch(r"[0-7](0\d|1[0-7])", token) else "bad node"
-    name = r"[A-Za-z_][A-Za-z0-9_]{0,15}"
     fits = {
         "jump": token in JUMPS,
         "opcode": token in opcodes,
@@ -159,13 +189,13 @@ def kind_of_token(token, before, opcodes):
         "keyword": token in ("align", "data"),
         "mark": token in ("[", "]", ",", "/"),
         "number": re.fullmatch(r"\d{1,8}|\$[0-9A-Fa-f]{1,8}", token),
-        "name": re.fullmatch(name, token),
-        "label": re.fullmatch(name + ":", token) and token[:-1] not in {*opcodes, *JUMPS, *NUMBERS, "node", "align", "data"},
+        "name": re.fullmatch(NAME, token),
+        "label": re.fullmatch(NAME + ":", token) and token[:-1] not in {*opcodes, *JUMPS, *NUMBERS, "node", "align", "data"},
     }
     return next((kind for kind, fit in fits.items() if fit), "error")
 
 
-def of_source(lines, opcodes):
+def of_source(lines, opcodes, is_larger=False):
     """For each line the tokens with what they are."""
     before = None
     for line in lines:
@@ -174,7 +204,8 @@ def of_source(lines, opcodes):
             if token == "\\" or found and found[-1][1] == "comment":
                 found.append((token, "comment"))
                 continue
-            found.append((token, kind_of_token(token, before, opcodes)))
+            added = kind_in_larger(token, before) if is_larger else None
+            found.append((token, added or kind_of_token(token, before, opcodes)))
             before = token
         yield found
 
@@ -216,7 +247,9 @@ def of_session(lines, opcodes, is_transcript):
 def kinds(path, opcodes):
     """For each line of an example its tokens with what they are."""
     lines = read(path).split("\n")
-    return [*(of_source(lines, opcodes) if path.endswith(".source") else of_session(lines, opcodes, path.endswith(".transcript")))]
+    if path.endswith((".source", ".larger")):
+        return [*of_source(lines, opcodes, path.endswith(".larger"))]
+    return [*of_session(lines, opcodes, path.endswith(".transcript"))]
 
 
 def expected(lines, column):
@@ -241,7 +274,7 @@ def first_difference(actual, wanted):
 def texts(room, opcodes):
     """All examples, and the texts of MORE, in files: each path with the tokens of its lines."""
     for path in sorted(glob.glob(f"{ROOT}/examples/*/*")):
-        if path.endswith((".source", ".transcript", ".replay")):
+        if path.endswith((".source", ".larger", ".transcript", ".replay")):
             yield path, kinds(path, opcodes)
     for name, lines in MORE.items():
         with open(f"{room}/{name}", "w", encoding="utf-8") as file:
@@ -260,6 +293,7 @@ def words(counts, program, room, opcodes):
     counts.same("the opcodes", sorted(found.opcodes + found.jumps), sorted(opcodes))
     counts.same("the opcodes with a destination", {*found.jumps}, JUMPS)
     counts.same("the names of numbers", {*found.numbers}, NUMBERS)
+    counts.same("the words of the larger language", ({*found.larger}, {*found.directions}), (LARGER, DIRECTIONS))
     counts.same("the commands without a node", {*found.commands}, OF_CHIP)
 
 
@@ -393,7 +427,7 @@ def has_vim():
     return "+syntax" in told and "+quickfix" in told
 
 
-FILETYPES = {".source": "gasource", ".transcript": "gatranscript", ".replay": "gasession"}
+FILETYPES = {".source": "gasource", ".larger": "galarger", ".transcript": "gatranscript", ".replay": "gasession"}
 
 
 def vim(counts, program, room, opcodes):

@@ -19,6 +19,7 @@ CompilerSet errorformat=%-P%f
 CompilerSet errorformat+=%-G%*\\d\ %*\\S\ %*\\x
 CompilerSet errorformat+=%-Gsame\ %*\\d
 CompilerSet errorformat+=%Ega-bench:\ source\ %l:%c\ %m
+CompilerSet errorformat+=%Ega-bench:\ expand\ %l:%c\ %m
 CompilerSet errorformat+=%Ega-bench:\ asm\ %*\\d\ %l:%c\ %m
 CompilerSet errorformat+=%Ega-bench:\ source\ %f:%l:%c\ %m
 CompilerSet errorformat+=%Ega-bench:\ asm\ %*\\d\ %f:%l:%c\ %m
