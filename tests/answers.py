@@ -541,11 +541,11 @@ def transcript_of(output):
 
 
 def output_of(ask, job, text, answer):
-    """The expected output. The text of a FILE with a fault of source text is read in the larger language."""
+    """The expected output. The text of a FILE with a fault of source text, and no session, is read in the larger language."""
     try:
         return job.kind.answer(ask, job, text, answer)
     except Fault as fault:
-        if not job.has_file() or not re.match("(source|asm) ", fault.text):
+        if not job.has_file() or text.startswith("profile") or not re.match("(source|asm) ", fault.text):
             raise
     pieces = [*expansion(text)]
     plain = expanded_text(pieces)

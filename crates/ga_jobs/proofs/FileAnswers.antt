@@ -1,9 +1,9 @@
 -- An answer to a text, or to what it expands to, is an answer to a file.
-use Rattle.std.proofs.Common.{inl, inr, ℕ, List, Result, Ok, Err}
+use Rattle.std.proofs.Common.{◌≡◌, false, inl, inr, ℕ, List, Result, Ok, Err}
 use Rattle.ga_jobs.specs.declared.fault.ServeError.{ServeError}
 use Rattle.ga_jobs.specs.declared.fault.ServeError.TheVariants.{Memory, Read, Write}
 use Rattle.ga_jobs.specs.Fault.{Answers, FailsRightly}
-use Rattle.ga_jobs.specs.Larger.{IsOfFile, IsOfLarger}
+use Rattle.ga_jobs.specs.Larger.{IsOfFile, IsOfLarger, is_session}
 
 module _ {B : Type 0} (Is : List ℕ → Result B ServeError → Type 0) (input : List ℕ) where
   -- any fault but of a read or a write
@@ -22,7 +22,8 @@ module _ {B : Type 0} (Is : List ℕ → Result B ServeError → Type 0) (input 
   as_plain view (Err fault) is = file_fault (Is input) fault is
 
   pub as_larger : {A : Type 0} (view : A → B) (result : Result A ServeError)
-      → Answers view (IsOfLarger Is input) result → Answers view (IsOfFile Is input) result
+      → is_session input ≡ false → Answers view (IsOfLarger Is input) result
+      → Answers view (IsOfFile Is input) result
   unfolding IsOfFile
-  as_larger view (Ok a) is = inr is
-  as_larger view (Err fault) is = file_fault (IsOfLarger Is input) fault is
+  as_larger view (Ok a) plain is = inr (plain, is)
+  as_larger view (Err fault) plain is = file_fault (IsOfLarger Is input) fault is

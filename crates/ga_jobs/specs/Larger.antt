@@ -1,5 +1,6 @@
 -- What the program may do for a file, whose source text may be of the larger language.
-use Rattle.std.specs.Prelude.{◌≡◌, ◌⊎◌, ℕ, List, Option, Result, Ok, Err, take}
+use Rattle.std.specs.Prelude.{◌≡◌, ◌⊎◌, ℕ, Bool, false, List, codes, nat_eq, Option, Result, Ok, Err, take}
+use Rattle.std.specs.List.{starts_with}
 use Rattle.std.specs.Io.KnownBytes.{Appends, Keeps}
 use Rattle.ga_jobs.specs.declared.Job.{Job}
 use Rattle.ga_jobs.specs.declared.engine.Ending.{Ending}
@@ -16,11 +17,16 @@ IsOfLarger Is input (Ok found) =
     (plain : List ℕ) × IsExpandOutput input (Ok plain) × Is plain (Ok found)
 IsOfLarger Is input (Err fault) = Unit {0}
 
--- An answer to the bytes of a file: one to the bytes themselves, or to what `expand` may write for
--- them; or any fault.
+-- a session, and no source text
+abbrev pub is_session : List ℕ → Bool
+is_session input = starts_with nat_eq input (codes "profile")
+
+-- An answer to the bytes of a file: one to the bytes themselves, or, if they are no session, to what
+-- `expand` may write for them; or any fault.
 unfoldable pub IsOfFile : {B : Type 0} → (List ℕ → Result B ServeError → Type 0) → List ℕ
     → Result B ServeError → Type 0
-IsOfFile Is input (Ok found) = Is input (Ok found) ⊎ IsOfLarger Is input (Ok found)
+IsOfFile Is input (Ok found) =
+    Is input (Ok found) ⊎ ((is_session input ≡ false) × IsOfLarger Is input (Ok found))
 IsOfFile Is input (Err fault) = Unit {0}
 
 -- What an answer means for the bytes of a file and the writer's bytes, old and new. Without a fault

@@ -1,8 +1,8 @@
 //! Files whose source text may be of the larger language.
-ghost use Rattle.std.specs.Prelude.{IfOk, string_bytes};
+ghost use Rattle.std.specs.Prelude.{◌≡◌, IfOk, IfSome, false, string_bytes};
 ghost use Rattle.ga_jobs.specs.Answering.{IsOutput};
 ghost use Rattle.ga_jobs.specs.Fault.{Answers};
-ghost use Rattle.ga_jobs.specs.Larger.{IsOfFile, IsOfLarger, ServesFile};
+ghost use Rattle.ga_jobs.specs.Larger.{IsOfFile, IsOfLarger, ServesFile, is_session};
 ghost use Rattle.ga_jobs.specs.Session.{IsSession};
 ghost use Rattle.ga_jobs.specs.inner.Larger.{IsExpandedText, IsOfInput};
 
@@ -42,9 +42,9 @@ pub fn serve_file<Rt: AllocGlobal + Threads + Clock + Sync, W: Write>(
 }
 
 /// What a job answers to the bytes of a file, as [`answer`] does. If they are source text with a
-/// fault, they are read as text of the larger language: the answer is the one to the text that they
-/// expand to, and a fault of that comes at the place where its token was written. (The language is
-/// this project's own: profile.)
+/// fault, and no session, they are read as text of the larger language: the answer is the one to
+/// the text that they expand to, and a fault of that comes at the place where its token was
+/// written. (The language is this project's own: profile.)
 pub fn answer_file<Rt: AllocGlobal + Threads + Clock + Sync>(
     rt: &Rt,
     job: &Job,
@@ -54,7 +54,7 @@ pub fn answer_file<Rt: AllocGlobal + Threads + Clock + Sync>(
 {
     match answer(rt, job, input) {
         Ok(output) => Ok(output),
-        Err(fault) => match source_fault(&fault) {
+        Err(fault) => match plain_fault(input, &fault) {
             Some(_) => answer_larger(rt, job, input),
             None => Err(fault),
         },
@@ -70,10 +70,21 @@ pub fn open_file(alloc: Global, loading: &Loading, input: &[u8]) -> Result<Live,
 {
     match open_session(alloc, loading, input) {
         Ok(live) => Ok(live),
-        Err(fault) => match source_fault(&fault) {
+        Err(fault) => match plain_fault(input, &fault) {
             Some(_) => open_larger(alloc, loading, input),
             None => Err(fault),
         },
+    }
+}
+
+/// The fault of source text by itself, if it is one.
+fn plain_fault(input: &[u8], fault: &ServeError) -> Option<TextError>
+    ensures { IfSome result (λ _. is_session input.now ≡ false) }
+{
+    if input.starts_with(b"profile") {
+        None
+    } else {
+        source_fault(fault)
     }
 }
 

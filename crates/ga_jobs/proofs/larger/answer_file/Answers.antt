@@ -14,7 +14,7 @@ returns-in-Ok g c =
 pub returns-in-Some : goal.returns-in-Some
 returns-in-Some g c =
     as_larger (IsOutput c.args.job.now) c.args.input.now string_bytes c.answer_larger.result
-    c.answer_larger.ensures
+    c.in-Some.ensures c.answer_larger.ensures
 
 pub returns-in-None : goal.returns-in-None
 returns-in-None g c =

@@ -14,7 +14,7 @@ returns-in-Ok c =
 pub returns-in-Some : goal.returns-in-Some
 returns-in-Some c =
     as_larger (IsSession c.args.loading.now) c.args.input.now (λ live. live) c.open_larger.result
-    c.open_larger.ensures
+    c.in-Some.ensures c.open_larger.ensures
 
 pub returns-in-None : goal.returns-in-None
 returns-in-None c =
