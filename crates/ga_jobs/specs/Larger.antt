@@ -21,8 +21,8 @@ IsOfLarger Is input (Err fault) = Unit {0}
 abbrev pub is_session : List ℕ → Bool
 is_session input = starts_with nat_eq input (codes "profile")
 
--- An answer to the bytes of a file: one to the bytes themselves, or, if they are no session, to what
--- `expand` may write for them; or any fault.
+-- An answer to the bytes of a file: one to the bytes themselves, or, if they are no session, to
+-- what `expand` may write for them; or any fault.
 unfoldable pub IsOfFile : {B : Type 0} → (List ℕ → Result B ServeError → Type 0) → List ℕ
     → Result B ServeError → Type 0
 IsOfFile Is input (Ok found) =
