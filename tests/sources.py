@@ -203,7 +203,7 @@ def random_texts(program, folder):
         came, wanted = (run(program, ["check", it], cwd=folder) for it in (file, whole))
         fault = re.match(r"ga-bench: (source|asm \d+) \d", wanted[2])
         if fault:
-            alone = run(program, ["list", "two.source"], cwd=folder)
+            alone = run(program, ["list"], source.encode())
             told = re.sub(r"^ga-bench: (source|asm \d+) ", r"ga-bench: \1 two.source:", alone[2])
             expect(f"random {round_}: fault", came, (1, "", told))
             continue
