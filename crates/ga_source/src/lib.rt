@@ -18,4 +18,4 @@ pub use name::Name;
 pub use places::ItemPlace;
 pub use program::{Program, parse};
 pub use section::Section;
-pub use token::{Place, Token, tokens};
+pub use token::{Place, Token, end_place, tokens};

@@ -69,8 +69,9 @@ fn is_comment(run: &[u8]) -> bool
     run == b"\\".as_slice()
 }
 
-/// The place behind the last character of a text.
-pub(crate) fn end_place(text: &str) -> Place
+/// The place behind the last character of a text, where faults of its end are. (The texts are this
+/// project's own: profile.)
+pub fn end_place(text: &str) -> Place
     ensures { place_of result ≡ end_of text.now }
 {
     Place { line: 1, column: 1 }.behind(text.as_bytes())

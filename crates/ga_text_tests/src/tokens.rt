@@ -1,4 +1,4 @@
-use ga_source::{Token, tokens};
+use ga_source::{Place, Token, end_place, tokens};
 use std::alloc::Global;
 use std::test::Fail;
 
@@ -29,5 +29,11 @@ fn tokens_of_texts(rt: HostRuntime) -> Result<(), Fail> {
     ];
     let mixed = "é €x \u{1D11E} dup \\ dup\r\n\tdup";
     assert!(rt; has_tokens(rt.alloc(), mixed, &expected)?);
+    Ok(())
+}
+
+#[test]
+fn end_of_a_text(rt: HostRuntime) -> Result<(), Fail> {
+    assert!(rt; end_place("dup\né € \r") == Place { line: 2, column: 6 });
     Ok(())
 }
