@@ -9,6 +9,7 @@ use Rattle.ga_jobs.specs.declared.engine.Ending.TheVariants as ending
 use Rattle.ga_jobs.specs.declared.fault.ServeError.{ServeError}
 use Rattle.ga_jobs.specs.declared.fault.ServeError.TheVariants.{Read, Write, Memory}
 use Rattle.ga_jobs.specs.Answering.{IsOutput}
+use Rattle.ga_jobs.specs.Larger.{IsOfFile}
 
 -- how a job ended, by the text that it wrote: a race is each text of `race` but for those without
 -- one
@@ -17,20 +18,29 @@ ending_of (job.Race loading turns witness file) text =
     if starts_with nat_eq text (codes "no race") then ending.Done else ending.Race
 ending_of job text = ending.Done
 
--- What an answer means for the input and the writer's bytes, old and new. Without a fault an output
--- of the job was appended, and nothing else, and the answer says how it ended. If a write failed, a
--- prefix of one was appended. Otherwise nothing was written, and a fault of the input is its first.
+-- What an answer means for the writer's bytes, old and new, if outputs are those of a relation.
+-- Without a fault an output was appended, and nothing else, and the answer says how it ended. If a
+-- write failed, a prefix of one was appended. Otherwise nothing was written, and a fault of the
+-- input is one that the relation has.
+abbrev pub WritesAnswer : (Result (List ℕ) ServeError → Type 0) → Job → Option (List ℕ)
+    → Option (List ℕ) → Result Ending ServeError → Type 0
+WritesAnswer Is job old new (Ok ended) =
+    (text : List ℕ) × Is (Ok text) × Appends old new text × (ended ≡ ending_of job text)
+WritesAnswer Is job old new (Err Write) =
+    (text : List ℕ) × Is (Ok text) × ((count : ℕ) × Appends old new (take count text))
+WritesAnswer Is job old new (Err Read) = Keeps old new
+WritesAnswer Is job old new (Err Memory) = Keeps old new
+WritesAnswer Is job old new (Err fault) = Is (Err fault) × Keeps old new
+
+-- for an input of standard input
 abbrev pub Serves : Job → List ℕ → Option (List ℕ) → Option (List ℕ) → Result Ending ServeError
     → Type 0
-Serves job input old new (Ok ended) =
-    (text : List ℕ) × IsOutput job input (Ok text) × Appends old new text
-    × (ended ≡ ending_of job text)
-Serves job input old new (Err Write) =
-    (text : List ℕ) × IsOutput job input (Ok text)
-    × ((count : ℕ) × Appends old new (take count text))
-Serves job input old new (Err Read) = Keeps old new
-Serves job input old new (Err Memory) = Keeps old new
-Serves job input old new (Err fault) = IsOutput job input (Err fault) × Keeps old new
+Serves job input old new answer = WritesAnswer (IsOutput job input) job old new answer
+
+-- for the bytes of a file
+abbrev pub ServesFile : Job → List ℕ → Option (List ℕ) → Option (List ℕ) → Result Ending ServeError
+    → Type 0
+ServesFile job input old new answer = WritesAnswer (IsOfFile (IsOutput job) input) job old new answer
 
 -- 3 when out of memory, 1 for a race and for every other fault
 abbrev pub status_of : Result Ending ServeError → ℕ

@@ -50,8 +50,8 @@ pub mod Debug
 pub mod Answering
 pub mod Reading
 pub mod Writing
-pub mod Engine
 pub mod Larger
+pub mod Engine
 pub mod inner
 
 -- what a job may answer to an input that is not too long

@@ -1,10 +1,11 @@
 //! Files whose source text may be of the larger language.
-ghost use Rattle.std.specs.Prelude.{◌≡◌, IfOk, IfSome, false, string_bytes};
+ghost use Rattle.std.specs.Prelude.{◌≡◌, IfOk, string_bytes};
+ghost use Rattle.ga_source.specs.Token.{place_of};
 ghost use Rattle.ga_jobs.specs.Answering.{IsOutput};
+ghost use Rattle.ga_jobs.specs.Engine.{ServesFile};
 ghost use Rattle.ga_jobs.specs.Fault.{Answers};
-ghost use Rattle.ga_jobs.specs.Larger.{IsOfFile, IsOfLarger, ServesFile, is_session};
+ghost use Rattle.ga_jobs.specs.Larger.{IsExpandedInput, IsOfFile, IsOfLarger, as_written, at_origin, origin, plain_fault, source_fault};
 ghost use Rattle.ga_jobs.specs.Session.{IsSession};
-ghost use Rattle.ga_jobs.specs.inner.Larger.{IsExpandedText, IsOfInput};
 
 use crate::Job;
 use crate::answering::answer;
@@ -18,7 +19,7 @@ use crate::writes::Writes;
 use crate::writing::write_output;
 use ga_asm::{AsmError, TextError};
 use ga_expand::{Expansion, expand};
-use ga_source::{Place, SourceError};
+use ga_source::{Place, SourceError, end_place};
 use ga_transcript::Live;
 use std::alloc::{AllocError, Global};
 use std::io::Write;
@@ -41,10 +42,11 @@ pub fn serve_file<Rt: AllocGlobal + Threads + Clock + Sync, W: Write>(
     Ok(ending_of(job, text.as_str()))
 }
 
-/// What a job answers to the bytes of a file, as [`answer`] does. If they are source text with a
-/// fault, and no session, they are read as text of the larger language: the answer is the one to
-/// the text that they expand to, and a fault of that comes at the place where its token was
-/// written. (The language is this project's own: profile.)
+/// What a job answers to the bytes of a file, as [`answer`] does. If they are refused as source
+/// text, and don't begin with `profile`, they are read as text of the larger language: the answer is
+/// the one to the text that they expand to. A fault of that text comes at the place where its token
+/// was written, and one of the larger language as `expand` reports it. (The language is this
+/// project's own: profile.)
 pub fn answer_file<Rt: AllocGlobal + Threads + Clock + Sync>(
     rt: &Rt,
     job: &Job,
@@ -77,9 +79,9 @@ pub fn open_file(alloc: Global, loading: &Loading, input: &[u8]) -> Result<Live,
     }
 }
 
-/// The fault of source text by itself, if it is one.
+/// The fault of an input that is source text, if a fault is one.
 fn plain_fault(input: &[u8], fault: &ServeError) -> Option<TextError>
-    ensures { IfSome result (λ _. is_session input.now ≡ false) }
+    ensures { result ≡ plain_fault input.now fault.now }
 {
     if input.starts_with(b"profile") {
         None
@@ -88,8 +90,10 @@ fn plain_fault(input: &[u8], fault: &ServeError) -> Option<TextError>
     }
 }
 
-/// The fault of source text, if it is one.
-fn source_fault(fault: &ServeError) -> Option<TextError> {
+/// The fault of source text, if a fault is one.
+fn source_fault(fault: &ServeError) -> Option<TextError>
+    ensures { result ≡ source_fault fault.now }
+{
     match fault {
         ServeError::Source(error) => Some(TextError::Source(*error)),
         ServeError::Asm(error) => Some(TextError::Asm(*error)),
@@ -110,8 +114,7 @@ fn answer_larger<Rt: AllocGlobal + Threads + Clock + Sync>(
 ) -> Result<String, ServeError>
     ensures { Answers string_bytes (IsOfLarger (IsOutput job.now) input.now) result }
 {
-    let text = input_text(input)?;
-    let made = expanded(rt.alloc(), text)?;
+    let (text, made) = expanded(rt.alloc(), input)?;
     match answer(rt, job, made.text.as_bytes()) {
         Ok(output) => Ok(output),
         Err(fault) => Err(as_written(rt.alloc(), text, &made, fault)?),
@@ -122,34 +125,35 @@ fn answer_larger<Rt: AllocGlobal + Threads + Clock + Sync>(
 fn open_larger(alloc: Global, loading: &Loading, input: &[u8]) -> Result<Live, ServeError>
     ensures { Answers (λ live. live) (IsOfLarger (IsSession loading.now) input.now) result }
 {
-    let text = input_text(input)?;
-    let made = expanded(alloc, text)?;
+    let (text, made) = expanded(alloc, input)?;
     match open_session(alloc, loading, made.text.as_bytes()) {
         Ok(live) => Ok(live),
         Err(fault) => Err(as_written(alloc, text, &made, fault)?),
     }
 }
 
-/// What a text of the larger language expands to, or its first fault with the lines that are shown
-/// of it.
-fn expanded(alloc: Global, text: &str) -> Result<Expansion, ServeError>
-    ensures { Answers (λ made. made) (IsExpandedText text.now) result }
+/// An input as text, and what it expands to; or its first fault with the lines that are shown of
+/// the text.
+fn expanded(alloc: Global, input: &[u8]) -> Result<(&str, Expansion), ServeError>
+    ensures text { IfOk result (λ found. found.0.now ≡ input.now) }
+    ensures made { Answers (λ found. found.1) (IsExpandedInput input.now) result }
 {
+    let text = input_text(input)?;
     match expand(alloc, text) {
-        Ok(made) => Ok(made),
+        Ok(made) => Ok((text, made)),
         Err(error) => Err(shown_expand_fault(alloc, text, error)?),
     }
 }
 
-/// A fault of the text that a text expands to: if it has a place, at the one where its token was
-/// written, with the lines that are shown of the text.
+/// The fault of an expansion as it is reported: if it is one of source text, at the place where its
+/// token was written, with the lines that are shown of the text.
 fn as_written(
     alloc: Global,
     text: &str,
     made: &Expansion,
     fault: ServeError,
 ) -> Result<ServeError, AllocError>
-    ensures { IfOk result (λ written. IsOfInput fault → IsOfInput written) }
+    ensures { IfOk result (λ written. written ≡ as_written text.now made.now fault) }
 {
     match source_fault(&fault) {
         Some(error) => shown_fault(alloc, text, at_origin(alloc, text, made, error)?),
@@ -158,19 +162,18 @@ fn as_written(
 }
 
 /// A fault of an expansion, at the place where its token was written.
+#[tactic(auto, unfolding(crate::specs::Larger::at_origin))]
 fn at_origin(
     alloc: Global,
     text: &str,
     made: &Expansion,
     error: TextError,
-) -> Result<TextError, AllocError> {
+) -> Result<TextError, AllocError>
+    ensures { IfOk result (λ written. written ≡ at_origin text.now made.now error) }
+{
     match error {
         TextError::Source(error) => {
-            let place = Place {
-                line: error.line,
-                column: error.column,
-            };
-            let Place { line, column } = origin(alloc, text, made, place)?;
+            let Place { line, column } = origin(alloc, text, made, error.line, error.column)?;
             Ok(TextError::Source(SourceError {
                 line,
                 column,
@@ -178,11 +181,7 @@ fn at_origin(
             }))
         }
         TextError::Asm(error) => {
-            let place = Place {
-                line: error.line,
-                column: error.column,
-            };
-            let Place { line, column } = origin(alloc, text, made, place)?;
+            let Place { line, column } = origin(alloc, text, made, error.line, error.column)?;
             Ok(TextError::Asm(AsmError {
                 line,
                 column,
@@ -195,24 +194,18 @@ fn at_origin(
 
 /// The place where the token at a place of an expansion was written. The expansion's end is the
 /// text's end.
-fn origin(alloc: Global, text: &str, made: &Expansion, place: Place) -> Result<Place, AllocError> {
-    match made.origin(alloc, place)? {
+fn origin(
+    alloc: Global,
+    text: &str,
+    made: &Expansion,
+    line: usize,
+    column: usize,
+) -> Result<Place, AllocError>
+    ensures { IfOk result (λ place. place_of place
+        ≡ origin text.now made.now (record { line = line; column = column })) }
+{
+    match made.origin(alloc, Place { line, column })? {
         Some(place) => Ok(place),
-        None => Ok(end_of(text)),
+        None => Ok(end_place(text)),
     }
-}
-
-/// The place behind the last character of a text.
-fn end_of(text: &str) -> Place {
-    let mut line: usize = 1;
-    let mut column: usize = 1;
-    for character in text.chars() {
-        if character == '\n' {
-            line = line.saturating_add(1);
-            column = 1;
-        } else {
-            column = column.saturating_add(1);
-        }
-    }
-    Place { line, column }
 }
