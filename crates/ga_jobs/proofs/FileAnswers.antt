@@ -80,7 +80,8 @@ module _ {B : Type 0} (Is : List ℕ → Result B ServeError → Type 0) (input 
       → written ≡ as_written text made fault → FailsRightly (IsOfLarger Is input) written
   expansion_fails made expands bytes text of_made of_input fault written is as_is =
       subst (FailsRightly (IsOfLarger Is input)) (sym as_is)
-      (subst (λ text. FailsRightly (IsOfLarger Is input) (as_written text made fault)) (sym of_input)
+      (subst (λ text. FailsRightly (IsOfLarger Is input) (as_written text made fault))
+      (sym of_input)
       (found_fails made expands fault (subst (λ bytes. FailsRightly (Is bytes) fault) of_made is)))
 
   pub expansion_answers : (made : Expansion) → IsExpandedInput input (Ok made) → (bytes : List ℕ)
