@@ -11,6 +11,7 @@ use Rattle.ga_wave.specs.declared.deed.Did.TheVariants.{Posts, SeesRead}
 use Rattle.ga_wave.specs.declared.deed.Intent.TheVariants.{Post, Check}
 use Rattle.ga_node.specs.declared.need.Need.TheVariants as need
 use Rattle.ga_wave.specs.declared.sample.Sample.{Sample}
+use Rattle.ga_wave.specs.declared.signal.Signal.TheVariants as signal
 use Rattle.ga_wave.specs.declared.value.Value.TheVariants as value
 use Rattle.ga_wave.specs.declared.work.Work.TheVariants.{Runs}
 use Rattle.ga_wave.specs.Change.{changes}
@@ -18,6 +19,7 @@ use Rattle.ga_wave.specs.Deed.{did_text, intent_of, step_did}
 use Rattle.ga_wave.specs.Header.{declarations, scope}
 use Rattle.ga_wave.specs.Identifier.{identifier}
 use Rattle.ga_wave.specs.Sample.{word_at}
+use Rattle.ga_wave.specs.Save.{heading, saved_signal}
 use Rattle.ga_wave.specs.Value.{label_or, value_text}
 use Rattle.ga_wave.specs.Wave.{turn_block}
 
@@ -123,3 +125,16 @@ turn = refl
 
 no_turn : turn_block 12 [] ≡ []
 no_turn = refl
+
+-- in a save file: a text, and a port with its bits
+saved_text : saved_signal 708 signal.Did ≡ codes "[color] 2\n@820\nchip.n708.did\n"
+unfolding digits
+saved_text = refl
+
+saved_port : saved_signal 708 (signal.Port Right) ≡ codes "[color] 3\n@22\nchip.n708.right_to_709[17:0]\n"
+unfolding digits
+saved_port = refl
+
+saved_heading : heading 5 ≡ codes "@200\n-005\n"
+unfolding digits
+saved_heading = refl

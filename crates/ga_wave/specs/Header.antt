@@ -27,32 +27,47 @@ declared_type signal.Io = codes "reg 18 "
 declared_type (signal.Port side) = codes "wire 18 "
 
 -- the name of a port: its side, and the node that reads there
-abbrev pub declared_by : Side → Option ℕ → List ℕ
-declared_by side (Some reader) =
-    codes " " ++ side_text side ++ codes "_to_" ++ node_text reader ++ codes " [17:0]"
-declared_by side None = []
+abbrev pub port_name : Side → Option ℕ → List ℕ
+port_name side (Some reader) = side_text side ++ codes "_to_" ++ node_text reader
+port_name side None = []
 
--- the name of a signal of a node, behind a blank, with its bits
-abbrev pub declared_name : ℕ → Signal → List ℕ
-declared_name name signal.Did = codes " did"
-declared_name name signal.At = codes " at"
-declared_name name signal.Op = codes " op"
-declared_name name signal.Busy = codes " busy"
-declared_name name signal.P = codes " p [9:0]"
-declared_name name signal.T = codes " t [17:0]"
-declared_name name signal.S = codes " s [17:0]"
-declared_name name signal.R = codes " r [17:0]"
-declared_name name signal.A = codes " a [17:0]"
-declared_name name signal.B = codes " b [8:0]"
-declared_name name signal.Io = codes " io [17:0]"
-declared_name name (signal.Port side) = declared_by side (neighbour_of name side)
+-- the name of a signal of a node
+abbrev pub signal_name : ℕ → Signal → List ℕ
+signal_name name signal.Did = codes "did"
+signal_name name signal.At = codes "at"
+signal_name name signal.Op = codes "op"
+signal_name name signal.Busy = codes "busy"
+signal_name name signal.P = codes "p"
+signal_name name signal.T = codes "t"
+signal_name name signal.S = codes "s"
+signal_name name signal.R = codes "r"
+signal_name name signal.A = codes "a"
+signal_name name signal.B = codes "b"
+signal_name name signal.Io = codes "io"
+signal_name name (signal.Port side) = port_name side (neighbour_of name side)
+
+-- the bits of a signal, with this in front of them; texts and a single bit have none
+abbrev pub bits : List ℕ → Signal → List ℕ
+bits front signal.Did = []
+bits front signal.At = []
+bits front signal.Op = []
+bits front signal.Busy = []
+bits front signal.P = front ++ codes "[9:0]"
+bits front signal.T = front ++ codes "[17:0]"
+bits front signal.S = front ++ codes "[17:0]"
+bits front signal.R = front ++ codes "[17:0]"
+bits front signal.A = front ++ codes "[17:0]"
+bits front signal.B = front ++ codes "[8:0]"
+bits front signal.Io = front ++ codes "[17:0]"
+bits front (signal.Port side) = front ++ codes "[17:0]"
 
 -- the declaration of a signal, if the node has it
 abbrev pub declaration : ℕ → ℕ → Signal → List ℕ
 declaration name number signal =
     if is_signal name signal
     then concat (codes "$var " ∷ declared_type signal ∷ identifier (signal_number number signal)
-    ∷ declared_name name signal ∷ codes " $end\n" ∷ []) else []
+    ∷ codes " " ∷ signal_name name signal ∷ bits (codes " ") signal ∷ codes " $end\n" ∷ [])
+    else []
 
 unfoldable pub declarations : ℕ → ℕ → List ℕ
 declarations name number = flat_map (declaration name number) SIGNALS

@@ -8,5 +8,6 @@ pub mod Value
 pub mod Change
 pub mod Header
 pub mod Wave
+pub mod Save
 pub mod Laws
 pub mod inner

@@ -1,7 +1,7 @@
 //! The declarations of a waveform.
 ghost use Rattle.std.specs.Prelude.{◌≡◌, ◌++◌, ◌<◌, ◌*◌, OnOk, string_bytes};
 ghost use Rattle.ga_wave.specs.Header as spec;
-ghost use Rattle.ga_wave.specs.Header.{beginning, declared_name, declaration, declared_by, scope};
+ghost use Rattle.ga_wave.specs.Header.{beginning, bits, declaration, port_name, scope, signal_name};
 
 use crate::change::signal_number;
 use crate::identifier::push_identifier;
@@ -59,7 +59,9 @@ fn push_declaration(
     text.push_str("$var ")?;
     text.push_str(declared_type(signal))?;
     push_identifier(text, signal_number(number, signal))?;
-    push_declared_name(text, node, signal)?;
+    text.push_str(" ")?;
+    push_signal_name(text, node, signal)?;
+    push_bits(text, " ", signal)?;
     text.push_str(" $end\n")
 }
 
@@ -77,23 +79,27 @@ fn declared_type(signal: Signal) -> &'static str
     }
 }
 
-/// Adds the name of a signal of a node, behind a blank, with its bits.
-fn push_declared_name(text: &mut String, node: Node, signal: Signal) -> Result<(), AllocError>
+/// Adds the name of a signal of a node.
+pub(crate) fn push_signal_name(
+    text: &mut String,
+    node: Node,
+    signal: Signal,
+) -> Result<(), AllocError>
     ensures { OnOk result (string_bytes text.new ≡ string_bytes text.old
-        ++ declared_name node signal) }
+        ++ signal_name node signal) }
 {
     match signal {
-        Signal::Did => text.push_str(" did"),
-        Signal::At => text.push_str(" at"),
-        Signal::Op => text.push_str(" op"),
-        Signal::Busy => text.push_str(" busy"),
-        Signal::P => text.push_str(" p [9:0]"),
-        Signal::T => text.push_str(" t [17:0]"),
-        Signal::S => text.push_str(" s [17:0]"),
-        Signal::R => text.push_str(" r [17:0]"),
-        Signal::A => text.push_str(" a [17:0]"),
-        Signal::B => text.push_str(" b [8:0]"),
-        Signal::Io => text.push_str(" io [17:0]"),
+        Signal::Did => text.push_str("did"),
+        Signal::At => text.push_str("at"),
+        Signal::Op => text.push_str("op"),
+        Signal::Busy => text.push_str("busy"),
+        Signal::P => text.push_str("p"),
+        Signal::T => text.push_str("t"),
+        Signal::S => text.push_str("s"),
+        Signal::R => text.push_str("r"),
+        Signal::A => text.push_str("a"),
+        Signal::B => text.push_str("b"),
+        Signal::Io => text.push_str("io"),
         Signal::Port(side) => push_port_name(text, side, neighbour(node, side)),
     }
 }
@@ -101,10 +107,27 @@ fn push_declared_name(text: &mut String, node: Node, signal: Signal) -> Result<(
 /// Adds the name of a port: its side, and the node that reads there.
 fn push_port_name(text: &mut String, side: Side, reader: Option<Node>) -> Result<(), AllocError>
     ensures { OnOk result (string_bytes text.new ≡ string_bytes text.old
-        ++ declared_by side reader) }
+        ++ port_name side reader) }
 {
     if let Some(reader) = reader {
-        write!(text, " {}_to_{reader} [17:0]", side_name(side))?;
+        write!(text, "{}_to_{reader}", side_name(side))?;
     }
     Ok(())
+}
+
+/// Adds the bits of a signal, with this in front of them, if it has some.
+pub(crate) fn push_bits(
+    text: &mut String,
+    front: &str,
+    signal: Signal,
+) -> Result<(), AllocError>
+    ensures { OnOk result (string_bytes text.new ≡ string_bytes text.old
+        ++ bits front.now signal) }
+{
+    match signal {
+        Signal::Did | Signal::At | Signal::Op | Signal::Busy => Ok(()),
+        Signal::P => write!(text, "{front}[9:0]"),
+        Signal::B => write!(text, "{front}[8:0]"),
+        _ => write!(text, "{front}[17:0]"),
+    }
 }

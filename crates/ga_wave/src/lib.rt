@@ -8,10 +8,12 @@ mod identifier;
 pub mod laws;
 mod nodes;
 mod sample;
+mod save;
 mod signal;
 mod value;
 mod wave;
 mod work;
 
 pub use nodes::nodes_with_image;
+pub use save::save_text;
 pub use wave::waveform;

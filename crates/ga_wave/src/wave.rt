@@ -72,7 +72,7 @@ fn within(text: String, most: usize) -> Option<String>
 }
 
 /// Those of some nodes that a waveform shows: in order of name, each once.
-fn shown_nodes(alloc: Global, nodes: &[Node]) -> Result<Vec<Node>, AllocError>
+pub(crate) fn shown_nodes(alloc: Global, nodes: &[Node]) -> Result<Vec<Node>, AllocError>
     ensures names { IfOk result (λ shown. shown.items ≡ shown_names nodes.now) }
     ensures count { IfOk result (λ shown. length shown.items ≤ 144) }
 {
