@@ -86,6 +86,12 @@ IsLoaded text (Ok start) =
     × (head.line ≡ start.line) × (head.commands ≡ start.commands)
 IsLoaded text (Err fault) = IsBegun SESSION_PROFILE text (Err fault)
 
+-- the source lines in the head of a text of profile 2, or the first fault of the head
+abbrev pub IsHeadSource : List ℕ → Result (List ℕ) ReplayError → Type 0
+IsHeadSource text (Ok source) =
+    (head : Head) × (head_in SESSION_PROFILE text ≡ Ok head) × (head.source ≡ source)
+IsHeadSource text (Err fault) = head_in SESSION_PROFILE text ≡ Err fault
+
 -- The chip after the head of a text of profile 2, and the number of its line `go`; or the first
 -- fault.
 abbrev pub IsBeginning : List ℕ → Result (Chip × ℕ) ReplayError → Type 0

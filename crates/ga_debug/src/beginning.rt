@@ -1,9 +1,9 @@
-ghost use Rattle.std.specs.Prelude.{◌≡◌, ◌++◌, ◌+◌, ◌<◌, ◌^◌, IfErr, IfOk, None, Some, length, option_map};
+ghost use Rattle.std.specs.Prelude.{◌≡◌, ◌++◌, ◌+◌, ◌<◌, ◌^◌, IfErr, IfOk, None, Some, length, option_map, string_bytes};
 ghost use Rattle.ga_asm.specs.Text.{AtMostOne};
 ghost use Rattle.ga_path.specs.Names.{lists_in};
 ghost use Rattle.ga_path.specs.Stream.{IsBootFault, unreached};
 ghost use Rattle.ga_chip.specs.Chip.{reset_chip, stream_refusal, streamed, unless_refused};
-ghost use Rattle.ga_debug.specs.Beginning.{IsBeginning, IsChipOf, IsLoaded, all_placed, booted_tree, chip_of, start_view};
+ghost use Rattle.ga_debug.specs.Beginning.{IsBeginning, IsChipOf, IsHeadSource, IsLoaded, all_placed, booted_tree, chip_of, start_view};
 ghost use Rattle.ga_path.specs.declared.error.BootError.TheVariants.{Memory};
 ghost use Rattle.ga_debug.specs.ReplayError.{Answers};
 ghost use Rattle.ga_debug.specs.inner.ReplayError.{Gives};
@@ -61,6 +61,16 @@ pub fn load<'a>(alloc: Global, text: &'a str) -> Result<Loaded<'a>, ReplayError>
         line: head.line,
         lines: head.lines,
     })
+}
+
+/// The source lines in the head of a replay text of profile 2, each ended by LF; or the first fault
+/// of the head. They aren't parsed. Fails with [`ReplayError::Memory`] only when out of memory. (The
+/// texts are this project's own: profile.)
+pub fn head_source(alloc: Global, text: &str) -> Result<String, ReplayError>
+    ensures { Answers string_bytes (IsHeadSource text.now) result }
+{
+    let head = head_of(alloc, Profile::Two, text)?;
+    Ok(head.source)
 }
 
 /// A session over the chip of the head of a replay text of profile 2, and the number of its line

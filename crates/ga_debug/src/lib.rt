@@ -28,7 +28,7 @@ mod values;
 mod word;
 
 pub use address::Address;
-pub use beginning::{Loaded, Program, begin, booted_tree, load, placed_chip};
+pub use beginning::{Loaded, Program, begin, booted_tree, head_source, load, placed_chip};
 pub use command::names_command;
 pub use error::DebugError;
 pub use help::HELP;
