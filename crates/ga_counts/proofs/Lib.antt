@@ -1,0 +1,4 @@
+pub mod Keeping
+pub mod OneListing
+pub mod Rows
+mod Worked

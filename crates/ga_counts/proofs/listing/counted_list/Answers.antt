@@ -1,0 +1,14 @@
+use Rattle.ga_counts.proofs.listing.counted_list.Goals as goal
+
+pub returns-in-Ok-clause-listing : goal.returns-in-Ok-clause-listing
+returns-in-Ok-clause-listing c =
+    record {
+      images = _;
+      images_are = record {
+        program = _;
+        program_is = c.in_ok-program.ensures.program;
+        faultless = c.in_ok-images.ensures.none;
+        assembled = c.in_ok-images.ensures.images;
+      };
+      listing_is = c.in-Ok.ensures;
+    }
