@@ -1,3 +1,4 @@
+pub mod Heating
 pub mod Keeping
 pub mod OneListing
 pub mod Rows

@@ -30,18 +30,19 @@ items_length zero (suc left) (word ∷ words) =
 items_length (suc owed) (suc left) (word ∷ words) = ap suc (items_length owed left words)
 
 -- the line of a word more, of those that are left
-pub rows_next : (labels : Labels) (row : ℕ → ℕ → Row) (words : List ℕ) (items : List Item)
-    (address word : ℕ) (item : Item) (old mid new total : List ℕ) → address < length words
+pub rows_next : (labels : Labels) (row : ℕ → ℕ → ItemView → Row) (words : List ℕ)
+    (items : List Item) (address word : ℕ) (item : Item) (old mid new total : List ℕ)
+    → address < length words
     → address < length items → word ≡ get_or words address word → item ≡ get_or items address item
     → old ++ rows_from labels row address (drop address words)
     (drop address (map item_view items)) ≡ total → mid ≡ old ++ label_lines labels address
-    → new ≡ mid ++ row_text labels (row address word) (item_view item)
+    → new ≡ mid ++ row_text labels (row address word (item_view item)) (item_view item)
     → new ++ rows_from labels row (address + 1) (drop (address + 1) words)
     (drop (address + 1) (map item_view items)) ≡ total
 rows_next labels row words items address word item old mid new total h h' word_is item_is inv
     mid_is new_is =
     let views = map item_view items in
-    let own = row_text labels (row address word) (item_view item) in
+    let own = row_text labels (row address word (item_view item)) (item_view item) in
     let lines = label_lines labels address in
     let rest = λ (n : ℕ). rows_from labels row n (drop n words) (drop n views) in
     let cut_words : drop address words ≡ word ∷ drop (suc address) words =
@@ -61,8 +62,8 @@ rows_next labels row words items address word item old mid new total h h' word_i
     ∙ append_assoc old (lines ++ own) (rest (suc address)) ∙ ap (λ t. old ++ t) (sym step) ∙ inv
 
 -- behind the last word nothing is left
-pub rows_end : (labels : Labels) (row : ℕ → ℕ → Row) (words : List ℕ) (views : List ItemView)
-    (address : ℕ) (text total : List ℕ) → length words ≤ address
+pub rows_end : (labels : Labels) (row : ℕ → ℕ → ItemView → Row) (words : List ℕ)
+    (views : List ItemView) (address : ℕ) (text total : List ℕ) → length words ≤ address
     → text ++ rows_from labels row address (drop address words) (drop address views) ≡ total
     → text ≡ total
 rows_end labels row words views address text total h inv =

@@ -1,5 +1,5 @@
 -- The definitions at worked values.
-use Rattle.std.proofs.Common.{◌≡◌, ℕ, ◌+◌, ◌*◌, true, false, List, [], ◌∷◌, refl}
+use Rattle.std.proofs.Common.{Some, ◌≡◌, ℕ, ◌+◌, ◌*◌, true, false, List, [], ◌∷◌, refl}
 use Rattle.std.specs.Prelude.{None, codes, reverse}
 use Rattle.std.specs.Fmt.{digits}
 use Rattle.ga_word.specs.Hex.{hex_digits}
@@ -15,7 +15,7 @@ use Rattle.ga_observe.specs.declared.step.Step.{Step}
 use Rattle.ga_disasm.specs.Disassembling.{Code, Data}
 use Rattle.ga_counts.specs.Columns.{HEAD, cell, counts_text, slots_text}
 use Rattle.ga_counts.specs.Counts.{NO_COUNTS, counts_behind, place_of, word_behind}
-use Rattle.ga_counts.specs.Heat.{heat, is_hot}
+use Rattle.ga_counts.specs.Heat.{heat, is_hot, most_heat}
 use Rattle.ga_counts.specs.Row.{place_text, row_text}
 use Rattle.ga_counts.specs.declared.row.Row.{Row}
 use Rattle.ga_counts.specs.declared.word_counts.WordCounts.{WordCounts}
@@ -73,8 +73,29 @@ not_fetched = refl
 
 -- ---- heat
 
-its_heat : heat counts_709 ≡ 3
+abbrev at_p_a_store : Reading
+at_p_a_store = record {
+  ops = op.FetchP ∷ op.AStore ∷ op.FetchP ∷ op.Nop ∷ [];
+  dest = None;
+  spare = 0;
+}
+
+its_heat : heat 0 (Code at_p_a_store) counts_709 ≡ 3
 its_heat = refl
+
+-- the word 10006 at 006 only jumps there; at 007 it doesn't
+abbrev jump_006 : Reading
+jump_006 = record { ops = op.Jump ∷ []; dest = Some 6; spare = 0 }
+
+spin_has_none : heat 6 (Code jump_006) counts_709 ≡ 0
+spin_has_none = refl
+
+jump_has_some : heat 7 (Code jump_006) counts_709 ≡ 3
+jump_has_some = refl
+
+most_of_two : most_heat (λ address. counts_709) (Code jump_006 ∷ Data 7 ∷ []) ≡ 3
+unfolding most_heat
+most_of_two = refl
 
 half_is_hot : is_hot 3 6 ≡ true
 half_is_hot = refl
@@ -113,13 +134,6 @@ unfolding row_text place_text counts_text slots_text cell digits hex_digits
 line_of_003 = refl
 
 -- code
-abbrev at_p_a_store : Reading
-at_p_a_store = record {
-  ops = op.FetchP ∷ op.AStore ∷ op.FetchP ∷ op.Nop ∷ [];
-  dest = None;
-  spare = 0;
-}
-
 abbrev row_000 : Row
 row_000 = record { address = 0; word = 0x04A12; line = 12; counts = counts_709; is_hot = true }
 

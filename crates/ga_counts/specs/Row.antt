@@ -12,7 +12,7 @@ use Rattle.ga_counts.specs.declared.row.Row.{Row}
 use Rattle.ga_counts.specs.declared.word_counts.WordCounts.{WordCounts}
 use Rattle.ga_counts.specs.Columns.{cell, counts_text}
 use Rattle.ga_counts.specs.Counts.{word_counts}
-use Rattle.ga_counts.specs.Heat.{heat, highest_of, is_hot}
+use Rattle.ga_counts.specs.Heat.{heat, is_hot, most_heat}
 
 -- how many opcodes a word of code has
 abbrev pub opcodes_in : ItemView → ℕ
@@ -32,33 +32,34 @@ row_text labels row item =
     ∷ place_text row.address row.word row.line
     ∷ item_text labels row.address item ∷ [])
 
--- the row of a word by its counts, the highest count of its node, and its line
-abbrev pub row_by : WordCounts → ℕ → ℕ → ℕ → ℕ → Row
-row_by counts highest text_line address word = record {
+-- the row of a word by its counts, the most heat of its node, and its line
+abbrev pub row_by : WordCounts → ℕ → ℕ → ℕ → ℕ → ItemView → Row
+row_by counts most text_line address word item = record {
   address = address;
   word = word;
   line = text_line;
   counts = counts;
-  is_hot = is_hot (heat counts) highest;
+  is_hot = is_hot (heat address item counts) most;
 }
 
--- The row of a word, by the counts of all nodes, its node, the places of the node's words in the
--- text, and how many lines are before the text.
-abbrev pub row_at : List WordCounts → ℕ → List Place → ℕ → ℕ → ℕ → Row
-row_at words name places before address word =
-    row_by (word_counts words name address) (highest_of words name)
-    (line_at places address + before) address word
+-- The row of a word, by the counts and the most heat of its node, the places of the node's words in
+-- the text, and how many lines are before the text.
+abbrev pub row_at : (ℕ → WordCounts) → ℕ → List Place → ℕ → ℕ → ℕ → ItemView → Row
+row_at counts most places before address word item =
+    row_by (counts address) most (line_at places address + before) address word item
 
 -- the lines of words from an address on, each behind those of its labels
-abbrev pub rows_from : Labels → (ℕ → ℕ → Row) → ℕ → List ℕ → List ItemView → List ℕ
+abbrev pub rows_from : Labels → (ℕ → ℕ → ItemView → Row) → ℕ → List ℕ → List ItemView → List ℕ
 rows_from labels row address (word ∷ words) (item ∷ items) =
-    label_lines labels address ++ row_text labels (row address word) item
+    label_lines labels address ++ row_text labels (row address word item) item
     ++ rows_from labels row (suc address) words items
 rows_from labels row address words items = []
 
 -- The lines of a node's words, and of the labels behind them.
 unfoldable pub rows_of : List WordCounts → ℕ → List Place → ℕ → ImageView → List ℕ
 rows_of words name places before image =
-    rows_from image.labels (row_at words name places before) 0 image.words
-    (items_of image.code_len image.words)
+    let counts = word_counts words name in
+    let items = items_of image.code_len image.words in
+    rows_from image.labels (row_at counts (most_heat counts items) places before) 0 image.words
+    items
     ++ label_lines image.labels (length image.words)

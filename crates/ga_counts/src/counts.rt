@@ -1,5 +1,5 @@
 //! The counts of a run.
-ghost use Rattle.std.specs.Prelude.{◌≡◌, ◌<◌, IfOk, length};
+ghost use Rattle.std.specs.Prelude.{◌≡◌, IfOk, length};
 ghost use Rattle.ga_counts.specs.Counts.{counts_of, word_counts};
 
 use crate::count_watch::CountWatch;
@@ -17,9 +17,8 @@ pub struct Counts {
 }
 
 impl Counts {
-    /// The counts of a word of a node.
+    /// The counts of a word of a node. Addresses from 64 on are the words from 0 on again.
     pub fn word(&self, node: Node, address: usize) -> WordCounts
-        requires { address < 64 }
         ensures { result ≡ word_counts self.now.words.items node address }
     {
         self.words[place_of(node, address)]

@@ -1,35 +1,75 @@
 //! The hottest lines of a node.
-ghost use Rattle.std.specs.Prelude.{◌≡◌};
+ghost use Rattle.std.specs.Prelude.{◌≡◌, map};
+ghost use Rattle.ga_disasm.specs.Disassembling.{item_view};
+ghost use Rattle.ga_counts.specs.Counts.{word_counts};
 ghost use Rattle.ga_counts.specs.Heat as spec;
-ghost use Rattle.ga_counts.specs.Heat.{highest_of};
+ghost use Rattle.ga_counts.specs.Heat.{highest_count, jump_target, most_heat};
 
 use crate::counts::Counts;
 use crate::word_counts::WordCounts;
+use ga_disasm::Item;
+use ga_pack::Packed;
 use ga_place::Node;
+use ga_word::Op;
 
 /// The highest count of a word.
-pub(crate) fn heat(counts: &WordCounts) -> u64
-    ensures { result ≡ spec.heat counts.now }
+fn highest_count(counts: &WordCounts) -> u64
+    ensures { result ≡ highest_count counts.now }
 {
     let first = counts.slot0.max(counts.slot1);
     let last = counts.slot2.max(counts.slot3);
     counts.fetches.max(first.max(last))
 }
 
-/// The highest count of a node.
-pub(crate) fn highest_of(counts: &Counts, node: Node) -> u64
-    ensures { result ≡ highest_of counts.now.words.items node }
+/// Where a word goes that has nothing but a jump.
+fn jump_target(packed: &Packed) -> Option<u16>
+    ensures { result ≡ jump_target packed.now.ops.items packed.now.dest }
 {
-    let mut highest = 0;
-    for address in 0..64 {
-        highest = highest.max(heat(&counts.word(node, address)));
+    match packed.ops.as_slice() {
+        [Op::Jump] => packed.dest,
+        _ => None,
     }
-    highest
 }
 
-/// Whether a line with this highest count is hot in a node with that one.
-pub(crate) fn is_hot(heat: u64, highest: u64) -> bool
-    ensures { result ≡ spec.is_hot heat highest }
+/// Whether a word at an address does nothing but jump there.
+fn spins(address: usize, item: &Item) -> bool
+    ensures { result ≡ spec.spins address (item_view item.now) }
 {
-    heat > 0 && u128::from(heat) * 2 >= u128::from(highest)
+    match item {
+        Item::Code(packed) => match jump_target(packed) {
+            Some(target) => usize::from(target) == address,
+            None => false,
+        },
+        Item::Follower(_) | Item::Data(_) => false,
+    }
+}
+
+/// The heat of the line of a word.
+pub(crate) fn heat(address: usize, item: &Item, counts: &WordCounts) -> u64
+    ensures { result ≡ spec.heat address (item_view item.now) counts.now }
+{
+    if spins(address, item) {
+        0
+    } else {
+        highest_count(counts)
+    }
+}
+
+/// The most heat of the words of a node.
+pub(crate) fn most_heat(counts: &Counts, node: Node, items: &[Item]) -> u64
+    ensures { result
+        ≡ most_heat (word_counts counts.now.words.items node) (map item_view items.now) }
+{
+    let mut most = 0;
+    for (address, item) in items.iter().enumerate() {
+        most = heat(address, item, &counts.word(node, address)).max(most);
+    }
+    most
+}
+
+/// Whether a line with this heat is hot in a node with that most heat.
+pub(crate) fn is_hot(heat: u64, most: u64) -> bool
+    ensures { result ≡ spec.is_hot heat most }
+{
+    heat > 0 && u128::from(heat) * 2 >= u128::from(most)
 }

@@ -20,9 +20,9 @@ use std::alloc::{AllocError, Global};
 /// It has the lines of `list`, with a head behind the line of each node and columns of counts in
 /// front of the address of each word: how often the word was fetched, and, for each slot that has
 /// an opcode, how often the opcode ran if that is another number. A dot is 0. A star marks a word
-/// whose highest count is at least half of its node's. The number of a word's line has
-/// `lines_before` added. (The text is this project's own: profile.) Fails with `Memory` only when
-/// out of memory.
+/// whose highest count is at least half of its node's, where a word that only jumps to itself is
+/// left out. The number of a word's line has `lines_before` added. (The text is this project's own:
+/// profile.) Fails with `Memory` only when out of memory.
 #[tactic(auto, using(crate::proofs::OneListing::one_listing))]
 pub fn counted_list(
     alloc: Global,

@@ -4,14 +4,12 @@ ghost use Rattle.ga_asm.specs.Image.{labels_of};
 ghost use Rattle.ga_disasm.specs.Disassembling.{item_view};
 ghost use Rattle.ga_list.specs.Row as list_spec;
 ghost use Rattle.ga_source.specs.Token.{place_of};
-ghost use Rattle.ga_counts.specs.Counts.{word_counts};
-ghost use Rattle.ga_counts.specs.Heat as heat_spec;
 ghost use Rattle.ga_counts.specs.Row as spec;
 ghost use Rattle.ga_counts.specs.Row.{opcodes_in, place_text, row_text, rows_of};
 
 use crate::columns::{push_counts, push_number};
 use crate::counts::Counts;
-use crate::heat::{heat, highest_of, is_hot};
+use crate::heat::{heat, is_hot, most_heat};
 use crate::word_counts::WordCounts;
 use ga_asm::Image;
 use ga_disasm::{Item, items};
@@ -51,37 +49,43 @@ pub(crate) fn push_rows(
     let found = items(alloc, words, image.code_len())?;
     let items = found.as_slice();
     let labels = image.labels();
-    let highest = highest_of(counts, node);
+    let most = most_heat(counts, node, items);
     for (address, word) in words.iter().enumerate() {
         push_labels(text, labels, address)?;
         let line = line_at(places, address, before);
-        let row = row_at(counts, node, highest, line, address, *word);
-        push_row(text, alloc, labels, &row, &items[address])?;
+        let item = &items[address];
+        let row = row_at(
+            &counts.word(node, address),
+            most,
+            line,
+            address,
+            *word,
+            item,
+        );
+        push_row(text, alloc, labels, &row, item)?;
     }
     push_labels(text, labels, words.len())?;
     Ok(())
 }
 
-/// The row of a word in a line of the text, in a node with this highest count.
+/// The row of a word in a line of the text, in a node with this most heat.
 fn row_at(
-    counts: &Counts,
-    node: Node,
-    highest: u64,
+    counts: &WordCounts,
+    most: u64,
     line: u128,
     address: usize,
     word: Word18,
+    item: &Item,
 ) -> Row
-    requires { address < 64 }
-    ensures { result ≡ spec.row_by (word_counts counts.now.words.items node address) highest line
-        address word }
+    ensures { result
+        ≡ spec.row_by counts.now most line address word (item_view item.now) }
 {
-    let own = counts.word(node, address);
     Row {
         address,
         word,
         line,
-        counts: own,
-        is_hot: is_hot(heat(&own), highest),
+        counts: *counts,
+        is_hot: is_hot(heat(address, item, counts), most),
     }
 }
 

@@ -6,8 +6,9 @@ use Rattle.ga_disasm.specs.Disassembling.{item_view, items_of}
 use Rattle.ga_list.specs.Row.{label_lines}
 use Rattle.ga_source.specs.Token.{place_of}
 use Rattle.ga_counts.specs.declared.row.Row.{Row}
+use Rattle.ga_counts.specs.declared.word_counts.WordCounts.{WordCounts}
 use Rattle.ga_counts.specs.Counts.{word_counts}
-use Rattle.ga_counts.specs.Heat.{highest_of}
+use Rattle.ga_counts.specs.Heat.{most_heat}
 use Rattle.ga_counts.specs.Row.{row_at, row_by, row_text, rows_from, rows_of}
 use Rattle.ga_counts.proofs.Rows.{items_length, rows_end, rows_next}
 use Rattle.ga_counts.proofs.row.push_rows.Goals as goal
@@ -35,45 +36,51 @@ loop-address-preserved c =
     let address = c.loop-address.address in
     let word = c.index-words-address.result in
     let item = c.index-items-address.result in
-    let row = row_at c.args.counts.now.words.items c.args.node (map place_of c.args.places.now)
-    c.args.before in
+    let view = item_view item in
+    let most = c.most_heat-most.result in
+    let counts = word_counts c.args.counts.now.words.items c.args.node in
+    let row = row_at counts most (map place_of c.args.places.now) c.args.before in
     let h = within address words c.code_len.result c.in_ok-found.found.items items
     c.in_ok-found.ensures.items c.as_slice-items.ensures.value c.loop-address-test.true in
-    let counts = word_counts c.args.counts.now.words.items c.args.node address in
-    let row_is : c.row_at-row.result ≡ row address word =
+    let row_is : c.row_at-row.result ≡ row address word view =
     c.row_at-row.ensures
-    ∙ ap (λ highest. row_by counts highest c.line_at-line.result address word)
-    c.highest_of-highest.ensures
-    ∙ ap (λ n. row_by counts (highest_of c.args.counts.now.words.items c.args.node) n address word)
-    c.line_at-line.ensures in
+    ∙ ap (λ (own : WordCounts). row_by own most c.line_at-line.result address word view)
+    c.word.ensures
+    ∙ ap (λ n. row_by (counts address) most n address word view) c.line_at-line.ensures in
     rows_next labels row words items address word item _
     _ _ _ c.loop-address-test.true h c.index-words-address.is c.index-items-address.is
     c.loop-address.invariant c.in_ok-push_labels.ensures
     (c.in_ok-push_row.ensures ∙ ap (λ (r : Row). string_bytes c.push_labels.new.text
-    ++ row_text labels r (item_view item)) row_is)
+    ++ row_text labels r view) row_is)
 
 pub returns : goal.returns
 unfolding rows_of
 returns c =
     let image = c.args.image.now in
-    let row = row_at c.args.counts.now.words.items c.args.node (map place_of c.args.places.now)
-    c.args.before in
+    let counts = word_counts c.args.counts.now.words.items c.args.node in
+    let row : ℕ → _ = λ most. row_at counts most (map place_of c.args.places.now) c.args.before in
     let labels = labels_of c.labels-labels.result.now.entries in
     let words = c.words-words.result.now in
     let views = map item_view c.as_slice-items.result.now in
+    let most = c.most_heat-most.result in
     let old = string_bytes c.args.text.now in
     let views_are : views ≡ items_of image.code_len image.words =
     ap (map item_view) c.as_slice-items.ensures.value ∙ c.in_ok-found.ensures.items
     ∙ ap (λ n. items_of n words) c.code_len.ensures.value
     ∙ ap (items_of image.code_len) c.words-words.ensures.value in
-    let written = rows_end labels row words views c.loop-address.address
-    (string_bytes c.loop-address.text) (old ++ rows_from labels row 0 words views)
+    let written = rows_end labels (row most) words views c.loop-address.address
+    (string_bytes c.loop-address.text) (old ++ rows_from labels (row most) 0 words views)
     (omega (arith, c.loop-address-test.false)) c.loop-address.invariant in
     c.in_ok-push_labels-2.ensures ∙ ap (λ t. t ++ label_lines labels (length words)) written
-    ∙ append_assoc old (rows_from labels row 0 words views) (label_lines labels (length words))
-    ∙ ap (λ ls. old ++ (rows_from ls row 0 words views ++ label_lines ls (length words)))
+    ∙ append_assoc old (rows_from labels (row most) 0 words views)
+    (label_lines labels (length words))
+    ∙ ap (λ ls. old ++ (rows_from ls (row most) 0 words views ++ label_lines ls (length words)))
     c.labels-labels.ensures.value
-    ∙ ap (λ vs. old ++ (rows_from image.labels row 0 words vs
+    ∙ ap (λ m. old ++ (rows_from image.labels (row m) 0 words views
+    ++ label_lines image.labels (length words))) c.most_heat-most.ensures
+    ∙ ap (λ vs. old ++ (rows_from image.labels (row (most_heat counts vs)) 0 words vs
     ++ label_lines image.labels (length words))) views_are
-    ∙ ap (λ ws. old ++ (rows_from image.labels row 0 ws (items_of image.code_len image.words)
+    ∙ ap (λ ws. old ++ (rows_from image.labels
+    (row (most_heat counts (items_of image.code_len image.words))) 0 ws
+    (items_of image.code_len image.words)
     ++ label_lines image.labels (length ws))) c.words-words.ensures.value
