@@ -15,10 +15,11 @@ use crate::saved_files::SavedFiles;
 use clap::error::ErrorKind::InvalidValue;
 use ga_command_line::{LineError, job, refusal};
 use ga_jobs::record::replacement;
+use ga_jobs::trace::save_text;
 use ga_jobs::{
     Ending, FileReport, InputFault, Job, Loading, Reads, ServeError, ShownText, Sourced, Writes,
-    fault_in_source, open_file, read_input, serve, serve_file, session_source, source_named,
-    source_path, status, write_output,
+    answer, answer_file, fault_in_source, open_file, read_input, serve, serve_file, session_source,
+    source_named, source_path, status, write_output,
 };
 use ga_prompt::{Conversation, SaveFault, Saves};
 use std::alloc::Global;
@@ -37,23 +38,69 @@ fn main(rt: HostRuntime) -> ExitCode {
             talk_status(&rt, &mut rt.reader(), &loading, file.as_str())
         }
         Ok(Job::Rewrite { files }) => rewrite_status(&rt, &files),
-        Ok(job) => match (job.several_files(), job.file()) {
-            (Some(files), _) => check_status(&rt, &mut rt.reader(), files),
-            (None, Some(name)) if is_wrong_word(&rt, name, &job) => refuse_missing(&rt),
-            (None, Some(name)) => serve_named(&rt, name, &job),
-            (None, None) => {
-                let mut reader = rt.reader();
-                if job.reads_input() && reader.is_terminal() {
-                    let _ = eprintln!(&rt;
-                        "ga-bench: reads from this terminal, until Ctrl-D at the beginning of a line"
-                    );
-                }
-                serve_job(&rt, &mut reader, &mut io::writer(&rt), &job)
-            }
-        },
+        Ok(job) => job_status(&rt, &mut rt.reader(), &job),
         Err(error) => refuse(&rt, error),
     };
     ExitCode::from(status)
+}
+
+/// Serves a job with its files, or else with standard input. Answers the exit status.
+fn job_status<
+    Rt: AllocGlobal + Print + Eprint + Threads + Clock + Sync + Files,
+    R: Read + IsTerminal,
+>(
+    rt: &Rt,
+    reader: &mut R,
+    job: &Job,
+) -> u8 {
+    let reads_standard = job.file().is_none() && job.several_files().is_none();
+    if job.reads_input() && reads_standard && reader.is_terminal() {
+        let _ = eprintln!(rt;
+            "ga-bench: reads from this terminal, until Ctrl-D at the beginning of a line"
+        );
+    }
+    if let Job::Trace {
+        loading,
+        nodes,
+        save: Some(save),
+        ..
+    } = job
+    {
+        return reported(rt, &traced(rt, reader, job, loading, nodes, save.as_str()));
+    }
+    match (job.several_files(), job.file()) {
+        (Some(files), _) => check_status(rt, reader, files),
+        (None, Some(name)) if is_wrong_word(rt, name, job) => refuse_missing(rt),
+        (None, Some(name)) => serve_named(rt, name, job),
+        (None, None) => serve_job(rt, reader, &mut io::writer(rt), job),
+    }
+}
+
+/// Writes a waveform to standard output, and then a viewer's save file for it.
+fn traced<Rt: AllocGlobal + Print + Threads + Clock + Sync + Files, R: Read>(
+    rt: &Rt,
+    reader: &mut R,
+    job: &Job,
+    loading: &Loading,
+    nodes: &Option<String>,
+    save: &str,
+) -> Result<Ending, ServeError> {
+    let alloc = rt.alloc();
+    let name = job.file().unwrap_or("-");
+    let input = input_named(rt, reader, name)?;
+    let waveform = match name {
+        "-" => answer(rt, job, &input)?,
+        _ => answer_file(rt, job, &input)?,
+    };
+    let live = open_file(alloc, loading, &input)?;
+    let saved = save_text(alloc, &live, nodes)?;
+    write_output(
+        &mut io::writer(rt),
+        waveform.as_bytes(),
+        &mut Writes::default(),
+    )?;
+    put(rt, save, saved.as_str())?;
+    Ok(Ending::Done)
 }
 
 /// Talks with the session of a file. Answers the exit status.

@@ -3,7 +3,7 @@ use Rattle.std.proofs.Common.{◌≡◌, ◌<◌, Global, String, Vec, length, m
 use Rattle.std.specs.Prelude.{codes}
 use Rattle.clap.proofs.OnLiterals.{clap_on_literals}
 use Rattle.clap.specs.Words.{takes}
-use Rattle.ga_jobs.specs.declared.Job.TheVariants.{One, Asm, Dis, Boot, Race, Map, Trace, Check, Record, Rewrite, Explain}
+use Rattle.ga_jobs.specs.declared.Job.TheVariants.{One, Asm, Dis, Boot, List, Counts, Race, Map, Trace, Report, Check, Record, Rewrite, Explain}
 use Rattle.ga_jobs.specs.declared.race.Loading.TheVariants.{Any}
 use Rattle.ga_explain.specs.declared.topic.Topic.{Topic}
 use Rattle.ga_command_line.specs.Explain.{IsOfTable}
@@ -77,10 +77,30 @@ trace_line : (nodes file : String Global) → string_bytes nodes ≡ codes "708,
     → string_bytes file ≡ codes "ring"
     → IsRight
     (codes "ga-bench" ∷ codes "trace" ∷ codes "--nodes" ∷ codes "708,709" ∷ codes "ring" ∷ [])
-    (Trace Any None (Some nodes) (Some file))
+    (Trace Any None (Some nodes) None (Some file))
 unfolding whole_command clap_on_literals
 trace_line nodes file is names =
-    (refl, (refl, ((refl, refl), refl, ap Some is, ap Some names)), tt)
+    (refl, (refl, ((refl, refl), refl, ap Some is, refl, ap Some names)), tt)
+
+list_line : (file : String Global) → string_bytes file ≡ codes "ring"
+    → IsRight (codes "ga-bench" ∷ codes "list" ∷ codes "--labels" ∷ codes "ring" ∷ [])
+    (List true (Some file))
+unfolding whole_command clap_on_literals
+list_line file is = (refl, (refl, (refl, refl, (refl, refl), refl, ap Some is)), tt)
+
+counts_line : (file : String Global) → string_bytes file ≡ codes "ring"
+    → IsRight
+    (codes "ga-bench" ∷ codes "list" ∷ codes "--counts" ∷ codes "--turns" ∷ codes "14"
+    ∷ codes "ring" ∷ [])
+    (Counts Any (Some 14) (Some file))
+unfolding whole_command clap_on_literals
+counts_line file is =
+    (refl, (refl, (refl, refl, (refl, refl), ((lit< tt, (lit< tt, (lit< tt, tt))), refl),
+    ap Some is)), lit≤ tt)
+
+report_line : IsRight (codes "ga-bench" ∷ codes "report" ∷ []) (Report Any None None)
+unfolding whole_command clap_on_literals
+report_line = (refl, (refl, ((refl, refl), refl, refl)), tt)
 
 two_topics : takes bench_command
     (codes "ga-bench" ∷ codes "explain" ∷ codes "own" ∷ codes "take" ∷ []) ≡ false

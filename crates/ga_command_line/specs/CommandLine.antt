@@ -22,9 +22,10 @@ use Rattle.ga_command_line.specs.MapLine.{map_command}
 use Rattle.ga_command_line.specs.One.{one_command}
 use Rattle.ga_command_line.specs.ProfileLine.{IsStartAt, IsStartInRange, profile_command}
 use Rattle.ga_command_line.specs.Race.{race_command}
+use Rattle.ga_command_line.specs.ReportLine.{report_command}
 use Rattle.ga_command_line.specs.Route.{IsRouteAt}
 use Rattle.ga_command_line.specs.Run.{run_command}
-use Rattle.ga_command_line.specs.TraceLine.{IsListAt, trace_command}
+use Rattle.ga_command_line.specs.TraceLine.{IsListAt, IsSaveAt, trace_command}
 
 -- the command without its subcommands, of which one is required
 unfoldable pub bare_command : App
@@ -47,6 +48,7 @@ command_of sub.Race = race_command
 command_of sub.Map = map_command
 command_of sub.Profile = profile_command
 command_of sub.Trace = trace_command
+command_of sub.Report = report_command
 command_of sub.Check = files_command (codes "check")
 command_of sub.Record = writing_command (codes "record")
 command_of sub.Explain = explain_command
@@ -55,8 +57,8 @@ command_of sub.Explain = explain_command
 abbrev pub subcommands : List Subcommand
 subcommands =
     sub.One ∷ sub.Asm ∷ sub.Dis ∷ sub.Boot ∷ sub.Run ∷ sub.Debug ∷ sub.Replay ∷ sub.Expand ∷
-    sub.List ∷ sub.Race ∷ sub.Map ∷ sub.Profile ∷ sub.Trace ∷ sub.Check ∷ sub.Record ∷
-    sub.Explain ∷ []
+    sub.List ∷ sub.Race ∷ sub.Map ∷ sub.Profile ∷ sub.Trace ∷ sub.Report ∷ sub.Check ∷
+    sub.Record ∷ sub.Explain ∷ []
 
 -- the whole command
 unfoldable pub bench_command : App
@@ -77,7 +79,9 @@ job_name (job.List labels file) = codes "list"
 job_name (job.Race loading turns witness file) = codes "race"
 job_name (job.Map loading turns file) = codes "map"
 job_name (job.Profile loading start turns file) = codes "profile"
-job_name (job.Trace loading turns nodes file) = codes "trace"
+job_name (job.Trace loading turns nodes save file) = codes "trace"
+job_name (job.Counts loading turns file) = codes "list"
+job_name (job.Report loading turns file) = codes "report"
 job_name (job.Check files) = codes "check"
 job_name (job.Record file) = codes "record"
 job_name (job.Rewrite files) = codes "record"
@@ -101,7 +105,13 @@ HasArguments rows (Talk loading file) =
 HasArguments rows (Replay file) = IsFileAt rows (option_map string_bytes file)
 HasArguments rows (job.Expand file) = IsFileAt rows (option_map string_bytes file)
 HasArguments rows (job.List labels file) =
-    (labels ≡ is_set (codes "LABELS") rows) × IsFileAt rows (option_map string_bytes file)
+    (is_set (codes "COUNTS") rows ≡ false) × (labels ≡ is_set (codes "LABELS") rows)
+    × IsLoadingAt rows Any × IsNumberIfAt (codes "N") rows None
+    × IsFileAt rows (option_map string_bytes file)
+HasArguments rows (job.Counts loading turns file) =
+    (is_set (codes "COUNTS") rows ≡ true) × (is_set (codes "LABELS") rows ≡ false)
+    × IsLoadingAt rows loading × IsNumberIfAt (codes "N") rows turns
+    × IsFileAt rows (option_map string_bytes file)
 HasArguments rows (job.Race loading turns witness file) =
     IsLoadingAt rows loading × IsNumberIfAt (codes "N") rows turns
     × (witness ≡ is_set (codes "WITNESS") rows) × IsFileAt rows (option_map string_bytes file)
@@ -111,9 +121,13 @@ HasArguments rows (job.Map loading turns file) =
 HasArguments rows (job.Profile loading start turns file) =
     IsLoadingAt rows loading × IsNumberIfAt (codes "N") rows turns × IsStartAt rows start
     × IsFileAt rows (option_map string_bytes file)
-HasArguments rows (job.Trace loading turns nodes file) =
+HasArguments rows (job.Trace loading turns nodes save file) =
     IsLoadingAt rows loading × IsNumberIfAt (codes "N") rows turns
-    × IsListAt rows (option_map string_bytes nodes) × IsFileAt rows (option_map string_bytes file)
+    × IsListAt rows (option_map string_bytes nodes) × IsSaveAt rows (option_map string_bytes save)
+    × IsFileAt rows (option_map string_bytes file)
+HasArguments rows (job.Report loading turns file) =
+    IsLoadingAt rows loading × IsNumberIfAt (codes "N") rows turns
+    × IsFileAt rows (option_map string_bytes file)
 HasArguments rows (job.Check files) = map string_bytes files.items ≡ files_at rows
 HasArguments rows (job.Record file) =
     (is_set (codes "WRITE") rows ≡ false)
@@ -132,7 +146,9 @@ InRange (job.Race loading turns witness file) = IfSome turns (λ number. number 
 InRange (job.Map loading turns file) = IfSome turns (λ number. number ≤ 1000000)
 InRange (job.Profile loading start turns file) =
     IfSome turns (λ number. number ≤ 1000000) × IsStartInRange start
-InRange (job.Trace loading turns nodes file) = IfSome turns (λ number. number ≤ 1000000)
+InRange (job.Trace loading turns nodes save file) = IfSome turns (λ number. number ≤ 1000000)
+InRange (job.Counts loading turns file) = IfSome turns (λ number. number ≤ 1000000)
+InRange (job.Report loading turns file) = IfSome turns (λ number. number ≤ 1000000)
 InRange (Explain topic) = IsOfTable topic
 InRange job = Unit {0}
 

@@ -7,14 +7,15 @@ pub mod Boot
 pub mod Run
 pub mod Explain
 pub mod File
-pub mod List
 pub mod Flag
 pub mod Loading
 pub mod Turns
+pub mod List
 pub mod Race
 pub mod MapLine
 pub mod ProfileLine
 pub mod TraceLine
+pub mod ReportLine
 pub mod Debug
 pub mod CommandLine
 pub mod inner

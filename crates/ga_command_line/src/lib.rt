@@ -27,6 +27,7 @@ mod profile;
 mod race;
 mod record;
 mod replay;
+mod report;
 mod route;
 mod run;
 mod text;
@@ -55,13 +56,14 @@ pub enum Subcommand {
     Map,
     Profile,
     Trace,
+    Report,
     Check,
     Record,
     Explain,
 }
 
 /// All subcommands.
-const SUBCOMMANDS: [Subcommand; 16] = [
+const SUBCOMMANDS: [Subcommand; 17] = [
     Subcommand::One,
     Subcommand::Asm,
     Subcommand::Dis,
@@ -75,6 +77,7 @@ const SUBCOMMANDS: [Subcommand; 16] = [
     Subcommand::Map,
     Subcommand::Profile,
     Subcommand::Trace,
+    Subcommand::Report,
     Subcommand::Check,
     Subcommand::Record,
     Subcommand::Explain,
@@ -98,6 +101,7 @@ fn command_of<'a>(alloc: Global, subcommand: Subcommand) -> Result<Command<'a>, 
         Subcommand::Map => map::command(alloc),
         Subcommand::Profile => profile::command(alloc),
         Subcommand::Trace => trace::command(alloc),
+        Subcommand::Report => report::command(alloc),
         Subcommand::Check => check::command(alloc),
         Subcommand::Record => record::command(alloc),
         Subcommand::Explain => explain::command(alloc),
@@ -121,11 +125,12 @@ fn job_named(alloc: Global, name: &str, found: &ArgMatches<'_>) -> Result<Job, L
         "debug" => debug::job_of(alloc, found),
         "replay" => Ok(replay::job_of(alloc, found)?),
         "expand" => Ok(expand::job_of(alloc, found)?),
-        "list" => Ok(list::job_of(alloc, found)?),
+        "list" => list::job_of(alloc, found),
         "race" => race::job_of(alloc, found),
         "map" => map::job_of(alloc, found),
         "profile" => profile::job_of(alloc, found),
         "trace" => trace::job_of(alloc, found),
+        "report" => report::job_of(alloc, found),
         "check" => Ok(check::job_of(alloc, found)?),
         "record" => record::job_of(alloc, found),
         "explain" => explain::job_of(alloc, found),

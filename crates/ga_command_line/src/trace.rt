@@ -3,7 +3,7 @@ ghost use Rattle.clap.specs.Words.{found_of, rows_of};
 ghost use Rattle.ga_command_line.specs.CommandLine.{AsksFor, InRange};
 ghost use Rattle.ga_command_line.specs.Loading.{IsLoadingAt};
 ghost use Rattle.ga_command_line.specs.Number.{IsNumberIfAt};
-ghost use Rattle.ga_command_line.specs.TraceLine.{IsListAt, nodes_command, trace_command};
+ghost use Rattle.ga_command_line.specs.TraceLine.{IsListAt, IsSaveAt, nodes_command, save_command, trace_command};
 ghost use Rattle.ga_command_line.specs.inner.Command.{IsCommandOf};
 
 use crate::command_line::LineError;
@@ -21,12 +21,13 @@ Writes a waveform in VCD, for GTKWave: at each turn what each node did, where it
 opcode, its registers, and the words at its ports, each port named by the node that reads there. Reads from
 FILE, or from standard input if FILE is left out or is -: a session or a transcript, whose commands are done
 first; or source text, whose words are placed in their nodes. Makes turns until no node moves but those that
-spin, or N. One turn is 1 ns. Nothing is written if the waveform has more than 268435456 bytes.
+spin, or N. One turn is 1 ns. Nothing is written if the waveform has more than 268435456 bytes. With --save
+it also writes a save file for GTKWave, with the signals to show, their forms and colours.
 
 Example: printf 'node 708 right b! 5 !b\nnode 709 right b! @b' | ga-bench trace > out.vcd
 More: trace in docs/FORMATS.md";
 
-/// The subcommand `trace [--nodes LIST] [--turns N] [--place | --route ROUTE] [FILE]`.
+/// The subcommand `trace [--nodes LIST] [--save SAVE] [--turns N] [--place | --route ROUTE] [FILE]`.
 #[tactic(auto, unfolding(crate::specs::TraceLine::trace_command))]
 pub fn command<'a>(alloc: Global) -> Result<Command<'a>, AllocError>
     ensures { IfOk result (IsCommandOf trace_command) }
@@ -34,11 +35,23 @@ pub fn command<'a>(alloc: Global) -> Result<Command<'a>, AllocError>
     let file = Arg::new(alloc, "FILE").help(
         "The session or the source text; standard input by default or if it is -",
     );
-    let command = nodes_command(alloc)?;
+    let command = save_command(alloc)?;
     command.arg(file)
 }
 
 /// The subcommand without FILE.
+#[tactic(auto, unfolding(crate::specs::TraceLine::save_command))]
+fn save_command<'a>(alloc: Global) -> Result<Command<'a>, AllocError>
+    ensures { IfOk result (IsCommandOf save_command) }
+{
+    let save = Arg::new(alloc, "SAVE")
+        .long("save")
+        .help("The name of a save file for GTKWave, which is written or replaced");
+    let command = nodes_command(alloc)?;
+    command.arg(save)
+}
+
+/// The subcommand without `--save` and FILE.
 #[tactic(auto, unfolding(crate::specs::TraceLine::nodes_command))]
 fn nodes_command<'a>(alloc: Global) -> Result<Command<'a>, AllocError>
     ensures { IfOk result (IsCommandOf nodes_command) }
@@ -58,6 +71,14 @@ fn nodes_in(alloc: Global, found: &ArgMatches<'_>) -> Result<Option<String>, All
     text_in(alloc, found, "LIST")
 }
 
+/// The save file that the arguments name, if they name one.
+fn save_in(alloc: Global, found: &ArgMatches<'_>) -> Result<Option<String>, AllocError>
+    ensures { IfOk result (λ save. IsSaveAt (rows_of (found_of found.now))
+        (option_map string_bytes save)) }
+{
+    text_in(alloc, found, "SAVE")
+}
+
 /// The job for the arguments of `trace`.
 pub fn job_of(alloc: Global, found: &ArgMatches<'_>) -> Result<Job, LineError>
     ensures in_range { IfOk result InRange }
@@ -71,11 +92,13 @@ pub fn job_of(alloc: Global, found: &ArgMatches<'_>) -> Result<Job, LineError>
     let loading = loading_in(alloc, found)?;
     let turns = number_if(alloc, found, "N", 0, TURNS_LIMIT)?;
     let nodes = nodes_in(alloc, found)?;
+    let save = save_in(alloc, found)?;
     let file = file_in(alloc, found)?;
     Ok(Job::Trace {
         loading,
         turns,
         nodes,
+        save,
         file,
     })
 }

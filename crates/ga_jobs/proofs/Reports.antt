@@ -7,7 +7,7 @@ use Rattle.ga_transcript.specs.Compare.{View}
 use Rattle.ga_jobs.specs.declared.fault.ServeError.{ServeError}
 use Rattle.ga_jobs.specs.declared.fault.ServeError.TheVariants.{Memory, Read, Write}
 use Rattle.ga_jobs.specs.Fault.{FailsRightly}
-use Rattle.ga_jobs.specs.Report.{found_text}
+use Rattle.ga_jobs.specs.FileReport.{found_text}
 use Rattle.ga_jobs.specs.Shown.{shown_lines}
 
 pub four_pieces : (a b c d : List ℕ) → a ++ (b ++ (c ++ d)) ≡ a ++ b ++ c ++ d

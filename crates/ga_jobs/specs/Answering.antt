@@ -2,7 +2,7 @@
 use Rattle.std.specs.Prelude.{◌≡◌, ◌&&◌, ℕ, Bool, List, length, nat_lt, MatchBool, Result, Err}
 use Rattle.ga_asm.specs.Text.{AtMostOne}
 use Rattle.ga_jobs.specs.declared.Job.{Job}
-use Rattle.ga_jobs.specs.declared.Job.TheVariants.{Expand, Map, Profile, Race, Run, Talk, Trace}
+use Rattle.ga_jobs.specs.declared.Job.TheVariants.{Counts, Expand, Map, Profile, Race, Report, Run, Talk, Trace}
 use Rattle.ga_jobs.specs.declared.fault.ServeError.{ServeError}
 use Rattle.ga_jobs.specs.declared.fault.ServeError.TheVariants.{Input}
 use Rattle.ga_jobs.specs.declared.fault.InputFault.TheVariants.{TooLong}
@@ -35,5 +35,7 @@ HasOneOutput (Talk loading file) input = Unit {0}
 HasOneOutput (Expand file) input = Unit {0}
 HasOneOutput (Map loading turns file) input = Unit {0}
 HasOneOutput (Profile loading start turns file) input = Unit {0}
-HasOneOutput (Trace loading turns nodes file) input = Unit {0}
+HasOneOutput (Trace loading turns nodes save file) input = Unit {0}
+HasOneOutput (Counts loading turns file) input = Unit {0}
+HasOneOutput (Report loading turns file) input = Unit {0}
 HasOneOutput job input = AtMostOne (IsOutput job input)

@@ -8,6 +8,7 @@ use Rattle.ga_jobs.specs.declared.Job.TheVariants as job
 use Rattle.ga_jobs.specs.declared.fault.ServeError.{ServeError}
 use Rattle.ga_jobs.specs.Asm.{IsAsmOutput}
 use Rattle.ga_jobs.specs.Boot.{IsBootOutput}
+use Rattle.ga_jobs.specs.CountsJob.{IsCountsOutput}
 use Rattle.ga_jobs.specs.Debug.{IsDebugOutput}
 use Rattle.ga_jobs.specs.Dis.{dis_output}
 use Rattle.ga_jobs.specs.ExpandJob.{IsExpandOutput}
@@ -17,6 +18,7 @@ use Rattle.ga_jobs.specs.One.{one_output}
 use Rattle.ga_jobs.specs.ProfileJob.{IsProfileOutput}
 use Rattle.ga_jobs.specs.Race.{IsRaceOutput}
 use Rattle.ga_jobs.specs.Replay.{IsReplayOutput}
+use Rattle.ga_jobs.specs.ReportJob.{IsReportOutput}
 use Rattle.ga_jobs.specs.Run.{IsRunOutput}
 use Rattle.ga_jobs.specs.Session.{IsSessionOutput}
 use Rattle.ga_jobs.specs.TraceJob.{IsTraceOutput}
@@ -27,7 +29,7 @@ pub mod Meaning
 pub mod TextFault
 pub mod TranscriptFault
 pub mod Transcript
-pub mod Report
+pub mod FileReport
 pub mod ExpandJob
 pub mod Listing
 pub mod Text
@@ -44,6 +46,8 @@ pub mod Session
 pub mod MapJob
 pub mod ProfileJob
 pub mod TraceJob
+pub mod CountsJob
+pub mod ReportJob
 pub mod SourceName
 pub mod Sourced
 pub mod Debug
@@ -75,8 +79,12 @@ IsJobOutput (job.Race loading turns witness file) input answer =
 IsJobOutput (job.Map loading turns file) input answer = IsMapOutput loading turns input answer
 IsJobOutput (job.Profile loading start turns file) input answer =
     IsProfileOutput loading start turns input answer
-IsJobOutput (job.Trace loading turns nodes file) input answer =
+IsJobOutput (job.Trace loading turns nodes save file) input answer =
     IsTraceOutput loading turns (option_map string_bytes nodes) input answer
+IsJobOutput (job.Counts loading turns file) input answer =
+    IsCountsOutput loading turns input answer
+IsJobOutput (job.Report loading turns file) input answer =
+    IsReportOutput loading turns input answer
 IsJobOutput (job.Explain topic) input answer = answer ≡ Ok (explain_output topic)
 
 -- each job except `explain` reads an input
@@ -111,7 +119,9 @@ file_of (job.Record file) = given_file file
 file_of (job.Race loading turns witness file) = given_file file
 file_of (job.Map loading turns file) = given_file file
 file_of (job.Profile loading start turns file) = given_file file
-file_of (job.Trace loading turns nodes file) = given_file file
+file_of (job.Trace loading turns nodes save file) = given_file file
+file_of (job.Counts loading turns file) = given_file file
+file_of (job.Report loading turns file) = given_file file
 file_of (job.Talk loading file) = named_file file
 file_of job = None
 

@@ -5,6 +5,7 @@ use Rattle.ga_path.specs.Names.{nodes_in}
 use Rattle.ga_trace.specs.Rest.{ran_from}
 use Rattle.ga_transcript.specs.Live.{LiveView}
 use Rattle.ga_wave.specs.Nodes.{names_with_image}
+use Rattle.ga_wave.specs.Save.{save_text}
 use Rattle.ga_wave.specs.Wave.{waveform}
 use Rattle.ga_jobs.specs.declared.fault.OutputFault.TheVariants.{TooLong}
 use Rattle.ga_jobs.specs.declared.fault.RouteFault.TheVariants.{BadRoute}
@@ -18,6 +19,14 @@ use Rattle.ga_jobs.specs.Session.{IsSession}
 abbrev pub nodes_named : LiveView → Option (List ℕ) → Result (List ℕ) ServeError
 nodes_named live (Some text) = option_map_or Ok (nodes_in text) (Err (Route BadRoute))
 nodes_named live None = Ok (names_with_image live.program.images)
+
+abbrev pub saved : Result (List ℕ) ServeError → Result (List ℕ) ServeError
+saved (Ok nodes) = Ok (save_text nodes)
+saved (Err fault) = Err fault
+
+-- the save file for the waveform of these nodes
+abbrev pub saved_for : LiveView → Option (List ℕ) → Result (List ℕ) ServeError
+saved_for live names = saved (nodes_named live names)
 
 -- how many turns come until rest, but at most this many
 abbrev pub turns_until_rest : LiveView → ℕ → ℕ

@@ -11,12 +11,14 @@ mod answering;
 pub mod asm;
 pub mod boot;
 pub mod check;
+pub mod counts;
 pub mod debug;
 pub mod dis;
 mod engine;
 pub mod expand;
 mod explain;
 mod fault;
+mod file_report;
 mod larger;
 pub mod list;
 pub mod map;
@@ -29,7 +31,7 @@ mod reading;
 mod reads;
 pub mod record;
 pub mod replay;
-mod report;
+pub mod report;
 pub mod run;
 mod session;
 mod shown;
@@ -52,7 +54,7 @@ pub use crate::larger::{answer_file, open_file, serve_file};
 pub use crate::race::Loading;
 pub use crate::reading::read_input;
 pub use crate::reads::{Reads, tried_again};
-pub use crate::report::FileReport;
+pub use crate::file_report::FileReport;
 pub use crate::shown::{ShownText, shown_char};
 pub use crate::source_name::{fault_in_source, session_source, source_named, source_path};
 pub use crate::sourced::Sourced;
@@ -119,6 +121,13 @@ pub enum Job {
     Check {
         files: Vec<String>,
     },
+    /// The listing of a program, after the commands of its session, with how often each word is
+    /// fetched and the opcode in each slot run in turns until rest.
+    Counts {
+        loading: Loading,
+        turns: Option<u32>,
+        file: Option<String>,
+    },
     /// A transcript with the replies that come.
     Record {
         file: Option<String>,
@@ -150,11 +159,19 @@ pub enum Job {
         file: Option<String>,
     },
     /// The waveform of a chip, after the commands of its session: turns until rest. It shows the
-    /// nodes that a text names, or those of the program.
+    /// nodes that a text names, or those of the program. The save file of a viewer, for which a name
+    /// may be given, is no part of the job's output.
     Trace {
         loading: Loading,
         turns: Option<u32>,
         nodes: Option<String>,
+        save: Option<String>,
+        file: Option<String>,
+    },
+    /// A page in HTML of what a chip does in a run, after the commands of its session.
+    Report {
+        loading: Loading,
+        turns: Option<u32>,
         file: Option<String>,
     },
     /// What a name means that the program writes, or all these names.
@@ -200,7 +217,9 @@ impl Job {
             | Job::Race { file, .. }
             | Job::Map { file, .. }
             | Job::Profile { file, .. }
-            | Job::Trace { file, .. } => given_file(file),
+            | Job::Trace { file, .. }
+            | Job::Counts { file, .. }
+            | Job::Report { file, .. } => given_file(file),
             Job::Talk { file, .. } => named_file(file),
             Job::Check { files } => only_file(files),
             Job::Debug | Job::Rewrite { .. } | Job::Explain { .. } => None,
@@ -277,6 +296,12 @@ fn output(alloc: Global, job: &Job, input: &[u8]) -> Option<Result<String, Serve
             nodes,
             ..
         } => Some(trace::output(alloc, loading, *turns, nodes, input)),
+        Job::Counts { loading, turns, .. } => {
+            Some(counts::output(alloc, loading, *turns, input))
+        }
+        Job::Report { loading, turns, .. } => {
+            Some(report::output(alloc, loading, *turns, input))
+        }
         Job::Explain { topic } => Some(explain::output(alloc, *topic)),
     }
 }

@@ -43,7 +43,11 @@ fn profile_after(
 }
 
 /// A profile as text, and who waits for whom at the end of its window.
-fn with_waits(alloc: Global, profile: &Profile, images: &Images) -> Result<String, AllocError>
+pub(crate) fn with_waits(
+    alloc: Global,
+    profile: &Profile,
+    images: &Images,
+) -> Result<String, AllocError>
     ensures { IfOk result (λ text. string_bytes text ≡ with_waits images.now profile.now) }
 {
     let mut text = profile_text(alloc, profile)?;

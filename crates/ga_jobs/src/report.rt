@@ -1,111 +1,120 @@
-//! What `check` of several files reports of each of them.
 ghost use Rattle.std.specs.Prelude.{◌≡◌, IfOk, string_bytes};
-ghost use Rattle.ga_transcript.specs.Compare.{comparison_view};
 ghost use Rattle.ga_jobs.specs.Fault.{Answers};
-ghost use Rattle.ga_jobs.specs.Report.{IsComparedIn, IsFileReport, IsRefused, IsSourcedReport, found_text};
-ghost use Rattle.ga_jobs.specs.Shown.{shown_name};
+ghost use Rattle.ga_jobs.specs.ReportJob as spec;
+ghost use Rattle.ga_jobs.specs.ReportJob.{IsHeadline, IsMeasured, IsReport, IsReportOutput, page_of};
+ghost use Rattle.ga_profile.specs.declared.window.WindowStart.TheVariants.{LastNode};
 
+use crate::counts::counted;
 use crate::fault::ServeError;
-use crate::shown::{shown_lines, shown_name};
-use crate::sourced::Sourced;
+use crate::profile::with_waits;
+use crate::race::{Loading, TURNS};
+use crate::session::open_session;
 use crate::text::input_text;
-use crate::transcript_fault::shown_transcript_fault;
-use ga_transcript::{Comparison, compare};
+use ga_profile::{Profile, WindowStart, bottleneck_text, measure};
+use ga_race::{Race, Verdict, race};
+use ga_report::{Page, page_text, timeline_in};
+use ga_transcript::Live;
 use std::alloc::{AllocError, Global};
 
-/// What is reported of one of several files, and whether its transcript passes the check.
-#[derive(Debug, PartialEq, Eq, Drop)]
-pub struct FileReport {
-    /// Lines that each name the file, or have a line of a reply. Each ends with LF.
-    pub text: String,
-    pub passes: bool,
-}
-
-impl FileReport {
-    /// The report on a file with a name whose bytes are the transcript: each difference, and then a
-    /// line with `same` and the number of commands, or how many differ; or a line with the
-    /// transcript's first fault, and the lines that are shown of it. Fails only as
-    /// [`ServeError::Memory`], when out of memory. (The texts are this project's own: profile.)
-    pub fn new(alloc: Global, name: &str, input: &[u8]) -> Result<FileReport, ServeError>
-        ensures { Answers (λ report. report) (IsFileReport name.now input.now) result }
-    {
-        let shown = shown_name(alloc, name)?;
-        match compared(alloc, shown.as_str(), input) {
-            Ok(found) => Ok(FileReport {
-                text: found_text(alloc, shown.as_str(), &found)?,
-                passes: found.differences == 0,
-            }),
-            Err(fault) => match fault {
-                ServeError::Memory => Err(ServeError::Memory),
-                _ => Ok(FileReport::refused(alloc, name, &fault)?),
-            },
-        }
-    }
-
-    /// The same report on a file with a name whose head names its source: lines are those of the
-    /// file.
-    pub fn of_sourced(
-        alloc: Global,
-        name: &str,
-        sourced: &Sourced,
-    ) -> Result<FileReport, ServeError>
-        ensures { Answers (λ report. report) (IsSourcedReport name.now sourced.now) result }
-    {
-        let shown = shown_name(alloc, name)?;
-        match compared(alloc, "", sourced.whole().as_bytes()) {
-            Ok(mut found) => {
-                found.report = sourced.report_in_file(alloc, &shown, &found.report)?;
-                Ok(FileReport {
-                    text: found_text(alloc, shown.as_str(), &found)?,
-                    passes: found.differences == 0,
-                })
-            }
-            Err(fault) => match fault {
-                ServeError::Memory => Err(ServeError::Memory),
-                _ => Ok(FileReport::refused(alloc, name, &sourced.fault_in_file(fault))?),
-            },
-        }
-    }
-
-    /// The report on a file with a name that is refused with this fault. Fails only when out of
-    /// memory.
-    pub fn refused(alloc: Global, name: &str, fault: &ServeError) -> Result<FileReport, AllocError>
-        ensures { IfOk result (IsRefused name.now) }
-    {
-        let name = shown_name(alloc, name)?;
-        let shown = fault.to_string(alloc)?;
-        let text = format!(in alloc; "{name}: {shown}\n")?;
-        Ok(FileReport {
-            text,
-            passes: false,
-        })
-    }
-}
-
-/// What is found of all commands of an input, which is a transcript in a file with a name.
-fn compared(alloc: Global, name: &str, input: &[u8]) -> Result<Comparison, ServeError>
-    ensures { Answers comparison_view (IsComparedIn name.now input.now) result }
+/// A page in HTML of what the input's chip does in a run: a race, a deadlock or the bottleneck as
+/// its headline; a timeline; the profile, from when the last node began; the chip at the end; and
+/// the listing with counts. The commands behind the head of a session are done first. Then come at
+/// most `turns` turns (by default 1,000,000), until no node moves but those that spin.
+pub fn output(
+    alloc: Global,
+    loading: &Loading,
+    turns: Option<u32>,
+    input: &[u8],
+) -> Result<String, ServeError>
+    ensures { Answers string_bytes (IsReportOutput loading.now turns input.now) result }
 {
+    let live = open_session(alloc, loading, input)?;
     let text = input_text(input)?;
-    match compare(alloc, name, text) {
-        Ok(found) => Ok(found),
-        Err(error) => Err(shown_transcript_fault(alloc, text, error)?),
+    let page = page_after(alloc, &live, turns.unwrap_or(TURNS), loading, text)?;
+    Ok(page)
+}
+
+/// The page of a session in at most `most` turns.
+fn page_after(
+    alloc: Global,
+    live: &Live,
+    most: u32,
+    loading: &Loading,
+    text: &str,
+) -> Result<String, AllocError>
+    ensures { IfOk result (λ page.
+        IsReport live.now most loading.now text.now (string_bytes page)) }
+{
+    let listing = counted(alloc, live, most, loading, text)?;
+    let profile = measured(alloc, live, most)?;
+    let headline = headline(alloc, live, most, &profile)?;
+    page_of(alloc, live, &profile, headline.as_str(), listing.as_str())
+}
+
+/// The profile of a session's chip, from when the last node began.
+fn measured(alloc: Global, live: &Live, most: u32) -> Result<Profile, AllocError>
+    ensures { IfOk result (IsMeasured live.now.chip LastNode most) }
+{
+    measure(alloc, live.chip(), WindowStart::LastNode, most)
+}
+
+/// The headline of a session with this profile.
+fn headline(
+    alloc: Global,
+    live: &Live,
+    most: u32,
+    profile: &Profile,
+) -> Result<String, AllocError>
+    ensures { IfOk result (λ headline.
+        IsHeadline live.now.chip profile.now (string_bytes headline)) }
+{
+    let mut chip = live.chip().copied(alloc)?;
+    let report = race(alloc, &mut chip, most)?;
+    headline_by(alloc, &report.verdict, profile)
+}
+
+/// The headline for a verdict.
+fn headline_by(
+    alloc: Global,
+    verdict: &Verdict,
+    profile: &Profile,
+) -> Result<String, AllocError>
+    ensures { IfOk result (λ headline.
+        string_bytes headline ≡ spec.headline_by verdict.now profile.now) }
+{
+    match verdict {
+        Verdict::Race(race) => race_headline(alloc, race),
+        _ => bottleneck_text(alloc, profile),
     }
 }
 
-/// The text of what is found: the report on the differences, and a line with the counts.
-fn found_text(alloc: Global, name: &str, found: &Comparison) -> Result<String, AllocError>
-    ensures { IfOk result (λ text.
-        string_bytes text ≡ found_text name.now (comparison_view found.now)) }
+/// The headline for a race.
+fn race_headline(alloc: Global, race: &Race) -> Result<String, AllocError>
+    ensures { IfOk result (λ headline. string_bytes headline ≡ spec.race_headline race.now) }
 {
-    let Comparison {
-        commands,
-        differences,
-        report,
-    } = found;
-    if *differences == 0 {
-        return format!(in alloc; "{name}: same {commands}\n");
-    }
-    let report = shown_lines(alloc, report.as_str())?;
-    format!(in alloc; "{report}{name}: {differences} of {commands} differ\n")
+    let node = race.take.reader;
+    format!(in alloc; "Race: the schedule decides which word {node} takes.")
+}
+
+/// The page of a profile of a session's chip, with a headline and a listing.
+fn page_of(
+    alloc: Global,
+    live: &Live,
+    profile: &Profile,
+    headline: &str,
+    listing: &str,
+) -> Result<String, AllocError>
+    ensures { IfOk result (λ page. string_bytes page
+        ≡ page_of live.now profile.now headline.now listing.now) }
+{
+    let timeline = timeline_in(alloc, live.chip(), profile.window)?;
+    let shown = with_waits(alloc, profile, live.images())?;
+    let page = Page {
+        headline,
+        profile,
+        timeline: &timeline,
+        profile_text: shown.as_str(),
+        listing,
+    };
+    page_text(alloc, &page)
 }

@@ -1,6 +1,6 @@
 ghost use Rattle.std.specs.Prelude.{◌≡◌, IfOk, option_map, string_bytes};
 ghost use Rattle.ga_jobs.specs.Fault.{Answers, Gives};
-ghost use Rattle.ga_jobs.specs.TraceJob.{IsTraceOutput, nodes_named, turns_until_rest, wave_within};
+ghost use Rattle.ga_jobs.specs.TraceJob.{IsTraceOutput, nodes_named, saved_for, turns_until_rest, wave_within};
 
 use crate::fault::{OutputFault, ServeError};
 use crate::race::{Loading, TURNS};
@@ -34,6 +34,17 @@ pub fn output(
     traced(alloc, &live, &nodes, turns.unwrap_or(TURNS))
 }
 
+/// The save file of GTKWave for the waveform of a session: which signals it shows of the nodes that
+/// a text names, or of those of the program.
+pub fn save_text(alloc: Global, live: &Live, names: &Option<String>) -> Result<String, ServeError>
+    ensures { Gives string_bytes result
+        (saved_for live.now (option_map string_bytes names.now)) }
+{
+    let nodes = nodes_named(alloc, live, names)?;
+    let text = ga_wave::save_text(alloc, &nodes)?;
+    Ok(text)
+}
+
 /// The nodes that a text names, or those of the program.
 fn nodes_named(alloc: Global, live: &Live, names: &Option<String>) -> Result<Vec<Node>, ServeError>
     ensures { Gives (λ nodes. nodes.items) result
@@ -65,7 +76,7 @@ fn traced(alloc: Global, live: &Live, nodes: &[Node], turns: u32) -> Result<Stri
 }
 
 /// How many turns come until rest, but at most `turns`.
-fn turns_until_rest(alloc: Global, live: &Live, turns: u32) -> Result<u32, AllocError>
+pub(crate) fn turns_until_rest(alloc: Global, live: &Live, turns: u32) -> Result<u32, AllocError>
     ensures { IfOk result (λ made. made ≡ turns_until_rest live.now turns) }
 {
     let mut chip = live.chip().copied(alloc)?;

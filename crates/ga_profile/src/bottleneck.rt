@@ -31,6 +31,19 @@ pub(crate) enum Bottleneck {
     OnPath,
 }
 
+/// The bottleneck of a run, what to change, and the rings of nodes that wait for one another, as in
+/// [`profile_text`](crate::profile_text). Fails only when out of memory. (The text is this project's
+/// own: profile.)
+pub fn bottleneck_text(alloc: Global, profile: &Profile) -> Result<String, AllocError>
+    ensures { IfOk result (λ text. string_bytes text
+        ≡ bottleneck_text profile.now.chip profile.now.nodes.items profile.now.passes.items
+        profile.now.path.items (length_of profile.now.window)) }
+{
+    let mut text = String::new(alloc);
+    push_bottleneck(&mut text, alloc, profile)?;
+    Ok(text)
+}
+
 /// Adds the bottleneck of a run, what to change, and the rings of nodes that wait for one another.
 #[tactic(auto, unfolding(crate::specs::Bottleneck::bottleneck_text))]
 pub(crate) fn push_bottleneck(

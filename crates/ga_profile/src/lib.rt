@@ -22,6 +22,7 @@ mod trail;
 mod turn_watch;
 mod window;
 
+pub use bottleneck::bottleneck_text;
 pub use node_pass::NodePass;
 pub use node_turns::{NodeTurns, TurnCounts};
 pub use passes::{Moment, Passes};

@@ -69,6 +69,8 @@ fn jobs(alloc: Global) -> Result<Vec<(Job, &'static str)>, Fail> {
     jobs.push((map_job(), TRANSCRIPT))?;
     jobs.push((profile_job(), SOURCE))?;
     jobs.push((trace_job(), SOURCE))?;
+    jobs.push((counts_job(), SOURCE))?;
+    jobs.push((report_job(), SOURCE))?;
     Ok(jobs)
 }
 
@@ -97,6 +99,25 @@ fn trace_job() -> Job {
         loading: Loading::Place,
         turns: Some(4),
         nodes: None,
+        save: None,
+        file: None,
+    }
+}
+
+/// How often the words of a program are fetched in 40 turns.
+fn counts_job() -> Job {
+    Job::Counts {
+        loading: Loading::Place,
+        turns: Some(40),
+        file: None,
+    }
+}
+
+/// The page of 40 turns.
+fn report_job() -> Job {
+    Job::Report {
+        loading: Loading::Place,
+        turns: Some(40),
         file: None,
     }
 }

@@ -4,7 +4,7 @@ use Rattle.std.specs.Str.{bytes_eq}
 use Rattle.std.proofs.lemmas.Bool.{false≢true}
 use Rattle.clap.specs.Words.{Row, Text, found_of, rows_of}
 use Rattle.ga_jobs.specs.declared.Job.{Job}
-use Rattle.ga_jobs.specs.declared.Job.TheVariants.{Asm, Boot, Dis, Map, One, Profile, Race, Run, Trace}
+use Rattle.ga_jobs.specs.declared.Job.TheVariants.{Asm, Boot, Dis, Map, One, Profile, Race, Report, Run, Trace}
 use Rattle.ga_jobs.specs.declared.race.Loading.{Loading}
 use Rattle.ga_profile.specs.declared.window.WindowStart.{WindowStart}
 use Rattle.ga_command_line.specs.ProfileLine.{IsStartAt, IsStartInRange}
@@ -170,7 +170,7 @@ trace_right : (name : Text) (rows : List Row) (result : Result Job LineError)
 trace_right name rows (Ok job) is right = right
 trace_right name rows (Err error) is right =
     λ asked. elim asked as (λ job. AsksFor (name, rows) job → InRange job → error ≡ Memory) [
-      | Trace loading turns nodes file ↦
+      | Trace loading turns nodes save file ↦
           λ asks within. right loading turns within asks.1.0 asks.1.1
       | _ ↦ λ asks within. absurd (false≢true
           (sym (ap (λ (text : Text). bytes_eq text (codes "trace")) (sym is ∙ asks.0))))
@@ -180,6 +180,41 @@ pub returns-in-trace-clause-right : goal.returns-in-trace-clause-right
 returns-in-trace-clause-right c =
     trace_right c.args.name.now (rows_of (found_of c.args.found.now)) c.job_of-in-trace.result
     c.in-trace.is c.job_of-in-trace.ensures.right
+
+-- and the name `report` for a page alone
+report_right : (name : Text) (rows : List Row) (result : Result Job LineError)
+    → name ≡ codes "report"
+    → IfErr result (λ error. (loading : Loading) (turns : Option ℕ)
+    → IfSome turns (λ number. number ≤ 1000000) → IsLoadingAt rows loading
+    → IsNumberIfAt (codes "N") rows turns → error ≡ Memory)
+    → IfErr result (λ error. (job : Job) → AsksFor (name, rows) job → InRange job → error ≡ Memory)
+report_right name rows (Ok job) is right = right
+report_right name rows (Err error) is right =
+    λ asked. elim asked as (λ job. AsksFor (name, rows) job → InRange job → error ≡ Memory) [
+      | Report loading turns file ↦ λ asks within. right loading turns within asks.1.0 asks.1.1
+      | _ ↦ λ asks within. absurd (false≢true
+          (sym (ap (λ (text : Text). bytes_eq text (codes "report")) (sym is ∙ asks.0))))
+    ]
+
+pub returns-in-report-clause-right : goal.returns-in-report-clause-right
+returns-in-report-clause-right c =
+    report_right c.args.name.now (rows_of (found_of c.args.found.now)) c.job_of-in-report.result
+    c.in-report.is c.job_of-in-report.ensures.right
+
+-- and the name `list` for listings alone
+list_right : (name : Text) (rows : List Row) (result : Result Job LineError)
+    → name ≡ codes "list"
+    → IfErr result (λ error. (job : Job) → AsksFor (codes "list", rows) job → InRange job
+    → error ≡ Memory)
+    → IfErr result (λ error. (job : Job) → AsksFor (name, rows) job → InRange job → error ≡ Memory)
+list_right name rows (Ok job) is right = right
+list_right name rows (Err error) is right =
+    λ job asks within. right job (sym is ∙ asks.0, asks.1) within
+
+pub returns-in-list-clause-right : goal.returns-in-list-clause-right
+returns-in-list-clause-right c =
+    list_right c.args.name.now (rows_of (found_of c.args.found.now)) c.job_of-in-list.result
+    c.in-list.is c.job_of-in-list.ensures.right
 
 -- and the name `record` for a recording alone
 record_right : (name : Text) (rows : List Row) (result : Result Job LineError)

@@ -42,3 +42,15 @@ unfolding IsJobOutput
 returns-in-Trace-clause-answer c =
     subst (λ job. Answers string_bytes (IsJobOutput job c.args.input.now) c.output-in-Trace.result)
     (sym c.in-Trace.is) c.output-in-Trace.ensures
+
+pub returns-in-Counts-clause-answer : goal.returns-in-Counts-clause-answer
+unfolding IsJobOutput
+returns-in-Counts-clause-answer c =
+    subst (λ job. Answers string_bytes (IsJobOutput job c.args.input.now)
+    c.output-in-Counts.result) (sym c.in-Counts.is) c.output-in-Counts.ensures
+
+pub returns-in-Report-clause-answer : goal.returns-in-Report-clause-answer
+unfolding IsJobOutput
+returns-in-Report-clause-answer c =
+    subst (λ job. Answers string_bytes (IsJobOutput job c.args.input.now)
+    c.output-in-Report.result) (sym c.in-Report.is) c.output-in-Report.ensures

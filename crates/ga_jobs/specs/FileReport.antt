@@ -3,7 +3,7 @@ use Rattle.std.specs.Prelude.{◌≡◌, ◌⊎◌, ◌==◌, ℕ, List, [], ◌
 use Rattle.std.specs.Fmt.{decimal}
 use Rattle.ga_transcript.specs.Compare.{IsCompared, View}
 use Rattle.ga_jobs.specs.declared.fault.ServeError.{ServeError}
-use Rattle.ga_jobs.specs.declared.report.FileReport.{FileReport}
+use Rattle.ga_jobs.specs.declared.file_report.FileReport.{FileReport}
 use Rattle.ga_jobs.specs.Shown.{shown_lines, shown_name}
 use Rattle.ga_jobs.specs.Sourced.{SourcedView, report_in_file}
 use Rattle.ga_jobs.specs.Text.{IsInText}

@@ -3,9 +3,9 @@ use Rattle.std.specs.Fmt.{decimal}
 use Rattle.std.specs.Prelude.{◌==◌}
 use Rattle.ga_transcript.specs.Compare.{comparison_view}
 use Rattle.ga_jobs.proofs.Reports.{four_pieces, if_text, not_zero, other_text, same_text, seven_pieces}
-use Rattle.ga_jobs.specs.Report.{found_text}
+use Rattle.ga_jobs.specs.FileReport.{found_text}
 use Rattle.ga_jobs.specs.Shown.{shown_lines}
-use Rattle.ga_jobs.proofs.report.found_text.Goals as goal
+use Rattle.ga_jobs.proofs.file_report.found_text.Goals as goal
 
 pub returns-then-differences-eq0 : goal.returns-then-differences-eq0
 returns-then-differences-eq0 c =

@@ -1,10 +1,10 @@
 use Rattle.std.proofs.Common.{rules, ◌≡◌, ◌∙◌, [], inl, inr, Ok, Err, ap, ap₂, refl, string_bytes, subst}
 use Rattle.ga_transcript.specs.Compare.{comparison_view}
 use Rattle.ga_jobs.proofs.Reports.{named_fault}
-use Rattle.ga_jobs.specs.Report.{IsComparedIn, found_text}
+use Rattle.ga_jobs.specs.FileReport.{IsComparedIn, found_text}
 use Rattle.ga_jobs.specs.Shown.{shown_name}
 use Rattle.ga_jobs.specs.Sourced.{report_in_file}
-use Rattle.ga_jobs.proofs.report.FileReport.of_sourced.Goals as goal
+use Rattle.ga_jobs.proofs.file_report.FileReport.of_sourced.Goals as goal
 
 pub returns-in-Ok : goal.returns-in-Ok
 returns-in-Ok c =

@@ -1,0 +1,8 @@
+-- The command line of the subcommand `report`.
+use Rattle.std.specs.Prelude.{codes}
+use Rattle.clap.specs.Words.{App, new_rule, with_rule}
+use Rattle.ga_command_line.specs.Turns.{turns_command}
+
+-- the options of a run, and a text that may be left out
+unfoldable pub report_command : App
+report_command = with_rule (turns_command (codes "report")) (new_rule (codes "FILE"))

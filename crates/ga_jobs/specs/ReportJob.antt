@@ -1,0 +1,77 @@
+-- The job `report`: what it writes.
+use Rattle.std.specs.Prelude.{◌≡◌, ◌++◌, ℕ, List, codes, Option, Result, Ok, Err}
+use Rattle.ga_chip.specs.Chip.{Chip}
+use Rattle.ga_place.specs.Node.{node_text}
+use Rattle.ga_profile.specs.Bottleneck.{bottleneck_text}
+use Rattle.ga_profile.specs.Lines.{line_turns}
+use Rattle.ga_profile.specs.NodePass.{node_passes}
+use Rattle.ga_profile.specs.Path.{path_turns}
+use Rattle.ga_profile.specs.Profile.{chip_at_end, nodes_in, window_in}
+use Rattle.ga_profile.specs.Window.{length_of}
+use Rattle.ga_profile.specs.declared.profile.Profile.{Profile}
+use Rattle.ga_profile.specs.declared.window.WindowStart.{WindowStart}
+use Rattle.ga_profile.specs.declared.window.WindowStart.TheVariants.{LastNode}
+use Rattle.ga_race.specs.Verdict.{IsSo}
+use Rattle.ga_race.specs.declared.found.Race.{Race}
+use Rattle.ga_race.specs.declared.verdict.Verdict.{Verdict}
+use Rattle.ga_race.specs.declared.verdict.Verdict.TheVariants as verdict
+use Rattle.ga_report.specs.Columns.{columns_of}
+use Rattle.ga_report.specs.Page.{page_text}
+use Rattle.ga_report.specs.Timeline.{kinds_in}
+use Rattle.ga_transcript.specs.Live.{LiveView}
+use Rattle.ga_jobs.specs.declared.fault.ServeError.{ServeError}
+use Rattle.ga_jobs.specs.declared.race.Loading.{Loading}
+use Rattle.ga_jobs.specs.CountsJob.{IsCounted}
+use Rattle.ga_jobs.specs.ProfileJob.{with_waits}
+use Rattle.ga_jobs.specs.Race.{most_turns}
+use Rattle.ga_jobs.specs.Session.{IsSession}
+use Rattle.ga_jobs.specs.Text.{text_in}
+
+-- a profile is that of the run of a chip, from where a start says
+pub record IsMeasured (chip : Chip) (start : WindowStart) (most : ℕ) (profile : Profile)
+    : Type 0 where
+  pub window : profile.window ≡ window_in start most chip
+  pub nodes : profile.nodes.items ≡ nodes_in (window_in start most chip) chip
+  pub passes : profile.passes.items ≡ node_passes (window_in start most chip) chip
+  pub path : profile.path.items ≡ path_turns (window_in start most chip) chip
+  pub lines : profile.lines.items
+      ≡ line_turns (window_in start most chip) chip profile.path.items
+  pub end : profile.chip ≡ chip_at_end (window_in start most chip) chip
+
+abbrev pub race_headline : Race → List ℕ
+race_headline race =
+    codes "Race: the schedule decides which word " ++ node_text race.take.reader ++ codes " takes."
+
+-- the headline: a race, if the verdict is one, or else the bottleneck of a profile, or its deadlock
+abbrev pub headline_by : Verdict → Profile → List ℕ
+headline_by (verdict.Race race) profile = race_headline race
+headline_by v profile =
+    bottleneck_text profile.chip profile.nodes.items profile.passes.items profile.path.items
+    (length_of profile.window)
+
+-- the same, by a verdict that is so after some turns
+abbrev pub IsHeadline : Chip → Profile → List ℕ → Type 0
+IsHeadline chip profile headline =
+    (turns : ℕ) × (v : Verdict) × IsSo chip turns v × (headline ≡ headline_by v profile)
+
+-- the page of a profile of a session's chip, with a headline and a listing
+abbrev pub page_of : LiveView → Profile → List ℕ → List ℕ → List ℕ
+page_of live profile headline listing =
+    page_text headline profile.window profile.nodes.items profile.chip (columns_of profile.window)
+    (kinds_in profile.window live.chip) (with_waits live.program.images profile) listing
+
+-- the page of a session, whose source is in a text, in at most this many turns
+abbrev pub IsReport : LiveView → ℕ → Loading → List ℕ → List ℕ → Type 0
+IsReport live most loading text page =
+    (profile : Profile) × IsMeasured live.chip LastNode most profile
+    × ((headline : List ℕ) × IsHeadline live.chip profile headline
+    × ((listing : List ℕ) × IsCounted live most loading text listing
+    × (page ≡ page_of live profile headline listing)))
+
+-- the page of the session that an input opens, or the first fault of that session
+abbrev pub IsReportOutput : Loading → Option ℕ → List ℕ → Result (List ℕ) ServeError → Type 0
+IsReportOutput loading turns input (Ok page) =
+    (text : List ℕ) × (text_in input ≡ Ok text)
+    × ((live : LiveView) × IsSession loading input (Ok live)
+    × IsReport live (most_turns turns) loading text page)
+IsReportOutput loading turns input (Err fault) = IsSession loading input (Err fault)

@@ -1,0 +1,74 @@
+ghost use Rattle.std.specs.Prelude.{◌≡◌, IfOk, string_bytes};
+ghost use Rattle.ga_jobs.specs.CountsJob as spec;
+ghost use Rattle.ga_jobs.specs.CountsJob.{IsCounted, IsCountsOutput, IsSourceOf};
+ghost use Rattle.ga_jobs.specs.Fault.{Answers};
+
+use crate::fault::ServeError;
+use crate::race::{Loading, TURNS, is_head};
+use crate::session::open_session;
+use crate::text::input_text;
+use crate::trace::turns_until_rest;
+use ga_counts::{count, counted_list};
+use ga_debug::head_source;
+use ga_transcript::Live;
+use std::alloc::{AllocError, Global};
+
+/// The listing of the input's program, with how often each word was fetched and the opcode in each
+/// slot run. The commands behind the head of a session are done first. Then come the turns that
+/// count: at most `turns` (by default 1,000,000), until no node moves but those that spin.
+pub fn output(
+    alloc: Global,
+    loading: &Loading,
+    turns: Option<u32>,
+    input: &[u8],
+) -> Result<String, ServeError>
+    ensures { Answers string_bytes (IsCountsOutput loading.now turns input.now) result }
+{
+    let live = open_session(alloc, loading, input)?;
+    let text = input_text(input)?;
+    let listing = counted(alloc, &live, turns.unwrap_or(TURNS), loading, text)?;
+    Ok(listing)
+}
+
+/// The listing of a session's program with the counts of turns until rest, at most `most`.
+pub(crate) fn counted(
+    alloc: Global,
+    live: &Live,
+    most: u32,
+    loading: &Loading,
+    text: &str,
+) -> Result<String, AllocError>
+    ensures { IfOk result (λ listing.
+        IsCounted live.now most loading.now text.now (string_bytes listing)) }
+{
+    let turns = turns_until_rest(alloc, live, most)?;
+    let counts = count(alloc, live.chip(), turns)?;
+    let source = source_lines(alloc, loading, text)?;
+    let before = lines_before(loading, text);
+    match counted_list(alloc, source.as_str(), before, &counts) {
+        Ok(listing) => Ok(listing),
+        // The source was assembled before, so only memory can be missing.
+        Err(_) => Err(AllocError),
+    }
+}
+
+/// The source lines of a text that was loaded before.
+fn source_lines(alloc: Global, loading: &Loading, text: &str) -> Result<String, AllocError>
+    ensures { IfOk result (λ source. IsSourceOf loading.now text.now (string_bytes source)) }
+{
+    if !is_head(loading, text) {
+        return String::from_str(alloc, text);
+    }
+    match head_source(alloc, text) {
+        Ok(source) => Ok(source),
+        // The head was loaded before, so only memory can be missing.
+        Err(_) => Err(AllocError),
+    }
+}
+
+/// How many lines of a text come before its source lines.
+fn lines_before(loading: &Loading, text: &str) -> usize
+    ensures { result ≡ spec.lines_before loading.now text.now }
+{
+    if is_head(loading, text) { 2 } else { 0 }
+}
