@@ -4,4 +4,5 @@ pub mod Watching
 pub mod Stepping
 pub mod Resting
 pub mod Deepening
+pub mod AllNodes
 mod Worked

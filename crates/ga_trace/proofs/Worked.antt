@@ -9,11 +9,13 @@ use Rattle.ga_word.specs.Hex.{hex_digits}
 use Rattle.ga_word.specs.Op.{op_with}
 use Rattle.ga_word.specs.declared.op.Op.TheVariants as op
 use Rattle.ga_observe.specs.declared.step.Deed.TheVariants.{Own, Posted, SawRead}
+use Rattle.ga_observe.specs.declared.step.Step.{Step}
 use Rattle.ga_trace.specs.At.{at_word, retreat}
 use Rattle.ga_trace.specs.Line.{changes, deed_text, ram_changes}
 use Rattle.ga_trace.specs.Rest.{target_of}
-use Rattle.ga_trace.specs.Depth.{EMPTY, deeper, return_change}
+use Rattle.ga_trace.specs.Depth.{BOTH_EMPTY, EMPTY, after_step, deeper, return_change}
 use Rattle.ga_trace.specs.declared.depth.Change.TheVariants as change
+use Rattle.ga_trace.specs.declared.depth.StackDepth.{StackDepth}
 use Rattle.ga_trace.specs.Watched.{changes_to, posted_at}
 use Rattle.ga_trace.specs.What.{same_value}
 use Rattle.ga_trace.specs.declared.what.Value.TheVariants.{Nothing, Word, Count}
@@ -64,3 +66,28 @@ pushes = refl
 -- a loop pops its counter at its end alone
 loops : (return_change op.Micronext 0 ≡ change.Pop) × (return_change op.Micronext 2 ≡ change.Keep)
 loops = (refl, refl)
+
+-- 709 runs `push` in slot 0 of 2E9B2 at 004, and a check of a post, which changes nothing
+abbrev push_004 : Step
+push_004 = record {
+  node = 709;
+  number = 0;
+  turn = 0;
+  place = Slot0;
+  p = 5;
+  word = 0x2E9B2;
+  deed = Own;
+}
+
+one_deep : StackDepth
+one_deep = record { words = 1; most = 1; passed = None }
+
+moves_over : after_step (Some push_004) 0 (record { data_stack = one_deep; return_stack = EMPTY })
+    ≡ record { data_stack = record { words = 0; most = 1; passed = None }; return_stack = one_deep }
+unfolding at_word reading_of op_with one_deep
+moves_over = refl
+
+only_checks : after_step (Some (record push_004 { deed = SawRead Right })) 0 BOTH_EMPTY
+    ≡ BOTH_EMPTY
+unfolding at_word reading_of op_with
+only_checks = refl

@@ -1,12 +1,14 @@
 -- How deep the stacks of a node were.
-use Rattle.std.specs.Prelude.{ℕ, zero, suc, ◌+◌, ◌-◌, ◌%◌, ◌==◌, ◌||◌, Bool, true, List, [], ◌∷◌, ◌++◌, codes, max, nat_le, nat_lt, Option, Some, None, if◌then◌else◌}
+use Rattle.std.specs.Prelude.{ℕ, zero, suc, ◌+◌, ◌-◌, ◌%◌, ◌^◌, ◌==◌, ◌||◌, Bool, false, true, List, [], ◌∷◌, ◌++◌, codes, map, max, min, nat_le, nat_lt, Option, Some, None, if◌then◌else◌}
 use Rattle.std.specs.Fmt.{decimal}
-use Rattle.std.specs.Option.{option_map_or, option_or}
+use Rattle.std.specs.List.{range_with_len}
+use Rattle.std.specs.Option.{option_or}
 use Rattle.std.specs.Str.{bytes_eq}
 use Rattle.ga_word.specs.Hex.{hex_digits}
 use Rattle.ga_word.specs.declared.op.Op.{Op}
 use Rattle.ga_word.specs.declared.op.Op.TheVariants as op
 use Rattle.ga_place.specs.Address.{where_is}
+use Rattle.ga_place.specs.Cell.{name_at}
 use Rattle.ga_asm.specs.Image.{ImageView, image_of}
 use Rattle.ga_node.specs.Line.{line_of}
 use Rattle.ga_node.specs.State.{State}
@@ -67,9 +69,10 @@ abbrev pub worked_by : Step → Deed → Option Op
 worked_by step (SawRead side) = None
 worked_by step deed = op_run step.place step.word
 
--- how many words a stack holds that were pushed and not yet popped; one that is empty stays so
+-- How many words a stack holds that were pushed and not yet popped. One that is empty stays so, and
+-- the number stays at the largest one of 64 bits.
 abbrev pub changed : Change → ℕ → ℕ
-changed Push words = words + 1
+changed Push words = min (words + 1) (2 ^ 64 - 1)
 changed Pop words = words - 1
 changed Keep words = words
 
@@ -98,31 +101,49 @@ both_deeper address r (Some op) depths = record {
   return_stack = deeper RETURN_ROOM address (return_change op r) depths.return_stack;
 }
 
--- both stacks after a step, by the node's state before it
-abbrev pub after_step : Option Step → Option State → StackDepths → StackDepths
-after_step (Some step) (Some old) depths =
-    both_deeper (at_word step.place old.p step.word) old.r (worked_by step step.deed) depths
-after_step step old depths = depths
+-- both stacks after a step, if there is one, by R before it
+abbrev pub after_step : Option Step → ℕ → StackDepths → StackDepths
+after_step None r depths = depths
+after_step (Some step) r depths =
+    both_deeper (at_word step.place (step.p % 2 ^ 10) step.word) r (worked_by step step.deed) depths
 
 -- ---- turns
 
 abbrev pub EMPTY : StackDepth
 EMPTY = record { words = 0; most = 0; passed = None }
 
+abbrev pub BOTH_EMPTY : StackDepths
+BOTH_EMPTY = record { data_stack = EMPTY; return_stack = EMPTY }
+
+abbrev pub r_of : Option State → ℕ
+r_of None = 0
+r_of (Some state) = state.r
+
 -- a node has made a number of steps
 abbrev pub has_made : ℕ → Option State → Bool
 has_made goal None = true
 has_made goal (Some state) = nat_le goal state.steps
 
--- Both stacks behind at most `left` turns, after a number of turns, the last of which were quiet:
--- until a node has made a number of steps, or no node can move. The chip afterwards.
-unfoldable pub deep_from : ℕ → ℕ → ℕ → ℕ → ℕ → StackDepths → Chip → StackDepths × Chip
-deep_from zero turn quiet goal name depths chip = (depths, chip)
-deep_from (suc left) turn quiet goal name depths chip =
-    if has_made goal (state_of chip name) || (quiet == 4) then (depths, chip)
+-- Both stacks of a node behind at most `left` turns, after a number of turns, the last of which
+-- were quiet: until it is done, by its state, or no node can move. The chip afterwards.
+unfoldable pub deep_from : ℕ → ℕ → ℕ → (Option State → Bool) → ℕ → StackDepths → Chip
+    → StackDepths × Chip
+deep_from zero turn quiet done name depths chip = (depths, chip)
+deep_from (suc left) turn quiet done name depths chip =
+    if done (state_of chip name) || (quiet == 4) then (depths, chip)
     else
-    deep_from left (suc turn) (quiet_after quiet (moved_in turn chip)) goal name
-    (after_step (step_in name turn chip) (state_of chip name) depths) (turned turn chip)
+    deep_from left (suc turn) (quiet_after quiet (moved_in turn chip)) done name
+    (after_step (step_in name turn chip) (r_of (state_of chip name)) depths) (turned turn chip)
+
+-- a node is never done
+abbrev pub never : Option State → Bool
+never state = false
+
+-- How deep both stacks of each node were in a number of turns of a chip, in order of name.
+unfoldable pub all_depths : ℕ → Chip → List StackDepths
+all_depths turns chip =
+    map (λ index. (deep_from turns 0 0 never (name_at index) BOTH_EMPTY chip).0)
+    (range_with_len 0 144)
 
 -- ---- the text
 
@@ -172,5 +193,4 @@ steps_made (Some state) = state.steps
 unfoldable pub depth_text : List (ℕ × ImageView) → ℕ → Chip → Chip → List ℕ
 depth_text images name start here =
     depth_behind images name here
-    (deep_from 1000000 0 0 (steps_made (state_of here name)) name
-    (record { data_stack = EMPTY; return_stack = EMPTY }) start)
+    (deep_from 1000000 0 0 (has_made (steps_made (state_of here name))) name BOTH_EMPTY start)

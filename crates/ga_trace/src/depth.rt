@@ -1,11 +1,11 @@
 //! How deep the stacks of a node were.
-ghost use Rattle.std.specs.Prelude.{◌≡◌, ◌+◌, ◌++◌, ◌^◌, ◌<◌, ◌≤◌, IfOk, OnOk, Some, string_bytes};
+ghost use Rattle.std.specs.Prelude.{◌≡◌, ◌++◌, IfOk, OnOk, Some, string_bytes};
 ghost use Rattle.ga_chip.specs.Chip.{state_of};
 ghost use Rattle.ga_waits.specs.Label.{images_in};
-ghost use Rattle.ga_trace.specs.Depth.{EMPTY, after_step, both_deeper, changed, data_change, deep_from, deeper, depth_behind, depth_line, depth_text, depths_text, fewer_text, has_made, loop_change, passed_text, remark, return_change, worked_by};
+ghost use Rattle.ga_trace.specs.Depth.{BOTH_EMPTY, EMPTY, after_step, both_deeper, changed, data_change, deep_from, deeper, depth_line, depth_text, depths_text, fewer_text, has_made, loop_change, passed_text, remark, return_change, worked_by};
 
 use crate::at::at_word;
-use crate::traced::{MOST_TURNS, MadeTurn, made_turn, quiet_after};
+use crate::traced::{MOST_TURNS, made_turn, quiet_after};
 use ga_asm::Images;
 use ga_chip::Chip;
 use ga_node::NodeState;
@@ -32,20 +32,21 @@ pub(crate) enum Change {
 
 /// How deep a stack was.
 #[derive(Clone, Copy)]
-pub(crate) struct StackDepth {
-    /// The words that were pushed and not yet popped.
-    pub(crate) words: u64,
+pub struct StackDepth {
+    /// The words that were pushed and not yet popped. The number stays at 2^64 - 1.
+    pub words: u64,
     /// The most of them.
-    pub(crate) most: u64,
+    pub most: u64,
     /// The address of the first push for which there was no room.
-    pub(crate) passed: Option<u16>,
+    pub passed: Option<u16>,
 }
 
-/// How deep both stacks of a node were.
+/// How deep both stacks of a node were. The data stack has room for ten words, T and S among them,
+/// and the return stack for nine, with R (the F18A reference, DB001).
 #[derive(Clone, Copy)]
-pub(crate) struct StackDepths {
-    pub(crate) data_stack: StackDepth,
-    pub(crate) return_stack: StackDepth,
+pub struct StackDepths {
+    pub data_stack: StackDepth,
+    pub return_stack: StackDepth,
 }
 
 /// How many words each stack of a node held at most in the steps that it has made on a chip, by
@@ -74,24 +75,30 @@ pub fn depths(
 
 /// Makes at most `most` turns of all nodes, until a node has made `goal` steps.
 fn deepest(chip: &mut Chip, node: Node, goal: u64, most: u64) -> StackDepths
-    requires { most < 2 ^ 32 }
-    ensures { (result, chip.new) ≡ deep_from most 0 0 goal node
-        (record { data_stack = EMPTY; return_stack = EMPTY }) chip.old }
+    ensures { (result, chip.new)
+        ≡ deep_from most 0 0 (has_made goal) node BOTH_EMPTY chip.old }
 {
-    let mut depths = StackDepths {
-        data_stack: empty(),
-        return_stack: empty(),
-    };
+    let mut depths = both_empty();
     let mut quiet = 0;
     for number in 0..most {
         if has_made(chip, node, goal) || quiet == 4 {
             return depths;
         }
         let made = made_turn(chip, node, number);
-        depths = after_turn(&depths, &made);
+        depths = after_step(&depths, &made.step, made.old.r());
         quiet = quiet_after(quiet, made.moved);
     }
     depths
+}
+
+/// No words in both stacks.
+pub(crate) fn both_empty() -> StackDepths
+    ensures { result ≡ BOTH_EMPTY }
+{
+    StackDepths {
+        data_stack: empty(),
+        return_stack: empty(),
+    }
 }
 
 fn empty() -> StackDepth
@@ -111,22 +118,18 @@ fn has_made(chip: &Chip, node: Node, goal: u64) -> bool
     chip.state(node).steps() >= goal
 }
 
-/// Both stacks after a turn that was made.
-fn after_turn(depths: &StackDepths, made: &MadeTurn) -> StackDepths
-    requires data { depths.now.data_stack.words < 2 ^ 32 }
-    requires calls { depths.now.return_stack.words < 2 ^ 32 }
-    ensures value { result ≡ after_step made.now.step (Some made.now.old) depths.now }
-    ensures data { result.data_stack.words ≤ depths.now.data_stack.words + 1 }
-    ensures calls { result.return_stack.words ≤ depths.now.return_stack.words + 1 }
+/// Both stacks after a step, if there is one, by R before it.
+pub(crate) fn after_step(depths: &StackDepths, step: &Option<Step>, r: Word18) -> StackDepths
+    ensures { result ≡ after_step step.now r depths.now }
 {
-    let Some(step) = &made.step else {
+    let Some(step) = step else {
         return *depths;
     };
     let Some(op) = worked_by(step) else {
         return *depths;
     };
-    let address = at_word(step.place, made.old.p(), step.word);
-    both_deeper(depths, op, address, made.old.r())
+    let address = at_word(step.place, step.p % 0x400, step.word);
+    both_deeper(depths, op, address, r)
 }
 
 /// The opcode whose work a step does; the check of a post does none.
@@ -141,11 +144,7 @@ fn worked_by(step: &Step) -> Option<Op>
 
 /// Both stacks after the work of an opcode at an address, by R before it.
 fn both_deeper(depths: &StackDepths, op: Op, address: u16, r: Word18) -> StackDepths
-    requires data { depths.now.data_stack.words < 2 ^ 32 }
-    requires calls { depths.now.return_stack.words < 2 ^ 32 }
-    ensures value { result ≡ both_deeper address r (Some op) depths.now }
-    ensures data { result.data_stack.words ≤ depths.now.data_stack.words + 1 }
-    ensures calls { result.return_stack.words ≤ depths.now.return_stack.words + 1 }
+    ensures { result ≡ both_deeper address r (Some op) depths.now }
 {
     let of_data = data_change(op);
     let of_return = return_change(op, r);
@@ -157,9 +156,7 @@ fn both_deeper(depths: &StackDepths, op: Op, address: u16, r: Word18) -> StackDe
 
 /// A stack after a change by a step at an address.
 fn deeper(depth: &StackDepth, change: Change, room: u64, address: u16) -> StackDepth
-    requires { depth.now.words < 2 ^ 32 }
-    ensures value { result ≡ deeper room address change depth.now }
-    ensures more { result.words ≤ depth.now.words + 1 }
+    ensures { result ≡ deeper room address change depth.now }
 {
     let words = changed(change, depth.words);
     let too_many = if words > room { Some(address) } else { None };
@@ -172,12 +169,10 @@ fn deeper(depth: &StackDepth, change: Change, room: u64, address: u16) -> StackD
 
 /// How many words a stack holds after a change; one that is empty stays so.
 fn changed(change: Change, words: u64) -> u64
-    requires { words < 2 ^ 32 }
-    ensures value { result ≡ changed change words }
-    ensures more { result ≤ words + 1 }
+    ensures { result ≡ changed change words }
 {
     match change {
-        Change::Push => words + 1,
+        Change::Push => words.saturating_add(1),
         Change::Pop => words.saturating_sub(1),
         Change::Keep => words,
     }

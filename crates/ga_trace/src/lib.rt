@@ -2,10 +2,12 @@
 //! were.
 #![tactic(auto)]
 
+mod all_nodes;
 mod at;
 mod changes;
 mod depth;
 mod last;
+mod last_steps;
 mod line;
 mod rest;
 mod stepped;
@@ -13,8 +15,9 @@ mod traced;
 mod watched;
 mod what;
 
+pub use all_nodes::all_depths;
 pub use at::at_word;
-pub use depth::depths;
+pub use depth::{StackDepth, StackDepths, depths};
 pub use rest::{Ran, run, spins};
 pub use stepped::step;
 pub use traced::trace;
