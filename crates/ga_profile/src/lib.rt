@@ -26,6 +26,7 @@ pub use bottleneck::bottleneck_text;
 pub use node_pass::NodePass;
 pub use node_turns::{NodeTurns, TurnCounts};
 pub use passes::{Moment, Passes};
-pub use profile::{Profile, measure};
+pub use profile::{Profile, ended, measure};
 pub use text::profile_text;
+pub use turn_watch::TurnWatch;
 pub use window::{Window, WindowStart};

@@ -122,7 +122,7 @@ fn watched(
 }
 
 /// The turns of all nodes with those behind their last steps, up to the end of a window.
-fn ended(
+pub fn ended(
     alloc: Global,
     chip: &Chip,
     window: Window,

@@ -1,0 +1,13 @@
+pub mod Escape
+pub mod Parts
+pub mod Style
+pub mod Kind
+pub mod Columns
+pub mod Most
+pub mod Timeline
+pub mod Line
+pub mod Rows
+pub mod Ending
+pub mod Picture
+pub mod Page
+pub mod inner

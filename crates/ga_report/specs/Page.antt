@@ -1,0 +1,49 @@
+-- A page of a run.
+use Rattle.std.specs.Prelude.{ℕ, List, [], ◌∷◌, ◌++◌, codes}
+use Rattle.std.specs.List.{concat}
+use Rattle.ga_chip.specs.Chip.{Chip}
+use Rattle.ga_profile.specs.declared.node_turns.NodeTurns.{NodeTurns}
+use Rattle.ga_profile.specs.declared.window.Window.{Window}
+use Rattle.ga_report.specs.declared.kind.Kind.{Kind}
+use Rattle.ga_report.specs.Escape.{escaped}
+use Rattle.ga_report.specs.Picture.{picture}
+use Rattle.ga_report.specs.Rows.{timeline_part}
+use Rattle.ga_report.specs.Style.{STYLE}
+
+-- the begin of a page, up to its title
+unfoldable pub OPENING : List ℕ
+OPENING =
+    concat (codes "<!DOCTYPE html>\n<html lang='en'><head><meta charset='utf-8'/>\n"
+    ∷ codes "<meta name='viewport' content='width=device-width,initial-scale=1'/>\n"
+    ∷ codes "<title>" ∷ [])
+
+-- what stands below the headline
+unfoldable pub REMARK : List ℕ
+REMARK = codes "</h1>\n<p>Turns aren't time on a chip.</p>\n"
+
+-- its head with the style sheet, and the headline, which is its title too
+unfoldable pub head : List ℕ → List ℕ
+head headline =
+    concat (OPENING ∷ escaped headline ∷ STYLE ∷ escaped headline ∷ REMARK ∷ [])
+
+-- a heading, and the begin of a text as it is laid out
+unfoldable pub heading : List ℕ → List ℕ
+heading shown = codes "<h2>" ++ shown ++ codes "</h2>\n<pre tabindex='0'>"
+
+-- a text as it is laid out, under a heading
+unfoldable pub preformatted : List ℕ → List ℕ → List ℕ
+preformatted headed shown =
+    concat (heading headed ∷ escaped shown ∷ codes "</pre>\n" ∷ [])
+
+-- the end of a page
+unfoldable pub CLOSING : List ℕ
+CLOSING = codes "</main></body></html>\n"
+
+-- A page, by the profile of a run and what its nodes do in columns: the headline; the timeline;
+-- the profile; the chip; and the listing.
+unfoldable pub page_text : List ℕ → Window → List NodeTurns → Chip → ℕ → List Kind → List ℕ
+    → List ℕ → List ℕ
+page_text headline window nodes chip columns kinds profile listing =
+    concat (head headline ∷ timeline_part window nodes columns kinds
+    ∷ preformatted (codes "Profile") profile ∷ picture chip nodes
+    ∷ preformatted (codes "Listing") listing ∷ CLOSING ∷ [])

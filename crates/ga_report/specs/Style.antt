@@ -1,0 +1,67 @@
+-- The style sheet of a page.
+use Rattle.std.specs.Prelude.{ℕ, List, [], ◌∷◌, codes}
+use Rattle.std.specs.List.{concat}
+
+-- the begin of the style sheet, with its colours
+unfoldable pub COLOURS : List ℕ
+COLOURS =
+    concat (codes "</title><style>\n"
+    ∷ codes ":root{color-scheme:light dark;--page:#fdfdfb;--ink:#1b1b1a;\n"
+    ∷ codes "--soft:#62625d;--rule:#d9d8d2;--work:#0068a8;--word:#e69f00;\n"
+    ∷ codes "--reader:#c2649a;--boot:#b9b9b2;--spin:#8a8a84;--stop:#b3261e}\n"
+    ∷ codes "@media(prefers-color-scheme:dark){:root{--page:#161716;--ink:#e9e8e3;\n"
+    ∷ codes "--soft:#a3a29b;--rule:#373835;--work:#4ba6e0;--word:#eeb23c;\n"
+    ∷ codes "--reader:#dd8cbb;--boot:#5c5d58;--spin:#8d8d86;--stop:#ff8f7f}}\n" ∷ [])
+
+-- type and layout
+unfoldable pub LAYOUT : List ℕ
+LAYOUT =
+    concat (codes "body{margin:0;background:var(--page);color:var(--ink);\n"
+    ∷ codes "font:15px/1.5 system-ui,sans-serif}\n"
+    ∷ codes "main{max-width:1360px;margin:0 auto;padding:28px clamp(14px,3vw,44px) 60px}\n"
+    ∷ codes "h1{font-size:clamp(20px,2.1vw,27px);line-height:1.28;max-width:54ch;margin:0 0 8px}\n"
+    ∷ codes "h2{font-size:17px;margin:38px 0 6px}\n"
+    ∷ codes "p{margin:0 0 8px;max-width:74ch;color:var(--soft)}\n"
+    ∷ codes "pre{margin:0;overflow-x:auto;\n"
+    ∷ codes "font:12px/1.45 ui-monospace,Menlo,Consolas,monospace}\n" ∷ [])
+
+-- the rows of the timeline, its scale and its key
+unfoldable pub ROWS : List ℕ
+ROWS =
+    concat (codes ".row,.scale,.key{display:flex;font-size:13px;\n"
+    ∷ codes "font-variant-numeric:tabular-nums}\n"
+    ∷ codes ".row{height:24px;line-height:24px}\n"
+    ∷ codes ".row b{flex:0 0 3em;font-weight:400}\n"
+    ∷ codes ".row svg{flex:1;min-width:0;height:24px}\n"
+    ∷ codes ".scale{margin-left:3em;justify-content:space-between;\n"
+    ∷ codes "border-top:1px solid var(--soft)}\n"
+    ∷ codes ".scale span:first-child::before{content:'turn '}\n"
+    ∷ codes ".key{flex-wrap:wrap;gap:4px 20px;padding:0;list-style:none}\n"
+    ∷ codes ".key svg{width:26px;height:24px;margin-right:6px;vertical-align:middle}\n" ∷ [])
+
+-- the lines of what a node does
+unfoldable pub LINES : List ℕ
+LINES =
+    concat (codes "path{fill:none;vector-effect:non-scaling-stroke}\n"
+    ∷ codes ".works{stroke:var(--work);stroke-width:14}\n"
+    ∷ codes ".word{stroke:var(--word);stroke-width:4}\n"
+    ∷ codes ".reader{stroke:var(--reader);stroke-width:4}\n"
+    ∷ codes ".spins{stroke:var(--spin);stroke-width:8;stroke-dasharray:2 3}\n"
+    ∷ codes ".stopped{stroke:var(--stop);stroke-width:2}\n"
+    ∷ codes ".boots{stroke:var(--boot);stroke-width:6}\n"
+    ∷ codes ".idle{stroke:var(--rule);stroke-width:1}\n" ∷ [])
+
+-- the picture of the chip, and the end of the style sheet
+unfoldable pub CHIP : List ℕ
+CHIP =
+    concat (codes ".chip{overflow-x:auto}\n"
+    ∷ codes ".chip svg{display:block;width:100%;min-width:720px;max-width:1100px}\n"
+    ∷ codes ".chip rect{fill:none;stroke:var(--rule)}.chip path{vector-effect:none}\n"
+    ∷ codes ".chip .works{stroke-width:32}.chip .works+text{fill:var(--page)}\n"
+    ∷ codes ".chip text{fill:var(--ink);font-size:13px;text-anchor:middle}\n"
+    ∷ codes ".chip .arrow{stroke:var(--ink);stroke-width:2}\n"
+    ∷ codes "</style></head><body><main><h1>" ∷ [])
+
+-- All of it, with what stands between the title and the headline.
+unfoldable pub STYLE : List ℕ
+STYLE = concat (COLOURS ∷ LAYOUT ∷ ROWS ∷ LINES ∷ CHIP ∷ [])

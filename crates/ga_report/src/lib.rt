@@ -1,0 +1,20 @@
+//! A run of a chip as a page in HTML.
+#![tactic(auto)]
+
+mod columns;
+mod ending;
+mod escape;
+mod kind;
+mod line;
+mod most;
+mod page;
+mod parts;
+mod picture;
+mod rows;
+mod style;
+mod timeline;
+mod watched;
+
+pub use kind::Kind;
+pub use page::{Page, page_text};
+pub use timeline::{Timeline, timeline_in};

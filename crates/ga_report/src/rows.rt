@@ -1,0 +1,270 @@
+//! The timeline as rows, one for each node that began.
+ghost use Rattle.std.specs.Prelude.{◌≡◌, ◌++◌, IfOk, OnOk, length, string_bytes};
+ghost use Rattle.ga_report.specs.Rows as spec;
+ghost use Rattle.ga_report.specs.Rows.{classed, levelled, KEY, KEY_ITEMS, OPENING, SAMPLE, SCALE, key_item, note, row, row_head, row_if, rows, scale, summary, tick, ticks, timeline_part, reader_waits_text, word_waits_text, works_text};
+
+use crate::columns::stride_of;
+use crate::kind::{KINDS, Kind, class_of, words_of};
+use crate::line::{level_of, push_lines};
+use crate::timeline::{Timeline, row_of};
+use ga_place::Node;
+use ga_profile::{NodeTurns, TurnCounts, Window};
+use std::alloc::{AllocError, Global};
+use std::fmt::Write;
+
+/// Adds the timeline of a window, by what the nodes did.
+#[tactic(auto, unfolding(crate::specs::Rows::timeline_part))]
+pub(crate) fn push_timeline(
+    text: &mut String,
+    alloc: Global,
+    window: Window,
+    nodes: &[NodeTurns],
+    timeline: &Timeline,
+) -> Result<(), AllocError>
+    requires { length nodes.now ≡ 144 }
+    ensures { OnOk result (string_bytes text.new ≡ string_bytes text.old
+        ++ timeline_part window nodes.now timeline.now.columns timeline.now.kinds.items) }
+{
+    push_key(text)?;
+    push_rows(text, alloc, nodes, timeline)?;
+    push_scale(text, window)?;
+    push_note(text, stride_of(window))
+}
+
+/// Adds the heading, and what the lines mean.
+#[tactic(auto, unfolding(crate::specs::Rows::KEY))]
+fn push_key(text: &mut String) -> Result<(), AllocError>
+    ensures { OnOk result (string_bytes text.new ≡ string_bytes text.old ++ KEY) }
+{
+    push_opening(text)?;
+    push_key_items(text)?;
+    text.push_str("</ul>\n")
+}
+
+/// Adds the heading, and the begin of the key.
+#[tactic(auto, unfolding(crate::specs::Rows::OPENING))]
+fn push_opening(text: &mut String) -> Result<(), AllocError>
+    ensures { OnOk result (string_bytes text.new ≡ string_bytes text.old ++ OPENING) }
+{
+    text.push_str("<h2>Timeline</h2>\n<ul class='key'>\n")
+}
+
+/// Adds what the line of each kind means.
+#[tactic(auto, unfolding(crate::specs::Rows::KEY_ITEMS))]
+fn push_key_items(text: &mut String) -> Result<(), AllocError>
+    ensures { OnOk result (string_bytes text.new ≡ string_bytes text.old ++ KEY_ITEMS) }
+{
+    for kind in KINDS {
+        push_key_item(text, kind)?;
+    }
+    Ok(())
+}
+
+/// Adds what the line of a kind means.
+#[tactic(auto, unfolding(crate::specs::Rows::key_item))]
+fn push_key_item(text: &mut String, kind: Kind) -> Result<(), AllocError>
+    ensures { OnOk result (string_bytes text.new ≡ string_bytes text.old ++ key_item kind) }
+{
+    push_sample_opening(text)?;
+    push_class(text, class_of(kind))?;
+    push_level(text, level_of(kind))?;
+    text.push_str(words_of(kind))?;
+    text.push_str("</li>\n")
+}
+
+/// Adds the begin of a line of the key.
+#[tactic(auto, unfolding(crate::specs::Rows::SAMPLE))]
+fn push_sample_opening(text: &mut String) -> Result<(), AllocError>
+    ensures { OnOk result (string_bytes text.new ≡ string_bytes text.old ++ SAMPLE) }
+{
+    text.push_str("<li><svg viewBox='0 0 26 24' aria-hidden='true'>")
+}
+
+/// Adds the begin of a line of a class.
+#[tactic(auto, unfolding(crate::specs::Rows::classed))]
+fn push_class(text: &mut String, class: &str) -> Result<(), AllocError>
+    ensures { OnOk result (string_bytes text.new
+        ≡ string_bytes text.old ++ classed class.now) }
+{
+    write!(text, "<path class='{class}' ")
+}
+
+/// Adds the end of a line at a height.
+#[tactic(auto, unfolding(crate::specs::Rows::levelled))]
+fn push_level(text: &mut String, level: u8) -> Result<(), AllocError>
+    ensures { OnOk result (string_bytes text.new ≡ string_bytes text.old ++ levelled level) }
+{
+    write!(text, "d='M0 {level}H26'/></svg>")
+}
+
+/// Adds the rows of all nodes that began.
+#[tactic(auto, unfolding(crate::specs::Rows::rows))]
+fn push_rows(
+    text: &mut String,
+    alloc: Global,
+    nodes: &[NodeTurns],
+    timeline: &Timeline,
+) -> Result<(), AllocError>
+    requires { length nodes.now ≡ 144 }
+    ensures { OnOk result (string_bytes text.new ≡ string_bytes text.old
+        ++ rows nodes.now timeline.now.columns timeline.now.kinds.items) }
+{
+    for index in 0..144 {
+        let shown = row_of(alloc, timeline, index)?;
+        push_row_if(
+            text,
+            alloc,
+            Node::at(index),
+            &nodes[index],
+            shown.as_slice(),
+        )?;
+    }
+    Ok(())
+}
+
+/// Adds the row of a node, if it began.
+fn push_row_if(
+    text: &mut String,
+    alloc: Global,
+    node: Node,
+    did: &NodeTurns,
+    shown: &[Kind],
+) -> Result<(), AllocError>
+    ensures { OnOk result (string_bytes text.new ≡ string_bytes text.old
+        ++ row_if did.now.began node did.now.counts shown.now) }
+{
+    match did.began {
+        Some(_) => push_row(text, alloc, node, &did.counts, shown),
+        None => Ok(()),
+    }
+}
+
+/// Adds the row of a node.
+#[tactic(auto, unfolding(crate::specs::Rows::row))]
+fn push_row(
+    text: &mut String,
+    alloc: Global,
+    node: Node,
+    counts: &TurnCounts,
+    shown: &[Kind],
+) -> Result<(), AllocError>
+    ensures { OnOk result (string_bytes text.new ≡ string_bytes text.old
+        ++ row node counts.now shown.now) }
+{
+    push_row_head(text, node, shown.len())?;
+    push_summary(text, node, counts)?;
+    text.push_str("</title>")?;
+    push_lines(text, alloc, shown)?;
+    text.push_str("</svg></div>\n")
+}
+
+/// Adds the name of a node, and the begin of its row of so many columns.
+#[tactic(auto, unfolding(crate::specs::Rows::row_head))]
+fn push_row_head(text: &mut String, node: Node, columns: usize) -> Result<(), AllocError>
+    ensures { OnOk result (string_bytes text.new
+        ≡ string_bytes text.old ++ row_head node columns) }
+{
+    write!(
+        text,
+        "<div class='row'><b>{node}</b><svg viewBox='0 0 {columns} 24' \
+        preserveAspectRatio='none' role='img'><title>"
+    )
+}
+
+/// Adds what a node did in how many turns.
+#[tactic(auto, unfolding(crate::specs::Rows::summary))]
+fn push_summary(text: &mut String, node: Node, counts: &TurnCounts) -> Result<(), AllocError>
+    ensures { OnOk result (string_bytes text.new
+        ≡ string_bytes text.old ++ summary node counts.now) }
+{
+    push_works(text, node, counts.works)?;
+    push_word_waits(text, counts.word_waits)?;
+    push_reader_waits(text, counts.reader_waits)
+}
+
+/// Adds in how many turns a node worked.
+#[tactic(auto, unfolding(crate::specs::Rows::works_text))]
+fn push_works(text: &mut String, node: Node, works: u64) -> Result<(), AllocError>
+    ensures { OnOk result (string_bytes text.new
+        ≡ string_bytes text.old ++ works_text node works) }
+{
+    write!(text, "{node} works in {works} turns")
+}
+
+/// Adds in how many turns it waited for a word.
+#[tactic(auto, unfolding(crate::specs::Rows::word_waits_text))]
+fn push_word_waits(text: &mut String, waits: u64) -> Result<(), AllocError>
+    ensures { OnOk result (string_bytes text.new
+        ≡ string_bytes text.old ++ word_waits_text waits) }
+{
+    write!(text, ", waits for a word in {waits}")
+}
+
+/// Adds in how many turns it waited for its word to be read.
+#[tactic(auto, unfolding(crate::specs::Rows::reader_waits_text))]
+fn push_reader_waits(text: &mut String, waits: u64) -> Result<(), AllocError>
+    ensures { OnOk result (string_bytes text.new
+        ≡ string_bytes text.old ++ reader_waits_text waits) }
+{
+    write!(text, ", and for a reader in {waits}")
+}
+
+/// Adds the turns at the quarters of a window, from its begin to its end.
+#[tactic(auto, unfolding(crate::specs::Rows::scale))]
+fn push_scale(text: &mut String, window: Window) -> Result<(), AllocError>
+    ensures { OnOk result (string_bytes text.new ≡ string_bytes text.old ++ scale window) }
+{
+    push_scale_opening(text)?;
+    push_ticks(text, window)?;
+    text.push_str("</div>\n")
+}
+
+/// Adds the begin of the scale.
+#[tactic(auto, unfolding(crate::specs::Rows::SCALE))]
+fn push_scale_opening(text: &mut String) -> Result<(), AllocError>
+    ensures { OnOk result (string_bytes text.new ≡ string_bytes text.old ++ SCALE) }
+{
+    text.push_str("<div class='scale'>")
+}
+
+/// Adds the turns at the quarters of a window.
+#[tactic(auto, unfolding(crate::specs::Rows::ticks))]
+fn push_ticks(text: &mut String, window: Window) -> Result<(), AllocError>
+    ensures { OnOk result (string_bytes text.new ≡ string_bytes text.old ++ ticks window) }
+{
+    for quarters in 0..5 {
+        push_tick(text, turn_at(window, quarters))?;
+    }
+    Ok(())
+}
+
+/// The turn behind some quarters of a window.
+fn turn_at(window: Window, quarters: u32) -> u64
+    ensures { result ≡ spec.turn_at window quarters }
+{
+    let turns = window.length() * u64::from(quarters) / 4;
+    window.first.saturating_add(turns)
+}
+
+/// Adds a turn of the scale.
+#[tactic(auto, unfolding(crate::specs::Rows::tick))]
+fn push_tick(text: &mut String, turn: u64) -> Result<(), AllocError>
+    ensures { OnOk result (string_bytes text.new ≡ string_bytes text.old ++ tick turn) }
+{
+    write!(text, "<span>{turn}</span>")
+}
+
+/// Adds what a column of some turns stands for.
+#[tactic(auto, unfolding(crate::specs::Rows::note))]
+fn push_note(text: &mut String, turns: u64) -> Result<(), AllocError>
+    ensures { OnOk result (string_bytes text.new ≡ string_bytes text.old ++ note turns) }
+{
+    if turns == 1 {
+        text.push_str("<p>A column is a turn.</p>\n")
+    } else {
+        write!(
+            text,
+            "<p>A column of {turns} turns shows what the node did in most of them.</p>\n"
+        )
+    }
+}

@@ -1,0 +1,108 @@
+//! The style sheet of a page.
+ghost use Rattle.std.specs.Prelude.{◌≡◌, ◌++◌, OnOk, string_bytes};
+ghost use Rattle.ga_report.specs.Style.{CHIP, COLOURS, LAYOUT, LINES, ROWS, STYLE};
+
+use crate::parts::push_parts;
+use std::alloc::AllocError;
+
+/// Adds the style sheet, with what stands between the title and the headline.
+#[tactic(auto, unfolding(crate::specs::Style::STYLE))]
+pub(crate) fn push_style(text: &mut String) -> Result<(), AllocError>
+    ensures { OnOk result (string_bytes text.new ≡ string_bytes text.old ++ STYLE) }
+{
+    push_colours(text)?;
+    push_layout(text)?;
+    push_rows(text)?;
+    push_lines(text)?;
+    push_chip(text)
+}
+
+/// Adds the begin of the style sheet, with its colours.
+#[tactic(auto, unfolding(crate::specs::Style::COLOURS))]
+fn push_colours(text: &mut String) -> Result<(), AllocError>
+    ensures { OnOk result (string_bytes text.new ≡ string_bytes text.old ++ COLOURS) }
+{
+    let parts = [
+        "</title><style>\n",
+        ":root{color-scheme:light dark;--page:#fdfdfb;--ink:#1b1b1a;\n",
+        "--soft:#62625d;--rule:#d9d8d2;--work:#0068a8;--word:#e69f00;\n",
+        "--reader:#c2649a;--boot:#b9b9b2;--spin:#8a8a84;--stop:#b3261e}\n",
+        "@media(prefers-color-scheme:dark){:root{--page:#161716;--ink:#e9e8e3;\n",
+        "--soft:#a3a29b;--rule:#373835;--work:#4ba6e0;--word:#eeb23c;\n",
+        "--reader:#dd8cbb;--boot:#5c5d58;--spin:#8d8d86;--stop:#ff8f7f}}\n",
+    ];
+    push_parts(text, &parts)
+}
+
+/// Adds type and layout.
+#[tactic(auto, unfolding(crate::specs::Style::LAYOUT))]
+fn push_layout(text: &mut String) -> Result<(), AllocError>
+    ensures { OnOk result (string_bytes text.new ≡ string_bytes text.old ++ LAYOUT) }
+{
+    let parts = [
+        "body{margin:0;background:var(--page);color:var(--ink);\n",
+        "font:15px/1.5 system-ui,sans-serif}\n",
+        "main{max-width:1360px;margin:0 auto;padding:28px clamp(14px,3vw,44px) 60px}\n",
+        "h1{font-size:clamp(20px,2.1vw,27px);line-height:1.28;max-width:54ch;margin:0 0 8px}\n",
+        "h2{font-size:17px;margin:38px 0 6px}\n",
+        "p{margin:0 0 8px;max-width:74ch;color:var(--soft)}\n",
+        "pre{margin:0;overflow-x:auto;\n",
+        "font:12px/1.45 ui-monospace,Menlo,Consolas,monospace}\n",
+    ];
+    push_parts(text, &parts)
+}
+
+/// Adds the rows of the timeline, its scale and its key.
+#[tactic(auto, unfolding(crate::specs::Style::ROWS))]
+fn push_rows(text: &mut String) -> Result<(), AllocError>
+    ensures { OnOk result (string_bytes text.new ≡ string_bytes text.old ++ ROWS) }
+{
+    let parts = [
+        ".row,.scale,.key{display:flex;font-size:13px;\n",
+        "font-variant-numeric:tabular-nums}\n",
+        ".row{height:24px;line-height:24px}\n",
+        ".row b{flex:0 0 3em;font-weight:400}\n",
+        ".row svg{flex:1;min-width:0;height:24px}\n",
+        ".scale{margin-left:3em;justify-content:space-between;\n",
+        "border-top:1px solid var(--soft)}\n",
+        ".scale span:first-child::before{content:'turn '}\n",
+        ".key{flex-wrap:wrap;gap:4px 20px;padding:0;list-style:none}\n",
+        ".key svg{width:26px;height:24px;margin-right:6px;vertical-align:middle}\n",
+    ];
+    push_parts(text, &parts)
+}
+
+/// Adds the lines of what a node does.
+#[tactic(auto, unfolding(crate::specs::Style::LINES))]
+fn push_lines(text: &mut String) -> Result<(), AllocError>
+    ensures { OnOk result (string_bytes text.new ≡ string_bytes text.old ++ LINES) }
+{
+    let parts = [
+        "path{fill:none;vector-effect:non-scaling-stroke}\n",
+        ".works{stroke:var(--work);stroke-width:14}\n",
+        ".word{stroke:var(--word);stroke-width:4}\n",
+        ".reader{stroke:var(--reader);stroke-width:4}\n",
+        ".spins{stroke:var(--spin);stroke-width:8;stroke-dasharray:2 3}\n",
+        ".stopped{stroke:var(--stop);stroke-width:2}\n",
+        ".boots{stroke:var(--boot);stroke-width:6}\n",
+        ".idle{stroke:var(--rule);stroke-width:1}\n",
+    ];
+    push_parts(text, &parts)
+}
+
+/// Adds the picture of the chip, and the end of the style sheet.
+#[tactic(auto, unfolding(crate::specs::Style::CHIP))]
+fn push_chip(text: &mut String) -> Result<(), AllocError>
+    ensures { OnOk result (string_bytes text.new ≡ string_bytes text.old ++ CHIP) }
+{
+    let parts = [
+        ".chip{overflow-x:auto}\n",
+        ".chip svg{display:block;width:100%;min-width:720px;max-width:1100px}\n",
+        ".chip rect{fill:none;stroke:var(--rule)}.chip path{vector-effect:none}\n",
+        ".chip .works{stroke-width:32}.chip .works+text{fill:var(--page)}\n",
+        ".chip text{fill:var(--ink);font-size:13px;text-anchor:middle}\n",
+        ".chip .arrow{stroke:var(--ink);stroke-width:2}\n",
+        "</style></head><body><main><h1>",
+    ];
+    push_parts(text, &parts)
+}

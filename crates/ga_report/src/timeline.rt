@@ -1,0 +1,84 @@
+//! What each node does in the columns of a window.
+ghost use Rattle.std.specs.Prelude.{◌≡◌, ◌+◌, ◌*◌, ◌<◌, ◌++◌, IfOk, OnOk, length};
+ghost use Rattle.ga_report.specs.Columns as columns;
+ghost use Rattle.ga_report.specs.Timeline as spec;
+ghost use Rattle.ga_report.specs.Timeline.{kinds_in, most_by};
+
+use crate::columns::{bound, columns_of};
+use crate::kind::Kind;
+use crate::most::most_between;
+use crate::watched::Watched;
+use ga_chip::Chip;
+use ga_profile::{NodeTurns, Window};
+use std::alloc::{AllocError, Global};
+
+/// What each node does in the columns of a window.
+#[derive(Drop)]
+pub struct Timeline {
+    /// How many columns the window has.
+    pub columns: usize,
+    /// What each node, in order of name, does in most turns of the first column; then the same of
+    /// the next column, and so on.
+    pub kinds: Vec<Kind>,
+    ghost all: { length kinds.items ≡ columns * 144 },
+}
+
+/// What each node does in a window of the run of a chip, in at most 600 columns of as many turns
+/// each. The chip itself makes no turn. Fails only when out of memory.
+pub fn timeline_in(alloc: Global, chip: &Chip, window: Window) -> Result<Timeline, AllocError>
+    ensures columns { IfOk result (λ timeline. timeline.columns ≡ columns.columns_of window) }
+    ensures kinds { IfOk result (λ timeline. timeline.kinds.items ≡ kinds_in window chip.now) }
+{
+    let columns = columns_of(window);
+    let first = bound(window, 0);
+    let mut run = Watched::new(alloc, chip)?;
+    run.advance(0, first);
+    let mut before = run.nodes(alloc, first)?;
+    let mut kinds = Vec::new(alloc);
+    for column in 0..columns {
+        let begin = bound(window, column);
+        let end = bound(window, column + 1);
+        run.advance(begin, end);
+        let after = run.nodes(alloc, end)?;
+        push_column(&mut kinds, before.as_slice(), after.as_slice(), end - begin)?;
+        before = after;
+    }
+    Ok(Timeline { columns, kinds })
+}
+
+/// Adds what each node does in most of some turns.
+fn push_column(
+    kinds: &mut Vec<Kind>,
+    before: &[NodeTurns],
+    after: &[NodeTurns],
+    turns: u32,
+) -> Result<(), AllocError>
+    requires before { length before.now ≡ 144 }
+    requires after { length after.now ≡ 144 }
+    ensures { OnOk result (kinds.new.items
+        ≡ kinds.old.items ++ most_by before.now after.now turns) }
+{
+    for index in 0..144 {
+        let counts = &before[index].counts;
+        kinds.push(most_between(counts, &after[index].counts, u64::from(turns)))?;
+    }
+    Ok(())
+}
+
+/// What a node does in each column, by its index.
+#[tactic(auto, unfolding(crate::specs::Timeline::row_of))]
+pub(crate) fn row_of(
+    alloc: Global,
+    timeline: &Timeline,
+    index: usize,
+) -> Result<Vec<Kind>, AllocError>
+    requires { index < 144 }
+    ensures { IfOk result (λ row. row.items
+        ≡ spec.row_of timeline.now.columns timeline.now.kinds.items index) }
+{
+    let mut row = Vec::new(alloc);
+    for column in 0..timeline.columns {
+        row.push(timeline.kinds[column * 144 + index])?;
+    }
+    Ok(row)
+}
