@@ -48,11 +48,7 @@ fn main(rt: HostRuntime) -> ExitCode {
 fn job_status<
     Rt: AllocGlobal + Print + Eprint + Threads + Clock + Sync + Files,
     R: Read + IsTerminal,
->(
-    rt: &Rt,
-    reader: &mut R,
-    job: &Job,
-) -> u8 {
+>(rt: &Rt, reader: &mut R, job: &Job) -> u8 {
     let reads_standard = job.file().is_none() && job.several_files().is_none();
     if job.reads_input() && reads_standard && reader.is_terminal() {
         let _ = eprintln!(rt;

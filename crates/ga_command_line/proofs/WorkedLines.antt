@@ -94,9 +94,20 @@ counts_line : (file : String Global) → string_bytes file ≡ codes "ring"
     ∷ codes "ring" ∷ [])
     (Counts Any (Some 14) (Some file))
 unfolding whole_command clap_on_literals
-counts_line file is =
-    (refl, (refl, (refl, refl, (refl, refl), ((lit< tt, (lit< tt, (lit< tt, tt))), refl),
-    ap Some is)), lit≤ tt)
+counts_line file is = (
+  refl,
+  (
+    refl,
+    (
+      refl,
+      refl,
+      (refl, refl),
+      ((lit< tt, (lit< tt, (lit< tt, tt))), refl),
+      ap Some is,
+    ),
+  ),
+  lit≤ tt,
+)
 
 report_line : IsRight (codes "ga-bench" ∷ codes "report" ∷ []) (Report Any None None)
 unfolding whole_command clap_on_literals

@@ -44,9 +44,9 @@ pub fn command<'a>(alloc: Global) -> Result<Command<'a>, AllocError>
 fn save_command<'a>(alloc: Global) -> Result<Command<'a>, AllocError>
     ensures { IfOk result (IsCommandOf save_command) }
 {
-    let save = Arg::new(alloc, "SAVE")
-        .long("save")
-        .help("The name of a save file for GTKWave, which is written or replaced");
+    let save = Arg::new(alloc, "SAVE").long("save").help(
+        "The name of a save file for GTKWave, which is written or replaced",
+    );
     let command = nodes_command(alloc)?;
     command.arg(save)
 }

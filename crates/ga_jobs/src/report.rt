@@ -59,12 +59,7 @@ fn measured(alloc: Global, live: &Live, most: u32) -> Result<Profile, AllocError
 }
 
 /// The headline of a session with this profile.
-fn headline(
-    alloc: Global,
-    live: &Live,
-    most: u32,
-    profile: &Profile,
-) -> Result<String, AllocError>
+fn headline(alloc: Global, live: &Live, most: u32, profile: &Profile) -> Result<String, AllocError>
     ensures { IfOk result (λ headline.
         IsHeadline live.now.chip profile.now (string_bytes headline)) }
 {
@@ -74,11 +69,7 @@ fn headline(
 }
 
 /// The headline for a verdict.
-fn headline_by(
-    alloc: Global,
-    verdict: &Verdict,
-    profile: &Profile,
-) -> Result<String, AllocError>
+fn headline_by(alloc: Global, verdict: &Verdict, profile: &Profile) -> Result<String, AllocError>
     ensures { IfOk result (λ headline.
         string_bytes headline ≡ spec.headline_by verdict.now profile.now) }
 {

@@ -116,11 +116,7 @@ fn push_port_name(text: &mut String, side: Side, reader: Option<Node>) -> Result
 }
 
 /// Adds the bits of a signal, with this in front of them, if it has some.
-pub(crate) fn push_bits(
-    text: &mut String,
-    front: &str,
-    signal: Signal,
-) -> Result<(), AllocError>
+pub(crate) fn push_bits(text: &mut String, front: &str, signal: Signal) -> Result<(), AllocError>
     ensures { OnOk result (string_bytes text.new ≡ string_bytes text.old
         ++ bits front.now signal) }
 {
