@@ -27,7 +27,7 @@ it also writes a save file for GTKWave, with the signals to show, their forms an
 Example: printf 'node 708 right b! 5 !b\nnode 709 right b! @b' | ga-bench trace > out.vcd
 More: trace in docs/FORMATS.md";
 
-/// The subcommand `trace [--nodes LIST] [--save SAVE] [--turns N] [--place | --route ROUTE] [FILE]`.
+/// The subcommand `trace`, with `--nodes LIST`, `--save SAVE`, the options of a run, and FILE.
 #[tactic(auto, unfolding(crate::specs::TraceLine::trace_command))]
 pub fn command<'a>(alloc: Global) -> Result<Command<'a>, AllocError>
     ensures { IfOk result (IsCommandOf trace_command) }

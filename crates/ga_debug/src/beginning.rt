@@ -64,8 +64,8 @@ pub fn load<'a>(alloc: Global, text: &'a str) -> Result<Loaded<'a>, ReplayError>
 }
 
 /// The source lines in the head of a replay text of profile 2, each ended by LF; or the first fault
-/// of the head. They aren't parsed. Fails with [`ReplayError::Memory`] only when out of memory. (The
-/// texts are this project's own: profile.)
+/// of the head. They aren't parsed. Fails with [`ReplayError::Memory`] only when out of memory.
+/// (The texts are this project's own: profile.)
 pub fn head_source(alloc: Global, text: &str) -> Result<String, ReplayError>
     ensures { Answers string_bytes (IsHeadSource text.now) result }
 {

@@ -40,7 +40,8 @@ Serves job input old new answer = WritesAnswer (IsOutput job input) job old new 
 -- for the bytes of a file
 abbrev pub ServesFile : Job → List ℕ → Option (List ℕ) → Option (List ℕ) → Result Ending ServeError
     → Type 0
-ServesFile job input old new answer = WritesAnswer (IsOfFile (IsOutput job) input) job old new answer
+ServesFile job input old new answer =
+    WritesAnswer (IsOfFile (IsOutput job) input) job old new answer
 
 -- 3 when out of memory, 1 for a race and for every other fault
 abbrev pub status_of : Result Ending ServeError → ℕ

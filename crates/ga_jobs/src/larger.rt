@@ -43,9 +43,9 @@ pub fn serve_file<Rt: AllocGlobal + Threads + Clock + Sync, W: Write>(
 }
 
 /// What a job answers to the bytes of a file, as [`answer`] does. If they are refused as source
-/// text, and don't begin with `profile`, they are read as text of the larger language: the answer is
-/// the one to the text that they expand to. A fault of that text comes at the place where its token
-/// was written, and one of the larger language as `expand` reports it. (The language is this
+/// text, and don't begin with `profile`, they are read as text of the larger language: the answer
+/// is the one to the text that they expand to. A fault of that text comes at the place where its
+/// token was written, and one of the larger language as `expand` reports it. (The language is this
 /// project's own: profile.)
 pub fn answer_file<Rt: AllocGlobal + Threads + Clock + Sync>(
     rt: &Rt,

@@ -159,8 +159,8 @@ pub enum Job {
         file: Option<String>,
     },
     /// The waveform of a chip, after the commands of its session: turns until rest. It shows the
-    /// nodes that a text names, or those of the program. The save file of a viewer, for which a name
-    /// may be given, is no part of the job's output.
+    /// nodes that a text names, or those of the program. The save file of a viewer, for which a
+    /// name may be given, is no part of the job's output.
     Trace {
         loading: Loading,
         turns: Option<u32>,
@@ -259,6 +259,7 @@ fn only_file(files: &[String]) -> Option<&str>
 }
 
 /// What a job writes for an input that is not too long: `None` only for the job `run`.
+// long: an arm for each job
 #[tactic(auto, unfolding(crate::specs::IsJobOutput))]
 fn output(alloc: Global, job: &Job, input: &[u8]) -> Option<Result<String, ServeError>>
     ensures answer { IfSome result (Answers string_bytes (IsJobOutput job.now input.now)) }

@@ -32,8 +32,8 @@ pub(crate) enum Bottleneck {
 }
 
 /// The bottleneck of a run, what to change, and the rings of nodes that wait for one another, as in
-/// [`profile_text`](crate::profile_text). Fails only when out of memory. (The text is this project's
-/// own: profile.)
+/// [`profile_text`](crate::profile_text). Fails only when out of memory. (The text is this
+/// project's own: profile.)
 pub fn bottleneck_text(alloc: Global, profile: &Profile) -> Result<String, AllocError>
     ensures { IfOk result (λ text. string_bytes text
         ≡ bottleneck_text profile.now.chip profile.now.nodes.items profile.now.passes.items

@@ -58,13 +58,7 @@ fn jobs(alloc: Global) -> Result<Vec<(Job, &'static str)>, Fail> {
         TRANSCRIPT,
     ))?;
     jobs.push((Job::Record { file: None }, TRANSCRIPT))?;
-    let raced = Job::Race {
-        loading: Loading::Any,
-        turns: None,
-        witness: false,
-        file: None,
-    };
-    jobs.push((raced, TRANSCRIPT))?;
+    jobs.push((race_job(), TRANSCRIPT))?;
     jobs.push((Job::Explain { topic }, ""))?;
     jobs.push((map_job(), TRANSCRIPT))?;
     jobs.push((profile_job(), SOURCE))?;
@@ -100,6 +94,16 @@ fn trace_job() -> Job {
         turns: Some(4),
         nodes: None,
         save: None,
+        file: None,
+    }
+}
+
+/// Whether the head of a session has a race.
+fn race_job() -> Job {
+    Job::Race {
+        loading: Loading::Any,
+        turns: None,
+        witness: false,
         file: None,
     }
 }

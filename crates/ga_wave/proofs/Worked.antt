@@ -131,7 +131,8 @@ saved_text : saved_signal 708 signal.Did ≡ codes "[color] 2\n@820\nchip.n708.d
 unfolding digits
 saved_text = refl
 
-saved_port : saved_signal 708 (signal.Port Right) ≡ codes "[color] 3\n@22\nchip.n708.right_to_709[17:0]\n"
+saved_port : saved_signal 708 (signal.Port Right)
+    ≡ codes "[color] 3\n@22\nchip.n708.right_to_709[17:0]\n"
 unfolding digits
 saved_port = refl
 
