@@ -32,16 +32,15 @@ node_read chip nodes index name other kind text new within named does wrote =
 pub row_read : (nodes : List NodeTurns) (columns : ℕ) (kinds shown : List Kind) (index name : ℕ)
     (other : NodeTurns) (text new : List ℕ) → index < length nodes → name ≡ name_at index
     → shown ≡ row_of columns kinds index
-    → new ≡ text
-    ++ row_if (get_or nodes index other).began name (get_or nodes index other).counts shown
+    → new ≡ text ++ row_if (get_or nodes index other).began name shown
     → new ≡ text ++ row_at nodes columns kinds index
 row_read nodes columns kinds shown index name other text new within named is wrote =
     let did = get_or nodes index NO_TURNS in
     wrote
-    ∙ ap (λ (one : NodeTurns). text ++ row_if one.began name one.counts shown)
+    ∙ ap (λ (one : NodeTurns). text ++ row_if one.began name shown)
     (get_or_default nodes index other NO_TURNS within)
-    ∙ ap (λ n. text ++ row_if did.began n did.counts shown) named
-    ∙ ap (λ (s : List Kind). text ++ row_if did.began (name_at index) did.counts s) is
+    ∙ ap (λ n. text ++ row_if did.began n shown) named
+    ∙ ap (λ (s : List Kind). text ++ row_if did.began (name_at index) s) is
 
 -- and what it does in most turns of a column
 pub most_read : (before after : List NodeTurns) (turns index : ℕ) (one other : NodeTurns)

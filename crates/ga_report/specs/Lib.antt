@@ -4,6 +4,7 @@ pub mod Style
 pub mod Kind
 pub mod Columns
 pub mod Most
+pub mod CloseUp
 pub mod Timeline
 pub mod Line
 pub mod Rows

@@ -1,13 +1,12 @@
 -- A page of a run.
-use Rattle.std.specs.Prelude.{ℕ, List, [], ◌∷◌, ◌++◌, codes}
+use Rattle.std.specs.Prelude.{ℕ, Option, List, [], ◌∷◌, ◌++◌, codes}
+use Rattle.std.specs.Borrow.{Bor}
 use Rattle.std.specs.List.{concat}
-use Rattle.ga_chip.specs.Chip.{Chip}
-use Rattle.ga_profile.specs.declared.node_turns.NodeTurns.{NodeTurns}
-use Rattle.ga_profile.specs.declared.window.Window.{Window}
-use Rattle.ga_report.specs.declared.kind.Kind.{Kind}
+use Rattle.ga_profile.specs.declared.profile.Profile.{Profile}
+use Rattle.ga_report.specs.declared.timeline.Timeline.{Timeline}
 use Rattle.ga_report.specs.Escape.{escaped}
 use Rattle.ga_report.specs.Picture.{picture}
-use Rattle.ga_report.specs.Rows.{timeline_part}
+use Rattle.ga_report.specs.Rows.{close_up_part, timeline_part}
 use Rattle.ga_report.specs.Style.{STYLE}
 
 -- the begin of a page, up to its title
@@ -39,11 +38,12 @@ preformatted headed shown =
 unfoldable pub CLOSING : List ℕ
 CLOSING = codes "</main></body></html>\n"
 
--- A page, by the profile of a run and what its nodes do in columns: the headline; the timeline;
--- the profile; the chip; and the listing.
-unfoldable pub page_text : List ℕ → Window → List NodeTurns → Chip → ℕ → List Kind → List ℕ
-    → List ℕ → List ℕ
-page_text headline window nodes chip columns kinds profile listing =
-    concat (head headline ∷ timeline_part window nodes columns kinds
-    ∷ preformatted (codes "Profile") profile ∷ picture chip nodes
-    ∷ preformatted (codes "Listing") listing ∷ CLOSING ∷ [])
+-- A page, by the profile of a run and its timelines: the headline; the timelines; the text of the
+-- profile; the chip; and the listing.
+unfoldable pub page_text : List ℕ → Profile → Timeline → Option (Bor Timeline) → List ℕ → List ℕ
+    → List ℕ
+page_text headline profile timeline close_up shown listing =
+    concat (head headline ∷ timeline_part profile.nodes.items timeline
+    ∷ close_up_part profile.nodes.items close_up ∷ preformatted (codes "Profile") shown
+    ∷ picture profile.chip profile.nodes.items ∷ preformatted (codes "Listing") listing
+    ∷ CLOSING ∷ [])

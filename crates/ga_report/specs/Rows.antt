@@ -1,17 +1,19 @@
 -- The timeline as rows, one for each node that began.
-use Rattle.std.specs.Prelude.{ℕ, ◌+◌, ◌*◌, ◌/◌, ◌==◌, List, [], ◌∷◌, ◌++◌, codes, get_or, length, Option, Some, None, if◌then◌else◌}
+use Rattle.std.specs.Prelude.{ℕ, ◌+◌, ◌*◌, ◌/◌, ◌==◌, List, [], ◌∷◌, ◌++◌, codes, count_by, get_or, length, Option, Some, None, if◌then◌else◌}
+use Rattle.std.specs.Borrow.{Bor}
 use Rattle.std.specs.Fmt.{decimal}
 use Rattle.std.specs.List.{concat, flat_map, range_with_len}
 use Rattle.ga_place.specs.Cell.{name_at}
 use Rattle.ga_place.specs.Node.{node_text}
 use Rattle.ga_profile.specs.declared.node_turns.NodeTurns.{NodeTurns}
-use Rattle.ga_profile.specs.declared.node_turns.TurnCounts.{TurnCounts}
 use Rattle.ga_profile.specs.declared.window.Window.{Window}
 use Rattle.ga_profile.specs.NodeTurns.{NO_TURNS, more}
 use Rattle.ga_profile.specs.Window.{length_of}
 use Rattle.ga_report.specs.declared.kind.Kind.{Kind}
+use Rattle.ga_report.specs.declared.kind.Kind.TheVariants.{Works, AwaitsWord, AwaitsReader}
+use Rattle.ga_report.specs.declared.timeline.Timeline.{Timeline}
 use Rattle.ga_report.specs.Columns.{stride_of}
-use Rattle.ga_report.specs.Kind.{KINDS, class_of, words_of}
+use Rattle.ga_report.specs.Kind.{KINDS, class_of, is_same, words_of}
 use Rattle.ga_report.specs.Line.{level_of, lines}
 use Rattle.ga_report.specs.Timeline.{row_of}
 
@@ -41,21 +43,26 @@ OPENING = codes "<h2>Timeline</h2>\n<ul class='key'>\n"
 unfoldable pub KEY : List ℕ
 KEY = concat (OPENING ∷ KEY_ITEMS ∷ codes "</ul>\n" ∷ [])
 
--- in how many turns a node worked, and in how many it waited
+-- in how many columns a node works, and in how many it waits
 unfoldable pub works_text : ℕ → ℕ → List ℕ
-works_text name works = node_text name ++ codes " works in " ++ decimal works ++ codes " turns"
+works_text name columns =
+    node_text name ++ codes " works in " ++ decimal columns ++ codes " columns"
 
 unfoldable pub word_waits_text : ℕ → List ℕ
-word_waits_text waits = codes ", waits for a word in " ++ decimal waits
+word_waits_text columns = codes ", waits for a word in " ++ decimal columns
 
 unfoldable pub reader_waits_text : ℕ → List ℕ
-reader_waits_text waits = codes ", and for a reader in " ++ decimal waits
+reader_waits_text columns = codes ", and for a reader in " ++ decimal columns
 
--- what a node did in how many turns
-unfoldable pub summary : ℕ → TurnCounts → List ℕ
-summary name counts =
-    works_text name counts.works ++ word_waits_text counts.word_waits
-    ++ reader_waits_text counts.reader_waits
+-- how many columns show a kind
+abbrev pub columns_with : List Kind → Kind → ℕ
+columns_with shown kind = count_by (λ one. is_same one kind) shown
+
+-- in how many columns a node does what
+unfoldable pub summary : ℕ → List Kind → List ℕ
+summary name shown =
+    works_text name (columns_with shown Works) ++ word_waits_text (columns_with shown AwaitsWord)
+    ++ reader_waits_text (columns_with shown AwaitsReader)
 
 -- its name, and the begin of its row of so many columns
 unfoldable pub row_head : ℕ → ℕ → List ℕ
@@ -63,22 +70,21 @@ row_head name columns =
     codes "<div class='row'><b>" ++ node_text name ++ codes "</b><svg viewBox='0 0 "
     ++ decimal columns ++ codes " 24' preserveAspectRatio='none' role='img'><title>"
 
--- the row of a node, by what it did and what it does in each column
-unfoldable pub row : ℕ → TurnCounts → List Kind → List ℕ
-row name counts shown =
+-- the row of a node, by what it does in each column
+unfoldable pub row : ℕ → List Kind → List ℕ
+row name shown =
     concat (row_head name (length shown)
-    ∷ summary name counts
+    ∷ summary name shown
     ∷ codes "</title>" ∷ lines shown ∷ codes "</svg></div>\n" ∷ [])
 
 -- if the node began
-abbrev pub row_if : Option ℕ → ℕ → TurnCounts → List Kind → List ℕ
-row_if (Some turn) name counts shown = row name counts shown
-row_if None name counts shown = []
+abbrev pub row_if : Option ℕ → ℕ → List Kind → List ℕ
+row_if (Some turn) name shown = row name shown
+row_if None name shown = []
 
 abbrev pub row_at : List NodeTurns → ℕ → List Kind → ℕ → List ℕ
 row_at nodes columns kinds index =
-    let did = get_or nodes index NO_TURNS in
-    row_if did.began (name_at index) did.counts (row_of columns kinds index)
+    row_if (get_or nodes index NO_TURNS).began (name_at index) (row_of columns kinds index)
 
 -- the rows of all nodes that began, in order of name
 unfoldable pub rows : List NodeTurns → ℕ → List Kind → List ℕ
@@ -109,7 +115,24 @@ note turns =
     else codes "<p>A column of " ++ decimal turns
     ++ codes " turns shows what the node did in most of them.</p>\n"
 
--- The timeline of a window, by what the nodes did, and what they do in each column.
-unfoldable pub timeline_part : Window → List NodeTurns → ℕ → List Kind → List ℕ
-timeline_part window nodes columns kinds =
-    concat (KEY ∷ rows nodes columns kinds ∷ scale window ∷ note (stride_of window) ∷ [])
+-- the rows of a timeline, its scale, and what a column stands for
+unfoldable pub chart : List NodeTurns → Timeline → List ℕ
+chart nodes timeline =
+    concat (rows nodes timeline.columns timeline.kinds.items ∷ scale timeline.window
+    ∷ note (stride_of timeline.window) ∷ [])
+
+-- The timeline of a window, by what the nodes did.
+unfoldable pub timeline_part : List NodeTurns → Timeline → List ℕ
+timeline_part nodes timeline = KEY ++ chart nodes timeline
+
+-- and of a part of the window
+unfoldable pub CLOSER : List ℕ
+CLOSER = codes "<h2>The last turns</h2>\n"
+
+unfoldable pub closer : List NodeTurns → Timeline → List ℕ
+closer nodes timeline = CLOSER ++ chart nodes timeline
+
+-- if there is one
+abbrev pub close_up_part : List NodeTurns → Option (Bor Timeline) → List ℕ
+close_up_part nodes None = []
+close_up_part nodes (Some timeline) = closer nodes timeline.now

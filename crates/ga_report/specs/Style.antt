@@ -59,7 +59,8 @@ CHIP =
     ∷ codes ".chip rect{fill:none;stroke:var(--rule)}.chip path{vector-effect:none}\n"
     ∷ codes ".chip .works{stroke-width:32}.chip .works+text{fill:var(--page)}\n"
     ∷ codes ".chip text{fill:var(--ink);font-size:13px;text-anchor:middle}\n"
-    ∷ codes ".chip .arrow{stroke:var(--ink);stroke-width:2}\n"
+    ∷ codes ".chip rect+text{fill:var(--soft)}.chip .arrow{stroke:var(--ink);stroke-width:2}\n"
+    ∷ codes "@media(max-width:640px){.chip svg{min-width:0}.chip text{font-size:19px}}\n"
     ∷ codes "</style></head><body><main><h1>" ∷ [])
 
 -- All of it, with what stands between the title and the headline.

@@ -1,6 +1,7 @@
 //! A run of a chip as a page in HTML.
 #![tactic(auto)]
 
+mod close_up;
 mod columns;
 mod ending;
 mod escape;
@@ -15,6 +16,7 @@ mod style;
 mod timeline;
 mod watched;
 
+pub use close_up::last_passes;
 pub use kind::Kind;
 pub use page::{Page, page_text};
 pub use timeline::{Timeline, timeline_in};

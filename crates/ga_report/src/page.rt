@@ -5,7 +5,7 @@ ghost use Rattle.ga_report.specs.Page.{CLOSING, OPENING, REMARK, head, heading, 
 use crate::escape::push_escaped;
 use crate::parts::push_parts;
 use crate::picture::push_picture;
-use crate::rows::push_timeline;
+use crate::rows::{push_close_up, push_timeline};
 use crate::style::push_style;
 use crate::timeline::Timeline;
 use ga_profile::Profile;
@@ -20,6 +20,8 @@ pub struct Page<'a> {
     pub profile: &'a Profile,
     /// The timeline of the profile's window.
     pub timeline: &'a Timeline,
+    /// The timeline of a part of it, as `last_passes` gives.
+    pub close_up: Option<&'a Timeline>,
     /// The text of the profile.
     pub profile_text: &'a str,
     /// The listing of its program, with counts.
@@ -27,19 +29,19 @@ pub struct Page<'a> {
 }
 
 /// A run as one page in HTML that is well-formed XML too, and needs no other file and no script: the
-/// headline; the timeline; the profile; the chip at the end of the window; and the listing. Fails
+/// headline; the timelines; the profile; the chip at the end of the window; and the listing. Fails
 /// only when out of memory. (The page is this project's own: profile.)
 #[tactic(auto, unfolding(crate::specs::Page::page_text))]
 pub fn page_text(alloc: Global, page: &Page<'_>) -> Result<String, AllocError>
     ensures { IfOk result (λ text. string_bytes text
-        ≡ page_text page.now.headline.now page.now.profile.now.window
-        page.now.profile.now.nodes.items page.now.profile.now.chip page.now.timeline.now.columns
-        page.now.timeline.now.kinds.items page.now.profile_text.now page.now.listing.now) }
+        ≡ page_text page.now.headline.now page.now.profile.now page.now.timeline.now
+        page.now.close_up page.now.profile_text.now page.now.listing.now) }
 {
     let mut text = String::new(alloc);
     let nodes = page.profile.nodes.as_slice();
     push_head(&mut text, page.headline)?;
-    push_timeline(&mut text, alloc, page.profile.window, nodes, page.timeline)?;
+    push_timeline(&mut text, alloc, nodes, page.timeline)?;
+    push_close_up(&mut text, alloc, nodes, page.close_up)?;
     push_preformatted(&mut text, "Profile", page.profile_text)?;
     push_picture(&mut text, &page.profile.chip, nodes)?;
     push_preformatted(&mut text, "Listing", page.listing)?;

@@ -1,14 +1,14 @@
 //! The timeline as rows, one for each node that began.
 ghost use Rattle.std.specs.Prelude.{◌≡◌, ◌++◌, IfOk, OnOk, length, string_bytes};
 ghost use Rattle.ga_report.specs.Rows as spec;
-ghost use Rattle.ga_report.specs.Rows.{classed, levelled, KEY, KEY_ITEMS, OPENING, SAMPLE, SCALE, key_item, note, row, row_head, row_if, rows, scale, summary, tick, ticks, timeline_part, reader_waits_text, word_waits_text, works_text};
+ghost use Rattle.ga_report.specs.Rows.{CLOSER, KEY, KEY_ITEMS, OPENING, SAMPLE, SCALE, chart, classed, close_up_part, closer, key_item, levelled, note, reader_waits_text, row, row_head, row_if, rows, scale, summary, tick, ticks, timeline_part, word_waits_text, works_text};
 
 use crate::columns::stride_of;
-use crate::kind::{KINDS, Kind, class_of, words_of};
+use crate::kind::{KINDS, Kind, class_of, is_same, words_of};
 use crate::line::{level_of, push_lines};
 use crate::timeline::{Timeline, row_of};
 use ga_place::Node;
-use ga_profile::{NodeTurns, TurnCounts, Window};
+use ga_profile::{NodeTurns, Window};
 use std::alloc::{AllocError, Global};
 use std::fmt::Write;
 
@@ -17,18 +17,73 @@ use std::fmt::Write;
 pub(crate) fn push_timeline(
     text: &mut String,
     alloc: Global,
-    window: Window,
     nodes: &[NodeTurns],
     timeline: &Timeline,
 ) -> Result<(), AllocError>
     requires { length nodes.now ≡ 144 }
-    ensures { OnOk result (string_bytes text.new ≡ string_bytes text.old
-        ++ timeline_part window nodes.now timeline.now.columns timeline.now.kinds.items) }
+    ensures { OnOk result (string_bytes text.new
+        ≡ string_bytes text.old ++ timeline_part nodes.now timeline.now) }
 {
     push_key(text)?;
+    push_chart(text, alloc, nodes, timeline)
+}
+
+/// Adds the timeline of a part of the window, if there is one.
+pub(crate) fn push_close_up(
+    text: &mut String,
+    alloc: Global,
+    nodes: &[NodeTurns],
+    timeline: Option<&Timeline>,
+) -> Result<(), AllocError>
+    requires { length nodes.now ≡ 144 }
+    ensures { OnOk result (string_bytes text.new
+        ≡ string_bytes text.old ++ close_up_part nodes.now timeline.entry) }
+{
+    match timeline {
+        Some(timeline) => push_closer(text, alloc, nodes, timeline),
+        None => Ok(()),
+    }
+}
+
+/// Adds the timeline of a part of the window.
+#[tactic(auto, unfolding(crate::specs::Rows::closer))]
+fn push_closer(
+    text: &mut String,
+    alloc: Global,
+    nodes: &[NodeTurns],
+    timeline: &Timeline,
+) -> Result<(), AllocError>
+    requires { length nodes.now ≡ 144 }
+    ensures { OnOk result (string_bytes text.new
+        ≡ string_bytes text.old ++ closer nodes.now timeline.now) }
+{
+    push_closer_heading(text)?;
+    push_chart(text, alloc, nodes, timeline)
+}
+
+/// Adds the heading of the timeline of a part of the window.
+#[tactic(auto, unfolding(crate::specs::Rows::CLOSER))]
+fn push_closer_heading(text: &mut String) -> Result<(), AllocError>
+    ensures { OnOk result (string_bytes text.new ≡ string_bytes text.old ++ CLOSER) }
+{
+    text.push_str("<h2>The last turns</h2>\n")
+}
+
+/// Adds the rows of a timeline, its scale, and what a column stands for.
+#[tactic(auto, unfolding(crate::specs::Rows::chart))]
+fn push_chart(
+    text: &mut String,
+    alloc: Global,
+    nodes: &[NodeTurns],
+    timeline: &Timeline,
+) -> Result<(), AllocError>
+    requires { length nodes.now ≡ 144 }
+    ensures { OnOk result (string_bytes text.new
+        ≡ string_bytes text.old ++ chart nodes.now timeline.now) }
+{
     push_rows(text, alloc, nodes, timeline)?;
-    push_scale(text, window)?;
-    push_note(text, stride_of(window))
+    push_scale(text, timeline.window)?;
+    push_note(text, stride_of(timeline.window))
 }
 
 /// Adds the heading, and what the lines mean.
@@ -115,7 +170,7 @@ fn push_rows(
             text,
             alloc,
             Node::at(index),
-            &nodes[index],
+            nodes[index].began,
             shown.as_slice(),
         )?;
     }
@@ -127,32 +182,26 @@ fn push_row_if(
     text: &mut String,
     alloc: Global,
     node: Node,
-    did: &NodeTurns,
+    began: Option<u64>,
     shown: &[Kind],
 ) -> Result<(), AllocError>
     ensures { OnOk result (string_bytes text.new ≡ string_bytes text.old
-        ++ row_if did.now.began node did.now.counts shown.now) }
+        ++ row_if began node shown.now) }
 {
-    match did.began {
-        Some(_) => push_row(text, alloc, node, &did.counts, shown),
+    match began {
+        Some(_) => push_row(text, alloc, node, shown),
         None => Ok(()),
     }
 }
 
 /// Adds the row of a node.
 #[tactic(auto, unfolding(crate::specs::Rows::row))]
-fn push_row(
-    text: &mut String,
-    alloc: Global,
-    node: Node,
-    counts: &TurnCounts,
-    shown: &[Kind],
-) -> Result<(), AllocError>
+fn push_row(text: &mut String, alloc: Global, node: Node, shown: &[Kind]) -> Result<(), AllocError>
     ensures { OnOk result (string_bytes text.new ≡ string_bytes text.old
-        ++ row node counts.now shown.now) }
+        ++ row node shown.now) }
 {
     push_row_head(text, node, shown.len())?;
-    push_summary(text, node, counts)?;
+    push_summary(text, node, shown)?;
     text.push_str("</title>")?;
     push_lines(text, alloc, shown)?;
     text.push_str("</svg></div>\n")
@@ -171,42 +220,49 @@ fn push_row_head(text: &mut String, node: Node, columns: usize) -> Result<(), Al
     )
 }
 
-/// Adds what a node did in how many turns.
+/// Adds in how many columns a node does what.
 #[tactic(auto, unfolding(crate::specs::Rows::summary))]
-fn push_summary(text: &mut String, node: Node, counts: &TurnCounts) -> Result<(), AllocError>
+fn push_summary(text: &mut String, node: Node, shown: &[Kind]) -> Result<(), AllocError>
     ensures { OnOk result (string_bytes text.new
-        ≡ string_bytes text.old ++ summary node counts.now) }
+        ≡ string_bytes text.old ++ summary node shown.now) }
 {
-    push_works(text, node, counts.works)?;
-    push_word_waits(text, counts.word_waits)?;
-    push_reader_waits(text, counts.reader_waits)
+    push_works(text, node, columns_with(shown, Kind::Works))?;
+    push_word_waits(text, columns_with(shown, Kind::AwaitsWord))?;
+    push_reader_waits(text, columns_with(shown, Kind::AwaitsReader))
 }
 
-/// Adds in how many turns a node worked.
+/// How many columns show a kind.
+fn columns_with(shown: &[Kind], kind: Kind) -> usize
+    ensures { result ≡ spec.columns_with shown.now kind }
+{
+    shown.iter().filter(|one| is_same(**one, kind)).count()
+}
+
+/// Adds in how many columns a node works.
 #[tactic(auto, unfolding(crate::specs::Rows::works_text))]
-fn push_works(text: &mut String, node: Node, works: u64) -> Result<(), AllocError>
+fn push_works(text: &mut String, node: Node, columns: usize) -> Result<(), AllocError>
     ensures { OnOk result (string_bytes text.new
-        ≡ string_bytes text.old ++ works_text node works) }
+        ≡ string_bytes text.old ++ works_text node columns) }
 {
-    write!(text, "{node} works in {works} turns")
+    write!(text, "{node} works in {columns} columns")
 }
 
-/// Adds in how many turns it waited for a word.
+/// Adds in how many it waits for a word.
 #[tactic(auto, unfolding(crate::specs::Rows::word_waits_text))]
-fn push_word_waits(text: &mut String, waits: u64) -> Result<(), AllocError>
+fn push_word_waits(text: &mut String, columns: usize) -> Result<(), AllocError>
     ensures { OnOk result (string_bytes text.new
-        ≡ string_bytes text.old ++ word_waits_text waits) }
+        ≡ string_bytes text.old ++ word_waits_text columns) }
 {
-    write!(text, ", waits for a word in {waits}")
+    write!(text, ", waits for a word in {columns}")
 }
 
-/// Adds in how many turns it waited for its word to be read.
+/// Adds in how many it waits for its word to be read.
 #[tactic(auto, unfolding(crate::specs::Rows::reader_waits_text))]
-fn push_reader_waits(text: &mut String, waits: u64) -> Result<(), AllocError>
+fn push_reader_waits(text: &mut String, columns: usize) -> Result<(), AllocError>
     ensures { OnOk result (string_bytes text.new
-        ≡ string_bytes text.old ++ reader_waits_text waits) }
+        ≡ string_bytes text.old ++ reader_waits_text columns) }
 {
-    write!(text, ", and for a reader in {waits}")
+    write!(text, ", and for a reader in {columns}")
 }
 
 /// Adds the turns at the quarters of a window, from its begin to its end.

@@ -101,7 +101,8 @@ fn push_chip(text: &mut String) -> Result<(), AllocError>
         ".chip rect{fill:none;stroke:var(--rule)}.chip path{vector-effect:none}\n",
         ".chip .works{stroke-width:32}.chip .works+text{fill:var(--page)}\n",
         ".chip text{fill:var(--ink);font-size:13px;text-anchor:middle}\n",
-        ".chip .arrow{stroke:var(--ink);stroke-width:2}\n",
+        ".chip rect+text{fill:var(--soft)}.chip .arrow{stroke:var(--ink);stroke-width:2}\n",
+        "@media(max-width:640px){.chip svg{min-width:0}.chip text{font-size:19px}}\n",
         "</style></head><body><main><h1>",
     ];
     push_parts(text, &parts)

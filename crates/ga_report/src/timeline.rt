@@ -15,6 +15,7 @@ use std::alloc::{AllocError, Global};
 /// What each node does in the columns of a window.
 #[derive(Drop)]
 pub struct Timeline {
+    pub window: Window,
     /// How many columns the window has.
     pub columns: usize,
     /// What each node, in order of name, does in most turns of the first column; then the same of
@@ -26,6 +27,7 @@ pub struct Timeline {
 /// What each node does in a window of the run of a chip, in at most 600 columns of as many turns
 /// each. The chip itself makes no turn. Fails only when out of memory.
 pub fn timeline_in(alloc: Global, chip: &Chip, window: Window) -> Result<Timeline, AllocError>
+    ensures window { IfOk result (λ timeline. timeline.window ≡ window) }
     ensures columns { IfOk result (λ timeline. timeline.columns ≡ columns.columns_of window) }
     ensures kinds { IfOk result (λ timeline. timeline.kinds.items ≡ kinds_in window chip.now) }
 {
@@ -43,7 +45,11 @@ pub fn timeline_in(alloc: Global, chip: &Chip, window: Window) -> Result<Timelin
         push_column(&mut kinds, before.as_slice(), after.as_slice(), end - begin)?;
         before = after;
     }
-    Ok(Timeline { columns, kinds })
+    Ok(Timeline {
+        window,
+        columns,
+        kinds,
+    })
 }
 
 /// Adds what each node does in most of some turns.
