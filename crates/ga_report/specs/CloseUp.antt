@@ -1,5 +1,5 @@
--- The last passes of the busiest node.
-use Rattle.std.specs.Prelude.{ℕ, ◌-◌, ◌*◌, List, [], ◌∷◌, Option, Some, None, nat_le, nat_lt, if◌then◌else◌}
+-- A part of a window for a close-up.
+use Rattle.std.specs.Prelude.{ℕ, ◌+◌, ◌-◌, ◌*◌, ◌/◌, List, [], ◌∷◌, Option, Some, None, nat_le, nat_lt, if◌then◌else◌}
 use Rattle.std.specs.Option.{option_and_then}
 use Rattle.ga_profile.specs.declared.node_pass.NodePass.{NodePass}
 use Rattle.ga_profile.specs.declared.window.Window.{Window}
@@ -21,14 +21,17 @@ busiest found (pass ∷ passes) = busiest (busier found pass) passes
 abbrev pub passes_shown : ℕ → ℕ
 passes_shown turns = if nat_le turns 200 then turns * 3 else turns
 
--- the last turns of a window, if it has more
-abbrev pub end_of : Window → ℕ → Option Window
-end_of window turns =
-    if nat_lt turns (length_of window)
-    then Some (record { first = window.end - turns; end = window.end }) else None
+-- some turns from one on, and those in the middle of a window, if it has more
+abbrev pub turns_from : ℕ → ℕ → Window
+turns_from first turns = record { first = first; end = first + turns }
 
--- The turns of the last passes of the busiest node.
-abbrev pub last_passes : Window → List (Option NodePass) → Option Window
-last_passes window passes =
-    option_and_then (λ (pass : NodePass). end_of window (passes_shown pass.turns))
+abbrev pub middle_of : Window → ℕ → Option Window
+middle_of window turns =
+    if nat_lt turns (length_of window)
+    then Some (turns_from (window.first + (length_of window - turns) / 2) turns) else None
+
+-- The turns in the middle of a window, as many as are shown of the passes of the busiest node.
+abbrev pub close_up_window : Window → List (Option NodePass) → Option Window
+close_up_window window passes =
+    option_and_then (λ (pass : NodePass). middle_of window (passes_shown pass.turns))
     (busiest None passes)

@@ -10,7 +10,7 @@ use Rattle.ga_profile.specs.declared.window.Window.{Window}
 use Rattle.ga_profile.specs.NodeTurns.{NO_TURNS, more}
 use Rattle.ga_profile.specs.Window.{length_of}
 use Rattle.ga_report.specs.declared.kind.Kind.{Kind}
-use Rattle.ga_report.specs.declared.kind.Kind.TheVariants.{Works, AwaitsWord, AwaitsReader}
+use Rattle.ga_report.specs.declared.kind.Kind.TheVariants.{Works, AwaitsWord, AwaitsReader, Stopped}
 use Rattle.ga_report.specs.declared.timeline.Timeline.{Timeline}
 use Rattle.ga_report.specs.Columns.{stride_of}
 use Rattle.ga_report.specs.Kind.{KINDS, class_of, is_same, words_of}
@@ -64,17 +64,23 @@ summary name shown =
     works_text name (columns_with shown Works) ++ word_waits_text (columns_with shown AwaitsWord)
     ++ reader_waits_text (columns_with shown AwaitsReader)
 
--- its name, and the begin of its row of so many columns
-unfoldable pub row_head : ℕ → ℕ → List ℕ
-row_head name columns =
-    codes "<div class='row'><b>" ++ node_text name ++ codes "</b><svg viewBox='0 0 "
-    ++ decimal columns ++ codes " 24' preserveAspectRatio='none' role='img'><title>"
+-- its name at the begin of its row, with a cross if it has stopped
+unfoldable pub row_name : ℕ → List ℕ
+row_name name = codes "<div class='row'><b>" ++ node_text name
+
+abbrev pub stop_mark : List Kind → List ℕ
+stop_mark shown = if columns_with shown Stopped == 0 then [] else codes " &#215;"
+
+-- the begin of a row of so many columns
+unfoldable pub row_head : ℕ → List ℕ
+row_head columns =
+    codes "</b><svg viewBox='0 0 " ++ decimal columns
+    ++ codes " 24' preserveAspectRatio='none' role='img'><title>"
 
 -- the row of a node, by what it does in each column
 unfoldable pub row : ℕ → List Kind → List ℕ
 row name shown =
-    concat (row_head name (length shown)
-    ∷ summary name shown
+    concat (row_name name ∷ stop_mark shown ∷ row_head (length shown) ∷ summary name shown
     ∷ codes "</title>" ∷ lines shown ∷ codes "</svg></div>\n" ∷ [])
 
 -- if the node began
@@ -127,7 +133,7 @@ timeline_part nodes timeline = KEY ++ chart nodes timeline
 
 -- and of a part of the window
 unfoldable pub CLOSER : List ℕ
-CLOSER = codes "<h2>The last turns</h2>\n"
+CLOSER = codes "<h2>Turns in the middle</h2>\n"
 
 unfoldable pub closer : List NodeTurns → Timeline → List ℕ
 closer nodes timeline = CLOSER ++ chart nodes timeline

@@ -1,17 +1,17 @@
-//! The last passes of the busiest node.
+//! A part of a window for a close-up.
 ghost use Rattle.std.specs.Prelude.{◌≡◌, None};
 ghost use Rattle.ga_report.specs.CloseUp as spec;
 
 use ga_profile::{NodePass, Profile, Window};
 
-/// The end of a profile's window, for a close-up: the turns of the last three passes of the node
-/// that works most in its pass, if these are at most 600, or else of its last one. `None` if no
-/// node has a pass, or if that is all of the window. (The choice is this project's own: profile.)
-pub fn last_passes(profile: &Profile) -> Option<Window>
-    ensures { result ≡ spec.last_passes profile.now.window profile.now.passes.items }
+/// The turns in the middle of a profile's window, for a close-up: as many as three passes of the
+/// node that works most in its pass, if these are at most 600, or else as one. `None` if no node has
+/// a pass, or if that is all of the window. (The choice is this project's own: profile.)
+pub fn close_up_window(profile: &Profile) -> Option<Window>
+    ensures { result ≡ spec.close_up_window profile.now.window profile.now.passes.items }
 {
     let pass = busiest(profile.passes.as_slice())?;
-    end_of(profile.window, passes_shown(pass.turns))
+    middle_of(profile.window, passes_shown(pass.turns))
 }
 
 /// The pass with the most turns in which its node works.
@@ -43,14 +43,15 @@ fn passes_shown(turns: u64) -> u64
     if turns <= 200 { turns * 3 } else { turns }
 }
 
-/// The last turns of a window, if it has more.
-fn end_of(window: Window, turns: u64) -> Option<Window>
-    ensures { result ≡ spec.end_of window turns }
+/// The turns in the middle of a window, if it has more.
+fn middle_of(window: Window, turns: u64) -> Option<Window>
+    ensures { result ≡ spec.middle_of window turns }
 {
     if turns < window.length() {
+        let first = window.first + (window.length() - turns) / 2;
         Some(Window {
-            first: u64::from(window.end) - turns,
-            end: window.end,
+            first,
+            end: (first + turns) as u32,
         })
     } else {
         None

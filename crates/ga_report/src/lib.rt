@@ -16,7 +16,7 @@ mod style;
 mod timeline;
 mod watched;
 
-pub use close_up::last_passes;
+pub use close_up::close_up_window;
 pub use kind::Kind;
 pub use page::{Page, page_text};
 pub use timeline::{Timeline, timeline_in};

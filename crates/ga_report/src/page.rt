@@ -20,7 +20,7 @@ pub struct Page<'a> {
     pub profile: &'a Profile,
     /// The timeline of the profile's window.
     pub timeline: &'a Timeline,
-    /// The timeline of a part of it, as `last_passes` gives.
+    /// The timeline of a part of it, as `close_up_window` gives.
     pub close_up: Option<&'a Timeline>,
     /// The text of the profile.
     pub profile_text: &'a str,

@@ -1,7 +1,7 @@
 //! The timeline as rows, one for each node that began.
 ghost use Rattle.std.specs.Prelude.{◌≡◌, ◌++◌, IfOk, OnOk, length, string_bytes};
 ghost use Rattle.ga_report.specs.Rows as spec;
-ghost use Rattle.ga_report.specs.Rows.{CLOSER, KEY, KEY_ITEMS, OPENING, SAMPLE, SCALE, chart, classed, close_up_part, closer, key_item, levelled, note, reader_waits_text, row, row_head, row_if, rows, scale, summary, tick, ticks, timeline_part, word_waits_text, works_text};
+ghost use Rattle.ga_report.specs.Rows.{CLOSER, KEY, KEY_ITEMS, OPENING, SAMPLE, SCALE, chart, classed, close_up_part, closer, key_item, levelled, note, reader_waits_text, row, row_head, row_if, row_name, rows, scale, stop_mark, summary, tick, ticks, timeline_part, word_waits_text, works_text};
 
 use crate::columns::stride_of;
 use crate::kind::{KINDS, Kind, class_of, is_same, words_of};
@@ -66,7 +66,7 @@ fn push_closer(
 fn push_closer_heading(text: &mut String) -> Result<(), AllocError>
     ensures { OnOk result (string_bytes text.new ≡ string_bytes text.old ++ CLOSER) }
 {
-    text.push_str("<h2>The last turns</h2>\n")
+    text.push_str("<h2>Turns in the middle</h2>\n")
 }
 
 /// Adds the rows of a timeline, its scale, and what a column stands for.
@@ -200,23 +200,42 @@ fn push_row(text: &mut String, alloc: Global, node: Node, shown: &[Kind]) -> Res
     ensures { OnOk result (string_bytes text.new ≡ string_bytes text.old
         ++ row node shown.now) }
 {
-    push_row_head(text, node, shown.len())?;
+    push_row_name(text, node)?;
+    text.push_str(stop_mark(shown))?;
+    push_row_head(text, shown.len())?;
     push_summary(text, node, shown)?;
     text.push_str("</title>")?;
     push_lines(text, alloc, shown)?;
     text.push_str("</svg></div>\n")
 }
 
-/// Adds the name of a node, and the begin of its row of so many columns.
+/// Adds the name of a node at the begin of its row.
+#[tactic(auto, unfolding(crate::specs::Rows::row_name))]
+fn push_row_name(text: &mut String, node: Node) -> Result<(), AllocError>
+    ensures { OnOk result (string_bytes text.new ≡ string_bytes text.old ++ row_name node) }
+{
+    write!(text, "<div class='row'><b>{node}")
+}
+
+/// A cross, if a node has stopped.
+fn stop_mark(shown: &[Kind]) -> &'static str
+    ensures { result.now ≡ stop_mark shown.now }
+{
+    if columns_with(shown, Kind::Stopped) == 0 {
+        ""
+    } else {
+        " &#215;"
+    }
+}
+
+/// Adds the begin of a row of so many columns.
 #[tactic(auto, unfolding(crate::specs::Rows::row_head))]
-fn push_row_head(text: &mut String, node: Node, columns: usize) -> Result<(), AllocError>
-    ensures { OnOk result (string_bytes text.new
-        ≡ string_bytes text.old ++ row_head node columns) }
+fn push_row_head(text: &mut String, columns: usize) -> Result<(), AllocError>
+    ensures { OnOk result (string_bytes text.new ≡ string_bytes text.old ++ row_head columns) }
 {
     write!(
         text,
-        "<div class='row'><b>{node}</b><svg viewBox='0 0 {columns} 24' \
-        preserveAspectRatio='none' role='img'><title>"
+        "</b><svg viewBox='0 0 {columns} 24' preserveAspectRatio='none' role='img'><title>"
     )
 }
 
