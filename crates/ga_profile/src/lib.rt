@@ -24,9 +24,8 @@ mod window;
 
 pub use bottleneck::bottleneck_text;
 pub use node_pass::NodePass;
-pub use node_turns::{NodeTurns, TurnCounts};
+pub use node_turns::{NodeTurns, TurnCounts, after_step, no_turns};
 pub use passes::{Moment, Passes};
 pub use profile::{Profile, ended, measure};
 pub use text::profile_text;
-pub use turn_watch::TurnWatch;
 pub use window::{Window, WindowStart};

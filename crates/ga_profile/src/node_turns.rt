@@ -62,7 +62,7 @@ pub(crate) enum Act {
 }
 
 /// No turns yet.
-pub(crate) fn no_turns() -> NodeTurns
+pub fn no_turns() -> NodeTurns
     ensures { result ≡ NO_TURNS }
 {
     NodeTurns {
@@ -90,7 +90,7 @@ fn no_counts() -> TurnCounts
 
 /// The turns of a node up to a step, in a window from a turn on.
 #[tactic(auto, unfolding(crate::specs::NodeTurns::after_step))]
-pub(crate) fn after_step(from: u64, old: &NodeTurns, step: &Step) -> NodeTurns
+pub fn after_step(from: u64, old: &NodeTurns, step: &Step) -> NodeTurns
     ensures { result ≡ spec.after_step from old.now step.now }
 {
     let began = began_by(old.began, step);

@@ -9,15 +9,15 @@ use std::alloc::{AllocError, Global};
 
 /// What each node did in a window from a turn on.
 #[derive(Drop)]
-pub struct TurnWatch {
+pub(crate) struct TurnWatch {
     from: u64,
-    pub nodes: Vec<NodeTurns>,
+    pub(crate) nodes: Vec<NodeTurns>,
     ghost all: { length nodes.items ≡ 144 },
 }
 
 impl TurnWatch {
     /// A window from a turn on.
-    pub fn new(alloc: Global, from: u64) -> Result<Self, AllocError>
+    pub(crate) fn new(alloc: Global, from: u64) -> Result<Self, AllocError>
         ensures from { IfOk result (λ watch. watch.from ≡ from) }
         ensures kept { IfOk result (λ watch. Kept from watch.nodes.items []) }
     {

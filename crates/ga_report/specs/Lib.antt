@@ -1,5 +1,4 @@
 pub mod Escape
-pub mod Parts
 pub mod Style
 pub mod Kind
 pub mod Columns

@@ -31,8 +31,8 @@ most_acts counts =
 
 abbrev pub most_waits : TurnCounts → Tally
 most_waits counts =
-    more_of (more_of (tally_of AwaitsWord counts.word_waits) (tally_of AwaitsReader counts.reader_waits))
-    (tally_of Stopped counts.stops)
+    more_of (more_of (tally_of AwaitsWord counts.word_waits)
+    (tally_of AwaitsReader counts.reader_waits)) (tally_of Stopped counts.stops)
 
 -- in all other turns it is idle
 abbrev pub idle_turns : TurnCounts → ℕ → ℕ

@@ -1,1 +1,2 @@
 pub mod HasRun
+pub mod Parts

@@ -5,8 +5,8 @@ ghost use Rattle.ga_report.specs.CloseUp as spec;
 use ga_profile::{NodePass, Profile, Window};
 
 /// The turns in the middle of a profile's window, for a close-up: as many as three passes of the
-/// node that works most in its pass, if these are at most 600, or else as one. `None` if no node has
-/// a pass, or if that is all of the window. (The choice is this project's own: profile.)
+/// node that works most in its pass, if these are at most 600, or else as one. `None` if no node
+/// has a pass, or if that is all of the window. (The choice is this project's own: profile.)
 pub fn close_up_window(profile: &Profile) -> Option<Window>
     ensures { result ≡ spec.close_up_window profile.now.window profile.now.passes.items }
 {

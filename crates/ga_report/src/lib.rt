@@ -12,6 +12,7 @@ mod page;
 mod parts;
 mod picture;
 mod rows;
+mod step_watch;
 mod style;
 mod timeline;
 mod watched;

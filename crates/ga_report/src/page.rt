@@ -28,9 +28,9 @@ pub struct Page<'a> {
     pub listing: &'a str,
 }
 
-/// A run as one page in HTML that is well-formed XML too, and needs no other file and no script: the
-/// headline; the timelines; the profile; the chip at the end of the window; and the listing. Fails
-/// only when out of memory. (The page is this project's own: profile.)
+/// A run as one page in HTML that is well-formed XML too, and needs no other file and no script:
+/// the headline; the timelines; the profile; the chip at the end of the window; and the listing.
+/// Fails only when out of memory. (The page is this project's own: profile.)
 #[tactic(auto, unfolding(crate::specs::Page::page_text))]
 pub fn page_text(alloc: Global, page: &Page<'_>) -> Result<String, AllocError>
     ensures { IfOk result (λ text. string_bytes text

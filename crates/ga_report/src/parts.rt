@@ -1,6 +1,6 @@
 //! Texts of several parts.
 ghost use Rattle.std.specs.Prelude.{◌≡◌, ◌++◌, OnOk, string_bytes};
-ghost use Rattle.ga_report.specs.Parts.{parts_text};
+ghost use Rattle.ga_report.specs.inner.Parts.{parts_text};
 
 use std::alloc::AllocError;
 

@@ -1,16 +1,17 @@
 //! A run that is watched from its first turn on.
 ghost use Rattle.std.specs.Prelude.{◌≡◌, ◌+◌, ◌≤◌, IfOk, length};
 
+use crate::step_watch::StepWatch;
 use ga_chip::Chip;
 use ga_observe::turn;
-use ga_profile::{NodeTurns, TurnWatch, Window, ended};
+use ga_profile::{NodeTurns, Window, ended};
 use std::alloc::{AllocError, Global};
 
 /// A chip, and what its nodes did since its first turn.
 #[derive(Drop)]
 pub(crate) struct Watched {
     chip: Chip,
-    watch: TurnWatch,
+    watch: StepWatch,
 }
 
 impl Watched {
@@ -24,7 +25,7 @@ impl Watched {
     {
         Ok(Watched {
             chip: chip.copied(alloc)?,
-            watch: TurnWatch::new(alloc, 0)?,
+            watch: StepWatch::new(alloc)?,
         })
     }
 

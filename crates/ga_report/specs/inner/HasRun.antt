@@ -9,5 +9,4 @@ use Rattle.ga_report.specs.declared.watched.Watched.{Watched}
 -- It began as a chip and has made so many turns, all of which were watched.
 pub record HasRun (start : Chip) (turns : ℕ) (run : Watched) : Type 0 where
   pub chip : run.chip ≡ ran start (turns_of turns)
-  pub from : run.watch.from ≡ 0
   pub nodes : Kept 0 run.watch.nodes.items (steps_seen start (turns_numbered turns))

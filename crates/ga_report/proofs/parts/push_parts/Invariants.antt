@@ -1,5 +1,5 @@
 use Rattle.std.proofs.Common.{◌≡◌, ◌++◌, drop, string_bytes}
-use Rattle.ga_report.specs.Parts.{parts_text}
+use Rattle.ga_report.specs.inner.Parts.{parts_text}
 use Rattle.ga_report.proofs.parts.push_parts.Given as goal
 
 -- what is written, and the texts that are left

@@ -26,7 +26,8 @@ loop-column-preserved c =
       run = subst (λ n. HasRun start n run) c.bound-end.ensures advanced;
       before = after;
       all = c.in_ok-after.ensures.all;
-      kinds = c.in_ok-push_column.ensures ∙ ap (λ kinds. kinds ++ most_by old new turns) so_far.kinds
+      kinds = c.in_ok-push_column.ensures
+          ∙ ap (λ kinds. kinds ++ most_by old new turns) so_far.kinds
           ∙ ap (λ more. done ++ more) (column_read c.args.window start column _ _ old new
           c.bound-begin.ensures c.bound-end.ensures
           (c.as_slice.ensures.value ∙ so_far.before)
