@@ -115,7 +115,7 @@ quarters : scale long
 unfolding scale SCALE ticks tick digits
 quarters = refl
 
--- a node that has begun waits for a word at a slot, and for code before a fetch
+-- a node that has started waits for a word at a slot, and for code before a fetch
 at_slot : kind_by Slot0 (need.Take (sides_with 0x80)) ≡ AwaitsWord
 at_slot = refl
 

@@ -15,7 +15,7 @@ abbrev pub kind_to_take : Place → Kind
 kind_to_take Fetch = Idle
 kind_to_take place = AwaitsWord
 
--- what a node of this need does that has begun
+-- what a node of this need does that has started
 abbrev pub kind_by : Place → Need → Kind
 kind_by place need.Own = Works
 kind_by place (need.Take sides) = kind_to_take place

@@ -71,7 +71,7 @@ row_name name = codes "<div class='row'><b>" ++ node_text name
 abbrev pub stop_mark : List Kind → List ℕ
 stop_mark shown = if columns_with shown Stopped == 0 then [] else codes " &#215;"
 
--- the begin of a row of so many columns
+-- the begin of a row of this many columns
 unfoldable pub row_head : ℕ → List ℕ
 row_head columns =
     codes "</b><svg viewBox='0 0 " ++ decimal columns

@@ -31,7 +31,7 @@ fn kind_since(began: Option<u64>, place: Place, need: Need) -> Kind
     }
 }
 
-/// What a node of this need does that has begun.
+/// What a node of this need does that has started.
 fn kind_by(place: Place, need: Need) -> Kind
     ensures { result ≡ spec.kind_by place need }
 {

@@ -16,7 +16,7 @@ pub enum Kind {
     Stopped,
     /// It moves before it began.
     Boots,
-    /// It waits for code or for a word of its stream, or hasn't begun.
+    /// It waits for code or for a word of its stream, or hasn't started.
     Idle,
 }
 

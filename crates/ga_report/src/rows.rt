@@ -228,7 +228,7 @@ fn stop_mark(shown: &[Kind]) -> &'static str
     }
 }
 
-/// Adds the begin of a row of so many columns.
+/// Adds the begin of a row of this many columns.
 #[tactic(auto, unfolding(crate::specs::Rows::row_head))]
 fn push_row_head(text: &mut String, columns: usize) -> Result<(), AllocError>
     ensures { OnOk result (string_bytes text.new ≡ string_bytes text.old ++ row_head columns) }

@@ -6,7 +6,7 @@ use Rattle.ga_observe.specs.Seen.{steps_seen, turns_numbered}
 use Rattle.ga_profile.specs.inner.Kept.{Kept}
 use Rattle.ga_report.specs.declared.watched.Watched.{Watched}
 
--- It began as a chip and has made so many turns, all of which were watched.
+-- It began as a chip and has made this many turns, all of which were watched.
 pub record HasRun (start : Chip) (turns : ℕ) (run : Watched) : Type 0 where
   pub chip : run.chip ≡ ran start (turns_of turns)
   pub nodes : Kept 0 run.watch.nodes.items (steps_seen start (turns_numbered turns))
