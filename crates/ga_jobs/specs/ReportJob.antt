@@ -1,5 +1,6 @@
 -- The job `report`: what it writes.
-use Rattle.std.specs.Prelude.{◌≡◌, ◌++◌, ℕ, List, codes, Option, Result, Ok, Err}
+use Rattle.std.specs.Prelude.{◌≡◌, ◌++◌, ℕ, List, codes, Option, Some, None, Result, Ok, Err, option_map}
+use Rattle.std.specs.Borrow.{Bor}
 use Rattle.ga_chip.specs.Chip.{Chip}
 use Rattle.ga_place.specs.Node.{node_text}
 use Rattle.ga_profile.specs.Bottleneck.{bottleneck_text}
@@ -9,15 +10,18 @@ use Rattle.ga_profile.specs.Path.{path_turns}
 use Rattle.ga_profile.specs.Profile.{chip_at_end, nodes_in, window_in}
 use Rattle.ga_profile.specs.Window.{length_of}
 use Rattle.ga_profile.specs.declared.profile.Profile.{Profile}
+use Rattle.ga_profile.specs.declared.window.Window.{Window}
 use Rattle.ga_profile.specs.declared.window.WindowStart.{WindowStart}
 use Rattle.ga_profile.specs.declared.window.WindowStart.TheVariants.{LastNode}
 use Rattle.ga_race.specs.Verdict.{IsSo}
 use Rattle.ga_race.specs.declared.found.Race.{Race}
 use Rattle.ga_race.specs.declared.verdict.Verdict.{Verdict}
 use Rattle.ga_race.specs.declared.verdict.Verdict.TheVariants as verdict
+use Rattle.ga_report.specs.CloseUp.{close_up_window}
 use Rattle.ga_report.specs.Columns.{columns_of}
 use Rattle.ga_report.specs.Page.{page_text}
 use Rattle.ga_report.specs.Timeline.{kinds_in}
+use Rattle.ga_report.specs.declared.timeline.Timeline.{Timeline}
 use Rattle.ga_transcript.specs.Live.{LiveView}
 use Rattle.ga_jobs.specs.declared.fault.ServeError.{ServeError}
 use Rattle.ga_jobs.specs.declared.race.Loading.{Loading}
@@ -54,11 +58,27 @@ abbrev pub IsHeadline : Chip → Profile → List ℕ → Type 0
 IsHeadline chip profile headline =
     (turns : ℕ) × (v : Verdict) × IsSo chip turns v × (headline ≡ headline_by v profile)
 
--- the page of a profile of a session's chip, with a headline and a listing
-abbrev pub page_of : LiveView → Profile → List ℕ → List ℕ → List ℕ
-page_of live profile headline listing =
-    page_text headline profile.window profile.nodes.items profile.chip (columns_of profile.window)
-    (kinds_in profile.window live.chip) (with_waits live.program.images profile) listing
+-- a timeline is that of a window of the run of a chip
+pub record IsTimeline (chip : Chip) (window : Window) (timeline : Timeline) : Type 0 where
+  pub window_is : timeline.window ≡ window
+  pub columns : timeline.columns ≡ columns_of window
+  pub kinds : timeline.kinds.items ≡ kinds_in window chip
+
+-- the same of a window that there may be
+abbrev pub IsCloseUp : Chip → Option Window → Option Timeline → Type 0
+IsCloseUp chip (Some window) (Some timeline) = IsTimeline chip window timeline
+IsCloseUp chip None None = Unit {0}
+IsCloseUp chip window timeline = ⊥
+
+-- the page of a profile of a session's chip, with its timelines, a headline and a listing
+abbrev pub IsPage : LiveView → Profile → List ℕ → List ℕ → List ℕ → Type 0
+IsPage live profile headline listing page =
+    (timeline : Timeline) × IsTimeline live.chip profile.window timeline
+    × ((close_up : Option (Bor Timeline))
+    × IsCloseUp live.chip (close_up_window profile.window profile.passes.items)
+    (option_map (λ (lent : Bor Timeline). lent.now) close_up)
+    × (page ≡ page_text headline profile timeline close_up
+    (with_waits live.program.images profile) listing))
 
 -- the page of a session, whose source is in a text, in at most this many turns
 abbrev pub IsReport : LiveView → ℕ → Loading → List ℕ → List ℕ → Type 0
@@ -66,7 +86,7 @@ IsReport live most loading text page =
     (profile : Profile) × IsMeasured live.chip LastNode most profile
     × ((headline : List ℕ) × IsHeadline live.chip profile headline
     × ((listing : List ℕ) × IsCounted live most loading text listing
-    × (page ≡ page_of live profile headline listing)))
+    × IsPage live profile headline listing page))
 
 -- the page of the session that an input opens, or the first fault of that session
 abbrev pub IsReportOutput : Loading → Option ℕ → List ℕ → Result (List ℕ) ServeError → Type 0

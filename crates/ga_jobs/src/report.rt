@@ -1,7 +1,7 @@
 ghost use Rattle.std.specs.Prelude.{◌≡◌, IfOk, string_bytes};
 ghost use Rattle.ga_jobs.specs.Fault.{Answers};
 ghost use Rattle.ga_jobs.specs.ReportJob as spec;
-ghost use Rattle.ga_jobs.specs.ReportJob.{IsHeadline, IsMeasured, IsReport, IsReportOutput, page_of};
+ghost use Rattle.ga_jobs.specs.ReportJob.{IsCloseUp, IsHeadline, IsMeasured, IsPage, IsReport, IsReportOutput, IsTimeline};
 ghost use Rattle.ga_profile.specs.declared.window.WindowStart.TheVariants.{LastNode};
 
 use crate::counts::counted;
@@ -10,14 +10,14 @@ use crate::profile::with_waits;
 use crate::race::{Loading, TURNS};
 use crate::session::open_session;
 use crate::text::input_text;
-use ga_profile::{Profile, WindowStart, bottleneck_text, measure};
+use ga_profile::{Profile, Window, WindowStart, bottleneck_text, measure};
 use ga_race::{Race, Verdict, race};
-use ga_report::{Page, page_text, timeline_in};
+use ga_report::{Page, Timeline, close_up_window, page_text, timeline_in};
 use ga_transcript::Live;
 use std::alloc::{AllocError, Global};
 
 /// A page in HTML of what the input's chip does in a run: a race, a deadlock or the bottleneck as
-/// its headline; a timeline; the profile, from when the last node began; the chip at the end; and
+/// its headline; timelines; the profile, from when the last node began; the chip at the end; and
 /// the listing with counts. The commands behind the head of a session are done first. Then come at
 /// most `turns` turns (by default 1,000,000), until no node moves but those that spin.
 pub fn output(
@@ -95,17 +95,40 @@ fn page_of(
     headline: &str,
     listing: &str,
 ) -> Result<String, AllocError>
-    ensures { IfOk result (λ page. string_bytes page
-        ≡ page_of live.now profile.now headline.now listing.now) }
+    ensures { IfOk result (λ page.
+        IsPage live.now profile.now headline.now listing.now (string_bytes page)) }
 {
-    let timeline = timeline_in(alloc, live.chip(), profile.window)?;
+    let timeline = timeline_of(alloc, live, profile.window)?;
+    let near = close_up(alloc, live, close_up_window(profile))?;
     let shown = with_waits(alloc, profile, live.images())?;
     let page = Page {
         headline,
         profile,
         timeline: &timeline,
+        close_up: near.as_ref(),
         profile_text: shown.as_str(),
         listing,
     };
     page_text(alloc, &page)
+}
+
+/// The timeline of a window of the run of a session's chip.
+fn timeline_of(alloc: Global, live: &Live, window: Window) -> Result<Timeline, AllocError>
+    ensures { IfOk result (IsTimeline live.now.chip window) }
+{
+    timeline_in(alloc, live.chip(), window)
+}
+
+/// The timeline of a close-up, if there is one.
+fn close_up(
+    alloc: Global,
+    live: &Live,
+    window: Option<Window>,
+) -> Result<Option<Timeline>, AllocError>
+    ensures { IfOk result (IsCloseUp live.now.chip window) }
+{
+    match window {
+        Some(window) => Ok(Some(timeline_of(alloc, live, window)?)),
+        None => Ok(None),
+    }
 }
