@@ -21,7 +21,7 @@ abbrev pub lines_before : Loading → List ℕ → ℕ
 lines_before loading text = if is_head loading text then 2 else 0
 
 -- a listing with the counts of the turns until rest, of which there are at most this many
-abbrev pub IsCounted : LiveView → ℕ → Loading → List ℕ → List ℕ → Type 0
+unfoldable pub IsCounted : LiveView → ℕ → Loading → List ℕ → List ℕ → Type 0
 IsCounted live most loading text listing =
     (source : List ℕ) × IsSourceOf loading text source
     × HasCountedListing source (lines_before loading text)

@@ -81,7 +81,7 @@ IsPage live profile headline listing page =
     (with_waits live.program.images profile) listing))
 
 -- the page of a session, whose source is in a text, in at most this many turns
-abbrev pub IsReport : LiveView → ℕ → Loading → List ℕ → List ℕ → Type 0
+unfoldable pub IsReport : LiveView → ℕ → Loading → List ℕ → List ℕ → Type 0
 IsReport live most loading text page =
     (profile : Profile) × IsMeasured live.chip LastNode most profile
     × ((headline : List ℕ) × IsHeadline live.chip profile headline

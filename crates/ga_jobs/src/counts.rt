@@ -31,6 +31,7 @@ pub fn output(
 }
 
 /// The listing of a session's program with the counts of turns until rest, at most `most`.
+#[tactic(auto, unfolding(crate::specs::CountsJob::IsCounted))]
 pub(crate) fn counted(
     alloc: Global,
     live: &Live,
