@@ -6,3 +6,4 @@ pub mod Writing
 mod Worked
 mod WorkedPath
 mod WorkedLines
+mod WorkedStacks

@@ -56,10 +56,10 @@ no_leader : kind_of (Lines (replicate 144 77)) (a_step 4) ≡ 10 * 65 + 3
 unfolding at_word reading_of op_with
 no_leader = refl
 
-a_line : line_row 709 11 1000 11225 ≡ codes "   9   709   00B\n"
+a_line : line_row [] 709 11 1000 11225 ≡ codes "   9   709   00B\n"
 unfolding line_row share_of cell digits hex_digits
 a_line = refl
 
-other_code : line_row 709 64 1000 11225 ≡ codes "   9   709     .\n"
+other_code : line_row [] 709 64 1000 11225 ≡ codes "   9   709     .\n"
 unfolding line_row share_of cell digits hex_digits
 other_code = refl

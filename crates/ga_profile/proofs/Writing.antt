@@ -5,13 +5,18 @@ use Rattle.std.specs.List.{flat_map, range_with_len}
 use Rattle.std.proofs.lemmas.List.{get_or_default}
 use Rattle.ga_dump.proofs.Lines.{next_line}
 use Rattle.ga_place.specs.Cell.{name_at}
+use Rattle.ga_asm.specs.Image.{ImageView}
 use Rattle.ga_chip.specs.Chip.{Chip, state_of}
+use Rattle.ga_trace.specs.Depth.{BOTH_EMPTY}
+use Rattle.ga_trace.specs.declared.depth.StackDepths.{StackDepths}
 use Rattle.ga_profile.specs.declared.node_turns.NodeTurns.{NodeTurns}
 use Rattle.ga_profile.specs.declared.window.Window.{Window}
 use Rattle.ga_profile.specs.declared.node_pass.NodePass.{NodePass}
 use Rattle.ga_profile.specs.Bottleneck.{most_use, use_at, use_of}
 use Rattle.ga_profile.specs.NodeTurns.{NO_TURNS}
 use Rattle.ga_profile.specs.Profile.{with_end}
+use Rattle.ga_profile.specs.Rank.{ranked}
+use Rattle.ga_profile.specs.Stacks.{fullness_at, fullness_if, stack_row_at, stack_row_if}
 use Rattle.ga_profile.specs.Table.{row_at, row_if}
 
 -- one part more of those that are numbered from 0
@@ -83,3 +88,31 @@ end_read window nodes index name other chip new within named is =
     ∙ ap (λ (one : NodeTurns). with_end window one (state_of chip name))
     (get_or_default nodes index other NO_TURNS within)
     ∙ ap (λ n. with_end window (get_or nodes index NO_TURNS) (state_of chip n)) named
+
+-- how full the stacks of a node were, read at any default
+pub fullness_read : (nodes : List NodeTurns) (depths : List StackDepths) (index : ℕ)
+    (other : NodeTurns) (none : StackDepths) (new : ℕ) → index < length nodes
+    → index < length depths
+    → new ≡ fullness_if (get_or nodes index other).began (get_or depths index none)
+    → new ≡ fullness_at nodes depths index
+fullness_read nodes depths index other none new within in_depths is =
+    is
+    ∙ ap (λ (one : NodeTurns). fullness_if one.began (get_or depths index none))
+    (get_or_default nodes index other NO_TURNS within)
+    ∙ ap (λ (one : StackDepths). fullness_if (get_or nodes index NO_TURNS).began one)
+    (get_or_default depths index none BOTH_EMPTY in_depths)
+
+-- and the row of a rank
+pub stack_row_read : (images : List (ℕ × ImageView)) (full : List ℕ) (depths : List StackDepths)
+    (rank index name : ℕ) (none : StackDepths) (text new : List ℕ) → index < length depths
+    → index ≡ ranked full rank → name ≡ name_at index
+    → new ≡ text ++ stack_row_if images (get_or full index 0) name (get_or depths index none)
+    → new ≡ text ++ stack_row_at images full depths rank
+stack_row_read images full depths rank index name none text new within has_rank named wrote =
+    wrote
+    ∙ ap (λ (one : StackDepths). text ++ stack_row_if images (get_or full index 0) name one)
+    (get_or_default depths index none BOTH_EMPTY within)
+    ∙ ap (λ n. text ++ stack_row_if images (get_or full index 0) n (get_or depths index BOTH_EMPTY))
+    named
+    ∙ ap (λ i. text
+    ++ stack_row_if images (get_or full i 0) (name_at i) (get_or depths i BOTH_EMPTY)) has_rank

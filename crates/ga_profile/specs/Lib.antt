@@ -14,4 +14,5 @@ pub mod Path
 pub mod Rank
 pub mod Kinds
 pub mod Lines
+pub mod Stacks
 pub mod inner

@@ -4,7 +4,10 @@ use Rattle.std.specs.List.{concat, flat_map, range_with_len}
 use Rattle.ga_word.specs.Hex.{hex_digits}
 use Rattle.ga_place.specs.Cell.{name_at}
 use Rattle.ga_place.specs.Node.{node_text}
+use Rattle.ga_place.specs.declared.address.Where.TheVariants.{Ram}
+use Rattle.ga_asm.specs.Image.{ImageView, image_of}
 use Rattle.ga_chip.specs.Chip.{Chip}
+use Rattle.ga_waits.specs.Label.{label_in}
 use Rattle.ga_profile.specs.declared.kinds.Kinds.TheVariants.{Lines}
 use Rattle.ga_profile.specs.declared.window.Window.{Window}
 use Rattle.ga_profile.specs.Kinds.{kind_of}
@@ -28,24 +31,29 @@ line_turns window chip paths =
 abbrev pub word_text : ℕ → List ℕ
 word_text word = if nat_lt word 64 then hex_digits 3 word else codes "."
 
+-- the label of a word of memory of a node; all other code has none
+abbrev pub word_label : List (ℕ × ImageView) → ℕ → ℕ → List ℕ
+word_label images name word =
+    if nat_lt word 64 then label_in (image_of images name) (Ram word) else []
+
 -- a line, by the share of the turns that it has on the path
-unfoldable pub line_row : ℕ → ℕ → ℕ → ℕ → List ℕ
-line_row name word path turns =
+unfoldable pub line_row : List (ℕ × ImageView) → ℕ → ℕ → ℕ → ℕ → List ℕ
+line_row images name word path turns =
     concat (cell 4 (share_text (share_of path turns)) ∷ cell 6 (node_text name)
-    ∷ cell 6 (word_text word) ∷ codes "\n" ∷ [])
+    ∷ cell 6 (word_text word) ∷ word_label images name word ∷ codes "\n" ∷ [])
 
 -- the line of a rank, if it has turns
-abbrev pub line_if : List ℕ → ℕ → ℕ → ℕ → List ℕ
-line_if paths kind path turns =
+abbrev pub line_if : List (ℕ × ImageView) → List ℕ → ℕ → ℕ → ℕ → List ℕ
+line_if images paths kind path turns =
     if path == 0 then []
-    else line_row (name_at (ranked paths (kind / 65))) (kind % 65) path turns
+    else line_row images (name_at (ranked paths (kind / 65))) (kind % 65) path turns
 
-abbrev pub line_at : List ℕ → List ℕ → ℕ → ℕ → List ℕ
-line_at paths lines turns rank =
-    let kind = ranked lines rank in line_if paths kind (get_or lines kind 0) turns
+abbrev pub line_at : List (ℕ × ImageView) → List ℕ → List ℕ → ℕ → ℕ → List ℕ
+line_at images paths lines turns rank =
+    let kind = ranked lines rank in line_if images paths kind (get_or lines kind 0) turns
 
 -- The ten lines with the most turns, the most first.
-unfoldable pub lines_text : List ℕ → List ℕ → ℕ → List ℕ
-lines_text paths lines turns =
+unfoldable pub lines_text : List (ℕ × ImageView) → List ℕ → List ℕ → ℕ → List ℕ
+lines_text images paths lines turns =
     codes "path  node  word  where the path goes\n"
-    ++ flat_map (line_at paths lines turns) (range_with_len 0 10)
+    ++ flat_map (line_at images paths lines turns) (range_with_len 0 10)

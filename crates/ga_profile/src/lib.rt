@@ -16,6 +16,7 @@ mod profile;
 mod rank;
 mod self_jump;
 mod share;
+mod stacks;
 mod table;
 mod text;
 mod trail;

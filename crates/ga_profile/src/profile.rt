@@ -2,6 +2,7 @@
 ghost use Rattle.std.specs.Prelude.{◌≡◌, IfOk, length};
 ghost use Rattle.ga_chip.specs.Chip.{state_of};
 ghost use Rattle.ga_chip.specs.Run.{ran, turns_of};
+ghost use Rattle.ga_trace.specs.Depth.{all_depths};
 ghost use Rattle.ga_profile.specs.NodePass.{node_passes};
 ghost use Rattle.ga_profile.specs.Lines.{line_turns};
 ghost use Rattle.ga_profile.specs.Path.{path_turns};
@@ -17,7 +18,7 @@ use ga_chip::Chip;
 use ga_node::{Need, Place};
 use ga_observe::turns;
 use ga_place::Node;
-use ga_trace::run;
+use ga_trace::{StackDepths, all_depths, run};
 use std::alloc::{AllocError, Global};
 
 /// What each node did in a window of a run.
@@ -33,12 +34,16 @@ pub struct Profile {
     /// How many turns each line has on the path, of the ten nodes with the most turns on it, the
     /// node with the most first: 64 for the words of its memory, and one for all other code.
     pub lines: Vec<u64>,
+    /// How deep the stacks of each node were in all turns up to the end of the window, in order of
+    /// name.
+    pub depths: Vec<StackDepths>,
     /// The chip at the end of the window.
     pub chip: Chip,
     ghost all: { length nodes.items ≡ 144 },
     ghost each: { length passes.items ≡ 144 },
     ghost paths: { length path.items ≡ 144 },
     ghost places: { length lines.items ≡ 650 },
+    ghost stacks: { length depths.items ≡ 144 },
 }
 
 /// What each node does in a run of a chip: in its turns until no node moves but those that spin, or
@@ -58,6 +63,8 @@ pub fn measure(
         profile.path.items ≡ path_turns (window_in start most chip.now) chip.now) }
     ensures lines { IfOk result (λ profile. profile.lines.items
         ≡ line_turns (window_in start most chip.now) chip.now profile.path.items) }
+    ensures depths { IfOk result (λ profile. profile.depths.items
+        ≡ all_depths (window_in start most chip.now).end chip.now) }
     ensures chip { IfOk result (λ profile.
         profile.chip ≡ chip_at_end (window_in start most chip.now) chip.now) }
 {
@@ -79,6 +86,8 @@ fn profile_in(alloc: Global, chip: &Chip, window: Window) -> Result<Profile, All
         profile.path.items ≡ path_turns window chip.now) }
     ensures lines { IfOk result (λ profile.
         profile.lines.items ≡ line_turns window chip.now profile.path.items) }
+    ensures depths { IfOk result (λ profile.
+        profile.depths.items ≡ all_depths window.end chip.now) }
     ensures chip { IfOk result (λ profile. profile.chip ≡ chip_at_end window chip.now) }
 {
     let passes = node_passes(alloc, chip, window)?;
@@ -87,12 +96,14 @@ fn profile_in(alloc: Global, chip: &Chip, window: Window) -> Result<Profile, All
     let path = path_turns(alloc, chip, window, watched.as_slice())?;
     let lines = line_turns(alloc, chip, window, watched.as_slice(), path.as_slice())?;
     let nodes = ended(alloc, &copy, window, watched.as_slice())?;
+    let depths = all_depths(alloc, chip, window.end)?;
     Ok(Profile {
         window,
         nodes,
         passes,
         path,
         lines,
+        depths,
         chip: copy,
     })
 }
