@@ -4,11 +4,13 @@ use Rattle.std.specs.Prelude.{codes, replicate}
 use Rattle.std.specs.Fmt.{digits}
 use Rattle.ga_word.specs.Hex.{hex_digits}
 use Rattle.ga_word.specs.Op.{op_with}
+use Rattle.ga_asm.specs.Image.{ImageView}
 use Rattle.ga_pack.specs.Decoded.{reading_of}
 use Rattle.ga_node.specs.declared.place.Place.TheVariants.{Slot1}
 use Rattle.ga_observe.specs.declared.step.Deed.TheVariants as did
 use Rattle.ga_observe.specs.declared.step.Step.{Step}
 use Rattle.ga_trace.specs.At.{at_word}
+use Rattle.ga_waits.specs.Label.{label_text}
 use Rattle.ga_profile.specs.declared.kinds.Kinds.TheVariants.{Nodes, Lines}
 use Rattle.ga_profile.specs.Kinds.{kind_of}
 use Rattle.ga_profile.specs.Lines.{line_row}
@@ -63,3 +65,21 @@ a_line = refl
 other_code : line_row [] 709 64 1000 11225 ≡ codes "   9   709     .\n"
 unfolding line_row share_of cell digits hex_digits
 other_code = refl
+
+-- 709 has a label at 008
+abbrev an_image : ImageView
+an_image = record {
+  words = [];
+  code_len = 0;
+  entry = 0;
+  labels = (codes "main", 8) ∷ [];
+  item_counts = [];
+}
+
+with_label : line_row ((709, an_image) ∷ []) 709 11 1000 11225 ≡ codes "   9   709   00B main+3\n"
+unfolding line_row share_of cell digits hex_digits label_text
+with_label = refl
+
+no_label : line_row ((709, an_image) ∷ []) 709 64 1000 11225 ≡ codes "   9   709     .\n"
+unfolding line_row share_of cell digits hex_digits label_text
+no_label = refl
