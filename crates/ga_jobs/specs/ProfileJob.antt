@@ -9,6 +9,7 @@ use Rattle.ga_profile.specs.Text.{profile_text}
 use Rattle.ga_profile.specs.declared.profile.Profile.{Profile}
 use Rattle.ga_profile.specs.declared.window.Window.{Window}
 use Rattle.ga_profile.specs.declared.window.WindowStart.{WindowStart}
+use Rattle.ga_trace.specs.Depth.{all_depths}
 use Rattle.ga_transcript.specs.Live.{LiveView}
 use Rattle.ga_waits.specs.Folded.{nodes_text}
 use Rattle.ga_jobs.specs.declared.fault.ServeError.{ServeError}
@@ -19,8 +20,9 @@ use Rattle.ga_jobs.specs.Session.{IsSession}
 -- the profile of a window of the run of a session's chip, and who waits for whom at its end
 abbrev pub profile_in : LiveView → Window → List ℕ
 profile_in live window =
-    (profile_text window (nodes_in window live.chip) (node_passes window live.chip)
-    (path_turns window live.chip) (line_turns window live.chip (path_turns window live.chip))
+    (profile_text live.program.images window (nodes_in window live.chip)
+    (node_passes window live.chip) (path_turns window live.chip)
+    (line_turns window live.chip (path_turns window live.chip)) (all_depths window.end live.chip)
     (chip_at_end window live.chip) ++ codes "At the end:\n")
     ++ nodes_text live.program.images (chip_at_end window live.chip)
 
@@ -31,8 +33,9 @@ profile_after live start turns = profile_in live (window_in start turns live.chi
 -- the text of a measured profile, with the labels of a program
 abbrev pub with_waits : List (ℕ × ImageView) → Profile → List ℕ
 with_waits images profile =
-    (profile_text profile.window profile.nodes.items profile.passes.items profile.path.items
-    profile.lines.items profile.chip ++ codes "At the end:\n") ++ nodes_text images profile.chip
+    (profile_text images profile.window profile.nodes.items profile.passes.items profile.path.items
+    profile.lines.items profile.depths.items profile.chip ++ codes "At the end:\n")
+    ++ nodes_text images profile.chip
 
 -- the profile of the session that an input opens, or the first fault of that session
 abbrev pub IsProfileOutput : Loading → WindowStart → Option ℕ → List ℕ

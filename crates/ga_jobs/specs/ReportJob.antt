@@ -22,6 +22,7 @@ use Rattle.ga_report.specs.Columns.{columns_of}
 use Rattle.ga_report.specs.Page.{page_text}
 use Rattle.ga_report.specs.Timeline.{kinds_in}
 use Rattle.ga_report.specs.declared.timeline.Timeline.{Timeline}
+use Rattle.ga_trace.specs.Depth.{all_depths}
 use Rattle.ga_transcript.specs.Live.{LiveView}
 use Rattle.ga_jobs.specs.declared.fault.ServeError.{ServeError}
 use Rattle.ga_jobs.specs.declared.race.Loading.{Loading}
@@ -40,6 +41,7 @@ pub record IsMeasured (chip : Chip) (start : WindowStart) (most : ℕ) (profile 
   pub path : profile.path.items ≡ path_turns (window_in start most chip) chip
   pub lines : profile.lines.items
       ≡ line_turns (window_in start most chip) chip profile.path.items
+  pub depths : profile.depths.items ≡ all_depths (window_in start most chip).end chip
   pub end : profile.chip ≡ chip_at_end (window_in start most chip) chip
 
 abbrev pub race_headline : Race → List ℕ

@@ -42,7 +42,7 @@ fn profile_after(
     with_waits(alloc, &profile, live.images())
 }
 
-/// A profile as text, and who waits for whom at the end of its window.
+/// A profile as text, with the labels of a program, and who waits for whom at the end of its window.
 pub(crate) fn with_waits(
     alloc: Global,
     profile: &Profile,
@@ -50,7 +50,7 @@ pub(crate) fn with_waits(
 ) -> Result<String, AllocError>
     ensures { IfOk result (λ text. string_bytes text ≡ with_waits images.now profile.now) }
 {
-    let mut text = profile_text(alloc, profile)?;
+    let mut text = profile_text(alloc, profile, Some(images))?;
     text.push_str("At the end:\n")?;
     let waits = nodes(alloc, &profile.chip, Some(images))?;
     text.push_str(waits.as_str())?;
