@@ -1,8 +1,8 @@
 """The text of `profile`, worked out from the tries of a run.
 
 `record` makes the run again, one try after the other. In front of each turn `where` shows P, the place, the opcode and the
-need of each node, and `expect NNN at` the address of its word in execution; the outcome of a try shows who moved. Nothing
-here is taken from `profile` itself, and no chip is run.
+need of each node, `expect NNN at` the address of its word in execution, and `expect NNN R` its R; the outcome of a try shows
+who moved. Nothing here is taken from `profile` or `depth` themselves, and no chip is run. Labels are those of assembler.py.
 """
 import re
 from collections import Counter, namedtuple
@@ -10,11 +10,12 @@ from dataclasses import dataclass, field
 from itertools import accumulate
 
 from assembler import NAME
-from replies import LOADER, STOPPED
+from replies import LABEL, LOADER, STOPPED
 from schedules import neighbours
+from sessions import head_of
 
 NODES = [100 * row + column for row in range(8) for column in range(18)]
-# The bytes of the tries of one session. Their lines have 31 bytes for each node and turn.
+# The bytes of the tries of one session. Their lines have 53 bytes for each node and turn.
 MOST_BYTES = 900000
 WAITS = re.compile(
     rf"(\d{{3}}) P (\w{{3}})(?: {NAME.pattern}(?:[+]\d+)?)? (?P<place>fetch|slot[0-3]|{LOADER})(?: (?P<op>\S+))? "
@@ -25,6 +26,14 @@ SIDE = re.compile(r" ?(?P<side>right|down|left|up) of (?P<node>\d{3})\b.*")
 SLOTS = ["slot0", "slot1", "slot2", "slot3"]
 # What a node does in a turn, in the order in which a bar has it, and the sign.
 SIGNS = {"boots": "b", "works": "#", "takes": "?", "reads": "!", "spins": "~", "stops": "x"}
+# How many words the stacks have room for, and what an opcode does to them. The end of a loop pops its counter, if R is 0.
+DATA_ROOM, RETURN_ROOM = 10, 9
+DATA_CHANGES = {
+    **dict.fromkeys(["@p", "@+", "@b", "@", "dup", "pop", "over", "a"], 1),
+    **dict.fromkeys(["!p", "!+", "!b", "!", "+", "and", "or", "drop", "push", "b!", "a!"], -1),
+}
+RETURN_CHANGES = {"call": 1, "push": 1, ";": -1, "pop": -1}
+LOOPS = {"unext", "next"}
 HEAD = """\
     share of the turns, % 0                    100         words       a pass
 node work take read rest |-----+-----+-----+------| path   in   out  turns works
@@ -34,22 +43,25 @@ LEGEND = """\
 rest: b boots  ~ spins  x stopped  blank idle
 path: the run waits for this node
 """
+STACKS_HEAD = "node data/10 return/9  the fullest stacks\n"
 # What the profile of a run that isn't worked out has to look like.
 SHARE = r"(?:\.|<1|\d{1,3})"
+PASSED = rf"(?:  {{}}, passed at [0-3][0-9A-F]{{{{2}}}}{LABEL.replace('{', '{{').replace('}', '}}')})?"
 PROFILE = [
     rf"\d+ turns from turn \d+ on\n{re.escape(HEAD)}",
     rf"(?:\d{{3}}(?: +{SHARE}){{4}} \|b*#*\?*!*~*x* *\| +{SHARE}(?: +\d+){{2}}(?: +\d+){{2}}\n|"
     rf"\d{{3}}(?: +{SHARE}){{4}} \|b*#*\?*!*~*x* *\| +{SHARE}(?: +\d+){{2}}      \.     \.\n)*",
     re.escape(LEGEND),
     r"Bottleneck: [^\n]*\n(?:(?:The run gets|Side by side,) [^\n]*\n|(?:ring(?: \d{3})+\n)*)",
-    rf"path  node  word  where the path goes\n(?: +{SHARE}   \d{{3}}   (?:  \.|0[0-3][0-9A-F])\n){{0,10}}",
+    rf"path  node  word  where the path goes\n(?: +{SHARE}   \d{{3}}   (?:  \.|0[0-3][0-9A-F]{LABEL})\n){{0,10}}",
+    rf"(?:{STACKS_HEAD}(?:\d{{3}}(?: +\d+){{2}}{PASSED.format('data')}{PASSED.format('return')}\n){{1,10}})?",
     r"At the end:\n(?:\d{3} P [^\n]*\n)*(?:idle:(?: \d{3})+\n)?(?:ring(?: \d{3})+\n)*",
 ]
 
-# What a node is about to do: P, its place, the opcode there, its need, the neighbours at the sides that the need names, and
-# the address of the word in execution.
-State = namedtuple("State", "p place op need sides at")
-IDLE = State(0x1A5, "fetch", None, "take", {}, 0x1A5)
+# What a node is about to do: P, its place, the opcode there, its need, the neighbours at the sides that the need names, the
+# address of the word in execution, and R.
+State = namedtuple("State", "p place op need sides at r")
+IDLE = State(0x1A5, "fetch", None, "take", {}, 0x1A5, 0)
 
 
 def idle(node):
@@ -66,10 +78,10 @@ Move = namedtuple("Move", "turn order word awaited")
 
 
 def states_of(lines):
-    """The states of the started nodes, but for `at`, by the lines of `where`."""
+    """The states of the started nodes, but for `at` and R, by the lines of `where`."""
     found = [WAITS.fullmatch(line) for line in lines if not line.startswith("ring ")]
     return {
-        int(it[1]): State(int(it[2], 16), it["place"], it["op"], it["need"].split()[0], sides_in(it["rest"]), None)
+        int(it[1]): State(int(it[2], 16), it["place"], it["op"], it["need"].split()[0], sides_in(it["rest"]), None, None)
         for it in found
     }
 
@@ -99,11 +111,12 @@ class Run:
         self.turns = int(replies[144][0].split()[1])
         self.nodes = [node for node, *pair in zip(NODES, *counts) if pair[0] != pair[1]]
         self.session, self.head, self.commands = session, head, commands
+        self.images = head_of(head).images
 
     def look(self):
         """Makes the tries, a session for a part of the turns, which begins with a turn that tries the right side."""
         self.where, outcomes = [], []
-        part = max(4, MOST_BYTES // (31 * len(self.nodes) + 8) // 4 * 4)
+        part = max(4, MOST_BYTES // (53 * len(self.nodes) + 8) // 4 * 4)
         for first in range(0, self.turns + 1, part):
             some = range(first, min(first + part, self.turns + 1))
             lines = [line for turn in some for line in self.lines_of(turn)]
@@ -111,7 +124,7 @@ class Run:
             if replies is None:
                 raise TooLong
             replies = replies[len(self.commands) + 1 :]
-            width = 1 + 2 * len(self.nodes)
+            width = 1 + 3 * len(self.nodes)
             for begin in range(0, len(replies), width):
                 self.where.append(replies[begin])
                 outcomes.append(replies[begin + 1 : begin + width])
@@ -125,17 +138,19 @@ class Run:
         return "".join(f"{line}\n" for line in replies[-1])
 
     def lines_of(self, turn):
-        tries = ((f"expect {node:03} at 000", f"try {node:03} {'rdlu'[turn % 4]}") for node in self.nodes)
-        return ["where", *(line for pair in tries for line in pair)]
+        side = "rdlu"[turn % 4]
+        tries = ((f"expect {it:03} at 000", f"expect {it:03} R 00000", f"try {it:03} {side}") for it in self.nodes)
+        return ["where", *(line for one in tries for line in one)]
 
     def steps_by(self, outcomes):
         steps = {node: [] for node in NODES}
         states = [states_of(it) for it in self.where]
         for turn in range(self.turns):
             for index, node in enumerate(self.nodes):
-                (at,), (outcome,) = outcomes[turn][2 * index : 2 * index + 2]
+                (at,), (r,), (outcome,) = outcomes[turn][3 * index : 3 * index + 3]
                 if outcome == "moved":
-                    state = states[turn].get(node, idle(node))._replace(at=int(at[-3:], 16) if at != "ok" else 0)
+                    at, r = (0 if it == "ok" else int(it.split()[-1], 16) for it in (at, r))
+                    state = states[turn].get(node, idle(node))._replace(at=at, r=r)
                     after = states[turn + 1][node]
                     steps[node].append(Step(turn, len(steps[node]), state, jumps_to_itself(state, after)))
         return steps
@@ -145,9 +160,14 @@ def is_memory(address):
     return address % 0x200 < 0x80
 
 
+def address_of(state):
+    """The address of the word in execution, with the bit that only P has."""
+    return state.p & 0x200 | state.at
+
+
 def jumps_to_itself(before, after):
-    """Whether a step runs a word of memory that only jumps to itself. P has ten bits, and `at` nine of them."""
-    address = before.p & 0x200 | before.at
+    """Whether a step runs a word of memory that only jumps to itself."""
+    address = address_of(before)
     return before.place == "slot0" and before.op == "jump" and is_memory(address) and after.p == address
 
 
@@ -252,6 +272,62 @@ def path_of(steps, first, node):
     return turns
 
 
+@dataclass
+class Stack:
+    """How many words a stack holds, the most of them, and the address of the first push that it had no room for."""
+
+    room: int
+    words: int = 0
+    most: int = 0
+    passed: int | None = None
+
+    def change(self, by, address):
+        self.words = max(self.words + by, 0)
+        self.most = max(self.most, self.words)
+        if self.passed is None and self.words > self.room:
+            self.passed = address
+
+
+def stacks_of(steps):
+    """Both stacks of a node, by its steps."""
+    data, back = Stack(DATA_ROOM), Stack(RETURN_ROOM)
+    for state in (step.state for step in steps):
+        if state.place in SLOTS and state.need != "check":
+            data.change(DATA_CHANGES.get(state.op, 0), address_of(state))
+            by = -(state.r == 0) if state.op in LOOPS else RETURN_CHANGES.get(state.op, 0)
+            back.change(by, address_of(state))
+    return data, back
+
+
+def label_of(image, index):
+    """The first of the last labels at or before an index of memory, and how far the index is behind it."""
+    before = {name: at for name, at in (image.labels if image else {}).items() if at <= index}
+    if not before:
+        return ""
+    near = max(before.values())
+    name = next(name for name, at in before.items() if at == near)
+    return f" {name}+{index - near}" if index > near else f" {name}"
+
+
+def passed_text(name, stack, image):
+    if stack.passed is None:
+        return ""
+    label = label_of(image, stack.passed % 64) if is_memory(stack.passed) else ""
+    return f"  {name}, passed at {stack.passed:03X}{label}"
+
+
+def stacks_text(stacks, images):
+    """The ten nodes with the fullest stacks, by the stacks of the nodes that began."""
+    full = {node: max(data.most * RETURN_ROOM, back.most * DATA_ROOM) for node, (data, back) in stacks.items()}
+    shown = sorted((-much, node) for node, much in full.items() if much)[:10]
+    rows = []
+    for _, node in shown:
+        data, back = stacks[node]
+        passed = passed_text("data", data, images.get(node)) + passed_text("return", back, images.get(node))
+        rows.append(f"{node:03}{cells((9, data.most), (9, back.most))}{passed}\n")
+    return STACKS_HEAD + "".join(rows) if rows else ""
+
+
 def share(turns, length):
     if not turns or not length:
         return "."
@@ -279,14 +355,17 @@ def row(node, it, mean, on_path, length):
     return f"{node:03}{shares} |{bar(it.counts, length)}|{numbers}\n"
 
 
-def lines_text(turns, on_path, length):
+def lines_text(turns, on_path, length, images):
     """The ten words with the most turns on the path, of the ten nodes with the most."""
     ranks = sorted(NODES, key=lambda node: (-on_path[node], node))[:10]
     found = [(-turns[node, word], rank, word) for rank, node in enumerate(ranks) for word in range(64)]
     found += [(-turns[node, None], rank, 64) for rank, node in enumerate(ranks)]
-    shown = [(-less, ranks[rank], "." if word == 64 else f"{word:03X}") for less, rank, word in sorted(found)[:10] if less]
-    rows = (cells((4, share(most, length)), (6, f"{node:03}"), (6, word)) for most, node, word in shown)
-    return "path  node  word  where the path goes\n" + "".join(f"{row}\n" for row in rows)
+    rows = []
+    for less, rank, word in (it for it in sorted(found)[:10] if it[0]):
+        shown = "." if word == 64 else f"{word:03X}"
+        label = "" if word == 64 else label_of(images.get(ranks[rank]), word)
+        rows.append(f"{cells((4, share(-less, length)), (6, f'{ranks[rank]:03}'), (6, shown))}{label}\n")
+    return "path  node  word  where the path goes\n" + "".join(rows)
 
 
 def bottleneck(uses, on_path, length, rings):
@@ -341,5 +420,7 @@ def profile_text(run, where="last"):
     rings = "".join(f"{line}\n" for line in run.where[end] if line.startswith("ring "))
     rows = (row(node, it, passes[node], on_path[node], length) for node, it in nodes.items() if it.began is not None)
     table = f"{length} turns from turn {first} on\n{HEAD}{''.join(rows)}{LEGEND}"
-    text = table + bottleneck(uses, on_path, length, rings) + rings + lines_text(found, on_path, length)
+    lines = lines_text(found, on_path, length, run.images)
+    stacks = {node: stacks_of(some) for node, some in steps.items() if nodes[node].began is not None}
+    text = table + bottleneck(uses, on_path, length, rings) + rings + lines + stacks_text(stacks, run.images)
     return f"{text}At the end:\n{run.nodes_behind(end)}"
