@@ -1,28 +1,28 @@
 -- The definitions at worked values.
-use Rattle.std.proofs.Common.{◌≡◌, ℕ, ◌++◌, true, false, List, [], ◌∷◌, Some, refl}
+use Rattle.std.proofs.Common.{◌≡◌, ℕ, ◌++◌, List, [], ◌∷◌, Some, refl}
 use Rattle.std.specs.Prelude.{codes, None}
 use Rattle.std.specs.Fmt.{digits}
 use lib.Utf8.{encode}
 use Rattle.std.specs.Str.{chars}
 use Rattle.ga_word.specs.Hex.{hex_digits}
 use Rattle.ga_place.specs.Side.{sides_with}
-use Rattle.ga_place.specs.declared.side.Side.TheVariants.{Right, Down, Left, Up}
+use Rattle.ga_place.specs.declared.side.Side.TheVariants.{Right}
 use Rattle.ga_node.specs.declared.need.Need.TheVariants as need
 use Rattle.ga_node.specs.declared.place.Place.TheVariants.{Fetch, Slot0}
 use Rattle.ga_profile.specs.declared.node_pass.NodePass.{NodePass}
 use Rattle.ga_profile.specs.declared.node_turns.TurnCounts.{TurnCounts}
 use Rattle.ga_profile.specs.declared.window.Window.{Window}
-use Rattle.ga_profile.specs.NodeTurns.{NO_COUNTS, NO_TURNS}
+use Rattle.ga_profile.specs.NodeTurns.{NO_COUNTS}
 use Rattle.ga_report.specs.declared.kind.Kind.{Kind}
-use Rattle.ga_report.specs.declared.kind.Kind.TheVariants.{Works, AwaitsWord, AwaitsReader, Spins, Stopped, Boots, Idle}
+use Rattle.ga_report.specs.declared.kind.Kind.TheVariants.{Works, AwaitsWord, Spins, Idle}
 use Rattle.ga_report.specs.CloseUp.{close_up_window}
 use Rattle.ga_report.specs.Columns.{bound, columns_of, stride_of}
-use Rattle.ga_report.specs.Ending.{kind_at_end, kind_by, kind_since}
+use Rattle.ga_report.specs.Ending.{kind_by, kind_since}
 use Rattle.ga_report.specs.Escape.{escaped}
-use Rattle.ga_report.specs.Line.{line_of, lines, line_with, path_data}
+use Rattle.ga_report.specs.Line.{line_of, line_with, path_data}
 use Rattle.ga_report.specs.Most.{between, most_of}
 use Rattle.ga_report.specs.Picture.{arrow, group}
-use Rattle.ga_report.specs.Rows.{note, scale, SCALE, summary, tick, ticks, works_text, word_waits_text, reader_waits_text}
+use Rattle.ga_report.specs.Rows.{scale, SCALE, summary, tick, ticks, works_text, word_waits_text, reader_waits_text}
 use Rattle.ga_report.specs.Timeline.{row_of}
 
 -- the signs of XML go by name, and a control character (27) is replaced

@@ -1,4 +1,4 @@
-use Rattle.std.proofs.Common.{◌≡◌, ◌∙◌, ◌+◌, ◌++◌, ap, arith, length, string_bytes, sym}
+use Rattle.std.proofs.Common.{◌≡◌, ◌∙◌, ◌+◌, ◌++◌, ap, arith, length, sym}
 use Rattle.std.specs.List.{flat_map, range_with_len}
 use Rattle.ga_dump.proofs.Lines.{next_line}
 use Rattle.ga_report.specs.Line.{edge, path_data}
