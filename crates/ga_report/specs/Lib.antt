@@ -8,6 +8,7 @@ pub mod Timeline
 pub mod Line
 pub mod Rows
 pub mod Ending
+pub mod Words
 pub mod Picture
 pub mod Page
 pub mod inner

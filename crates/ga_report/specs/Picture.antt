@@ -15,6 +15,7 @@ use Rattle.ga_report.specs.declared.kind.Kind.{Kind}
 use Rattle.ga_report.specs.declared.kind.Kind.TheVariants.{Works, AwaitsWord, AwaitsReader, Spins, Stopped, Boots, Idle}
 use Rattle.ga_report.specs.Ending.{kind_at_end}
 use Rattle.ga_report.specs.Kind.{words_of}
+use Rattle.ga_report.specs.Words.{words_part}
 
 -- ---- an arrow for a pending word
 
@@ -100,9 +101,15 @@ nodes chip did = flat_map (node_at chip did) (range_with_len 0 144)
 -- the heading, and the begin of the picture
 unfoldable pub OPENING : List ℕ
 OPENING =
-    concat (codes "<h2>Chip at the end</h2>\n<div class='chip' tabindex='0'>\n"
+    concat (codes "<h2>Chip at the end</h2>\n"
+    ∷ codes "<p>An arrow is a word that isn't read yet.</p>\n"
+    ∷ codes "<div class='chip' tabindex='0'>\n"
     ∷ codes "<svg viewBox='-1 -1 786 314' role='img' aria-label='The nodes'>\n" ∷ [])
 
--- The picture of a chip at the end of a window, by what its nodes did there.
+-- the picture of a chip
+unfoldable pub drawing : Chip → List NodeTurns → List ℕ
+drawing chip did = concat (OPENING ∷ nodes chip did ∷ codes "</svg></div>\n" ∷ [])
+
+-- The picture of a chip at the end of a window, by what its nodes did there, and its pending words.
 unfoldable pub picture : Chip → List NodeTurns → List ℕ
-picture chip did = concat (OPENING ∷ nodes chip did ∷ codes "</svg></div>\n" ∷ [])
+picture chip did = drawing chip did ++ words_part chip

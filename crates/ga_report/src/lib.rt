@@ -11,11 +11,13 @@ mod most;
 mod page;
 mod parts;
 mod picture;
+mod posted;
 mod rows;
 mod step_watch;
 mod style;
 mod timeline;
 mod watched;
+mod words;
 
 pub use close_up::close_up_window;
 pub use kind::Kind;

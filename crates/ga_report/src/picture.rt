@@ -1,21 +1,22 @@
 //! The chip as a picture, north at the top.
 ghost use Rattle.std.specs.Prelude.{◌≡◌, ◌++◌, OnOk, length, string_bytes};
-ghost use Rattle.ga_map.specs.Posted as map;
 ghost use Rattle.ga_report.specs.Picture as spec;
-ghost use Rattle.ga_report.specs.Picture.{OPENING, group, label, mark_text, marked, node_arrows, node_box, node_title, picture, side_arrow};
+ghost use Rattle.ga_report.specs.Picture.{OPENING, drawing, group, label, mark_text, marked, node_arrows, node_box, node_title, picture, side_arrow};
 ghost use Rattle.ga_place.specs.Side.{direction_of};
 
 use crate::ending::kind_at_end;
 use crate::kind::{Kind, words_of};
 use crate::parts::push_parts;
+use crate::posted::posted;
+use crate::words::push_words;
 use ga_chip::Chip;
-use ga_place::{Node, SIDES, Side, cell, neighbour};
+use ga_place::{Node, SIDES, Side, neighbour};
 use ga_profile::NodeTurns;
 use ga_word::Word18;
 use std::alloc::AllocError;
 use std::fmt::Write;
 
-/// Adds the picture of a chip, by what its nodes did.
+/// Adds the picture of a chip, by what its nodes did, and its pending words.
 #[tactic(auto, unfolding(crate::specs::Picture::picture))]
 pub(crate) fn push_picture(
     text: &mut String,
@@ -25,6 +26,17 @@ pub(crate) fn push_picture(
     requires { length nodes.now ≡ 144 }
     ensures { OnOk result (string_bytes text.new
         ≡ string_bytes text.old ++ picture chip.now nodes.now) }
+{
+    push_drawing(text, chip, nodes)?;
+    push_words(text, chip)
+}
+
+/// Adds the picture of a chip.
+#[tactic(auto, unfolding(crate::specs::Picture::drawing))]
+fn push_drawing(text: &mut String, chip: &Chip, nodes: &[NodeTurns]) -> Result<(), AllocError>
+    requires { length nodes.now ≡ 144 }
+    ensures { OnOk result (string_bytes text.new
+        ≡ string_bytes text.old ++ drawing chip.now nodes.now) }
 {
     push_opening(text)?;
     push_nodes(text, chip, nodes)?;
@@ -37,7 +49,9 @@ fn push_opening(text: &mut String) -> Result<(), AllocError>
     ensures { OnOk result (string_bytes text.new ≡ string_bytes text.old ++ OPENING) }
 {
     let parts = [
-        "<h2>Chip at the end</h2>\n<div class='chip' tabindex='0'>\n",
+        "<h2>Chip at the end</h2>\n",
+        "<p>An arrow is a word that isn't read yet.</p>\n",
+        "<div class='chip' tabindex='0'>\n",
         "<svg viewBox='-1 -1 786 314' role='img' aria-label='The nodes'>\n",
     ];
     push_parts(text, &parts)
@@ -154,16 +168,6 @@ fn push_side_arrow(text: &mut String, chip: &Chip, node: Node, side: Side) -> Re
     match (posted(chip, node, side), neighbour(node, side)) {
         (Some(word), Some(reader)) => push_arrow(text, node, side, word, reader),
         _ => Ok(()),
-    }
-}
-
-/// The word that a node posted at a side, if it isn't read.
-fn posted(chip: &Chip, node: Node, side: Side) -> Option<Word18>
-    ensures { result ≡ map.posted chip.now node side }
-{
-    match cell(node, side) {
-        Some(at) => chip.cells().pending(at),
-        None => None,
     }
 }
 
