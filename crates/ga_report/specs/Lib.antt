@@ -11,4 +11,5 @@ pub mod Ending
 pub mod Words
 pub mod Picture
 pub mod Page
+pub mod Laws
 pub mod inner

@@ -6,6 +6,7 @@ mod columns;
 mod ending;
 mod escape;
 mod kind;
+pub mod laws;
 mod line;
 mod most;
 mod page;
