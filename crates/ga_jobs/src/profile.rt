@@ -42,7 +42,7 @@ fn profile_after(
     with_waits(alloc, &profile, live.images())
 }
 
-/// A profile as text, with the labels of a program, and who waits for whom at the end of its window.
+/// A profile as text, with the labels of images, and who waits for whom at the end of its window.
 pub(crate) fn with_waits(
     alloc: Global,
     profile: &Profile,

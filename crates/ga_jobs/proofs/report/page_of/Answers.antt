@@ -13,6 +13,13 @@ returns c =
     (subst (IsCloseUp chip c.close_up_window.result) (sym c.as_ref.ensures.value)
     c.in_ok-near.ensures) in
     IfOk-weaker c.page_text.result _ _
-    (λ page is. (c.in_ok-timeline.timeline, c.in_ok-timeline.ensures, (c.as_ref.result, close_up,
-    cc (is, c.as_str.ensures.value, c.in_ok-shown.ensures, c.images.ensures))))
+    (λ page is. (
+      c.in_ok-timeline.timeline,
+      c.in_ok-timeline.ensures,
+      (
+        c.as_ref.result,
+        close_up,
+        cc (is, c.as_str.ensures.value, c.in_ok-shown.ensures, c.images.ensures),
+      ),
+    ))
     c.page_text.ensures

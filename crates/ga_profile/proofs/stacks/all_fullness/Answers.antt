@@ -21,6 +21,6 @@ loop-index-preserved c =
 pub returns-clause-all : goal.returns-clause-all
 unfolding all_fullness
 returns-clause-all c =
+    let full = fullness_at c.args.nodes.now c.args.depths.now in
     let all : c.loop-index.index ≡ 144 = omega arith in
-    c.loop-index.invariant
-    ∙ ap (λ count. map (fullness_at c.args.nodes.now c.args.depths.now) (range_with_len 0 count)) all
+    c.loop-index.invariant ∙ ap (λ count. map full (range_with_len 0 count)) all
