@@ -49,20 +49,25 @@ def list_output(images):
     return "".join(asm_line(node, image) + "".join(listing(image)) for node, image in images.items())
 
 
-def listing(image):
+def plain_row(at, word, reads):
+    """The line of a word of a listing."""
+    return f"{at:03X}  {word.value:05X}  {word.kind:8} {word.line:5}  {reads}\n"
+
+
+def listing(image, row=plain_row):
+    """The lines of an image: those of its labels, and `row` of each word, by its address and what it reads as."""
     first = {}
     for name, address in image.labels.items():
         first.setdefault(address, name)
-    for at, (value, kind, line) in enumerate([*image.words, (None, None, None)]):
+    for at, word in enumerate([*image.words, None]):
 
         def name_of(ops, field):
             width = SLOTS[len(ops) - 1][2]
             return first.get(p_behind(at, ops) >> width << width | field)
 
         yield from (f"{name}:\n" for name, address in image.labels.items() if address == at)
-        if kind:
-            text = reading(value, name_of) if kind == "code" else f", ${value:05X}"
-            yield f"{at:03X}  {value:05X}  {kind:8} {line:5}  {text}\n"
+        if word:
+            yield row(at, word, reading(word.value, name_of) if word.kind == "code" else f", ${word.value:05X}")
 
 
 def labels_output(images):
