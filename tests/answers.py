@@ -9,6 +9,7 @@ output of a run must have its form, and must agree with other runs of the progra
 | Of | The relation |
 |---|---|
 | `asm`, `list` | each has the words of the other |
+| `list --counts` | `record` makes the same tries, one after the other. tests/counts.py works the text out from their replies |
 | `dis` | `asm` makes the same words of its text, with the same length of code |
 | `one` | after as many turns as it made steps, `debug` shows the same node |
 | `run` by one worker | after the same tries, `record` shows the same nodes |
@@ -19,6 +20,7 @@ output of a run must have its form, and must agree with other runs of the progra
 | `trace` | `record` shows the same in the first turns, made by tries, and the same nodes behind `run` |
 | `map` | `record` has it as the reply to `map` behind `run` |
 | `profile` | `record` makes the same tries, one after the other. tests/profiles.py works the text out from their replies |
+| `report` | it has the texts of `profile` and `list --counts`, and the verdict of `race`. tests/report_page.py reads it |
 | `replay` of profile 2 | it compares with the replies of `debug` |
 | `replay` of profile 1 | it accepts the lines before one that differs, and refuses the last one changed |
 """
@@ -30,6 +32,7 @@ import re
 from collections import namedtuple
 
 from assembler import Fault, images_of
+from counts import counted_list, is_listing_of
 from expander import expanded_text, expansion, pieces_of
 from operands import COMMANDS, IN_REPLAYS, command_of
 from outputs import (
@@ -37,6 +40,7 @@ from outputs import (
 )  # fmt: skip
 from profiles import PROFILE, Run, TooLong, profile_text
 from replies import STACKS, agree_in_other_words, agrees, has_form, ledgers, other_words, registers
+from report_page import fault_of_page
 from sessions import Transcript, head_of, text_of
 from vcd import NODES, Session, Waveform, Wrong, commands_of, compare, compare_end, demand
 
@@ -44,13 +48,13 @@ ROOT = os.path.dirname(os.path.dirname(os.path.abspath(__file__)))
 LIMIT = 1048576
 # A run is compared with one of at most this many turns, or tries.
 MOST_TURNS, MOST_TRIES = 2000, 3000
-# The profile of a run of at most this many turns is worked out.
+# The profile and the counts of a run of at most this many turns are worked out.
 MOST_PROFILED = 300
 HELP = {"-h", "--help", "-V", "--version"}
 # The subcommands of which a word that names no file is a wrong one.
 DEMANDING = {"one", "asm", "dis", "boot", "run", "replay"}
 # The subcommands that show the line of a fault.
-SHOWING = {"expand", "list", "race", "map", "profile", "trace", "check", "record"}
+SHOWING = {"expand", "list", "race", "map", "profile", "report", "trace", "check", "record"}
 # The status, the output, and the text on standard error; no status if no answer came in time.
 Answer = namedtuple("Answer", "status output error")
 
@@ -122,6 +126,8 @@ class Job:
                 self.options[option] = True
         if {"place", "route"} <= {*self.options}:
             raise ValueError("source text is placed or booted")
+        if self.name == "list":
+            judge_list({*self.options})
         self.read_values(self.kind.values)
 
     def read_values(self, kinds):
@@ -160,6 +166,13 @@ class Job:
             return data.decode()
         except UnicodeDecodeError:
             raise Fault("input BadText") from None
+
+
+def judge_list(options):
+    if {"labels", "counts"} <= options:
+        raise ValueError("labels or counts")
+    if "counts" not in options and options & {"turns", "place", "route"}:
+        raise ValueError("only a list with counts makes turns")
 
 
 def number_in(limits, word):
@@ -233,8 +246,10 @@ def expand(ask, job, text, answer):
     return source
 
 
-@subcommand("FILE", labels=None)
+@subcommand("FILE", labels=None, counts=None, turns=range(1000001), place=None, route="ROUTE")
 def list_(ask, job, text, answer):
+    if "counts" in job.options:
+        return counted(ask, job, text, answer)
     images = images_of(text)
     ask(["asm"], text, asm_output(images))
     return labels_output(images) if job.options else list_output(images)
@@ -389,9 +404,13 @@ def judge_witness(ask, job, text, answer):
         ask(["check"], witness, f"same {len(transcript_of(witness).exchanges)}\n")
 
 
+def is_session(job, text):
+    return not {"place", "route"} & {*job.options} and text.startswith("profile")
+
+
 def head_in(job, text):
     """The head of a session, or that which loads a source text."""
-    if not {"place", "route"} & {*job.options} and text.startswith("profile"):
+    if is_session(job, text):
         return head_of(text, shows_source=True).text
     if "route" in job.options:
         tree_and_images(job.options["route"], text)
@@ -406,8 +425,17 @@ def head_in(job, text):
 def session_in(job, text):
     """The head, and the commands of a session behind it."""
     head = head_in(job, text)
-    is_session = not {"place", "route"} & {*job.options} and text.startswith("profile")
-    return head, [it.text for it in Transcript(text).exchanges] if is_session else []
+    return head, [it.text for it in Transcript(text).exchanges] if is_session(job, text) else []
+
+
+def run_of(ask, job, text):
+    """The turns until rest, behind the commands of a session."""
+
+    def replies_to(head, commands):
+        session = ask(["record"], head + text_of(commands, "> "))
+        return None if session is None else [it.reply for it in transcript_of(session).exchanges]
+
+    return Run(replies_to, *session_in(job, text), job.options.get("turns", 1000000))
 
 
 # A line of a replay text behind `go`, with its number and its command.
@@ -426,19 +454,42 @@ def map_(ask, job, text, answer):
 @subcommand("FILE", turns=range(1000001), place=None, route="ROUTE", **{"from": "WHERE"})
 def profile(ask, job, text, answer):
     """What each node did in turns until rest, by the tries of a run. Of a run of many turns it must have its form."""
-
-    def replies_to(head, commands):
-        session = ask(["record"], head + text_of(commands, "> "))
-        return None if session is None else [it.reply for it in transcript_of(session).exchanges]
-
-    head, commands = session_in(job, text)
     try:
-        run = Run(replies_to, head, commands, job.options.get("turns", 1000000))
+        run = run_of(ask, job, text)
         if run.turns <= MOST_PROFILED:
             return profile_text(run, job.options.get("from", "last"))
     except TooLong:
         pass
     must_have_form(answer, PROFILE)
+    return answer.output
+
+
+def counted(ask, job, text, answer):
+    """How often each word was fetched in turns until rest. Of a run of many turns it must be the listing, with any counts."""
+    head = head_in(job, text)
+    images = head_of(head).images if is_session(job, text) else images_of(text)
+    try:
+        run = run_of(ask, job, text)
+        if run.turns <= MOST_PROFILED:
+            return counted_list(images, run.look())
+    except TooLong:
+        pass
+    if answer.status != 0 or not is_listing_of(answer.output, images):
+        raise Wrong("no listing of this text with counts")
+    return answer.output
+
+
+@subcommand("FILE", turns=range(1000001), place=None, route="ROUTE")
+def report(ask, job, text, answer):
+    """A page with the texts of `profile` and `list --counts`. Its headline is the race that `race` finds, or the bottleneck."""
+    _, commands = session_in(job, text)
+    options = job.args[1:]
+    shown, listing = ask(["profile", *options], text), ask(["list", "--counts", *options], text)
+    # race does no commands, so behind some it says nothing of the page
+    verdict = ask(["race", *options], text, error=None) if not commands else None
+    demand(answer.status == 0, "no page")
+    if fault := fault_of_page(answer.output, shown, listing, verdict):
+        raise Wrong(fault)
     return answer.output
 
 
@@ -488,7 +539,7 @@ def judge_old(ask, text, steps, answer):
         ask(["replay"], text_of(front), error=f"ga-bench: replay differs {last.line}\n")
 
 
-@subcommand("FILE", nodes="LIST", turns=range(1000001), place=None, route="ROUTE")
+@subcommand("FILE", nodes="LIST", save="SAVE", turns=range(1000001), place=None, route="ROUTE")
 def trace(ask, job, text, answer):
     """A waveform of turns until rest, behind the commands of a session."""
     head, commands = session_in(job, text)
