@@ -79,10 +79,15 @@ def pools():
         recorded[name].append((args, data))
         if name in ("asm", "boot"):
             made["list"].append((["list"] + ["--labels"] * (name == "boot"), data))
+        if name in ("profile", "asm"):
+            made["list"].append((["list", "--counts", "--turns", "100"], data))
+            made["report"].append((["report", "--turns", "100"], data))
         if name in ("debug", "replay"):
             made["check"].append((["check"], as_transcript(name, data, output)))
             made["record"].append((["record"], as_transcript(name, data, b"")))
-            made["trace"].append((["trace", "--turns", "100"], as_transcript(name, data, b"")))
+            made["list"].append((["list", "--counts", "--turns", "50"], as_transcript(name, data, b"")))
+            for shown in ("trace", "report"):
+                made[shown].append(([shown, "--turns", "100"], as_transcript(name, data, b"")))
     return {name: [pool for pool in (recorded[name], made[name]) if pool] for name in recorded}
 
 
@@ -145,8 +150,8 @@ CHANGES = [cut, doubled, other_bytes, swapped_lines, lines_of_another, other_num
 
 
 def few_turns(args, data):
-    """The same with at most MOST_TURNS turns of sessions in all, and 200 of `run` and of waveforms. But the commands `watch` and
-    `trace` make up to 1,000,000 turns, if other nodes move, so at most two of them are left."""
+    """The same with at most MOST_TURNS turns of sessions in all, and 200 of `run`, of waveforms, pages and counts. But the
+    commands `watch` and `trace` make up to 1,000,000 turns, if other nodes move, so at most two of them are left."""
     left = MOST_TURNS
 
     def fewer(found):
@@ -172,9 +177,9 @@ def few_turns(args, data):
         args = [args[0], "--turns", str(MOST_TURNS), *args[1:]]
     if args[:1] == ["run"] and len(args) > 3 and args[3].isdecimal() and int(args[3]) <= 1000000:
         args = [*args[:3], str(min(int(args[3]), 200)), *args[4:]]
-    if args[:1] == ["trace"]:
+    if args[:1] in (["trace"], ["report"]) or args[:1] == ["list"] and "--counts" in args:
         turns = [] if any(it.startswith("--turns") for it in args) else ["--turns", "200"]
-        args = ["trace", *turns, *(re.sub("(?<![^=])([0-9]{4,6}|1000000)$", "200", it) for it in args[1:])]
+        args = [args[0], *turns, *(re.sub("(?<![^=])([0-9]{4,6}|1000000)$", "200", it) for it in args[1:])]
     return args, data
 
 
