@@ -6,7 +6,8 @@ A page is right if it is well-formed XML that needs no script and no other file,
 - it has the text of `profile`, and that of `list --counts`;
 - each node that began has a row, whose parts fill its columns, and are as long as the profile has them;
 - the close-up shows what the timeline shows of its turns;
-- each of the 144 nodes has a box, in its place, with what `profile` shows of it at the end.
+- each of the 144 nodes has a box, in its place, with what `profile` shows of it at the end, and its pending words, which
+  are a list, too.
 
 The pages are those of EXAMPLES, in so many turns. If chromium is on PATH, it shows each at the WIDTHS, in light and in dark: nothing may
 come on its console, and the picture has the page's background and at least COLOURS colours. (A page with a script, and an
@@ -70,12 +71,14 @@ class Page:
             page = ET.fromstring(text)
         except ET.ParseError as error:
             raise Wrong(f"no XML: {error}") from None
+        demand(len(page.findall("body/main/ul")) == 2, "other lists")
         self.title, self.headline = ("".join(page.find(path).itertext()) for path in ("head/title", "body/main/h1"))
         self.texts = [it.text for it in page.iter("pre")]
         self.headings = [it.text for it in page.iter("h2")]
         main = [*page.find("body/main")]
         self.charts = charts_in(main)
         self.notes = [it.text for it in main if it.tag == "p"][1:]
+        self.key, self.pending = (["".join(item.itertext()) for item in it] for it in page.findall("body/main/ul"))
         self.boxes = [Box(it) for it in page.findall("body/main/div[@class='chip']/svg/g")]
 
 
@@ -165,6 +168,7 @@ def judge_chip(page, profile):
     (left, _), (_, high) = page.boxes[1].place, page.boxes[18].place
     low = page.boxes[0].place[1]
     demand(left > 36 and low - high > 32, "boxes overlap")
+    demand(page.pending == [word for box in page.boxes for word in box.pending], "another list of pending words")
     bars = {name: bar for name, *_, bar in ROW.findall(profile)}
     ends = states_of(ENDS.findall(profile.partition("At the end:\n")[2]))
     for node, box in zip(NODES, page.boxes):
@@ -208,6 +212,7 @@ def fault_of_page(text, profile, listing, verdict=None):
         demand(page.headline == headline_of(profile, verdict), f"another headline: {page.headline!r}")
         demand([it for it in page.headings if it != CLOSE_UP] == HEADINGS, f"other headings: {page.headings}")
         demand(len(page.charts) == 1 + page.headings.count(CLOSE_UP), "a heading without a timeline")
+        demand(page.key == [*KINDS.values()], f"another key: {page.key}")
         demand(page.texts == [profile, listing], "another profile or listing")
         judge_timelines(page, profile)
         judge_chip(page, profile)
