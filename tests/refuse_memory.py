@@ -37,6 +37,8 @@ SESSIONS = [
     (["replay"], b"profile 1\nplace\nnode 000 jump $200\ngo\nturn 4 = 2\ntry 000 r = stopped\n"),
     (["asm", "/dev/stdin"], b"const A 5\nbody B X\n  X b! A !b\nend\nnode 708,709 use B east &here\nhere: .\n"),
     (["list", "--labels", "-"], b"node 709 main: $5 $7 + @b\ndata x: , main"),
+    (["list", "--counts", "--turns", "9", "-"], b"node 709 main: $5 $7 + @b"),
+    (["report", "--turns", "9"], b"node 708 right b! $5 !b @b\nnode 709 right b! @b !b jump warm"),
     (["check"], HEAD + b"> break 000 x\nok\n> until 000 x 9\nturns 5 moved 5\n> breaks\n000 001 x, held\n> node x\n"),
     (["check"], HEAD + b"> where\n> node 000\n> mem 000\n> stop\nrefused BadCommand\n"),
     (["check"], TREE + b"> turn 1\nmoved 1\n"),

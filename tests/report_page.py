@@ -9,7 +9,7 @@ A page is right if it is well-formed XML that needs no script and no other file,
 - each of the 144 nodes has a box, in its place, with what `profile` shows of it at the end, and its pending words, which
   are a list, too.
 
-The pages are those of EXAMPLES, in so many turns. If chromium is on PATH, it shows each at the WIDTHS, in light and in dark: nothing may
+The pages are those of EXAMPLES, in as many turns. If chromium is on PATH, it shows each at the WIDTHS, in light and in dark: nothing may
 come on its console, and the picture has the page's background and at least COLOURS colours. (A page with a script, and an
 empty one, show that this fails.) The last line that is printed is 'pages of report: N passed, M failed', a page or a picture
 each, and the exit status is 0 if M is 0.

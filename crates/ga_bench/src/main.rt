@@ -72,7 +72,7 @@ fn job_status<
     }
 }
 
-/// Writes a waveform to standard output, and then a viewer's save file for it.
+/// Writes a viewer's save file for a waveform, and then the waveform to standard output.
 fn traced<Rt: AllocGlobal + Print + Threads + Clock + Sync + Files, R: Read>(
     rt: &Rt,
     reader: &mut R,
@@ -89,13 +89,12 @@ fn traced<Rt: AllocGlobal + Print + Threads + Clock + Sync + Files, R: Read>(
         _ => answer_file(rt, job, &input)?,
     };
     let live = open_file(alloc, loading, &input)?;
-    let saved = save_text(alloc, &live, nodes)?;
+    put(rt, save, save_text(alloc, &live, nodes)?.as_str())?;
     write_output(
         &mut io::writer(rt),
         waveform.as_bytes(),
         &mut Writes::default(),
     )?;
-    put(rt, save, saved.as_str())?;
     Ok(Ending::Done)
 }
 
