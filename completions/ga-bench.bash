@@ -41,11 +41,12 @@ _ga_bench() {
     1debug) options='--place --route -h --help' operands=(FILE) ;;
     1replay) options='-h --help' operands=(FILE) ;;
     1expand) options='-h --help' operands=(FILE) ;;
-    1list) options='--labels -h --help' operands=(FILE) ;;
+    1list) options='--place --route --turns --labels --counts -h --help' operands=(FILE) ;;
     1race) options='--place --route --turns --witness -h --help' operands=(FILE) ;;
     1map) options='--place --route --turns -h --help' operands=(FILE) ;;
     1profile) options='--place --route --turns --from -h --help' operands=(FILE) ;;
-    1trace) options='--place --route --turns --nodes -h --help' operands=(FILE) ;;
+    1trace) options='--place --route --turns --nodes --save -h --help' operands=(FILE) ;;
+    1report) options='--place --route --turns -h --help' operands=(FILE) ;;
     1check) options='-h --help' operands=(FILE...) ;;
     1record) options='--write -h --help' operands=(FILE...) ;;
     1explain) options='-h --help' operands=(NAME) ;;
@@ -55,7 +56,7 @@ _ga_bench() {
     # The operands before this word, without options and their values, show which one it is.
     for ((at = 2; at < COMP_CWORD; at++)); do
         case ${COMP_WORDS[at]} in
-        --code | --route | --turns | --from | --nodes) [[ ${COMP_WORDS[at + 1]} != = ]] && ((at++)) || ((at += 2)) ;;
+        --code | --route | --turns | --from | --nodes | --save) [[ ${COMP_WORDS[at + 1]} != = ]] && ((at++)) || ((at += 2)) ;;
         *[\<\>]*) ((at++)) ;;
         -?*) ;;
         *) [[ ${operands[0]-} == *... ]] || operands=("${operands[@]:1}") ;;
@@ -74,6 +75,7 @@ _ga_bench() {
     --turns) kind=N ;;
     --from) kind=WHERE ;;
     --nodes) kind=LIST ;;
+    --save) kind=SAVE ;;
     esac
     case $kind in
     FILE*)
@@ -85,7 +87,7 @@ _ga_bench() {
         words=$(_ga_bench_route "$word")
         compopt -o nospace 2>/dev/null
         ;;
-    COMMAND) words='one asm dis boot run debug replay expand list race map profile trace check record explain help' ;;
+    COMMAND) words='one asm dis boot run debug replay expand list race map profile trace report check record explain help' ;;
     NAME)
         words='BadToken NumberRange BadNode DuplicateNode DuplicateLabel ReservedLabel OpenBracket
             BadWord NoNode Empty UndefinedLabel OutOfReach UnextAlone TooLong ReservedName

@@ -42,6 +42,7 @@ complete -c ga-bench -n __fish_use_subcommand -a race -d 'Decides whether the sc
 complete -c ga-bench -n __fish_use_subcommand -a map -d 'Shows what each node does and which words are pending, as a picture'
 complete -c ga-bench -n __fish_use_subcommand -a profile -d 'Shows in how many turns each node worked and waited, and the bottleneck'
 complete -c ga-bench -n __fish_use_subcommand -a trace -d 'Writes a run as a waveform in VCD'
+complete -c ga-bench -n __fish_use_subcommand -a report -d 'Writes a page in HTML that shows what each node did in a run'
 complete -c ga-bench -n __fish_use_subcommand -a check -d 'Runs the commands of a transcript, and compares the replies with those in it'
 complete -c ga-bench -n __fish_use_subcommand -a record -d 'Runs the commands of a transcript, and writes it with their replies'
 complete -c ga-bench -n __fish_use_subcommand -a explain -d 'Explains an error, a state or a term'
@@ -67,7 +68,11 @@ complete -c ga-bench -n '__fish_seen_subcommand_from replay' -s h -l help -d 'Pr
 complete -c ga-bench -n '__fish_seen_subcommand_from replay' -F
 complete -c ga-bench -n '__fish_seen_subcommand_from expand' -s h -l help -d 'Print help'
 complete -c ga-bench -n '__fish_seen_subcommand_from expand' -F
+complete -c ga-bench -n '__fish_seen_subcommand_from list' -l place -d 'The input is source text, even if it begins with \'profile\'; its words are placed'
+complete -c ga-bench -n '__fish_seen_subcommand_from list' -l route -x -a '(__ga_bench_route)' -d 'The input is source text, which boots along this route, or a tree of routes'
+complete -c ga-bench -n '__fish_seen_subcommand_from list' -l turns -x -d 'How many turns are made at most, from 0 to 1000000; by default 1000000'
 complete -c ga-bench -n '__fish_seen_subcommand_from list' -l labels -d 'Writes only the labels: the node, the label and its address, a line each'
+complete -c ga-bench -n '__fish_seen_subcommand_from list' -l counts -d 'Makes a run, and writes how often each word was fetched and each opcode ran'
 complete -c ga-bench -n '__fish_seen_subcommand_from list' -s h -l help -d 'Print help'
 complete -c ga-bench -n '__fish_seen_subcommand_from list' -F
 complete -c ga-bench -n '__fish_seen_subcommand_from race' -l place -d 'The input is source text, even if it begins with \'profile\'; its words are placed'
@@ -91,8 +96,14 @@ complete -c ga-bench -n '__fish_seen_subcommand_from trace' -l place -d 'The inp
 complete -c ga-bench -n '__fish_seen_subcommand_from trace' -l route -x -a '(__ga_bench_route)' -d 'The input is source text, which boots along this route, or a tree of routes'
 complete -c ga-bench -n '__fish_seen_subcommand_from trace' -l turns -x -d 'How many turns are made at most, from 0 to 1000000; by default 1000000'
 complete -c ga-bench -n '__fish_seen_subcommand_from trace' -l nodes -x -d 'The nodes that are shown, as 708,709; by default those that the source text names'
+complete -c ga-bench -n '__fish_seen_subcommand_from trace' -l save -x -d 'The name of a save file for GTKWave, which is written or replaced'
 complete -c ga-bench -n '__fish_seen_subcommand_from trace' -s h -l help -d 'Print help'
 complete -c ga-bench -n '__fish_seen_subcommand_from trace' -F
+complete -c ga-bench -n '__fish_seen_subcommand_from report' -l place -d 'The input is source text, even if it begins with \'profile\'; its words are placed'
+complete -c ga-bench -n '__fish_seen_subcommand_from report' -l route -x -a '(__ga_bench_route)' -d 'The input is source text, which boots along this route, or a tree of routes'
+complete -c ga-bench -n '__fish_seen_subcommand_from report' -l turns -x -d 'How many turns are made at most, from 0 to 1000000; by default 1000000'
+complete -c ga-bench -n '__fish_seen_subcommand_from report' -s h -l help -d 'Print help'
+complete -c ga-bench -n '__fish_seen_subcommand_from report' -F
 complete -c ga-bench -n '__fish_seen_subcommand_from check' -s h -l help -d 'Print help'
 complete -c ga-bench -n '__fish_seen_subcommand_from check' -F
 complete -c ga-bench -n '__fish_seen_subcommand_from record' -l write -d 'Replaces each FILE by its recording'
@@ -100,4 +111,4 @@ complete -c ga-bench -n '__fish_seen_subcommand_from record' -s h -l help -d 'Pr
 complete -c ga-bench -n '__fish_seen_subcommand_from record' -F
 complete -c ga-bench -n '__fish_seen_subcommand_from explain' -s h -l help -d 'Print help'
 complete -c ga-bench -n '__fish_seen_subcommand_from explain' -a 'BadToken NumberRange BadNode DuplicateNode DuplicateLabel ReservedLabel OpenBracket BadWord NoNode Empty UndefinedLabel OutOfReach UnextAlone TooLong ReservedName DuplicateName OpenDefinition NoNeighbour UnknownBody TooLarge BadRoute NotEdge NotNeighbour Repeated OtherRoot Unreached BadCommand BadAddress BadSide BadCount BadValue NotHeld BadProfile NoGo Source Asm Route Tree Boot EarlyReply differs read NoFile Folder NotAFile Exists NoName BadText BadCode write Write memory Memory own take post check input stopped Counted IoRead Rom Unmapped MultiWrite carry moved waits held stuck ring race turn place step slot follower profile'
-complete -c ga-bench -n '__fish_seen_subcommand_from help' -a 'one asm dis boot run debug replay expand list race map profile trace check record explain help'
+complete -c ga-bench -n '__fish_seen_subcommand_from help' -a 'one asm dis boot run debug replay expand list race map profile trace report check record explain help'
