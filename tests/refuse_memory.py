@@ -36,6 +36,7 @@ SESSIONS = [
     (["replay"], TREE + b"turn 1 = 1\n"),
     (["replay"], b"profile 1\nplace\nnode 000 jump $200\ngo\nturn 4 = 2\ntry 000 r = stopped\n"),
     (["asm", "/dev/stdin"], b"const A 5\nbody B X\n  X b! A !b\nend\nnode 708,709 use B east &here\nhere: .\n"),
+    (["list", "-"], b"node 709 main: $5 $7 + @b\ndata x: , main"),
     (["list", "--labels", "-"], b"node 709 main: $5 $7 + @b\ndata x: , main"),
     (["list", "--counts", "--turns", "9", "-"], b"node 709 main: $5 $7 + @b"),
     (["report", "--turns", "9"], b"node 708 right b! $5 !b @b\nnode 709 right b! @b !b jump warm"),
