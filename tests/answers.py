@@ -551,6 +551,10 @@ def trace(ask, job, text, answer):
         raise Fault("route BadRoute")
     wave = Waveform(answer.output)
     demand(wave.nodes() == nodes, "it shows other nodes")
+    if os.path.isfile(job.options.get("save", "")):
+        with open(job.options["save"], encoding="utf-8") as file:
+            saved = re.findall(r"^-(\d{3})$", file.read(), re.M)
+        demand(saved == nodes, f"the save file shows {saved}")
     front = head + text_of(commands, "> ")
     shown = [f"{view} {node}" for node in nodes for view in ("regs", "sides")]
     session = ask(["record"], front + text_of([f"run {job.options.get('turns', 1000000)}", *shown], "> "))
