@@ -38,7 +38,7 @@ SESSIONS = [
     (["asm", "/dev/stdin"], b"const A 5\nbody B X\n  X b! A !b\nend\nnode 708,709 use B east &here\nhere: .\n"),
     (["list", "-"], b"node 709 main: $5 $7 + @b\ndata x: , main"),
     (["list", "--labels", "-"], b"node 709 main: $5 $7 + @b\ndata x: , main"),
-    (["list", "--counts", "--turns", "9", "-"], b"node 709 main: $5 $7 + @b"),
+    (["list", "--counts", "--turns", "9", "-"], HEAD + b"> turn 3\n"),
     (["report", "--turns", "9"], b"node 708 right b! $5 !b @b\nnode 709 right b! @b !b jump warm"),
     (["check"], HEAD + b"> break 000 x\nok\n> until 000 x 9\nturns 5 moved 5\n> breaks\n000 001 x, held\n> node x\n"),
     (["check"], HEAD + b"> where\n> node 000\n> mem 000\n> stop\nrefused BadCommand\n"),
