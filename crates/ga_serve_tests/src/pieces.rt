@@ -28,7 +28,7 @@ const TRANSCRIPT: &str =
 const PIECE: usize = 16;
 
 /// How many calls are made at the most.
-const MOST: u32 = 1000;
+const MOST: u32 = 2000;
 
 /// A job of each subcommand, and an input that it accepts.
 fn jobs(alloc: Global) -> Result<Vec<(Job, &'static str)>, Fail> {
