@@ -22,7 +22,7 @@ each word was fetched. It needs no script and no other file. Reads from FILE, or
 is left out or is -: a session or a transcript, whose commands are done first; or source text, whose words
 are placed in their nodes. Makes turns until no node moves but those that spin, or N.
 
-Example: printf 'node 708 right b! 5 !b\\nnode 709 right b! @b' | ga-bench report > r.html
+Example: printf 'node 708 right b! !b\\nnode 709 right b! @b' | ga-bench report > r.html
 More: report in docs/FORMATS.md";
 
 /// The subcommand `report [--turns N] [--place | --route ROUTE] [FILE]`.
