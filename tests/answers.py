@@ -213,7 +213,7 @@ def reported(job, fault, text):
     is_of_source = job.has_file() and re.match("(source|asm|expand) ", fault.text)
     if fault.place and (job.name in SHOWING or is_of_source):
         line, column = fault.place
-        rows = [*text.split("\n"), ""]
+        rows = [*(text if fault.shows is None else fault.shows).split("\n"), ""]
         row = rows[line - 1].removesuffix("\r" if line < len(rows) - 1 else "")
         begin = column - 41 if column and column > 80 else 0
         shown = f"  {drawn(row[begin : begin + 100])}\n"
@@ -611,9 +611,10 @@ def output_of(ask, job, text, answer):
 
 
 def written_fault(fault, text, plain, pieces):
-    """A fault of an expansion, at the place where its token was written; the expansion's end is the text's end."""
+    """A fault of an expansion, at the place where its token was written; the expansion's end is the text's end. One that isn't
+    of source text, as of an expansion that is a session, shows the expansion."""
     if not re.match("(source|asm) ", fault.text):
-        return fault
+        return Fault(fault.text, fault.place, fault.behind, shows=plain)
     written = {(it.line, it.column): piece for it, piece in zip(pieces_of(plain), pieces)}
     rows = text.split("\n")
     end = len(rows), len(rows[-1]) + 1

@@ -33,11 +33,12 @@ Image = namedtuple("Image", "words code labels")
 
 
 class Fault(Exception):
-    """The first fault of an input. It may have a place, which is a line and a column, and lines behind its own."""
+    """The first fault of an input. It may have a place, which is a line and a column, lines behind its own, and another text
+    whose line is shown."""
 
-    def __init__(self, text, place=None, behind=""):
+    def __init__(self, text, place=None, behind="", shows=None):
         super().__init__(text)
-        self.text, self.place, self.behind = text, place, behind
+        self.text, self.place, self.behind, self.shows = text, place, behind, shows
 
 
 def fault_at(kind, token, name):
