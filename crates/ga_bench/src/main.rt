@@ -12,7 +12,7 @@ ghost use Rattle.ga_bench.specs.Status.{HasServed, HasStatus, IsStatusOf};
 
 use crate::named::Named;
 use crate::saved_files::SavedFiles;
-use clap::error::ErrorKind::InvalidValue;
+use clap::error::ErrorKind::{ArgumentConflict, InvalidValue};
 use ga_command_line::{LineError, job, refusal};
 use ga_jobs::record::replacement;
 use ga_jobs::trace::save_text;
@@ -62,7 +62,7 @@ fn job_status<
         ..
     } = job
     {
-        return reported(rt, &traced(rt, reader, job, loading, nodes, save.as_str()));
+        return trace_status(rt, reader, job, loading, nodes, save.as_str());
     }
     match (job.several_files(), job.file()) {
         (Some(files), _) => check_status(rt, reader, files),
@@ -72,15 +72,43 @@ fn job_status<
     }
 }
 
-/// Writes a viewer's save file for a waveform, and then the waveform to standard output.
-fn traced<Rt: AllocGlobal + Print + Threads + Clock + Sync + Files, R: Read>(
+/// Writes a viewer's save file for a waveform, and then the waveform to standard output. Answers
+/// the exit status.
+fn trace_status<Rt: AllocGlobal + Print + Eprint + Threads + Clock + Sync + Files, R: Read>(
     rt: &Rt,
     reader: &mut R,
     job: &Job,
     loading: &Loading,
     nodes: &Option<String>,
     save: &str,
-) -> Result<Ending, ServeError> {
+) -> u8 {
+    if job.file() == Some(save) {
+        let why = "the save file would replace FILE";
+        return refuse(rt, refusal(rt.alloc(), ArgumentConflict, why));
+    }
+    let (waveform, saved) = match traced(rt, reader, job, loading, nodes) {
+        Ok(texts) => texts,
+        Err(fault) => return reported(rt, &Err(fault)),
+    };
+    if let Err(fault) = put(rt, save, saved.as_str()) {
+        report_on_file(rt, save, &fault);
+        return status(&Err(fault));
+    }
+    let mut writer = io::writer(rt);
+    match write_output(&mut writer, waveform.as_bytes(), &mut Writes::default()) {
+        Ok(()) => status(&Ok(Ending::Done)),
+        Err(fault) => reported(rt, &Err(fault)),
+    }
+}
+
+/// The waveform of a job, and a viewer's save file for it.
+fn traced<Rt: AllocGlobal + Threads + Clock + Sync + Files, R: Read>(
+    rt: &Rt,
+    reader: &mut R,
+    job: &Job,
+    loading: &Loading,
+    nodes: &Option<String>,
+) -> Result<(String, String), ServeError> {
     let alloc = rt.alloc();
     let name = job.file().unwrap_or("-");
     let input = input_named(rt, reader, name)?;
@@ -89,13 +117,7 @@ fn traced<Rt: AllocGlobal + Print + Threads + Clock + Sync + Files, R: Read>(
         _ => answer_file(rt, job, &input)?,
     };
     let live = open_file(alloc, loading, &input)?;
-    put(rt, save, save_text(alloc, &live, nodes)?.as_str())?;
-    write_output(
-        &mut io::writer(rt),
-        waveform.as_bytes(),
-        &mut Writes::default(),
-    )?;
-    Ok(Ending::Done)
+    Ok((waveform, save_text(alloc, &live, nodes)?))
 }
 
 /// Talks with the session of a file. Answers the exit status.
@@ -268,18 +290,23 @@ fn rewrite_status<Rt: AllocGlobal + Print + Eprint + Files>(rt: &Rt, files: &[St
     let mut worst = 0;
     for file in files {
         if let Err(fault) = rewrite(rt, &mut io::writer(rt), file.as_str()) {
-            match ShownText::of_name(rt.alloc(), file.as_str()) {
-                Ok(shown) => {
-                    let _ = eprintln!(rt; "ga-bench: {shown}: {fault}");
-                }
-                Err(_) => {
-                    let _ = eprintln!(rt; "ga-bench: {fault}");
-                }
-            }
+            report_on_file(rt, file.as_str(), &fault);
             worst = status(&Err(fault)).max(worst);
         }
     }
     worst
+}
+
+/// Reports the fault of the file with a name.
+fn report_on_file<Rt: AllocGlobal + Eprint>(rt: &Rt, name: &str, fault: &ServeError) {
+    match ShownText::of_name(rt.alloc(), name) {
+        Ok(shown) => {
+            let _ = eprintln!(rt; "ga-bench: {shown}: {fault}");
+        }
+        Err(_) => {
+            let _ = eprintln!(rt; "ga-bench: {fault}");
+        }
+    }
 }
 
 /// Replaces a file by its recording, and writes what was done. A file that is its own recording is
