@@ -148,6 +148,8 @@ class Job:
         return self.values[-1] if self.has_file() and self.values[-1] != "/dev/stdin" else None
 
     def demand_file(self):
+        if self.file() is not None and self.options.get("save") == self.file():
+            raise ValueError("the save file would replace FILE")
         if self.name in DEMANDING and self.file() is not None and not os.path.exists(self.file()):
             raise ValueError("a word that names no file")
 

@@ -10,15 +10,18 @@ the session shows: what each node did, by `where` and by the outcome of its try;
 label that the source has there; its registers; and the words at its ports, also those that are read in the turn in which they are
 posted.
 
-The sessions are those of worked programs, of recorded cases, with their breakpoints, and of some programs for races. The last line
-is 'vcd: N passed, M failed', a session each; the exit status is 0 if M is 0. tests/answers.py uses the same reader.
+The sessions are those of worked programs, of recorded cases, with their breakpoints, and of some programs for races. Then come save
+files. The last line is 'vcd: N passed, M failed', a session or a save file each; the exit status is 0 if M is 0. tests/answers.py
+uses the same reader.
 """
 import argparse
 import json
 import os
 import re
+import shutil
 import subprocess
 import sys
+import tempfile
 from collections import namedtuple
 from concurrent.futures import ProcessPoolExecutor
 
@@ -306,6 +309,53 @@ def fault_of(program, text, turns):
     return None
 
 
+# ---- Save files.
+
+
+def run(program, folder, *arguments):
+    """The status, the output and the errors of `trace` in a folder."""
+    command = [program, "trace", *arguments]
+    done = subprocess.run(command, capture_output=True, timeout=SECONDS, text=True, cwd=folder, stdin=subprocess.DEVNULL)
+    return done.returncode, done.stdout, done.stderr
+
+
+def save_faults(program):
+    """What is wrong with save files: each names signals of its waveform alone, in order, and replaces the file before; one that
+    can't be written is reported by its name, without a waveform; and FILE stays. A fault or None for each check."""
+    with tempfile.TemporaryDirectory() as folder:
+        for name in ("ring", "send"):
+            shutil.copy(f"{ROOT}/examples/{name}/{name}.source", f"{folder}/it.source")
+            for nodes in ([], ["--nodes", "708"]):
+                status, output, errors = run(program, folder, *nodes, "--turns", "60", "--save", "it.gtkw", "it.source")
+                with open(f"{folder}/it.gtkw", encoding="utf-8") as file:
+                    saved = re.findall(r"^chip\.(n\d{3}\.\w+)", file.read(), re.M)
+                shown = [key.removeprefix("chip.") for key in signals_of(output)]
+                is_right = (status, errors) == (0, "") and saved and {*saved} <= {*shown} and len({*saved}) == len(saved)
+                is_right = is_right and [it[:4] for it in saved] == sorted(it[:4] for it in saved)
+                yield None if is_right else f"{name} {nodes}: {saved} of {shown}"
+        for name, fault in ((".", ".: input NotAFile"), ("none/it.gtkw", "none/it.gtkw: write")):
+            answer = run(program, folder, "--save", name, "it.source")
+            yield None if answer == (1, "", f"ga-bench: {fault}\n") else f"{name}: {answer}"
+        status, output, errors = run(program, folder, "--save", "it.source", "it.source")
+        with open(f"{folder}/it.source", encoding="utf-8") as file:
+            is_left = "node 708" in file.read()
+        is_right = (status, output) == (2, "") and is_left and "would replace FILE" in errors
+        yield None if is_right else f"FILE as a save file: {status} {errors}"
+
+
+def signals_of(output):
+    """The names of the signals that a waveform declares, in their scopes."""
+    scopes, names = [], []
+    for words in map(str.split, output.splitlines()):
+        if words[:1] == ["$scope"]:
+            scopes.append(words[2])
+        elif words[:1] == ["$upscope"]:
+            scopes.pop()
+        elif words[:1] == ["$var"]:
+            names.append(".".join([*scopes, words[4]]))
+    return names
+
+
 def main():
     parser = argparse.ArgumentParser()
     parser.add_argument("program")
@@ -317,6 +367,11 @@ def main():
     for text, fault in zip(texts, faults):
         if fault is not None:
             print(f"FAILED {fault}\n{text}")
+    saves = list(save_faults(program))
+    for fault in saves:
+        if fault is not None:
+            print(f"FAILED {fault}")
+    faults += saves
     failed = sum(fault is not None for fault in faults)
     print(f"vcd: {len(faults) - failed} passed, {failed} failed")
     sys.exit(failed != 0 or not faults)
