@@ -628,6 +628,10 @@ def written_fault(fault, text, plain, pieces):
 def judge(ask, args, data, answer):
     if HELP & {*args} and answer.status == 0 and answer.output and not answer.error:
         return
+    if args[:1] == ["debug"] and len(args) == 2 and os.path.isdir(args[1]):
+        if answer != Answer(1, "", "ga-bench: input Folder\n"):
+            raise Wrong("expected input Folder")
+        return
     try:
         job, text = Job(args), ""
         job.demand_file()
