@@ -22,7 +22,8 @@ use Rattle.ga_report.specs.Escape.{escaped}
 use Rattle.ga_report.specs.Line.{line_of, line_with, path_data}
 use Rattle.ga_report.specs.Most.{between, most_of}
 use Rattle.ga_report.specs.Picture.{arrow, group}
-use Rattle.ga_report.specs.Rows.{scale, SCALE, summary, tick, ticks, works_text, word_waits_text, reader_waits_text}
+use Rattle.ga_report.specs.Rows.{summary, works_text, word_waits_text, reader_waits_text}
+use Rattle.ga_report.specs.Scale.{LABEL, OPENING, scale, share, tick, tick_at, ticks}
 use Rattle.ga_report.specs.Timeline.{row_of}
 
 -- the signs of XML go by name, and a control character (27) is replaced
@@ -104,15 +105,23 @@ no_part : line_of a_row Spins ≡ []
 unfolding path_data
 no_part = refl
 
-in_words : summary 708 a_row
-    ≡ codes "708 works in 3 columns, waits for a word in 1, and for a reader in 0"
+in_words : summary 708 (record NO_COUNTS { works = 30; word_waits = 9 })
+    ≡ codes "708 works in 30 turns, waits for a word in 9, and for a reader in 0"
 unfolding summary works_text word_waits_text reader_waits_text digits
 in_words = refl
 
-quarters : scale long
-    ≡ codes "<div class='scale'><span>100</span><span>425</span><span>750</span>"
-    ++ codes "<span>1075</span><span>1400</span></div>\n"
-unfolding scale SCALE ticks tick digits
+-- 434 columns of 3 turns are 1302: a quarter of the 1300 is 325 of these from the left
+quarter : tick_at long 1 ≡ codes "<span style='left:calc(100%*325/1302)'>425</span>"
+unfolding tick LABEL share digits
+quarter = refl
+
+quarters : scale (record { first = 7; end = 15 })
+    ≡ codes "<div class='scale'><span style='left:calc(100%*0/8)'>7</span>"
+    ++ codes "<span style='left:calc(100%*2/8)'>9</span>"
+    ++ codes "<span style='left:calc(100%*4/8)'>11</span>"
+    ++ codes "<span style='left:calc(100%*6/8)'>13</span>"
+    ++ codes "<span style='left:calc(100%*8/8)'>15</span></div>\n"
+unfolding scale OPENING ticks tick LABEL share digits
 quarters = refl
 
 -- a node that has started waits for a word at a slot, and for code before a fetch

@@ -14,3 +14,7 @@ columns_of window = (length_of window + (stride_of window - 1)) / stride_of wind
 -- the turn with which a column begins, or the end of the window
 abbrev pub bound : Window → ℕ → ℕ
 bound window column = min (window.first + column * stride_of window) window.end
+
+-- how many turns all columns have, with those behind the end of the window in the last one
+abbrev pub turns_drawn : Window → ℕ
+turns_drawn window = columns_of window * stride_of window

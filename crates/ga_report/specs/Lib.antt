@@ -6,6 +6,7 @@ pub mod Most
 pub mod CloseUp
 pub mod Timeline
 pub mod Line
+pub mod Scale
 pub mod Rows
 pub mod Ending
 pub mod Words

@@ -1,20 +1,19 @@
 -- The timeline as rows, one for each node that began.
-use Rattle.std.specs.Prelude.{ℕ, ◌*◌, ◌/◌, ◌==◌, List, [], ◌∷◌, ◌++◌, codes, count_by, get_or, length, Option, Some, None, if◌then◌else◌}
+use Rattle.std.specs.Prelude.{ℕ, ◌==◌, List, [], ◌∷◌, ◌++◌, codes, get_or, length, Option, Some, None, if◌then◌else◌}
 use Rattle.std.specs.Borrow.{Bor}
 use Rattle.std.specs.Fmt.{decimal}
 use Rattle.std.specs.List.{concat, flat_map, range_with_len}
 use Rattle.ga_place.specs.Cell.{name_at}
 use Rattle.ga_place.specs.Node.{node_text}
 use Rattle.ga_profile.specs.declared.node_turns.NodeTurns.{NodeTurns}
-use Rattle.ga_profile.specs.declared.window.Window.{Window}
-use Rattle.ga_profile.specs.NodeTurns.{NO_TURNS, more}
-use Rattle.ga_profile.specs.Window.{length_of}
+use Rattle.ga_profile.specs.declared.node_turns.TurnCounts.{TurnCounts}
+use Rattle.ga_profile.specs.NodeTurns.{NO_COUNTS, NO_TURNS}
 use Rattle.ga_report.specs.declared.kind.Kind.{Kind}
-use Rattle.ga_report.specs.declared.kind.Kind.TheVariants.{Works, AwaitsWord, AwaitsReader, Stopped}
 use Rattle.ga_report.specs.declared.timeline.Timeline.{Timeline}
 use Rattle.ga_report.specs.Columns.{stride_of}
-use Rattle.ga_report.specs.Kind.{KINDS, class_of, is_same, words_of}
+use Rattle.ga_report.specs.Kind.{KINDS, class_of, words_of}
 use Rattle.ga_report.specs.Line.{level_of, lines}
+use Rattle.ga_report.specs.Scale.{scale}
 use Rattle.ga_report.specs.Timeline.{row_of}
 
 -- the begin of a line of the key, and a line of a class at a height
@@ -40,36 +39,34 @@ KEY_ITEMS = flat_map key_item KINDS
 unfoldable pub OPENING : List ℕ
 OPENING = codes "<h2>Timeline</h2>\n<ul class='key'>\n"
 
-unfoldable pub KEY : List ℕ
-KEY = concat (OPENING ∷ KEY_ITEMS ∷ codes "</ul>\n" ∷ [])
+-- what a cross means
+unfoldable pub CROSS : List ℕ
+CROSS = codes "<li>&#215; at a name: the node has stopped</li>\n"
 
--- in how many columns a node works, and in how many it waits
+unfoldable pub KEY : List ℕ
+KEY = concat (OPENING ∷ KEY_ITEMS ∷ CROSS ∷ codes "</ul>\n" ∷ [])
+
+-- in how many turns a node works, and in how many it waits
 unfoldable pub works_text : ℕ → ℕ → List ℕ
-works_text name columns =
-    node_text name ++ codes " works in " ++ decimal columns ++ codes " columns"
+works_text name turns = node_text name ++ codes " works in " ++ decimal turns ++ codes " turns"
 
 unfoldable pub word_waits_text : ℕ → List ℕ
-word_waits_text columns = codes ", waits for a word in " ++ decimal columns
+word_waits_text turns = codes ", waits for a word in " ++ decimal turns
 
 unfoldable pub reader_waits_text : ℕ → List ℕ
-reader_waits_text columns = codes ", and for a reader in " ++ decimal columns
+reader_waits_text turns = codes ", and for a reader in " ++ decimal turns
 
--- how many columns show a kind
-abbrev pub columns_with : List Kind → Kind → ℕ
-columns_with shown kind = count_by (λ one. is_same one kind) shown
+unfoldable pub summary : ℕ → TurnCounts → List ℕ
+summary name counts =
+    works_text name counts.works ++ word_waits_text counts.word_waits
+    ++ reader_waits_text counts.reader_waits
 
--- in how many columns a node does what
-unfoldable pub summary : ℕ → List Kind → List ℕ
-summary name shown =
-    works_text name (columns_with shown Works) ++ word_waits_text (columns_with shown AwaitsWord)
-    ++ reader_waits_text (columns_with shown AwaitsReader)
-
--- its name at the begin of its row, with a cross if it has stopped
+-- its name at the begin of its row, with a cross if it is stopped in some turns
 unfoldable pub row_name : ℕ → List ℕ
 row_name name = codes "<div class='row'><b>" ++ node_text name
 
-abbrev pub stop_mark : List Kind → List ℕ
-stop_mark shown = if columns_with shown Stopped == 0 then [] else codes " &#215;"
+abbrev pub stop_mark : ℕ → List ℕ
+stop_mark turns = if turns == 0 then [] else codes " &#215;"
 
 -- the begin of a row of this many columns
 unfoldable pub row_head : ℕ → List ℕ
@@ -77,42 +74,26 @@ row_head columns =
     codes "</b><svg viewBox='0 0 " ++ decimal columns
     ++ codes " 24' preserveAspectRatio='none' role='img'><title>"
 
--- the row of a node, by what it does in each column
-unfoldable pub row : ℕ → List Kind → List ℕ
-row name shown =
-    concat (row_name name ∷ stop_mark shown ∷ row_head (length shown) ∷ summary name shown
+-- the row of a node, by what it does in how many turns, and in each column
+unfoldable pub row : ℕ → TurnCounts → List Kind → List ℕ
+row name counts shown =
+    concat (row_name name ∷ stop_mark counts.stops ∷ row_head (length shown) ∷ summary name counts
     ∷ codes "</title>" ∷ lines shown ∷ codes "</svg></div>\n" ∷ [])
 
 -- if the node began
-abbrev pub row_if : Option ℕ → ℕ → List Kind → List ℕ
-row_if (Some turn) name shown = row name shown
-row_if None name shown = []
+abbrev pub row_if : Option ℕ → ℕ → TurnCounts → List Kind → List ℕ
+row_if (Some turn) name counts shown = row name counts shown
+row_if None name counts shown = []
 
-abbrev pub row_at : List NodeTurns → ℕ → List Kind → ℕ → List ℕ
-row_at nodes columns kinds index =
-    row_if (get_or nodes index NO_TURNS).began (name_at index) (row_of columns kinds index)
+abbrev pub row_at : List NodeTurns → Timeline → ℕ → List ℕ
+row_at nodes timeline index =
+    row_if (get_or nodes index NO_TURNS).began (name_at index)
+    (get_or timeline.counts.items index NO_COUNTS)
+    (row_of timeline.columns timeline.kinds.items index)
 
 -- the rows of all nodes that began, in order of name
-unfoldable pub rows : List NodeTurns → ℕ → List Kind → List ℕ
-rows nodes columns kinds = flat_map (row_at nodes columns kinds) (range_with_len 0 144)
-
--- the turn behind some quarters of a window
-abbrev pub turn_at : Window → ℕ → ℕ
-turn_at window quarters = more window.first (length_of window * quarters / 4)
-
-unfoldable pub tick : ℕ → List ℕ
-tick turn = codes "<span>" ++ decimal turn ++ codes "</span>"
-
--- the turns at the quarters of a window, from its begin to its end
-unfoldable pub ticks : Window → List ℕ
-ticks window = flat_map (λ quarters. tick (turn_at window quarters)) (range_with_len 0 5)
-
--- the scale
-unfoldable pub SCALE : List ℕ
-SCALE = codes "<div class='scale'>"
-
-unfoldable pub scale : Window → List ℕ
-scale window = concat (SCALE ∷ ticks window ∷ codes "</div>\n" ∷ [])
+unfoldable pub rows : List NodeTurns → Timeline → List ℕ
+rows nodes timeline = flat_map (row_at nodes timeline) (range_with_len 0 144)
 
 -- what a column of some turns stands for
 unfoldable pub note : ℕ → List ℕ
@@ -124,8 +105,7 @@ note turns =
 -- the rows of a timeline, its scale, and what a column stands for
 unfoldable pub chart : List NodeTurns → Timeline → List ℕ
 chart nodes timeline =
-    concat (rows nodes timeline.columns timeline.kinds.items ∷ scale timeline.window
-    ∷ note (stride_of timeline.window) ∷ [])
+    concat (rows nodes timeline ∷ scale timeline.window ∷ note (stride_of timeline.window) ∷ [])
 
 -- The timeline of a window, by what the nodes did.
 unfoldable pub timeline_part : List NodeTurns → Timeline → List ℕ

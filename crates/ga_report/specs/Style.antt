@@ -22,20 +22,31 @@ LAYOUT =
     ∷ codes "h1{font-size:clamp(20px,2.1vw,27px);line-height:1.28;max-width:54ch;margin:0 0 8px}\n"
     ∷ codes "h2{font-size:17px;margin:38px 0 6px}\n"
     ∷ codes "p{margin:0 0 8px;max-width:74ch;color:var(--soft)}\n"
-    ∷ codes "pre{margin:0;overflow-x:auto;\n"
+    ∷ codes "pre{margin:0;overflow-x:auto;scrollbar-width:thin;background:\n"
+    ∷ codes "linear-gradient(to right,var(--page) 40%,transparent) 0/32px 100% no-repeat local,\n"
+    ∷ codes "linear-gradient(to left,var(--page) 40%,transparent) 100%/32px 100% no-repeat local,\n"
+    ∷ codes "linear-gradient(to right,var(--rule),transparent) 0/16px 100% no-repeat,\n"
+    ∷ codes "linear-gradient(to left,var(--rule),transparent) 100%/16px 100% no-repeat;\n"
     ∷ codes "font:12px/1.45 ui-monospace,Menlo,Consolas,monospace}\n" ∷ [])
 
 -- the rows of the timeline, its scale and its key
 unfoldable pub ROWS : List ℕ
 ROWS =
-    concat (codes ".row,.scale,.key{display:flex;font-size:13px;\n"
-    ∷ codes "font-variant-numeric:tabular-nums}\n"
+    concat (codes ".row,.scale,.key{font-size:13px;font-variant-numeric:tabular-nums}\n"
+    ∷ codes ".row,.key{display:flex}\n"
     ∷ codes ".row{height:24px;line-height:24px}\n"
     ∷ codes ".row b{flex:0 0 3.6em;font-weight:400;white-space:nowrap}\n"
     ∷ codes ".row svg{flex:1;min-width:0;height:24px}\n"
-    ∷ codes ".scale{margin-left:3.6em;justify-content:space-between;\n"
+    ∷ codes ".scale{position:relative;height:26px;margin-left:3.6em;\n"
     ∷ codes "border-top:1px solid var(--soft)}\n"
-    ∷ codes ".scale span:first-child::before{content:'turn '}\n"
+    ∷ codes ".scale span{position:absolute;top:3px;transform:translateX(-50%)}\n"
+    ∷ codes ".scale span::before{content:'';position:absolute;left:50%;top:-3px;height:4px;\n"
+    ∷ codes "border-left:1px solid var(--soft)}\n"
+    ∷ codes ".scale span:first-child{transform:none}.scale span:first-child::before{left:0}\n"
+    ∷ codes ".scale span:last-child{transform:translateX(-100%)}\n"
+    ∷ codes ".scale span:last-child::before{left:auto;right:0}\n"
+    ∷ codes ".scale::before{content:'turn';position:absolute;left:-3.6em;top:3px}\n"
+    ∷ codes "@media(max-width:640px){.scale span:nth-child(even){display:none}}\n"
     ∷ codes ".key{flex-wrap:wrap;gap:4px 20px;padding:0;list-style:none}\n"
     ∷ codes ".key svg{width:26px;height:24px;margin-right:6px;vertical-align:middle}\n" ∷ [])
 

@@ -1,8 +1,9 @@
 -- What each node does in the columns of a window.
-use Rattle.std.specs.Prelude.{ℕ, ◌+◌, ◌-◌, ◌*◌, List, get_or, map}
+use Rattle.std.specs.Prelude.{ℕ, ◌+◌, ◌-◌, ◌*◌, List, get_or, map, min}
 use Rattle.std.specs.List.{flat_map, range_with_len}
 use Rattle.ga_chip.specs.Chip.{Chip}
 use Rattle.ga_profile.specs.declared.node_turns.NodeTurns.{NodeTurns}
+use Rattle.ga_profile.specs.declared.node_turns.TurnCounts.{TurnCounts}
 use Rattle.ga_profile.specs.declared.window.Window.{Window}
 use Rattle.ga_profile.specs.NodeTurns.{NO_TURNS}
 use Rattle.ga_profile.specs.Profile.{nodes_in}
@@ -39,3 +40,16 @@ kinds_in window chip = flat_map (column_in window chip) (range_with_len 0 (colum
 unfoldable pub row_of : ℕ → List Kind → ℕ → List Kind
 row_of columns kinds index =
     map (λ column. get_or kinds (column * 144 + index) Idle) (range_with_len 0 columns)
+
+-- in how many turns each node does what, by what it did before the first one and up to the last
+abbrev pub counts_at : List NodeTurns → List NodeTurns → ℕ → TurnCounts
+counts_at before after index =
+    between (get_or before index NO_TURNS).counts (get_or after index NO_TURNS).counts
+
+abbrev pub counts_by : List NodeTurns → List NodeTurns → List TurnCounts
+counts_by before after = map (counts_at before after) (range_with_len 0 144)
+
+-- in how many turns of a window
+unfoldable pub counts_in : Window → Chip → List TurnCounts
+counts_in window chip =
+    counts_by (up_to (min window.first window.end) chip) (up_to window.end chip)

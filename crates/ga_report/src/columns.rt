@@ -29,3 +29,11 @@ pub(crate) fn bound(window: Window, column: usize) -> u32
     let turn = window.first.saturating_add(offset);
     turn.min(u64::from(window.end)) as u32
 }
+
+/// How many turns all columns have, with those behind the end of the window in the last one.
+pub(crate) fn turns_drawn(window: Window) -> u64
+    ensures { result ≡ spec.turns_drawn window }
+{
+    let columns = columns_of(window) as u64;
+    columns * stride_of(window)
+}

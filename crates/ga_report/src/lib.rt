@@ -14,6 +14,7 @@ mod parts;
 mod picture;
 mod posted;
 mod rows;
+mod scale;
 mod step_watch;
 mod style;
 mod timeline;

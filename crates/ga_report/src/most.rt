@@ -21,7 +21,7 @@ pub(crate) fn most_between(before: &TurnCounts, after: &TurnCounts, turns: u64) 
 
 /// The counts up to some turns less those up to others.
 #[tactic(auto, unfolding(crate::specs::Most::between))]
-fn between(before: &TurnCounts, after: &TurnCounts) -> TurnCounts
+pub(crate) fn between(before: &TurnCounts, after: &TurnCounts) -> TurnCounts
     ensures { result ≡ spec.between before.now after.now }
 {
     TurnCounts {

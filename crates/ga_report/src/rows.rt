@@ -1,14 +1,14 @@
 //! The timeline as rows, one for each node that began.
 ghost use Rattle.std.specs.Prelude.{◌≡◌, ◌++◌, IfOk, OnOk, length, string_bytes};
-ghost use Rattle.ga_report.specs.Rows as spec;
-ghost use Rattle.ga_report.specs.Rows.{CLOSER, KEY, KEY_ITEMS, OPENING, SAMPLE, SCALE, chart, classed, close_up_part, closer, key_item, levelled, note, reader_waits_text, row, row_head, row_if, row_name, rows, scale, stop_mark, summary, tick, ticks, timeline_part, word_waits_text, works_text};
+ghost use Rattle.ga_report.specs.Rows.{CLOSER, CROSS, KEY, KEY_ITEMS, OPENING, SAMPLE, chart, classed, close_up_part, closer, key_item, levelled, note, reader_waits_text, row, row_head, row_if, row_name, rows, stop_mark, summary, timeline_part, word_waits_text, works_text};
 
 use crate::columns::stride_of;
-use crate::kind::{KINDS, Kind, class_of, is_same, words_of};
+use crate::kind::{KINDS, Kind, class_of, words_of};
 use crate::line::{level_of, push_lines};
+use crate::scale::push_scale;
 use crate::timeline::{Timeline, row_of};
 use ga_place::Node;
-use ga_profile::{NodeTurns, Window};
+use ga_profile::{NodeTurns, TurnCounts};
 use std::alloc::{AllocError, Global};
 use std::fmt::Write;
 
@@ -93,7 +93,16 @@ fn push_key(text: &mut String) -> Result<(), AllocError>
 {
     push_opening(text)?;
     push_key_items(text)?;
+    push_cross(text)?;
     text.push_str("</ul>\n")
+}
+
+/// Adds what a cross means.
+#[tactic(auto, unfolding(crate::specs::Rows::CROSS))]
+fn push_cross(text: &mut String) -> Result<(), AllocError>
+    ensures { OnOk result (string_bytes text.new ≡ string_bytes text.old ++ CROSS) }
+{
+    text.push_str("<li>&#215; at a name: the node has stopped</li>\n")
 }
 
 /// Adds the heading, and the begin of the key.
@@ -162,15 +171,16 @@ fn push_rows(
 ) -> Result<(), AllocError>
     requires { length nodes.now ≡ 144 }
     ensures { OnOk result (string_bytes text.new ≡ string_bytes text.old
-        ++ rows nodes.now timeline.now.columns timeline.now.kinds.items) }
+        ++ rows nodes.now timeline.now) }
 {
     for index in 0..144 {
         let shown = row_of(alloc, timeline, index)?;
         push_row_if(
             text,
             alloc,
-            Node::at(index),
             nodes[index].began,
+            Node::at(index),
+            &timeline.counts[index],
             shown.as_slice(),
         )?;
     }
@@ -181,29 +191,36 @@ fn push_rows(
 fn push_row_if(
     text: &mut String,
     alloc: Global,
-    node: Node,
     began: Option<u64>,
+    node: Node,
+    counts: &TurnCounts,
     shown: &[Kind],
 ) -> Result<(), AllocError>
     ensures { OnOk result (string_bytes text.new ≡ string_bytes text.old
-        ++ row_if began node shown.now) }
+        ++ row_if began node counts.now shown.now) }
 {
     match began {
-        Some(_) => push_row(text, alloc, node, shown),
+        Some(_) => push_row(text, alloc, node, counts, shown),
         None => Ok(()),
     }
 }
 
 /// Adds the row of a node.
 #[tactic(auto, unfolding(crate::specs::Rows::row))]
-fn push_row(text: &mut String, alloc: Global, node: Node, shown: &[Kind]) -> Result<(), AllocError>
+fn push_row(
+    text: &mut String,
+    alloc: Global,
+    node: Node,
+    counts: &TurnCounts,
+    shown: &[Kind],
+) -> Result<(), AllocError>
     ensures { OnOk result (string_bytes text.new ≡ string_bytes text.old
-        ++ row node shown.now) }
+        ++ row node counts.now shown.now) }
 {
     push_row_name(text, node)?;
-    text.push_str(stop_mark(shown))?;
+    text.push_str(stop_mark(counts.stops))?;
     push_row_head(text, shown.len())?;
-    push_summary(text, node, shown)?;
+    push_summary(text, node, counts)?;
     text.push_str("</title>")?;
     push_lines(text, alloc, shown)?;
     text.push_str("</svg></div>\n")
@@ -217,15 +234,11 @@ fn push_row_name(text: &mut String, node: Node) -> Result<(), AllocError>
     write!(text, "<div class='row'><b>{node}")
 }
 
-/// A cross, if a node has stopped.
-fn stop_mark(shown: &[Kind]) -> &'static str
-    ensures { result.now ≡ stop_mark shown.now }
+/// A cross, if a node is stopped in some turns.
+fn stop_mark(turns: u64) -> &'static str
+    ensures { result.now ≡ stop_mark turns }
 {
-    if columns_with(shown, Kind::Stopped) == 0 {
-        ""
-    } else {
-        " &#215;"
-    }
+    if turns == 0 { "" } else { " &#215;" }
 }
 
 /// Adds the begin of a row of this many columns.
@@ -239,94 +252,42 @@ fn push_row_head(text: &mut String, columns: usize) -> Result<(), AllocError>
     )
 }
 
-/// Adds in how many columns a node does what.
+/// Adds in how many turns a node does what.
 #[tactic(auto, unfolding(crate::specs::Rows::summary))]
-fn push_summary(text: &mut String, node: Node, shown: &[Kind]) -> Result<(), AllocError>
+fn push_summary(text: &mut String, node: Node, counts: &TurnCounts) -> Result<(), AllocError>
     ensures { OnOk result (string_bytes text.new
-        ≡ string_bytes text.old ++ summary node shown.now) }
+        ≡ string_bytes text.old ++ summary node counts.now) }
 {
-    push_works(text, node, columns_with(shown, Kind::Works))?;
-    push_word_waits(text, columns_with(shown, Kind::AwaitsWord))?;
-    push_reader_waits(text, columns_with(shown, Kind::AwaitsReader))
+    push_works(text, node, counts.works)?;
+    push_word_waits(text, counts.word_waits)?;
+    push_reader_waits(text, counts.reader_waits)
 }
 
-/// How many columns show a kind.
-fn columns_with(shown: &[Kind], kind: Kind) -> usize
-    ensures { result ≡ spec.columns_with shown.now kind }
-{
-    shown.iter().filter(|one| is_same(**one, kind)).count()
-}
-
-/// Adds in how many columns a node works.
+/// Adds in how many turns a node works.
 #[tactic(auto, unfolding(crate::specs::Rows::works_text))]
-fn push_works(text: &mut String, node: Node, columns: usize) -> Result<(), AllocError>
+fn push_works(text: &mut String, node: Node, turns: u64) -> Result<(), AllocError>
     ensures { OnOk result (string_bytes text.new
-        ≡ string_bytes text.old ++ works_text node columns) }
+        ≡ string_bytes text.old ++ works_text node turns) }
 {
-    write!(text, "{node} works in {columns} columns")
+    write!(text, "{node} works in {turns} turns")
 }
 
 /// Adds in how many it waits for a word.
 #[tactic(auto, unfolding(crate::specs::Rows::word_waits_text))]
-fn push_word_waits(text: &mut String, columns: usize) -> Result<(), AllocError>
+fn push_word_waits(text: &mut String, turns: u64) -> Result<(), AllocError>
     ensures { OnOk result (string_bytes text.new
-        ≡ string_bytes text.old ++ word_waits_text columns) }
+        ≡ string_bytes text.old ++ word_waits_text turns) }
 {
-    write!(text, ", waits for a word in {columns}")
+    write!(text, ", waits for a word in {turns}")
 }
 
 /// Adds in how many it waits for its word to be read.
 #[tactic(auto, unfolding(crate::specs::Rows::reader_waits_text))]
-fn push_reader_waits(text: &mut String, columns: usize) -> Result<(), AllocError>
+fn push_reader_waits(text: &mut String, turns: u64) -> Result<(), AllocError>
     ensures { OnOk result (string_bytes text.new
-        ≡ string_bytes text.old ++ reader_waits_text columns) }
+        ≡ string_bytes text.old ++ reader_waits_text turns) }
 {
-    write!(text, ", and for a reader in {columns}")
-}
-
-/// Adds the turns at the quarters of a window, from its begin to its end.
-#[tactic(auto, unfolding(crate::specs::Rows::scale))]
-fn push_scale(text: &mut String, window: Window) -> Result<(), AllocError>
-    ensures { OnOk result (string_bytes text.new ≡ string_bytes text.old ++ scale window) }
-{
-    push_scale_opening(text)?;
-    push_ticks(text, window)?;
-    text.push_str("</div>\n")
-}
-
-/// Adds the begin of the scale.
-#[tactic(auto, unfolding(crate::specs::Rows::SCALE))]
-fn push_scale_opening(text: &mut String) -> Result<(), AllocError>
-    ensures { OnOk result (string_bytes text.new ≡ string_bytes text.old ++ SCALE) }
-{
-    text.push_str("<div class='scale'>")
-}
-
-/// Adds the turns at the quarters of a window.
-#[tactic(auto, unfolding(crate::specs::Rows::ticks))]
-fn push_ticks(text: &mut String, window: Window) -> Result<(), AllocError>
-    ensures { OnOk result (string_bytes text.new ≡ string_bytes text.old ++ ticks window) }
-{
-    for quarters in 0..5 {
-        push_tick(text, turn_at(window, quarters))?;
-    }
-    Ok(())
-}
-
-/// The turn behind some quarters of a window.
-fn turn_at(window: Window, quarters: u32) -> u64
-    ensures { result ≡ spec.turn_at window quarters }
-{
-    let turns = window.length() * u64::from(quarters) / 4;
-    window.first.saturating_add(turns)
-}
-
-/// Adds a turn of the scale.
-#[tactic(auto, unfolding(crate::specs::Rows::tick))]
-fn push_tick(text: &mut String, turn: u64) -> Result<(), AllocError>
-    ensures { OnOk result (string_bytes text.new ≡ string_bytes text.old ++ tick turn) }
-{
-    write!(text, "<span>{turn}</span>")
+    write!(text, ", and for a reader in {turns}")
 }
 
 /// Adds what a column of some turns stands for.

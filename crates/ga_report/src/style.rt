@@ -46,7 +46,11 @@ fn push_layout(text: &mut String) -> Result<(), AllocError>
         "h1{font-size:clamp(20px,2.1vw,27px);line-height:1.28;max-width:54ch;margin:0 0 8px}\n",
         "h2{font-size:17px;margin:38px 0 6px}\n",
         "p{margin:0 0 8px;max-width:74ch;color:var(--soft)}\n",
-        "pre{margin:0;overflow-x:auto;\n",
+        "pre{margin:0;overflow-x:auto;scrollbar-width:thin;background:\n",
+        "linear-gradient(to right,var(--page) 40%,transparent) 0/32px 100% no-repeat local,\n",
+        "linear-gradient(to left,var(--page) 40%,transparent) 100%/32px 100% no-repeat local,\n",
+        "linear-gradient(to right,var(--rule),transparent) 0/16px 100% no-repeat,\n",
+        "linear-gradient(to left,var(--rule),transparent) 100%/16px 100% no-repeat;\n",
         "font:12px/1.45 ui-monospace,Menlo,Consolas,monospace}\n",
     ];
     push_parts(text, &parts)
@@ -58,14 +62,21 @@ fn push_rows(text: &mut String) -> Result<(), AllocError>
     ensures { OnOk result (string_bytes text.new ≡ string_bytes text.old ++ ROWS) }
 {
     let parts = [
-        ".row,.scale,.key{display:flex;font-size:13px;\n",
-        "font-variant-numeric:tabular-nums}\n",
+        ".row,.scale,.key{font-size:13px;font-variant-numeric:tabular-nums}\n",
+        ".row,.key{display:flex}\n",
         ".row{height:24px;line-height:24px}\n",
         ".row b{flex:0 0 3.6em;font-weight:400;white-space:nowrap}\n",
         ".row svg{flex:1;min-width:0;height:24px}\n",
-        ".scale{margin-left:3.6em;justify-content:space-between;\n",
+        ".scale{position:relative;height:26px;margin-left:3.6em;\n",
         "border-top:1px solid var(--soft)}\n",
-        ".scale span:first-child::before{content:'turn '}\n",
+        ".scale span{position:absolute;top:3px;transform:translateX(-50%)}\n",
+        ".scale span::before{content:'';position:absolute;left:50%;top:-3px;height:4px;\n",
+        "border-left:1px solid var(--soft)}\n",
+        ".scale span:first-child{transform:none}.scale span:first-child::before{left:0}\n",
+        ".scale span:last-child{transform:translateX(-100%)}\n",
+        ".scale span:last-child::before{left:auto;right:0}\n",
+        ".scale::before{content:'turn';position:absolute;left:-3.6em;top:3px}\n",
+        "@media(max-width:640px){.scale span:nth-child(even){display:none}}\n",
         ".key{flex-wrap:wrap;gap:4px 20px;padding:0;list-style:none}\n",
         ".key svg{width:26px;height:24px;margin-right:6px;vertical-align:middle}\n",
     ];

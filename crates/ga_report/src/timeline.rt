@@ -2,14 +2,14 @@
 ghost use Rattle.std.specs.Prelude.{◌≡◌, ◌+◌, ◌*◌, ◌<◌, ◌++◌, IfOk, OnOk, length};
 ghost use Rattle.ga_report.specs.Columns as columns;
 ghost use Rattle.ga_report.specs.Timeline as spec;
-ghost use Rattle.ga_report.specs.Timeline.{kinds_in, most_by};
+ghost use Rattle.ga_report.specs.Timeline.{counts_by, counts_in, kinds_in, most_by};
 
 use crate::columns::{bound, columns_of};
 use crate::kind::Kind;
-use crate::most::most_between;
+use crate::most::{between, most_between};
 use crate::watched::Watched;
 use ga_chip::Chip;
-use ga_profile::{NodeTurns, Window};
+use ga_profile::{NodeTurns, TurnCounts, Window};
 use std::alloc::{AllocError, Global};
 
 /// What each node does in the columns of a window.
@@ -21,7 +21,10 @@ pub struct Timeline {
     /// What each node, in order of name, does in most turns of the first column; then the same of
     /// the next column, and so on.
     pub kinds: Vec<Kind>,
+    /// In how many turns of the window each node, in order of name, does what.
+    pub counts: Vec<TurnCounts>,
     ghost all: { length kinds.items ≡ columns * 144 },
+    ghost counted: { length counts.items ≡ 144 },
 }
 
 /// What each node does in a window of the run of a chip, in at most 600 columns of as many turns
@@ -30,11 +33,13 @@ pub fn timeline_in(alloc: Global, chip: &Chip, window: Window) -> Result<Timelin
     ensures window { IfOk result (λ timeline. timeline.window ≡ window) }
     ensures columns { IfOk result (λ timeline. timeline.columns ≡ columns.columns_of window) }
     ensures kinds { IfOk result (λ timeline. timeline.kinds.items ≡ kinds_in window chip.now) }
+    ensures counts { IfOk result (λ timeline. timeline.counts.items ≡ counts_in window chip.now) }
 {
     let columns = columns_of(window);
     let first = bound(window, 0);
     let mut run = Watched::new(alloc, chip)?;
     run.advance(0, first);
+    let begun = run.nodes(alloc, first)?;
     let mut before = run.nodes(alloc, first)?;
     let mut kinds = Vec::new(alloc);
     for column in 0..columns {
@@ -49,7 +54,26 @@ pub fn timeline_in(alloc: Global, chip: &Chip, window: Window) -> Result<Timelin
         window,
         columns,
         kinds,
+        counts: counts_between(alloc, begun.as_slice(), before.as_slice())?,
     })
+}
+
+/// In how many turns each node does what, by what it did before them and up to the last one.
+fn counts_between(
+    alloc: Global,
+    before: &[NodeTurns],
+    after: &[NodeTurns],
+) -> Result<Vec<TurnCounts>, AllocError>
+    requires before { length before.now ≡ 144 }
+    requires after { length after.now ≡ 144 }
+    ensures counts { IfOk result (λ counts. counts.items ≡ counts_by before.now after.now) }
+    ensures all { IfOk result (λ counts. length counts.items ≡ 144) }
+{
+    let mut counts = Vec::new(alloc);
+    for index in 0..144 {
+        counts.push(between(&before[index].counts, &after[index].counts))?;
+    }
+    Ok(counts)
 }
 
 /// Adds what each node does in most of some turns.

@@ -8,15 +8,17 @@ use Rattle.ga_report.proofs.rows.push_rows.Goals as goal
 pub loop-index-preserved : goal.loop-index-preserved
 loop-index-preserved c =
     let nodes = c.args.nodes.now in
-    let columns = c.args.timeline.now.columns in
-    let kinds = c.args.timeline.now.kinds.items in
+    let timeline = c.args.timeline.now in
     let index = c.loop-index.index in
     let text = string_bytes c.loop-index.text in
     let within : index < length nodes = omega (arith, c.requires, c.loop-index-test.true) in
-    part_more (row_at nodes columns kinds) index (string_bytes c.args.text.now) text _
+    let in_counts : index < length timeline.counts.items =
+    omega (arith, timeline.counted, c.loop-index-test.true) in
+    part_more (row_at nodes timeline) index (string_bytes c.args.text.now) text _
     c.loop-index.invariant
-    (row_read nodes columns kinds c.as_slice.result.now index c.at.result _ text _ within
-    c.at.ensures (c.as_slice.ensures.value ∙ c.in_ok-shown.ensures) c.in_ok-push_row_if.ensures)
+    (row_read nodes timeline c.as_slice.result.now index c.at.result _ c.index.result.now _ text _
+    within in_counts c.at.ensures c.index.ensures (c.as_slice.ensures.value ∙ c.in_ok-shown.ensures)
+    c.in_ok-push_row_if.ensures)
 
 pub returns : goal.returns
 unfolding rows
@@ -24,5 +26,4 @@ returns c =
     let all : c.loop-index.index ≡ 144 = omega arith in
     c.loop-index.invariant
     ∙ ap (λ count. string_bytes c.args.text.now
-    ++ flat_map (row_at c.args.nodes.now c.args.timeline.now.columns
-    c.args.timeline.now.kinds.items) (range_with_len 0 count)) all
+    ++ flat_map (row_at c.args.nodes.now c.args.timeline.now) (range_with_len 0 count)) all

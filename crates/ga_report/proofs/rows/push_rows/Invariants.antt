@@ -8,5 +8,4 @@ abbrev pub invariant-loop-index : goal.invariant-loop-index
 invariant-loop-index l =
     string_bytes l.text
     ≡ string_bytes l.initial.text
-    ++ flat_map (row_at l.nodes l.timeline.columns l.timeline.kinds.items)
-    (range_with_len 0 l.index)
+    ++ flat_map (row_at l.nodes l.timeline) (range_with_len 0 l.index)

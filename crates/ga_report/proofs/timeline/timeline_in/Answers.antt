@@ -1,9 +1,10 @@
-use Rattle.std.proofs.Common.{◌≡◌, ◌∙◌, ◌-◌, ◌++◌, ap, arith, subst, sym}
+use Rattle.std.proofs.Common.{◌≡◌, ◌∙◌, ◌-◌, ◌++◌, ap, ap₂, arith, subst, sym}
 use Rattle.std.specs.List.{flat_map, range_with_len}
 use Rattle.ga_dump.proofs.Lines.{next_line}
 use Rattle.ga_report.specs.inner.HasRun.{HasRun}
-use Rattle.ga_report.specs.Timeline.{column_in, kinds_in, most_by, up_to}
-use Rattle.ga_report.proofs.Reading.{column_count, column_read}
+use Rattle.ga_report.specs.Columns.{bound}
+use Rattle.ga_report.specs.Timeline.{column_in, counts_by, counts_in, kinds_in, most_by, up_to}
+use Rattle.ga_report.proofs.Reading.{column_count, column_read, first_begin, last_end}
 use Rattle.ga_report.proofs.timeline.timeline_in.Goals as goal
 
 pub loop-column-preserved : goal.loop-column-preserved
@@ -43,3 +44,20 @@ returns-clause-kinds c =
     c.loop-column.invariant.kinds
     ∙ ap (λ n. flat_map (column_in c.args.window c.args.chip.now) (range_with_len 0 n))
     (all ∙ c.columns_of-columns.ensures)
+
+pub returns-clause-counts : goal.returns-clause-counts
+unfolding counts_in
+returns-clause-counts c =
+    let window = c.args.window in
+    let start = c.args.chip.now in
+    let all : c.loop-column.column ≡ c.columns_of-columns.result = omega arith in
+    let first = c.bound-first.ensures ∙ first_begin window in
+    let advanced : HasRun start c.bound-first.result c.advance.new.self =
+    c.advance.ensures start c.in_ok-run.ensures in
+    let begun = c.in_ok-begun.ensures.nodes start advanced ∙ ap (λ turn. up_to turn start) first in
+    let last = ap (bound window) (all ∙ c.columns_of-columns.ensures) ∙ last_end window in
+    c.in_ok-counts_between.ensures.counts
+    ∙ ap₂ (λ old new. counts_by old new)
+    (c.as_slice-2.ensures.value ∙ begun)
+    (c.as_slice-3.ensures.value ∙ c.loop-column.invariant.before
+    ∙ ap (λ turn. up_to turn start) last)
