@@ -1,3 +1,4 @@
 pub mod Reading
 pub mod Plain
+pub mod Transferring
 mod Worked

@@ -25,6 +25,8 @@ use Rattle.ga_report.specs.Picture.{arrow, group}
 use Rattle.ga_report.specs.Rows.{summary, works_text, word_waits_text, reader_waits_text}
 use Rattle.ga_report.specs.Scale.{LABEL, OPENING, scale, share, tick, tick_at, ticks}
 use Rattle.ga_report.specs.Timeline.{row_of}
+use Rattle.ga_report.specs.declared.transfers.Transfer.{Transfer}
+use Rattle.ga_report.specs.TransferLines.{line_end, middle, offset, title, turns_text, word_text}
 
 -- the signs of XML go by name, and a control character (27) is replaced
 signs : escaped (codes "a < \"b\" & c > d") ≡ codes "a &lt; &quot;b&quot; &amp; c &gt; d"
@@ -123,6 +125,23 @@ quarters : scale (record { first = 7; end = 15 })
     ++ codes "<span style='left:calc(100%*8/8)'>15</span></div>\n"
 unfolding scale OPENING ticks tick LABEL share digits
 quarters = refl
+
+-- 708 posts three turns before the first one, 10, what 709 takes two turns behind it
+abbrev a_transfer : Transfer
+a_transfer = record { poster = 708; posted = 7; reader = 709; taken = 12; word = 18 }
+
+early_end : line_end 10 a_transfer.posted 0 ≡ codes "-3 0.5"
+unfolding line_end offset middle digits
+early_end = refl
+
+late_end : line_end 10 a_transfer.taken 1 ≡ codes "2 1.5"
+unfolding line_end offset middle digits
+late_end = refl
+
+word_in_words : title a_transfer
+    ≡ codes "'><title>708 to 709: 00012, turn 7 to turn 12</title></path>\n"
+unfolding title word_text turns_text hex_digits digits
+word_in_words = refl
 
 -- a node that has started waits for a word at a slot, and for code before a fetch
 at_slot : kind_by Slot0 (need.Take (sides_with 0x80)) ≡ AwaitsWord

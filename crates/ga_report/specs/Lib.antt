@@ -8,6 +8,9 @@ pub mod Timeline
 pub mod Line
 pub mod Scale
 pub mod Rows
+pub mod Transfers
+pub mod TransferLines
+pub mod CloseUpRows
 pub mod Ending
 pub mod Words
 pub mod Picture

@@ -3,10 +3,12 @@ use Rattle.std.specs.Prelude.{ℕ, Option, List, [], ◌∷◌, ◌++◌, codes}
 use Rattle.std.specs.Borrow.{Bor}
 use Rattle.std.specs.List.{concat}
 use Rattle.ga_profile.specs.declared.profile.Profile.{Profile}
+use Rattle.ga_report.specs.declared.close_up.CloseUp.{CloseUp}
 use Rattle.ga_report.specs.declared.timeline.Timeline.{Timeline}
+use Rattle.ga_report.specs.CloseUpRows.{close_up_part}
 use Rattle.ga_report.specs.Escape.{escaped}
 use Rattle.ga_report.specs.Picture.{picture}
-use Rattle.ga_report.specs.Rows.{close_up_part, timeline_part}
+use Rattle.ga_report.specs.Rows.{timeline_part}
 use Rattle.ga_report.specs.Style.{STYLE}
 
 -- the begin of a page, up to its title
@@ -40,7 +42,7 @@ CLOSING = codes "</main></body></html>\n"
 
 -- A page, by the profile of a run and its timelines: the headline; the timelines; the text of the
 -- profile; the chip; and the listing.
-unfoldable pub page_text : List ℕ → Profile → Timeline → Option (Bor Timeline) → List ℕ → List ℕ
+unfoldable pub page_text : List ℕ → Profile → Timeline → Option (Bor CloseUp) → List ℕ → List ℕ
     → List ℕ
 page_text headline profile timeline close_up shown listing =
     concat (head headline ∷ timeline_part profile.nodes.items timeline

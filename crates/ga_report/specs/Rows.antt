@@ -1,12 +1,12 @@
 -- The timeline as rows, one for each node that began.
 use Rattle.std.specs.Prelude.{ℕ, ◌==◌, List, [], ◌∷◌, ◌++◌, codes, get_or, length, Option, Some, None, if◌then◌else◌}
-use Rattle.std.specs.Borrow.{Bor}
 use Rattle.std.specs.Fmt.{decimal}
 use Rattle.std.specs.List.{concat, flat_map, range_with_len}
 use Rattle.ga_place.specs.Cell.{name_at}
 use Rattle.ga_place.specs.Node.{node_text}
 use Rattle.ga_profile.specs.declared.node_turns.NodeTurns.{NodeTurns}
 use Rattle.ga_profile.specs.declared.node_turns.TurnCounts.{TurnCounts}
+use Rattle.ga_profile.specs.declared.window.Window.{Window}
 use Rattle.ga_profile.specs.NodeTurns.{NO_COUNTS, NO_TURNS}
 use Rattle.ga_report.specs.declared.kind.Kind.{Kind}
 use Rattle.ga_report.specs.declared.timeline.Timeline.{Timeline}
@@ -102,23 +102,11 @@ note turns =
     else codes "<p>A column of " ++ decimal turns
     ++ codes " turns shows what the node did in most of them.</p>\n"
 
--- the rows of a timeline, its scale, and what a column stands for
-unfoldable pub chart : List NodeTurns → Timeline → List ℕ
-chart nodes timeline =
-    concat (rows nodes timeline ∷ scale timeline.window ∷ note (stride_of timeline.window) ∷ [])
+-- the scale of a window, and what a column stands for
+unfoldable pub axis : Window → List ℕ
+axis window = scale window ++ note (stride_of window)
 
 -- The timeline of a window, by what the nodes did.
 unfoldable pub timeline_part : List NodeTurns → Timeline → List ℕ
-timeline_part nodes timeline = KEY ++ chart nodes timeline
-
--- and of a part of the window
-unfoldable pub CLOSER : List ℕ
-CLOSER = codes "<h2>Turns in the middle</h2>\n"
-
-unfoldable pub closer : List NodeTurns → Timeline → List ℕ
-closer nodes timeline = CLOSER ++ chart nodes timeline
-
--- if there is one
-abbrev pub close_up_part : List NodeTurns → Option (Bor Timeline) → List ℕ
-close_up_part nodes None = []
-close_up_part nodes (Some timeline) = closer nodes timeline.now
+timeline_part nodes timeline =
+    concat (KEY ∷ rows nodes timeline ∷ axis timeline.window ∷ [])

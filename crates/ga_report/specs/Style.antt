@@ -60,7 +60,11 @@ LINES =
     ∷ codes ".spins{stroke:var(--spin);stroke-width:8;stroke-dasharray:2 3}\n"
     ∷ codes ".stopped{stroke:var(--stop);stroke-width:2}\n"
     ∷ codes ".boots{stroke:var(--boot);stroke-width:6}\n"
-    ∷ codes ".idle{stroke:var(--rule);stroke-width:1}\n" ∷ [])
+    ∷ codes ".idle{stroke:var(--rule);stroke-width:1}\n"
+    ∷ codes ".over{position:relative}\n"
+    ∷ codes ".transfers{position:absolute;top:0;left:3.6em;width:calc(100% - 3.6em);height:100%;\n"
+    ∷ codes "font-size:13px;pointer-events:none}\n"
+    ∷ codes ".transfer{stroke:var(--ink);stroke-width:1;pointer-events:stroke}\n" ∷ [])
 
 -- the picture of the chip, and the end of the style sheet
 unfoldable pub CHIP : List ℕ

@@ -1,8 +1,41 @@
 //! A part of a window for a close-up.
-ghost use Rattle.std.specs.Prelude.{◌≡◌, None};
+ghost use Rattle.std.specs.Prelude.{◌≡◌, IfOk, None, take};
 ghost use Rattle.ga_report.specs.CloseUp as spec;
+ghost use Rattle.ga_report.specs.Columns as columns;
+ghost use Rattle.ga_report.specs.Timeline.{counts_in, kinds_in};
+ghost use Rattle.ga_report.specs.Transfers.{transfers_in};
 
+use crate::timeline::{Timeline, timeline_in};
+use crate::transfers::{Transfer, transfers_in};
+use ga_chip::Chip;
 use ga_profile::{NodePass, Profile, Window};
+use std::alloc::{AllocError, Global};
+
+/// A part of a window from near: what each node does, and which words nodes take.
+#[derive(Drop)]
+pub struct CloseUp {
+    pub timeline: Timeline,
+    /// The words that nodes take, in order of the takes. If there are many, the first 401.
+    pub transfers: Vec<Transfer>,
+}
+
+/// What each node does in a window of the run of a chip, and which words nodes take. The chip
+/// itself makes no turn. Fails only when out of memory.
+pub fn close_up_in(alloc: Global, chip: &Chip, window: Window) -> Result<CloseUp, AllocError>
+    ensures window { IfOk result (λ near. near.timeline.window ≡ window) }
+    ensures columns { IfOk result (λ near. near.timeline.columns ≡ columns.columns_of window) }
+    ensures kinds { IfOk result (λ near.
+        near.timeline.kinds.items ≡ kinds_in window chip.now) }
+    ensures counts { IfOk result (λ near.
+        near.timeline.counts.items ≡ counts_in window chip.now) }
+    ensures transfers { IfOk result (λ near.
+        near.transfers.items ≡ take 401 (transfers_in window chip.now)) }
+{
+    Ok(CloseUp {
+        timeline: timeline_in(alloc, chip, window)?,
+        transfers: transfers_in(alloc, chip, window)?,
+    })
+}
 
 /// The turns in the middle of a profile's window, for a close-up: as many as three passes of the
 /// node that works most in its pass, if these are at most 600, or else as one. `None` if no node

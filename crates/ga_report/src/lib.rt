@@ -2,6 +2,7 @@
 #![tactic(auto)]
 
 mod close_up;
+mod close_up_rows;
 mod columns;
 mod ending;
 mod escape;
@@ -18,10 +19,14 @@ mod scale;
 mod step_watch;
 mod style;
 mod timeline;
+mod transfer_lines;
+mod transfer_watch;
+mod transfers;
 mod watched;
 mod words;
 
-pub use close_up::close_up_window;
+pub use close_up::{CloseUp, close_up_in, close_up_window};
 pub use kind::Kind;
 pub use page::{Page, page_text};
 pub use timeline::{Timeline, timeline_in};
+pub use transfers::{Transfer, transfers_in};

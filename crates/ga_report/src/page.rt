@@ -2,10 +2,12 @@
 ghost use Rattle.std.specs.Prelude.{◌≡◌, ◌++◌, IfOk, OnOk, string_bytes};
 ghost use Rattle.ga_report.specs.Page.{CLOSING, OPENING, REMARK, head, heading, page_text, preformatted};
 
+use crate::close_up::CloseUp;
+use crate::close_up_rows::push_close_up;
 use crate::escape::push_escaped;
 use crate::parts::push_parts;
 use crate::picture::push_picture;
-use crate::rows::{push_close_up, push_timeline};
+use crate::rows::push_timeline;
 use crate::style::push_style;
 use crate::timeline::Timeline;
 use ga_profile::Profile;
@@ -20,8 +22,8 @@ pub struct Page<'a> {
     pub profile: &'a Profile,
     /// The timeline of the profile's window.
     pub timeline: &'a Timeline,
-    /// The timeline of a part of it, as `close_up_window` gives.
-    pub close_up: Option<&'a Timeline>,
+    /// A part of it from near, as `close_up_window` gives.
+    pub close_up: Option<&'a CloseUp>,
     /// The text of the profile.
     pub profile_text: &'a str,
     /// The listing of its program, with counts.

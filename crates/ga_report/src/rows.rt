@@ -1,6 +1,6 @@
 //! The timeline as rows, one for each node that began.
 ghost use Rattle.std.specs.Prelude.{◌≡◌, ◌++◌, IfOk, OnOk, length, string_bytes};
-ghost use Rattle.ga_report.specs.Rows.{CLOSER, CROSS, KEY, KEY_ITEMS, OPENING, SAMPLE, chart, classed, close_up_part, closer, key_item, levelled, note, reader_waits_text, row, row_head, row_if, row_name, rows, stop_mark, summary, timeline_part, word_waits_text, works_text};
+ghost use Rattle.ga_report.specs.Rows.{CROSS, KEY, KEY_ITEMS, OPENING, SAMPLE, axis, classed, key_item, levelled, note, reader_waits_text, row, row_head, row_if, row_name, rows, stop_mark, summary, timeline_part, word_waits_text, works_text};
 
 use crate::columns::stride_of;
 use crate::kind::{KINDS, Kind, class_of, words_of};
@@ -8,7 +8,7 @@ use crate::line::{level_of, push_lines};
 use crate::scale::push_scale;
 use crate::timeline::{Timeline, row_of};
 use ga_place::Node;
-use ga_profile::{NodeTurns, TurnCounts};
+use ga_profile::{NodeTurns, TurnCounts, Window};
 use std::alloc::{AllocError, Global};
 use std::fmt::Write;
 
@@ -25,65 +25,17 @@ pub(crate) fn push_timeline(
         ≡ string_bytes text.old ++ timeline_part nodes.now timeline.now) }
 {
     push_key(text)?;
-    push_chart(text, alloc, nodes, timeline)
-}
-
-/// Adds the timeline of a part of the window, if there is one.
-pub(crate) fn push_close_up(
-    text: &mut String,
-    alloc: Global,
-    nodes: &[NodeTurns],
-    timeline: Option<&Timeline>,
-) -> Result<(), AllocError>
-    requires { length nodes.now ≡ 144 }
-    ensures { OnOk result (string_bytes text.new
-        ≡ string_bytes text.old ++ close_up_part nodes.now timeline.entry) }
-{
-    match timeline {
-        Some(timeline) => push_closer(text, alloc, nodes, timeline),
-        None => Ok(()),
-    }
-}
-
-/// Adds the timeline of a part of the window.
-#[tactic(auto, unfolding(crate::specs::Rows::closer))]
-fn push_closer(
-    text: &mut String,
-    alloc: Global,
-    nodes: &[NodeTurns],
-    timeline: &Timeline,
-) -> Result<(), AllocError>
-    requires { length nodes.now ≡ 144 }
-    ensures { OnOk result (string_bytes text.new
-        ≡ string_bytes text.old ++ closer nodes.now timeline.now) }
-{
-    push_closer_heading(text)?;
-    push_chart(text, alloc, nodes, timeline)
-}
-
-/// Adds the heading of the timeline of a part of the window.
-#[tactic(auto, unfolding(crate::specs::Rows::CLOSER))]
-fn push_closer_heading(text: &mut String) -> Result<(), AllocError>
-    ensures { OnOk result (string_bytes text.new ≡ string_bytes text.old ++ CLOSER) }
-{
-    text.push_str("<h2>Turns in the middle</h2>\n")
-}
-
-/// Adds the rows of a timeline, its scale, and what a column stands for.
-#[tactic(auto, unfolding(crate::specs::Rows::chart))]
-fn push_chart(
-    text: &mut String,
-    alloc: Global,
-    nodes: &[NodeTurns],
-    timeline: &Timeline,
-) -> Result<(), AllocError>
-    requires { length nodes.now ≡ 144 }
-    ensures { OnOk result (string_bytes text.new
-        ≡ string_bytes text.old ++ chart nodes.now timeline.now) }
-{
     push_rows(text, alloc, nodes, timeline)?;
-    push_scale(text, timeline.window)?;
-    push_note(text, stride_of(timeline.window))
+    push_axis(text, timeline.window)
+}
+
+/// Adds the scale of a window, and what a column stands for.
+#[tactic(auto, unfolding(crate::specs::Rows::axis))]
+pub(crate) fn push_axis(text: &mut String, window: Window) -> Result<(), AllocError>
+    ensures { OnOk result (string_bytes text.new ≡ string_bytes text.old ++ axis window) }
+{
+    push_scale(text, window)?;
+    push_note(text, stride_of(window))
 }
 
 /// Adds the heading, and what the lines mean.
@@ -163,7 +115,7 @@ fn push_level(text: &mut String, level: u8) -> Result<(), AllocError>
 
 /// Adds the rows of all nodes that began.
 #[tactic(auto, unfolding(crate::specs::Rows::rows))]
-fn push_rows(
+pub(crate) fn push_rows(
     text: &mut String,
     alloc: Global,
     nodes: &[NodeTurns],

@@ -97,6 +97,10 @@ fn push_lines(text: &mut String) -> Result<(), AllocError>
         ".stopped{stroke:var(--stop);stroke-width:2}\n",
         ".boots{stroke:var(--boot);stroke-width:6}\n",
         ".idle{stroke:var(--rule);stroke-width:1}\n",
+        ".over{position:relative}\n",
+        ".transfers{position:absolute;top:0;left:3.6em;width:calc(100% - 3.6em);height:100%;\n",
+        "font-size:13px;pointer-events:none}\n",
+        ".transfer{stroke:var(--ink);stroke-width:1;pointer-events:stroke}\n",
     ];
     push_parts(text, &parts)
 }
