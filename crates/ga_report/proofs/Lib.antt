@@ -1,4 +1,6 @@
 pub mod Reading
+pub mod Following
+pub mod Lasting
 pub mod Plain
 pub mod Transferring
 mod Worked

@@ -1,5 +1,6 @@
 -- What is read of the nodes, at any default.
 use Rattle.std.proofs.Common.{◌≡◌, ◌∙◌, ℕ, ◌+◌, ◌-◌, ◌*◌, ◌<◌, List, ◌++◌, ap, ap₂, arith, get_or, length, length-append, min}
+use Rattle.std.specs.Prelude.{Option}
 use Rattle.std.proofs.Math.Nat.{lt-div-mul-add, min-eq_right}
 use Rattle.std.proofs.lemmas.List.{get_or_default}
 use Rattle.std.proofs.lemmas.List.FromFn.{length-map-range_with_len}
@@ -33,24 +34,26 @@ node_read chip nodes index name other kind text new within named does wrote =
 
 -- a row of the timeline
 pub row_read : (nodes : List NodeTurns) (timeline : Timeline) (shown : List Kind) (index name : ℕ)
-    (other : NodeTurns) (counts none : TurnCounts) (text new : List ℕ) → index < length nodes
-    → index < length timeline.counts.items → name ≡ name_at index
+    (other : NodeTurns) (counts none : TurnCounts) (path : List (Option ℕ)) (text new : List ℕ)
+    → index < length nodes → index < length timeline.counts.items → name ≡ name_at index
     → counts ≡ get_or timeline.counts.items index none
-    → shown ≡ row_of timeline.columns timeline.kinds.items index
-    → new ≡ text ++ row_if (get_or nodes index other).began name counts shown
+    → shown ≡ row_of timeline.columns timeline.kinds.items index → path ≡ timeline.path.items
+    → new ≡ text ++ row_if (get_or nodes index other).began name counts shown path
     → new ≡ text ++ row_at nodes timeline index
-row_read nodes timeline shown index name other counts none text new within in_counts named found is
-    wrote =
+row_read nodes timeline shown index name other counts none path text new within in_counts named
+    found is holds wrote =
     let did = get_or nodes index NO_TURNS in
     let all = timeline.counts.items in
+    let own = get_or all index NO_COUNTS in
     wrote
-    ∙ ap (λ (one : NodeTurns). text ++ row_if one.began name counts shown)
+    ∙ ap (λ (one : NodeTurns). text ++ row_if one.began name counts shown path)
     (get_or_default nodes index other NO_TURNS within)
-    ∙ ap (λ (c : TurnCounts). text ++ row_if did.began name c shown)
+    ∙ ap (λ (c : TurnCounts). text ++ row_if did.began name c shown path)
     (found ∙ get_or_default all index none NO_COUNTS in_counts)
-    ∙ ap (λ n. text ++ row_if did.began n (get_or all index NO_COUNTS) shown) named
-    ∙ ap (λ (s : List Kind). text
-    ++ row_if did.began (name_at index) (get_or all index NO_COUNTS) s) is
+    ∙ ap (λ n. text ++ row_if did.began n own shown path) named
+    ∙ ap (λ (s : List Kind). text ++ row_if did.began (name_at index) own s path) is
+    ∙ ap (λ (p : List (Option ℕ)). text ++ row_if did.began (name_at index) own
+    (row_of timeline.columns timeline.kinds.items index) p) holds
 
 -- and what it does in most turns of a column
 pub most_read : (before after : List NodeTurns) (turns index : ℕ) (one other : NodeTurns)

@@ -10,7 +10,7 @@ use Rattle.ga_report.specs.Transfers.{last_post, posts_into, transfer_by, transf
 use Rattle.ga_report.specs.inner.KeptTransfers.{KeptTransfers}
 
 -- the last one first
-reversed_more : (steps : List Step) (step : Step)
+pub reversed_more : (steps : List Step) (step : Step)
     → reverse (steps ++ step ∷ []) ≡ step ∷ reverse steps
 reversed_more steps step = reverse-append steps (step ∷ [])
 

@@ -1,6 +1,6 @@
 -- The definitions at worked values.
-use Rattle.std.proofs.Common.{◌≡◌, ℕ, ◌++◌, List, [], ◌∷◌, Some, refl}
-use Rattle.std.specs.Prelude.{codes, None}
+use Rattle.std.proofs.Common.{◌≡◌, ℕ, ◌++◌, List, [], ◌∷◌, Some, get_or, refl}
+use Rattle.std.specs.Prelude.{codes, None, Option}
 use Rattle.std.specs.Fmt.{digits}
 use lib.Utf8.{encode}
 use Rattle.std.specs.Str.{chars}
@@ -19,8 +19,10 @@ use Rattle.ga_report.specs.CloseUp.{close_up_window}
 use Rattle.ga_report.specs.Columns.{bound, columns_of, stride_of}
 use Rattle.ga_report.specs.Ending.{kind_by, kind_since}
 use Rattle.ga_report.specs.Escape.{escaped}
+use Rattle.ga_report.specs.Holder.{column_at, held}
 use Rattle.ga_report.specs.Line.{line_of, line_with, path_data}
 use Rattle.ga_report.specs.Most.{between, most_of}
+use Rattle.ga_report.specs.PathLine.{path_edges}
 use Rattle.ga_report.specs.Picture.{arrow, group}
 use Rattle.ga_report.specs.Rows.{summary, works_text, word_waits_text, reader_waits_text}
 use Rattle.ga_report.specs.Scale.{LABEL, OPENING, scale, share, tick, tick_at, ticks}
@@ -125,6 +127,27 @@ quarters : scale (record { first = 7; end = 15 })
     ++ codes "<span style='left:calc(100%*8/8)'>15</span></div>\n"
 unfolding scale OPENING ticks tick LABEL share digits
 quarters = refl
+
+-- turn 104 is in the second column of three turns, and turn 99 is before the first one
+in_column : column_at long 104 ≡ Some 1
+in_column = refl
+
+before_columns : column_at long 99 ≡ None
+before_columns = refl
+
+-- a node has the path until another one has a step on it
+abbrev last_steps : List (Option ℕ)
+last_steps = Some 2 ∷ None ∷ Some 5 ∷ []
+
+second_holder : held (λ at. get_or last_steps at None) 2 ≡ Some 2
+second_holder = refl
+
+third_holder : held (λ at. get_or last_steps at None) 3 ≡ Some 5
+third_holder = refl
+
+parts_of_path : path_edges (Some 2 ∷ Some 2 ∷ Some 5 ∷ []) 2 ≡ codes "M0 23H2"
+unfolding path_edges digits
+parts_of_path = refl
 
 -- 708 posts three turns before the first one, 10, what 709 takes two turns behind it
 abbrev a_transfer : Transfer

@@ -4,8 +4,10 @@ pub mod Kind
 pub mod Columns
 pub mod Most
 pub mod CloseUp
+pub mod Holder
 pub mod Timeline
 pub mod Line
+pub mod PathLine
 pub mod Scale
 pub mod Rows
 pub mod Transfers

@@ -13,6 +13,7 @@ use Rattle.ga_report.specs.declared.timeline.Timeline.{Timeline}
 use Rattle.ga_report.specs.Columns.{stride_of}
 use Rattle.ga_report.specs.Kind.{KINDS, class_of, words_of}
 use Rattle.ga_report.specs.Line.{level_of, lines}
+use Rattle.ga_report.specs.PathLine.{path_line}
 use Rattle.ga_report.specs.Scale.{scale}
 use Rattle.ga_report.specs.Timeline.{row_of}
 
@@ -39,12 +40,18 @@ KEY_ITEMS = flat_map key_item KINDS
 unfoldable pub OPENING : List ℕ
 OPENING = codes "<h2>Timeline</h2>\n<ul class='key'>\n"
 
--- what a cross means
+-- what the line at the foot means, and a cross
+unfoldable pub PATH : List ℕ
+PATH =
+    concat (codes "<li><svg viewBox='0 0 26 24' aria-hidden='true'>"
+    ∷ codes "<path class='path' d='M0 23H26'/></svg>"
+    ∷ codes "the path: what the run waits for</li>\n" ∷ [])
+
 unfoldable pub CROSS : List ℕ
 CROSS = codes "<li>&#215; at a name: the node has stopped</li>\n"
 
 unfoldable pub KEY : List ℕ
-KEY = concat (OPENING ∷ KEY_ITEMS ∷ CROSS ∷ codes "</ul>\n" ∷ [])
+KEY = concat (OPENING ∷ KEY_ITEMS ∷ PATH ∷ CROSS ∷ codes "</ul>\n" ∷ [])
 
 -- in how many turns a node works, and in how many it waits
 unfoldable pub works_text : ℕ → ℕ → List ℕ
@@ -74,22 +81,27 @@ row_head columns =
     codes "</b><svg viewBox='0 0 " ++ decimal columns
     ++ codes " 24' preserveAspectRatio='none' role='img'><title>"
 
--- the row of a node, by what it does in how many turns, and in each column
-unfoldable pub row : ℕ → TurnCounts → List Kind → List ℕ
-row name counts shown =
+-- its lines: what it does in each column, and where it has the path
+unfoldable pub drawn : ℕ → List Kind → List (Option ℕ) → List ℕ
+drawn name shown path = lines shown ++ path_line path name
+
+-- the row of a node, by what it does in how many turns and in each column, and by who has the path
+unfoldable pub row : ℕ → TurnCounts → List Kind → List (Option ℕ) → List ℕ
+row name counts shown path =
     concat (row_name name ∷ stop_mark counts.stops ∷ row_head (length shown) ∷ summary name counts
-    ∷ codes "</title>" ∷ lines shown ∷ codes "</svg></div>\n" ∷ [])
+    ∷ codes "</title>" ∷ drawn name shown path
+    ∷ codes "</svg></div>\n" ∷ [])
 
 -- if the node began
-abbrev pub row_if : Option ℕ → ℕ → TurnCounts → List Kind → List ℕ
-row_if (Some turn) name counts shown = row name counts shown
-row_if None name counts shown = []
+abbrev pub row_if : Option ℕ → ℕ → TurnCounts → List Kind → List (Option ℕ) → List ℕ
+row_if (Some turn) name counts shown path = row name counts shown path
+row_if None name counts shown path = []
 
 abbrev pub row_at : List NodeTurns → Timeline → ℕ → List ℕ
 row_at nodes timeline index =
     row_if (get_or nodes index NO_TURNS).began (name_at index)
     (get_or timeline.counts.items index NO_COUNTS)
-    (row_of timeline.columns timeline.kinds.items index)
+    (row_of timeline.columns timeline.kinds.items index) timeline.path.items
 
 -- the rows of all nodes that began, in order of name
 unfoldable pub rows : List NodeTurns → Timeline → List ℕ

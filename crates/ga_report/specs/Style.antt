@@ -64,7 +64,8 @@ LINES =
     ∷ codes ".over{position:relative}\n"
     ∷ codes ".transfers{position:absolute;top:0;left:3.6em;width:calc(100% - 3.6em);height:100%;\n"
     ∷ codes "font-size:13px;pointer-events:none}\n"
-    ∷ codes ".transfer{stroke:var(--ink);stroke-width:1;pointer-events:stroke}\n" ∷ [])
+    ∷ codes ".transfer{stroke:var(--ink);stroke-width:1;pointer-events:stroke}\n"
+    ∷ codes ".path{stroke:var(--ink);stroke-width:2}\n" ∷ [])
 
 -- the picture of the chip, and the end of the style sheet
 unfoldable pub CHIP : List ℕ

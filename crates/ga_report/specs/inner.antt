@@ -1,3 +1,4 @@
 pub mod HasRun
 pub mod KeptTransfers
 pub mod Parts
+pub mod Trails

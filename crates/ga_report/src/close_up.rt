@@ -2,10 +2,11 @@
 ghost use Rattle.std.specs.Prelude.{◌≡◌, IfOk, None, take};
 ghost use Rattle.ga_report.specs.CloseUp as spec;
 ghost use Rattle.ga_report.specs.Columns as columns;
+ghost use Rattle.ga_report.specs.Holder.{holders_in};
 ghost use Rattle.ga_report.specs.Timeline.{counts_in, kinds_in};
 ghost use Rattle.ga_report.specs.Transfers.{transfers_in};
 
-use crate::timeline::{Timeline, timeline_in};
+use crate::timeline::{Timeline, timeline_of_part};
 use crate::transfers::{Transfer, transfers_in};
 use ga_chip::Chip;
 use ga_profile::{NodePass, Profile, Window};
@@ -19,20 +20,27 @@ pub struct CloseUp {
     pub transfers: Vec<Transfer>,
 }
 
-/// What each node does in a window of the run of a chip, and which words nodes take. The chip
+/// What each node does in a part of a window of the run of a chip, and which words nodes take. The chip
 /// itself makes no turn. Fails only when out of memory.
-pub fn close_up_in(alloc: Global, chip: &Chip, window: Window) -> Result<CloseUp, AllocError>
+pub fn close_up_in(
+    alloc: Global,
+    chip: &Chip,
+    whole: Window,
+    window: Window,
+) -> Result<CloseUp, AllocError>
     ensures window { IfOk result (λ near. near.timeline.window ≡ window) }
     ensures columns { IfOk result (λ near. near.timeline.columns ≡ columns.columns_of window) }
     ensures kinds { IfOk result (λ near.
         near.timeline.kinds.items ≡ kinds_in window chip.now) }
     ensures counts { IfOk result (λ near.
         near.timeline.counts.items ≡ counts_in window chip.now) }
+    ensures path { IfOk result (λ near.
+        near.timeline.path.items ≡ holders_in whole window chip.now) }
     ensures transfers { IfOk result (λ near.
         near.transfers.items ≡ take 401 (transfers_in window chip.now)) }
 {
     Ok(CloseUp {
-        timeline: timeline_in(alloc, chip, window)?,
+        timeline: timeline_of_part(alloc, chip, whole, window)?,
         transfers: transfers_in(alloc, chip, window)?,
     })
 }

@@ -62,7 +62,20 @@ fn push_edge(parts: &mut String, row: &[Kind], kind: Kind, column: usize) -> Res
 {
     let was = shows_before(row, kind, column);
     let is = shows(row, kind, column);
-    let level = level_of(kind);
+    push_edge_text(parts, level_of(kind), column, was, is)
+}
+
+/// Adds where a part at a height begins or ends, if one does with a column.
+pub(crate) fn push_edge_text(
+    parts: &mut String,
+    level: u8,
+    column: usize,
+    was: bool,
+    is: bool,
+) -> Result<(), AllocError>
+    ensures { OnOk result (string_bytes parts.new
+        ≡ string_bytes parts.old ++ edge_text level column was is) }
+{
     match (was, is) {
         (false, true) => write!(parts, "M{column} {level}"),
         (true, false) => write!(parts, "H{column}"),

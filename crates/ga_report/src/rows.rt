@@ -1,10 +1,12 @@
 //! The timeline as rows, one for each node that began.
 ghost use Rattle.std.specs.Prelude.{◌≡◌, ◌++◌, IfOk, OnOk, length, string_bytes};
-ghost use Rattle.ga_report.specs.Rows.{CROSS, KEY, KEY_ITEMS, OPENING, SAMPLE, axis, classed, key_item, levelled, note, reader_waits_text, row, row_head, row_if, row_name, rows, stop_mark, summary, timeline_part, word_waits_text, works_text};
+ghost use Rattle.ga_report.specs.Rows.{CROSS, KEY, KEY_ITEMS, OPENING, PATH, SAMPLE, axis, classed, drawn, key_item, levelled, note, reader_waits_text, row, row_head, row_if, row_name, rows, stop_mark, summary, timeline_part, word_waits_text, works_text};
 
 use crate::columns::stride_of;
 use crate::kind::{KINDS, Kind, class_of, words_of};
 use crate::line::{level_of, push_lines};
+use crate::parts::push_parts;
+use crate::path_line::push_path;
 use crate::scale::push_scale;
 use crate::timeline::{Timeline, row_of};
 use ga_place::Node;
@@ -45,8 +47,22 @@ fn push_key(text: &mut String) -> Result<(), AllocError>
 {
     push_opening(text)?;
     push_key_items(text)?;
+    push_path_item(text)?;
     push_cross(text)?;
     text.push_str("</ul>\n")
+}
+
+/// Adds what the line at the foot means.
+#[tactic(auto, unfolding(crate::specs::Rows::PATH))]
+fn push_path_item(text: &mut String) -> Result<(), AllocError>
+    ensures { OnOk result (string_bytes text.new ≡ string_bytes text.old ++ PATH) }
+{
+    let parts = [
+        "<li><svg viewBox='0 0 26 24' aria-hidden='true'>",
+        "<path class='path' d='M0 23H26'/></svg>",
+        "the path: what the run waits for</li>\n",
+    ];
+    push_parts(text, &parts)
 }
 
 /// Adds what a cross means.
@@ -134,6 +150,7 @@ pub(crate) fn push_rows(
             Node::at(index),
             &timeline.counts[index],
             shown.as_slice(),
+            timeline.path.as_slice(),
         )?;
     }
     Ok(())
@@ -147,12 +164,13 @@ fn push_row_if(
     node: Node,
     counts: &TurnCounts,
     shown: &[Kind],
+    path: &[Option<u8>],
 ) -> Result<(), AllocError>
     ensures { OnOk result (string_bytes text.new ≡ string_bytes text.old
-        ++ row_if began node counts.now shown.now) }
+        ++ row_if began node counts.now shown.now path.now) }
 {
     match began {
-        Some(_) => push_row(text, alloc, node, counts, shown),
+        Some(_) => push_row(text, alloc, node, counts, shown, path),
         None => Ok(()),
     }
 }
@@ -165,17 +183,34 @@ fn push_row(
     node: Node,
     counts: &TurnCounts,
     shown: &[Kind],
+    path: &[Option<u8>],
 ) -> Result<(), AllocError>
     ensures { OnOk result (string_bytes text.new ≡ string_bytes text.old
-        ++ row node counts.now shown.now) }
+        ++ row node counts.now shown.now path.now) }
 {
     push_row_name(text, node)?;
     text.push_str(stop_mark(counts.stops))?;
     push_row_head(text, shown.len())?;
     push_summary(text, node, counts)?;
     text.push_str("</title>")?;
-    push_lines(text, alloc, shown)?;
+    push_drawn(text, alloc, node, shown, path)?;
     text.push_str("</svg></div>\n")
+}
+
+/// Adds the lines of a row.
+#[tactic(auto, unfolding(crate::specs::Rows::drawn))]
+fn push_drawn(
+    text: &mut String,
+    alloc: Global,
+    node: Node,
+    shown: &[Kind],
+    path: &[Option<u8>],
+) -> Result<(), AllocError>
+    ensures { OnOk result (string_bytes text.new ≡ string_bytes text.old
+        ++ drawn node shown.now path.now) }
+{
+    push_lines(text, alloc, shown)?;
+    push_path(text, alloc, path, node)
 }
 
 /// Adds the name of a node at the begin of its row.

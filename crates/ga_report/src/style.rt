@@ -101,6 +101,7 @@ fn push_lines(text: &mut String) -> Result<(), AllocError>
         ".transfers{position:absolute;top:0;left:3.6em;width:calc(100% - 3.6em);height:100%;\n",
         "font-size:13px;pointer-events:none}\n",
         ".transfer{stroke:var(--ink);stroke-width:1;pointer-events:stroke}\n",
+        ".path{stroke:var(--ink);stroke-width:2}\n",
     ];
     push_parts(text, &parts)
 }

@@ -1,10 +1,12 @@
 //! What each node does in the columns of a window.
 ghost use Rattle.std.specs.Prelude.{◌≡◌, ◌+◌, ◌*◌, ◌<◌, ◌++◌, IfOk, OnOk, length};
 ghost use Rattle.ga_report.specs.Columns as columns;
+ghost use Rattle.ga_report.specs.Holder.{holders_in};
 ghost use Rattle.ga_report.specs.Timeline as spec;
 ghost use Rattle.ga_report.specs.Timeline.{counts_by, counts_in, kinds_in, most_by};
 
 use crate::columns::{bound, columns_of};
+use crate::holders::holders_in;
 use crate::kind::Kind;
 use crate::most::{between, most_between};
 use crate::watched::Watched;
@@ -23,6 +25,8 @@ pub struct Timeline {
     pub kinds: Vec<Kind>,
     /// In how many turns of the window each node, in order of name, does what.
     pub counts: Vec<TurnCounts>,
+    /// Which node has the path in each column, by its index in order of name.
+    pub path: Vec<Option<u8>>,
     ghost all: { length kinds.items ≡ columns * 144 },
     ghost counted: { length counts.items ≡ 144 },
 }
@@ -34,6 +38,25 @@ pub fn timeline_in(alloc: Global, chip: &Chip, window: Window) -> Result<Timelin
     ensures columns { IfOk result (λ timeline. timeline.columns ≡ columns.columns_of window) }
     ensures kinds { IfOk result (λ timeline. timeline.kinds.items ≡ kinds_in window chip.now) }
     ensures counts { IfOk result (λ timeline. timeline.counts.items ≡ counts_in window chip.now) }
+    ensures path { IfOk result (λ timeline.
+        timeline.path.items ≡ holders_in window window chip.now) }
+{
+    timeline_of_part(alloc, chip, window, window)
+}
+
+/// The same of a part of a window, with the path of the whole window.
+pub fn timeline_of_part(
+    alloc: Global,
+    chip: &Chip,
+    whole: Window,
+    window: Window,
+) -> Result<Timeline, AllocError>
+    ensures window { IfOk result (λ timeline. timeline.window ≡ window) }
+    ensures columns { IfOk result (λ timeline. timeline.columns ≡ columns.columns_of window) }
+    ensures kinds { IfOk result (λ timeline. timeline.kinds.items ≡ kinds_in window chip.now) }
+    ensures counts { IfOk result (λ timeline. timeline.counts.items ≡ counts_in window chip.now) }
+    ensures path { IfOk result (λ timeline.
+        timeline.path.items ≡ holders_in whole window chip.now) }
 {
     let columns = columns_of(window);
     let first = bound(window, 0);
@@ -55,6 +78,7 @@ pub fn timeline_in(alloc: Global, chip: &Chip, window: Window) -> Result<Timelin
         columns,
         kinds,
         counts: counts_between(alloc, begun.as_slice(), before.as_slice())?,
+        path: holders_in(alloc, chip, whole, window)?,
     })
 }
 

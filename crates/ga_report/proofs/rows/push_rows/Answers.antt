@@ -16,8 +16,9 @@ loop-index-preserved c =
     omega (arith, timeline.counted, c.loop-index-test.true) in
     part_more (row_at nodes timeline) index (string_bytes c.args.text.now) text _
     c.loop-index.invariant
-    (row_read nodes timeline c.as_slice.result.now index c.at.result _ c.index.result.now _ text _
-    within in_counts c.at.ensures c.index.ensures (c.as_slice.ensures.value ∙ c.in_ok-shown.ensures)
+    (row_read nodes timeline c.as_slice.result.now index c.at.result _ c.index.result.now _
+    c.as_slice-in-loop-index.result.now text _ within in_counts c.at.ensures c.index.ensures
+    (c.as_slice.ensures.value ∙ c.in_ok-shown.ensures) c.as_slice-in-loop-index.ensures.value
     c.in_ok-push_row_if.ensures)
 
 pub returns : goal.returns

@@ -3,7 +3,7 @@ use Rattle.std.specs.List.{flat_map, range_with_len}
 use Rattle.ga_report.specs.inner.HasRun.{HasRun}
 use Rattle.ga_report.specs.Columns.{bound}
 use Rattle.ga_report.specs.Timeline.{column_in, up_to}
-use Rattle.ga_report.proofs.timeline.timeline_in.Given as goal
+use Rattle.ga_report.proofs.timeline.timeline_of_part.Given as goal
 
 -- the kinds of as many columns are added, and the run has come to their end
 abbrev pub invariant-loop-column : goal.invariant-loop-column

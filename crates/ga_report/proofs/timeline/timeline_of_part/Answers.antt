@@ -5,7 +5,7 @@ use Rattle.ga_report.specs.inner.HasRun.{HasRun}
 use Rattle.ga_report.specs.Columns.{bound}
 use Rattle.ga_report.specs.Timeline.{column_in, counts_by, counts_in, kinds_in, most_by, up_to}
 use Rattle.ga_report.proofs.Reading.{column_count, column_read, first_begin, last_end}
-use Rattle.ga_report.proofs.timeline.timeline_in.Goals as goal
+use Rattle.ga_report.proofs.timeline.timeline_of_part.Goals as goal
 
 pub loop-column-preserved : goal.loop-column-preserved
 loop-column-preserved c =
