@@ -140,7 +140,8 @@ held_all part path trail columns few is =
     (λ column within.
     let one : column + 1 ≡ suc column = omega arith in
     ap (held kept) one
-    ∙ held_same kept last (suc column) (λ at below. is.nodes at (omega (arith, below, within, few))))
+    ∙ held_same kept last (suc column)
+    (λ at below. is.nodes at (omega (arith, below, within, few))))
 
 -- ---- columns
 

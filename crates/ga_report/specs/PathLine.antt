@@ -1,4 +1,4 @@
--- Where a node has the path of a run, as a line at the foot of its row.
+-- The path of a run, as lines at the foot of the rows.
 use Rattle.std.specs.Prelude.{ℕ, ◌+◌, ◌-◌, ◌==◌, Bool, false, List, [], ◌∷◌, codes, length, Option, Some, None, if◌then◌else◌}
 use Rattle.std.specs.List.{concat, flat_map, range_with_len, slice_get}
 use Rattle.ga_place.specs.Cell.{index_of}

@@ -20,8 +20,9 @@ pub struct CloseUp {
     pub transfers: Vec<Transfer>,
 }
 
-/// What each node does in a part of a window of the run of a chip, and which words nodes take. The chip
-/// itself makes no turn. Fails only when out of memory.
+/// What each node does in a part of a window of the run of a chip, with the path of the whole
+/// window, and which words nodes take in the part. The chip itself makes no turn. Fails only when
+/// out of memory.
 pub fn close_up_in(
     alloc: Global,
     chip: &Chip,

@@ -1,4 +1,4 @@
-//! Where a node has the path of a run, as a line at the foot of its row.
+//! The path of a run, as lines at the foot of the rows.
 ghost use Rattle.std.specs.Prelude.{◌≡◌, ◌++◌, IfOk, OnOk, string_bytes};
 ghost use Rattle.ga_report.specs.PathLine as spec;
 ghost use Rattle.ga_report.specs.PathLine.{path_edge, path_edges, path_if, path_line};
