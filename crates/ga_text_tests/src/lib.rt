@@ -9,6 +9,8 @@ mod expanding;
 #[cfg(test)]
 mod frames;
 #[cfg(test)]
+mod linting;
+#[cfg(test)]
 mod packing;
 #[cfg(test)]
 mod places;

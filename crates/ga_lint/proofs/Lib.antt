@@ -1,0 +1,4 @@
+pub mod OneLint
+mod Sections
+mod Words
+mod Worked

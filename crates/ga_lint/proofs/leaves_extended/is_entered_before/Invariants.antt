@@ -1,0 +1,11 @@
+use Rattle.std.proofs.Common.{◌≡◌, drop, map}
+use Rattle.std.specs.List.{list_any}
+use Rattle.ga_disasm.specs.Disassembling.{item_view}
+use Rattle.ga_lint.specs.LeavesExtended as spec
+use Rattle.ga_lint.proofs.leaves_extended.is_entered_before.Given as goal
+
+-- no word so far enters it
+abbrev pub invariant-loop-word : goal.invariant-loop-word
+invariant-loop-word l =
+    list_any (spec.enters_before l.address) (map item_view (drop l.word-index l.words))
+    ≡ list_any (spec.enters_before l.address) (map item_view l.words)

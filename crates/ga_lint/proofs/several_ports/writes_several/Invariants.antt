@@ -1,0 +1,12 @@
+use Rattle.std.proofs.Common.{◌≡◌, ◌+◌, ◌≤◌, drop, false, map}
+use Rattle.ga_disasm.specs.Disassembling.{item_view}
+use Rattle.ga_lint.specs.SeveralPorts as spec
+use Rattle.ga_lint.specs.inner.NodeText.{node_of}
+use Rattle.ga_lint.proofs.several_ports.writes_several.Given as goal
+
+-- what is left of the word
+abbrev pub invariant-loop-slot : goal.invariant-loop-slot
+invariant-loop-slot l =
+    (spec.writes_several (node_of l.node) l.p l.several (drop l.slot l.ops) (map item_view l.behind)
+    ≡ spec.writes_several (node_of l.node) l.first false l.ops (map item_view l.behind))
+    × (l.p ≤ l.first + l.slot)

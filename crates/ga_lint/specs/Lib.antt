@@ -1,0 +1,15 @@
+pub mod Warning
+pub mod NodeView
+pub mod UnextRepeats
+pub mod SplitLoop
+pub mod Reaching
+pub mod RunsOff
+pub mod StraightRun
+pub mod Unreachable
+pub mod SeveralPorts
+pub mod LeavesExtended
+pub mod OverMemory
+pub mod LabelWarnings
+pub mod NodeWarnings
+pub mod Linting
+pub mod inner

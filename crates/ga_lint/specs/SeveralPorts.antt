@@ -1,0 +1,93 @@
+-- A word is written to the ports of several sides, which stops the node.
+use Rattle.std.specs.Prelude.{◌&&◌, ◌||◌, ℕ, ◌+◌, Bool, true, false, List, [], ◌∷◌, Option, Some, None, drop, is_none, if◌then◌else◌}
+use Rattle.std.specs.List.{slice_get}
+use Rattle.std.specs.Option.{option_map_or}
+use Rattle.ga_disasm.specs.Disassembling.{ItemView, Code, Follower, Data}
+use Rattle.ga_lint.specs.NodeView.{NodeView, lands}
+use Rattle.ga_pack.specs.Followers.{is_followed}
+use Rattle.ga_place.specs.Side.{one_side}
+use Rattle.ga_place.specs.declared.address.Where.{Where}
+use Rattle.ga_place.specs.declared.address.Where.TheVariants.{Ports}
+use Rattle.ga_word.specs.declared.op.Op.{Op}
+use Rattle.ga_word.specs.declared.op.Op.TheVariants.{FetchP, StorePlus, StoreB, Store, BStore, AStore}
+use Rattle.ga_word.specs.Op.{ends_word}
+
+-- the ports of several sides
+abbrev pub is_several : Where → Bool
+is_several (Ports sides) = is_none (one_side sides)
+is_several reached = false
+
+-- ---- the registers that hold addresses: B, or else A
+
+abbrev pub sets : Bool → Op → Bool
+sets true BStore = true
+sets false AStore = true
+sets is_b o = false
+
+-- an opcode writes to the address that a register has
+abbrev pub writes : Bool → Op → Bool
+writes true StoreB = true
+writes false Store = true
+writes false StorePlus = true
+writes is_b o = false
+
+-- The opcodes behind the one that sets a register write by it (`true`) or set it anew or go
+-- elsewhere (`false`), whichever is first; or neither.
+abbrev pub use_in : Bool → List Op → Option Bool
+use_in is_b [] = None
+use_in is_b (o ∷ ops) =
+    if writes is_b o then Some true else if sets is_b o || ends_word o then Some false
+    else use_in is_b ops
+
+-- the same of words
+abbrev pub is_written_in : Bool → Option Bool → List ItemView → Bool
+is_written_in is_b (Some written) items = written
+is_written_in is_b None [] = false
+is_written_in is_b None (Code reading ∷ items) = is_written_in is_b (use_in is_b reading.ops) items
+is_written_in is_b None (Follower word ∷ items) = is_written_in is_b None items
+is_written_in is_b None (Data word ∷ items) = false
+
+-- ---- the word that sets it
+
+-- an opcode sets a register, by which these opcodes and words behind it write
+abbrev pub is_written : Op → List Op → List ItemView → Bool
+is_written BStore ops items = is_written_in true (use_in true ops) items
+is_written AStore ops items = is_written_in false (use_in false ops) items
+is_written o ops items = false
+
+-- so does the first opcode of the next word of code
+abbrev pub is_written_first : List Op → List ItemView → Bool
+is_written_first [] items = false
+is_written_first (o ∷ ops) items = is_written o ops items
+
+abbrev pub is_written_next : List ItemView → Bool
+is_written_next [] = false
+is_written_next (Code reading ∷ items) = is_written_first reading.ops items
+is_written_next (Follower word ∷ items) = is_written_next items
+is_written_next (Data word ∷ items) = false
+
+abbrev pub is_literal : Op → Bool
+is_literal FetchP = true
+is_literal o = false
+
+-- One of the opcodes of a word, an `@p`, takes the address of several sides, the next opcode sets a
+-- register to it, and the node writes by that. The word's next follower has this address, and the
+-- opcode before these took such an address or not.
+abbrev pub writes_several : NodeView → ℕ → Bool → List Op → List ItemView → Bool
+writes_several node p several [] items = several && is_written_next items
+writes_several node p several (o ∷ ops) items =
+    several && is_written o ops items
+    || (if ends_word o then false
+    else writes_several node (if is_followed o then p + 1 else p)
+    (is_literal o && option_map_or (λ word. is_several (lands word)) (slice_get node.image.words p)
+    false) ops items)
+
+abbrev pub writes_several_in : NodeView → ℕ → ItemView → Bool
+writes_several_in node address (Code reading) =
+    writes_several node (address + 1) false reading.ops (drop (address + 1) node.words)
+writes_several_in node address item = false
+
+-- so of the word at an address
+abbrev pub several_ports : NodeView → ℕ → Bool
+several_ports node address =
+    option_map_or (writes_several_in node address) (slice_get node.words address) false

@@ -1,0 +1,178 @@
+ghost use Rattle.std.specs.Prelude.{◌≡◌, ◌+◌, ◌<◌, ◌≤◌, None, false, length, map, slice_get};
+ghost use Rattle.std.specs.Option.{option_map_or};
+ghost use Rattle.ga_disasm.specs.Disassembling.{item_view};
+ghost use Rattle.ga_lint.specs.NodeView.{lands};
+ghost use Rattle.ga_lint.specs.SeveralPorts as spec;
+ghost use Rattle.ga_lint.specs.inner.NodeText.{node_of};
+
+use crate::lookups::land;
+use crate::node_text::NodeText;
+use ga_disasm::Item;
+use ga_pack::is_followed;
+use ga_place::Where;
+use ga_word::{Op, Word18};
+
+/// Whether the word at an address sets A or B to the ports of several sides, and the node writes
+/// there.
+pub(crate) fn several_ports(node: &NodeText<'_>, address: usize) -> bool
+    ensures { result ≡ spec.several_ports (node_of node.now) address }
+{
+    match node.words.get(address) {
+        Some(word) => writes_several_in(node, address, word),
+        None => false,
+    }
+}
+
+/// The same of the word there.
+fn writes_several_in(node: &NodeText<'_>, address: usize, word: &Item) -> bool
+    requires { address < 64 }
+    ensures { result ≡ spec.writes_several_in (node_of node.now) address (item_view word.now) }
+{
+    match word {
+        Item::Code(packed) => {
+            let behind = node.words_from(address + 1);
+            writes_several(node, address + 1, packed.ops.as_slice(), behind)
+        }
+        _ => false,
+    }
+}
+
+/// Whether one of a word's opcodes sets A or B so. The word's first follower has this address, and
+/// these words are behind it.
+fn writes_several(node: &NodeText<'_>, first: usize, ops: &[Op], behind: &[Item]) -> bool
+    requires near { first ≤ 64 }
+    requires few { length ops.now ≤ 4 }
+    ensures { result ≡ spec.writes_several (node_of node.now) first false ops.now
+        (map item_view behind.now) }
+{
+    let mut p = first;
+    let mut several = false;
+    for (slot, op) in ops.iter().enumerate() {
+        if several && is_written(*op, &ops[slot + 1..], behind) {
+            return true;
+        }
+        if op.ends_word() {
+            return false;
+        }
+        several = matches!(op, Op::FetchP) && is_several_at(node.image.words(), p);
+        if is_followed(*op) {
+            p += 1;
+        }
+    }
+    several && is_written_next(behind)
+}
+
+/// Whether the word at an address is the address of the ports of several sides.
+fn is_several_at(words: &[Word18], address: usize) -> bool
+    ensures { result ≡ option_map_or (λ word. spec.is_several (lands word))
+        (slice_get words.now address) false }
+{
+    match words.get(address) {
+        Some(word) => is_several(land(word.get())),
+        None => false,
+    }
+}
+
+fn is_several(reached: Where) -> bool
+    ensures { result ≡ spec.is_several reached }
+{
+    match reached {
+        Where::Ports(sides) => sides.only().is_none(),
+        _ => false,
+    }
+}
+
+/// Whether the first opcode of the next word of code sets a register by which the node writes.
+fn is_written_next(words: &[Item]) -> bool
+    ensures { result ≡ spec.is_written_next (map item_view words.now) }
+{
+    for (index, word) in words.iter().enumerate() {
+        match word {
+            Item::Code(packed) => {
+                return is_written_first(packed.ops.as_slice(), &words[index + 1..]);
+            }
+            Item::Follower(_) => {}
+            Item::Data(_) => return false,
+        }
+    }
+    false
+}
+
+fn is_written_first(ops: &[Op], behind: &[Item]) -> bool
+    ensures { result ≡ spec.is_written_first ops.now (map item_view behind.now) }
+{
+    match ops.first() {
+        Some(op) => is_written(*op, &ops[1..], behind),
+        None => false,
+    }
+}
+
+/// Whether an opcode sets a register by which these opcodes, and then these words, write.
+fn is_written(op: Op, ops: &[Op], behind: &[Item]) -> bool
+    ensures { result ≡ spec.is_written op ops.now (map item_view behind.now) }
+{
+    match op {
+        Op::BStore => is_written_in(true, use_in(true, ops), behind),
+        Op::AStore => is_written_in(false, use_in(false, ops), behind),
+        _ => false,
+    }
+}
+
+/// Whether a register is written by, if it is known or else in these words.
+fn is_written_in(is_b: bool, known: Option<bool>, words: &[Item]) -> bool
+    ensures { result ≡ spec.is_written_in is_b known (map item_view words.now) }
+{
+    if let Some(written) = known {
+        return written;
+    }
+    for word in words {
+        match word {
+            Item::Code(packed) => {
+                if let Some(written) = use_in(is_b, packed.ops.as_slice()) {
+                    return written;
+                }
+            }
+            Item::Follower(_) => {}
+            Item::Data(_) => return false,
+        }
+    }
+    false
+}
+
+/// Whether these opcodes write by a register before they set it anew or go elsewhere, if they do
+/// any of these.
+fn use_in(is_b: bool, ops: &[Op]) -> Option<bool>
+    ensures { result ≡ spec.use_in is_b ops.now }
+{
+    for op in ops {
+        if writes(is_b, *op) {
+            return Some(true);
+        }
+        if sets(is_b, *op) || op.ends_word() {
+            return Some(false);
+        }
+    }
+    None
+}
+
+/// Whether an opcode sets B, or else A.
+fn sets(is_b: bool, op: Op) -> bool
+    ensures { result ≡ spec.sets is_b op }
+{
+    match op {
+        Op::BStore => is_b,
+        Op::AStore => !is_b,
+        _ => false,
+    }
+}
+
+/// Whether an opcode writes by B, or else by A.
+fn writes(is_b: bool, op: Op) -> bool
+    ensures { result ≡ spec.writes is_b op }
+{
+    match op {
+        Op::StoreB => is_b,
+        Op::Store | Op::StorePlus => !is_b,
+        _ => false,
+    }
+}
