@@ -11,13 +11,18 @@ use ga_place::Node;
 use std::alloc::{AllocError, Global};
 use std::fmt::Write;
 
-/// The names of the nodes that wait for good and aren't in a ring, each behind a blank.
+/// The names of the nodes that wait for good and aren't in a ring, in order of name, each behind a
+/// blank. Fails only when out of memory. (The text is this project's own: profile.)
+pub fn stuck_names(alloc: Global, chip: &Chip) -> Result<String, AllocError>
+    ensures { IfOk result (λ names. string_bytes names ≡ behind_names chip.now) }
+{
+    chip.legal();
+    behind_names(alloc, chip, &chip.stuck())
+}
+
+/// The same names, by the nodes that wait for good.
 #[tactic(auto, unfolding(crate::specs::Behind::behind_names))]
-pub(crate) fn behind_names(
-    alloc: Global,
-    chip: &Chip,
-    stuck: &StuckNodes,
-) -> Result<String, AllocError>
+fn behind_names(alloc: Global, chip: &Chip, stuck: &StuckNodes) -> Result<String, AllocError>
     requires stuck { (name : ℕ) → has_node stuck.now name ≡ stuck_in chip.now name }
     ensures { IfOk result (λ names. string_bytes names ≡ behind_names chip.now) }
 {

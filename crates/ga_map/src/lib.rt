@@ -11,4 +11,5 @@ mod posted;
 mod rings;
 mod text;
 
+pub use behind::stuck_names;
 pub use text::map;

@@ -2,7 +2,7 @@ ghost use Rattle.std.specs.Prelude.{◌≡◌, IfOk, string_bytes};
 ghost use Rattle.ga_waits.specs.Label.{images_in};
 ghost use Rattle.ga_map.specs.Map.{map_text};
 
-use crate::behind::{behind_names, push_behind};
+use crate::behind::{push_behind, stuck_names};
 use crate::pending::push_pending;
 use crate::picture::{push_legend, push_picture};
 use crate::rings::push_ring_nodes;
@@ -22,13 +22,12 @@ pub fn map(alloc: Global, chip: &Chip, images: Option<&Images>) -> Result<String
         ≡ map_text (images_in images.entry) chip.now) }
 {
     let mut text = String::new(alloc);
-    chip.legal();
     push_picture(&mut text, alloc, chip)?;
     push_legend(&mut text)?;
     push_pending(&mut text, chip, images)?;
     push_rings(&mut text, chip)?;
     push_ring_nodes(&mut text, chip, images)?;
-    let names = behind_names(alloc, chip, &chip.stuck())?;
+    let names = stuck_names(alloc, chip)?;
     push_behind(&mut text, names.as_str())?;
     Ok(text)
 }

@@ -1,10 +1,16 @@
 -- What a run waits for, and what to change so that it gets shorter.
-use Rattle.std.specs.Prelude.{ℕ, zero, suc, ◌+◌, ◌*◌, ◌/◌, ◌%◌, ◌==◌, Option, Some, None, Bool, ◌&&◌, not, List, [], ◌∷◌, ◌++◌, codes, get_or, length, max, nat_le, nat_lt, if◌then◌else◌}
+use Rattle.std.specs.Prelude.{ℕ, zero, suc, ◌+◌, ◌*◌, ◌/◌, ◌%◌, ◌==◌, Option, Some, None, Bool, true, false, ◌&&◌, not, List, [], ◌∷◌, ◌++◌, codes, get_or, length, max, nat_le, nat_lt, if◌then◌else◌}
 use Rattle.std.specs.Fmt.{decimal}
 use Rattle.std.specs.List.{flat_map, range_with_len}
 use Rattle.ga_place.specs.Cell.{name_at}
 use Rattle.ga_place.specs.Node.{node_text}
-use Rattle.ga_chip.specs.Chip.{Chip}
+use Rattle.ga_chip.specs.Chip.{Chip, state_of}
+use Rattle.ga_chip.specs.Run.{stands_held}
+use Rattle.ga_node.specs.Need.{need_of}
+use Rattle.ga_node.specs.State.{State}
+use Rattle.ga_node.specs.declared.need.Need.{Need}
+use Rattle.ga_node.specs.declared.need.Need.TheVariants as need
+use Rattle.ga_waits.specs.Closed.{stuck_in}
 use Rattle.ga_waits.specs.Waits.{all_ring_lines, text_of}
 use Rattle.ga_profile.specs.declared.bottleneck.Bottleneck.{Bottleneck}
 use Rattle.ga_profile.specs.declared.bottleneck.Bottleneck.TheVariants.{Deadlock, Nothing, OneNode, EachNode, NoNode, OnPath}
@@ -155,9 +161,41 @@ busiest_text nodes passes paths turns rings =
     let used = most_use (use_at nodes passes turns) 144 in
     judged_text paths turns rings (busy_names (use_at nodes passes turns) used) used
 
--- and the rings of the chip at its end
+-- ---- words that are never read
+
+abbrev pub awaits_reader : Need → Bool
+awaits_reader (need.Post side word) = true
+awaits_reader (need.Check side) = true
+awaits_reader other = false
+
+-- a node waits for good for its word to be read
+abbrev pub is_unread : Bool → Bool → Option State → Bool
+is_unread stuck held (Some state) = stuck && not held && awaits_reader (need_of state)
+is_unread stuck held None = false
+
+abbrev pub unread_name : Chip → ℕ → List ℕ
+unread_name chip name =
+    if is_unread (stuck_in chip name) (stands_held chip name) (state_of chip name)
+    then 32 ∷ node_text name else []
+
+-- the names of these nodes, each behind a blank
+unfoldable pub unread_names : Chip → List ℕ
+unread_names chip = flat_map (λ index. unread_name chip (name_at index)) (range_with_len 0 144)
+
+abbrev pub unread_text : List ℕ → List ℕ
+unread_text names =
+    if length names == 0 then []
+    else codes "Stuck, since no node reads its word:" ++ names ++ codes ".\n"
+
+-- without rings, the words that are never read come first
+abbrev pub with_unread : List ℕ → List ℕ → List ℕ → List ℕ
+with_unread rings unread busiest =
+    if length rings == 0 then unread ++ busiest else busiest ++ rings
+
+-- and the chip at its end
 unfoldable pub bottleneck_text : Chip → List NodeTurns → List (Option NodePass) → List ℕ → ℕ
     → List ℕ
 bottleneck_text chip nodes passes paths turns =
     let rings = text_of (all_ring_lines chip) in
-    busiest_text nodes passes paths turns (not (length rings == 0)) ++ rings
+    with_unread rings (unread_text (unread_names chip))
+    (busiest_text nodes passes paths turns (not (length rings == 0)))

@@ -8,6 +8,7 @@ ghost use Rattle.ga_profile.specs.Window.{length_of};
 use crate::node_pass::NodePass;
 use crate::node_turns::NodeTurns;
 use crate::profile::Profile;
+use crate::unread::push_unread;
 use ga_chip::Chip;
 use ga_place::Node;
 use ga_waits::push_rings;
@@ -31,9 +32,9 @@ pub(crate) enum Bottleneck {
     OnPath,
 }
 
-/// The bottleneck of a run, what to change, and the rings of nodes that wait for one another, as in
-/// [`profile_text`](crate::profile_text). Fails only when out of memory. (The text is this
-/// project's own: profile.)
+/// The bottleneck of a run, what to change, and the rings of nodes that wait for one another, or
+/// else the nodes whose words are never read, as in [`profile_text`](crate::profile_text). Fails
+/// only when out of memory. (The text is this project's own: profile.)
 pub fn bottleneck_text(alloc: Global, profile: &Profile) -> Result<String, AllocError>
     ensures { IfOk result (λ text. string_bytes text
         ≡ bottleneck_text profile.now.chip profile.now.nodes.items profile.now.passes.items
@@ -44,7 +45,7 @@ pub fn bottleneck_text(alloc: Global, profile: &Profile) -> Result<String, Alloc
     Ok(text)
 }
 
-/// Adds the bottleneck of a run, what to change, and the rings of nodes that wait for one another.
+/// Adds the bottleneck of a run, what to change, and who waits for good.
 #[tactic(auto, unfolding(crate::specs::Bottleneck::bottleneck_text))]
 pub(crate) fn push_bottleneck(
     text: &mut String,
@@ -56,9 +57,13 @@ pub(crate) fn push_bottleneck(
         profile.now.path.items (length_of profile.now.window)) }
 {
     let rings = ring_lines(alloc, &profile.chip)?;
-    push_busiest(text, alloc, profile, !rings.is_empty())?;
-    text.push_str(rings.as_str())?;
-    Ok(())
+    if rings.is_empty() {
+        push_unread(text, alloc, &profile.chip)?;
+        push_busiest(text, alloc, profile, false)
+    } else {
+        push_busiest(text, alloc, profile, true)?;
+        text.push_str(rings.as_str())
+    }
 }
 
 /// Adds the bottleneck of a run, and what to change.

@@ -21,6 +21,7 @@ mod table;
 mod text;
 mod trail;
 mod turn_watch;
+mod unread;
 mod window;
 
 pub use bottleneck::bottleneck_text;
