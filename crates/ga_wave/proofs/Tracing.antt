@@ -9,7 +9,8 @@ use Rattle.ga_trace.specs.Traced.{turned}
 use Rattle.ga_wave.specs.declared.wave.Traced.{Traced}
 use Rattle.ga_wave.specs.Header.{scope}
 use Rattle.ga_wave.specs.Wave.{chip_behind, node_changes}
-use Rattle.ga_wave.specs.inner.Traced.{first_traced, next_traced, one_changes, scopes_of, traced_at, traced_by, traced_changes}
+use Rattle.ga_wave.specs.Tracer.{traced_at, traced_by}
+use Rattle.ga_wave.specs.inner.Traced.{first_traced, next_traced, one_changes, scopes_of, traced_changes}
 
 -- one name more, with its number
 number_more : (from : ℕ) (names : List ℕ) (name : ℕ)

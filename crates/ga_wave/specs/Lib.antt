@@ -8,6 +8,7 @@ pub mod Value
 pub mod Change
 pub mod Header
 pub mod Wave
+pub mod Tracer
 pub mod Save
 pub mod Laws
 pub mod inner

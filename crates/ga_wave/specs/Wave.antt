@@ -1,5 +1,5 @@
 -- The waveform of a run.
-use Rattle.std.specs.Prelude.{◌≡◌, ◌≤◌, ◌<◌, ℕ, zero, suc, ◌==◌, List, [], ◌∷◌, ◌++◌, codes, length, Option, Some, None, if◌then◌else◌}
+use Rattle.std.specs.Prelude.{ℕ, zero, suc, ◌==◌, List, [], ◌∷◌, ◌++◌, codes, length, Option, Some, None, if◌then◌else◌}
 use Rattle.std.specs.Fmt.{decimal}
 use Rattle.std.specs.List.{enumerate_from, flat_map, range_with_len}
 use Rattle.ga_place.specs.Cell.{name_at}
@@ -71,15 +71,12 @@ unfoldable pub turn_text : List (ℕ × ImageView) → List ℕ → Chip → ℕ
 turn_text images names start turn =
     turn_block turn (flat_map (node_changes images start turn) (numbered names))
 
--- The declarations, the turns in order, and the time of the turn behind the last one.
+-- the declarations, and the turns before one in order
+abbrev pub text_before : List (ℕ × ImageView) → List ℕ → Chip → ℕ → List ℕ
+text_before images names start turn =
+    header names ++ flat_map (turn_text images names start) (range_with_len 0 turn)
+
+-- The same for all turns, and the time of the turn behind the last one.
 unfoldable pub waveform : List (ℕ × ImageView) → List ℕ → Chip → ℕ → List ℕ
 waveform images nodes start turns =
-    header (shown_names nodes)
-    ++ flat_map (turn_text images (shown_names nodes) start) (range_with_len 0 turns)
-    ++ time_line turns
-
--- a text is the waveform of some turns, and there is none if that is longer than it may be
-abbrev pub HasWaveform : List (ℕ × ImageView) → List ℕ → Chip → ℕ → ℕ → Option (List ℕ) → Type 0
-HasWaveform images nodes start turns most (Some text) =
-    (text ≡ waveform images nodes start turns) × (length text ≤ most)
-HasWaveform images nodes start turns most None = most < length (waveform images nodes start turns)
+    text_before images (shown_names nodes) start turns ++ time_line turns

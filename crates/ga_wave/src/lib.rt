@@ -10,10 +10,11 @@ mod nodes;
 mod sample;
 mod save;
 mod signal;
+mod tracer;
 mod value;
 mod wave;
 mod work;
 
 pub use nodes::nodes_with_image;
 pub use save::save_text;
-pub use wave::waveform;
+pub use tracer::{Tracer, fits, push_end, waveform};

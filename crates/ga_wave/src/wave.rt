@@ -1,11 +1,12 @@
-//! The waveform of a run.
-ghost use Rattle.std.specs.Prelude.{◌≡◌, ◌++◌, ◌∷◌, [], ◌+◌, ◌≤◌, ◌<◌, IfOk, MatchOption, OnOk, length, map, option_map, string_bytes};
+//! The nodes of a waveform, and what a turn changes of them.
+ghost use Rattle.std.specs.Prelude.{◌≡◌, ◌++◌, ◌∷◌, [], ◌+◌, ◌≤◌, IfOk, OnOk, length, map, string_bytes};
 ghost use Rattle.ga_chip.specs.Run.{side_of_turn as side_of};
 ghost use Rattle.ga_waits.specs.Label.{images_in};
 ghost use Rattle.ga_trace.specs.Traced.{turned};
-ghost use Rattle.ga_wave.specs.Wave.{HasWaveform, UNIT, if_shown, shown_names, time_line, turn_block};
+ghost use Rattle.ga_wave.specs.Wave.{UNIT, if_shown, shown_names, time_line, turn_block};
 ghost use Rattle.ga_wave.specs.inner.Traced as spec;
-ghost use Rattle.ga_wave.specs.inner.Traced.{first_traced, scopes_of, traced_by, traced_changes};
+ghost use Rattle.ga_wave.specs.Tracer.{traced_by};
+ghost use Rattle.ga_wave.specs.inner.Traced.{first_traced, scopes_of, traced_changes};
 
 use crate::change::push_changes;
 use crate::header::push_scope;
@@ -26,49 +27,6 @@ pub(crate) struct Traced {
     pub(crate) stand: Stand,
     /// What the turn before shows of it, if there was one.
     pub(crate) shown: Option<Sample>,
-}
-
-/// Makes this many turns of all nodes, and answers their waveform, a text in VCD (IEEE 1364). It
-/// shows some nodes, in order of name. A time is the number of a turn. At it a node's `did`, `at`,
-/// `op` and `busy` are those of the turn, and its registers and ports those behind it. A port has
-/// the word that the node posted there until it is read; if it is read in the turn in which it was
-/// posted, it is there at this time alone. With images an address has its label. Answers `None` if
-/// the text would have more than `most` bytes. Fails only when out of memory. (The text is this
-/// project's own: profile.)
-pub fn waveform(
-    alloc: Global,
-    chip: &mut Chip,
-    images: Option<&Images>,
-    nodes: &[Node],
-    turns: u32,
-    most: usize,
-) -> Result<Option<String>, AllocError>
-    ensures { IfOk result (λ text. HasWaveform (images_in images.entry) nodes.now chip.old turns
-        most (option_map string_bytes text)) }
-{
-    let shown = shown_nodes(alloc, nodes)?;
-    let mut traced = traced_nodes(alloc, chip, &shown)?;
-    let mut text = String::new(alloc);
-    push_header(&mut text, &traced)?;
-    for turn in 0..u64::from(turns) {
-        if text.len() > most {
-            return Ok(None);
-        }
-        traced = push_turn(&mut text, alloc, chip, images, &traced, turn)?;
-    }
-    push_time(&mut text, u64::from(turns))?;
-    Ok(within(text, most))
-}
-
-/// A text, if it isn't longer than `most` bytes.
-fn within(text: String, most: usize) -> Option<String>
-    ensures { MatchOption result (most < length (string_bytes text))
-        (λ kept. (string_bytes kept ≡ string_bytes text) × (length (string_bytes text) ≤ most)) }
-{
-    if text.len() > most {
-        return None;
-    }
-    Some(text)
 }
 
 /// Those of some nodes that a waveform shows: in order of name, each once.
@@ -96,7 +54,11 @@ fn push_shown(shown: &mut Vec<Node>, nodes: &[Node], node: Node) -> Result<(), A
 }
 
 /// The nodes before the first turn, with their numbers.
-fn traced_nodes(alloc: Global, chip: &Chip, nodes: &[Node]) -> Result<Vec<Traced>, AllocError>
+pub(crate) fn traced_nodes(
+    alloc: Global,
+    chip: &Chip,
+    nodes: &[Node],
+) -> Result<Vec<Traced>, AllocError>
     requires { length nodes.now ≤ 144 }
     ensures { IfOk result (λ traced. traced.items ≡ traced_by chip.now 0 nodes.now) }
 {
@@ -129,7 +91,7 @@ fn first_traced(chip: &Chip, node: Node, number: u8) -> Traced
 }
 
 /// Adds the declarations.
-fn push_header(text: &mut String, traced: &[Traced]) -> Result<(), AllocError>
+pub(crate) fn push_header(text: &mut String, traced: &[Traced]) -> Result<(), AllocError>
     ensures { OnOk result (string_bytes text.new ≡ string_bytes text.old
         ++ spec.header_of traced.now) }
 {
@@ -161,7 +123,7 @@ fn push_scopes(text: &mut String, traced: &[Traced]) -> Result<(), AllocError>
 }
 
 /// Makes the turn of a number, and adds what it changed. Answers the nodes behind it.
-fn push_turn(
+pub(crate) fn push_turn(
     text: &mut String,
     alloc: Global,
     chip: &mut Chip,
@@ -205,7 +167,7 @@ fn push_block(
 }
 
 /// Adds the line of a time.
-fn push_time(text: &mut String, turn: u64) -> Result<(), AllocError>
+pub(crate) fn push_time(text: &mut String, turn: u64) -> Result<(), AllocError>
     ensures { OnOk result (string_bytes text.new ≡ string_bytes text.old ++ time_line turn) }
 {
     writeln!(text, "#{turn}")?;

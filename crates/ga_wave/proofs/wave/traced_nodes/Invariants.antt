@@ -1,5 +1,5 @@
 use Rattle.std.proofs.Common.{◌≡◌, take}
-use Rattle.ga_wave.specs.inner.Traced.{traced_by}
+use Rattle.ga_wave.specs.Tracer.{traced_by}
 use Rattle.ga_wave.proofs.wave.traced_nodes.Given as goal
 
 -- as many nodes are done
