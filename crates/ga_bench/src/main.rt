@@ -2,25 +2,30 @@
 #![tactic(auto)]
 
 mod named;
+mod numbers;
 mod saved_files;
 
-ghost use Rattle.std.specs.Prelude.{◌≡◌, IfErr, IfOk, IfSome, map, string_bytes};
+ghost use Rattle.std.specs.Prelude.{◌≡◌, IfErr, IfOk, IfSome, map, string_bytes, true};
 ghost use Rattle.ga_command_line.specs.CommandLine.{InRange, IsJobOf, IsRight};
 ghost use Rattle.ga_transcript.specs.Record.{Holds};
+ghost use Rattle.ga_jobs.specs.{writes_pieces};
 ghost use Rattle.ga_jobs.specs.Engine.{status_of};
+ghost use Rattle.ga_jobs.specs.Outputs.{in_pieces};
 ghost use Rattle.ga_bench.specs.Status.{HasServed, HasStatus, IsStatusOf};
 
 use crate::named::Named;
+use crate::numbers::numbers_of;
 use crate::saved_files::SavedFiles;
 use clap::error::ErrorKind::{ArgumentConflict, InvalidValue};
 use ga_command_line::{LineError, job, refusal};
 use ga_jobs::record::replacement;
 use ga_jobs::trace::save_text;
 use ga_jobs::{
-    Ending, FileReport, InputFault, Job, Loading, Reads, ServeError, ShownText, Sourced, Writes,
-    answer, answer_file, fault_in_source, open_file, read_input, serve, serve_file, session_source,
-    source_named, source_path, status, write_output,
+    Ending, FileReport, InputFault, Job, Loading, Output, Reads, ServeError, ShownText, Sourced,
+    Writes, fault_in_source, open_file, output_of, output_of_file, read_input, serve, serve_file,
+    session_source, source_named, source_path, status, write_output,
 };
+use ga_profile::WindowStart;
 use ga_prompt::{Conversation, SaveFault, Saves};
 use std::alloc::Global;
 use std::fs::OpenFile;
@@ -64,11 +69,41 @@ fn job_status<
     {
         return trace_status(rt, reader, job, loading, nodes, save.as_str());
     }
+    if let Job::Profile {
+        loading,
+        start,
+        json: true,
+        turns,
+        ..
+    } = job
+    {
+        return numbers_status(rt, reader, job, loading, *start, *turns);
+    }
     match (job.several_files(), job.file()) {
         (Some(files), _) => check_status(rt, reader, files),
         (None, Some(name)) if is_wrong_word(rt, name, job) => refuse_missing(rt),
         (None, Some(name)) => serve_named(rt, name, job),
         (None, None) => serve_job(rt, reader, &mut io::writer(rt), job),
+    }
+}
+
+/// Writes the numbers of a profile as JSON. Answers the exit status.
+fn numbers_status<Rt: AllocGlobal + Print + Eprint + Threads + Clock + Sync + Files, R: Read>(
+    rt: &Rt,
+    reader: &mut R,
+    job: &Job,
+    loading: &Loading,
+    start: WindowStart,
+    turns: Option<u32>,
+) -> u8 {
+    let text = match numbers_of(rt, reader, job, loading, start, turns) {
+        Ok(text) => text,
+        Err(fault) => return reported(rt, &Err(fault)),
+    };
+    let mut writer = io::writer(rt);
+    match write_output(&mut writer, text.as_bytes(), &mut Writes::default()) {
+        Ok(()) => status(&Ok(Ending::Done)),
+        Err(fault) => reported(rt, &Err(fault)),
     }
 }
 
@@ -87,18 +122,15 @@ fn trace_status<Rt: AllocGlobal + Print + Eprint + Threads + Clock + Sync + File
         return refuse(rt, refusal(rt.alloc(), ArgumentConflict, why));
     }
     let (waveform, saved) = match traced(rt, reader, job, loading, nodes) {
-        Ok(texts) => texts,
+        Ok(made) => made,
         Err(fault) => return reported(rt, &Err(fault)),
     };
     if let Err(fault) = put(rt, save, saved.as_str()) {
         report_on_file(rt, save, &fault);
         return status(&Err(fault));
     }
-    let mut writer = io::writer(rt);
-    match write_output(&mut writer, waveform.as_bytes(), &mut Writes::default()) {
-        Ok(()) => status(&Ok(Ending::Done)),
-        Err(fault) => reported(rt, &Err(fault)),
-    }
+    let outcome = waveform.write(rt.alloc(), &mut io::writer(rt), job);
+    reported(rt, &outcome)
 }
 
 /// The waveform of a job, and a viewer's save file for it.
@@ -108,13 +140,15 @@ fn traced<Rt: AllocGlobal + Threads + Clock + Sync + Files, R: Read>(
     job: &Job,
     loading: &Loading,
     nodes: &Option<String>,
-) -> Result<(String, String), ServeError> {
+) -> Result<(Output, String), ServeError>
+    ensures { IfOk result (λ made. in_pieces made.0 ≡ true → writes_pieces job.now ≡ true) }
+{
     let alloc = rt.alloc();
     let name = job.file().unwrap_or("-");
     let input = input_named(rt, reader, name)?;
     let waveform = match name {
-        "-" => answer(rt, job, &input)?,
-        _ => answer_file(rt, job, &input)?,
+        "-" => output_of(rt, job, &input)?,
+        _ => output_of_file(rt, job, &input)?,
     };
     let live = open_file(alloc, loading, &input)?;
     Ok((waveform, save_text(alloc, &live, nodes)?))

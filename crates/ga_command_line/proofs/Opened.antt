@@ -12,10 +12,11 @@ use Rattle.ga_command_line.specs.List as list
 use Rattle.ga_command_line.specs.Loading as loading
 use Rattle.ga_command_line.specs.MapLine.{map_command}
 use Rattle.ga_command_line.specs.One.{one_command, tries_command}
-use Rattle.ga_command_line.specs.ProfileLine as profile
+use Rattle.ga_command_line.specs.ProfileLine.{json_command, profile_command}
 use Rattle.ga_command_line.specs.Race as race
 use Rattle.ga_command_line.specs.ReportLine.{report_command}
 use Rattle.ga_command_line.specs.Run.{routed_command, run_command, shared_command, timed_command}
+use Rattle.ga_command_line.specs.Start.{from_command}
 use Rattle.ga_command_line.specs.TraceLine as trace
 use Rattle.ga_command_line.specs.Turns.{turns_command}
 
@@ -23,7 +24,7 @@ unfoldable pub whole_command : App
 unfolding bench_command linked bare_command tries_command one_command code_command dis_command
     boot_command routed_command shared_command timed_command run_command loading.placed_command
     loading.loading_command debug_command turns_command list.labels_command list.counts_command
-    list.list_command race.witness_command race.race_command map_command profile.from_command
-    profile.profile_command trace.nodes_command trace.save_command trace.trace_command
+    list.list_command race.witness_command race.race_command map_command from_command
+    json_command profile_command trace.nodes_command trace.save_command trace.trace_command
     report_command file_command files_command writing_command explain_command
 whole_command = bench_command

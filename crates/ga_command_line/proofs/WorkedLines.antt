@@ -6,6 +6,7 @@ use Rattle.clap.specs.Words.{takes}
 use Rattle.ga_jobs.specs.declared.Job.TheVariants.{One, Asm, Dis, Boot, List, Counts, Race, Map, Trace, Report, Check, Record, Rewrite, Explain}
 use Rattle.ga_jobs.specs.declared.race.Loading.TheVariants.{Any}
 use Rattle.ga_explain.specs.declared.topic.Topic.{Topic}
+use Rattle.ga_profile.specs.declared.window.WindowStart.TheVariants.{LastNode}
 use Rattle.ga_command_line.specs.Explain.{IsOfTable}
 use Rattle.ga_command_line.specs.CommandLine.{IsRight, bench_command}
 use Rattle.ga_command_line.proofs.Opened.{whole_command}
@@ -109,9 +110,9 @@ counts_line file is = (
   lit≤ tt,
 )
 
-report_line : IsRight (codes "ga-bench" ∷ codes "report" ∷ []) (Report Any None None)
+report_line : IsRight (codes "ga-bench" ∷ codes "report" ∷ []) (Report Any LastNode None None)
 unfolding whole_command clap_on_literals
-report_line = (refl, (refl, ((refl, refl), refl, refl)), tt)
+report_line = (refl, (refl, ((refl, refl), refl, refl, refl)), (tt, tt))
 
 two_topics : takes bench_command
     (codes "ga-bench" ∷ codes "explain" ∷ codes "own" ∷ codes "take" ∷ []) ≡ false

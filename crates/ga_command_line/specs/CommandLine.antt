@@ -20,11 +20,12 @@ use Rattle.ga_command_line.specs.Loading.{IsLoadingAt}
 use Rattle.ga_command_line.specs.Number.{IsNumberAt, IsNumberIfAt}
 use Rattle.ga_command_line.specs.MapLine.{map_command}
 use Rattle.ga_command_line.specs.One.{one_command}
-use Rattle.ga_command_line.specs.ProfileLine.{IsStartAt, IsStartInRange, profile_command}
+use Rattle.ga_command_line.specs.ProfileLine.{profile_command}
 use Rattle.ga_command_line.specs.Race.{race_command}
 use Rattle.ga_command_line.specs.ReportLine.{report_command}
 use Rattle.ga_command_line.specs.Route.{IsRouteAt}
 use Rattle.ga_command_line.specs.Run.{run_command}
+use Rattle.ga_command_line.specs.Start.{IsStartAt, IsStartInRange}
 use Rattle.ga_command_line.specs.TraceLine.{IsListAt, IsSaveAt, trace_command}
 
 -- the command without its subcommands, of which one is required
@@ -78,10 +79,10 @@ job_name (job.Expand file) = codes "expand"
 job_name (job.List labels file) = codes "list"
 job_name (job.Race loading turns witness file) = codes "race"
 job_name (job.Map loading turns file) = codes "map"
-job_name (job.Profile loading start turns file) = codes "profile"
+job_name (job.Profile loading start json turns file) = codes "profile"
 job_name (job.Trace loading turns nodes save file) = codes "trace"
 job_name (job.Counts loading turns file) = codes "list"
-job_name (job.Report loading turns file) = codes "report"
+job_name (job.Report loading start turns file) = codes "report"
 job_name (job.Check files) = codes "check"
 job_name (job.Record file) = codes "record"
 job_name (job.Rewrite files) = codes "record"
@@ -118,15 +119,15 @@ HasArguments rows (job.Race loading turns witness file) =
 HasArguments rows (job.Map loading turns file) =
     IsLoadingAt rows loading × IsNumberIfAt (codes "N") rows turns
     × IsFileAt rows (option_map string_bytes file)
-HasArguments rows (job.Profile loading start turns file) =
+HasArguments rows (job.Profile loading start json turns file) =
     IsLoadingAt rows loading × IsNumberIfAt (codes "N") rows turns × IsStartAt rows start
-    × IsFileAt rows (option_map string_bytes file)
+    × (json ≡ is_set (codes "JSON") rows) × IsFileAt rows (option_map string_bytes file)
 HasArguments rows (job.Trace loading turns nodes save file) =
     IsLoadingAt rows loading × IsNumberIfAt (codes "N") rows turns
     × IsListAt rows (option_map string_bytes nodes) × IsSaveAt rows (option_map string_bytes save)
     × IsFileAt rows (option_map string_bytes file)
-HasArguments rows (job.Report loading turns file) =
-    IsLoadingAt rows loading × IsNumberIfAt (codes "N") rows turns
+HasArguments rows (job.Report loading start turns file) =
+    IsLoadingAt rows loading × IsNumberIfAt (codes "N") rows turns × IsStartAt rows start
     × IsFileAt rows (option_map string_bytes file)
 HasArguments rows (job.Check files) = map string_bytes files.items ≡ files_at rows
 HasArguments rows (job.Record file) =
@@ -144,11 +145,12 @@ InRange (Dis code file) = IfSome code (λ number. number ≤ 64)
 InRange (Run route workers turns file) = ((1 ≤ workers) × (workers ≤ 144)) × (turns ≤ 1000000)
 InRange (job.Race loading turns witness file) = IfSome turns (λ number. number ≤ 1000000)
 InRange (job.Map loading turns file) = IfSome turns (λ number. number ≤ 1000000)
-InRange (job.Profile loading start turns file) =
+InRange (job.Profile loading start json turns file) =
     IfSome turns (λ number. number ≤ 1000000) × IsStartInRange start
 InRange (job.Trace loading turns nodes save file) = IfSome turns (λ number. number ≤ 1000000)
 InRange (job.Counts loading turns file) = IfSome turns (λ number. number ≤ 1000000)
-InRange (job.Report loading turns file) = IfSome turns (λ number. number ≤ 1000000)
+InRange (job.Report loading start turns file) =
+    IfSome turns (λ number. number ≤ 1000000) × IsStartInRange start
 InRange (Explain topic) = IsOfTable topic
 InRange job = Unit {0}
 

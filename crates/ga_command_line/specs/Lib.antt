@@ -10,6 +10,7 @@ pub mod File
 pub mod Flag
 pub mod Loading
 pub mod Turns
+pub mod Start
 pub mod List
 pub mod Race
 pub mod MapLine

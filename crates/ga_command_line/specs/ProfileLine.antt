@@ -1,37 +1,15 @@
 -- The command line of the subcommand `profile`.
-use Rattle.std.specs.Prelude.{◌≡◌, ◌≤◌, List, codes, Option, Some, None}
-use Rattle.clap.specs.Words.{App, Row, Text, first_of, new_rule, with_rule}
-use Rattle.ga_profile.specs.declared.window.WindowStart.{WindowStart}
-use Rattle.ga_profile.specs.declared.window.WindowStart.TheVariants.{FirstNode, LastNode, Turn}
-use Rattle.ga_command_line.specs.Number.{WritesNumber}
-use Rattle.ga_command_line.specs.Turns.{turns_command}
+use Rattle.std.specs.Prelude.{codes, Some}
+use Rattle.clap.specs.Words.{App, new_rule, with_rule}
+use Rattle.clap.specs.declared.builder.action.ArgAction.TheVariants.{SetTrue}
+use Rattle.ga_command_line.specs.Start.{from_command}
 
--- the options of a run, and where the profile begins
-unfoldable pub from_command : App
-from_command =
-    with_rule (turns_command (codes "profile"))
-    (record (new_rule (codes "WHERE")) { long = Some (codes "from") })
+-- the options of a profile, and a flag
+unfoldable pub json_command : App
+json_command =
+    with_rule (from_command (codes "profile"))
+    (record (new_rule (codes "JSON")) { long = Some (codes "json"); action = Some SetTrue })
 
 -- and a text that may be left out
 unfoldable pub profile_command : App
-profile_command = with_rule from_command (new_rule (codes "FILE"))
-
--- a text names where a profile begins
-abbrev pub NamesStart : Text → WindowStart → Type 0
-NamesStart text LastNode = text ≡ codes "last"
-NamesStart text FirstNode = text ≡ codes "first"
-NamesStart text (Turn number) = WritesNumber text number
-
--- the number of a turn is one of a run
-abbrev pub IsStartInRange : WindowStart → Type 0
-IsStartInRange LastNode = Unit {0}
-IsStartInRange FirstNode = Unit {0}
-IsStartInRange (Turn number) = number ≤ 1000000
-
--- the argument names it; without one it is the last node that begins
-abbrev pub IsStartBy : Option Text → WindowStart → Type 0
-IsStartBy (Some text) start = NamesStart text start
-IsStartBy None start = start ≡ LastNode
-
-abbrev pub IsStartAt : List Row → WindowStart → Type 0
-IsStartAt rows start = IsStartBy (first_of (codes "WHERE") rows) start
+profile_command = with_rule json_command (new_rule (codes "FILE"))

@@ -30,6 +30,7 @@ mod replay;
 mod report;
 mod route;
 mod run;
+mod start;
 mod text;
 mod trace;
 mod turns;

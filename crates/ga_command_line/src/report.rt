@@ -4,15 +4,18 @@ ghost use Rattle.ga_command_line.specs.CommandLine.{AsksFor, InRange};
 ghost use Rattle.ga_command_line.specs.Loading.{IsLoadingAt};
 ghost use Rattle.ga_command_line.specs.Number.{IsNumberIfAt};
 ghost use Rattle.ga_command_line.specs.ReportLine.{report_command};
+ghost use Rattle.ga_command_line.specs.Start.{IsStartAt, IsStartInRange};
 ghost use Rattle.ga_command_line.specs.inner.Command.{IsCommandOf};
 
 use crate::command_line::LineError;
 use crate::file::file_in;
 use crate::loading::loading_in;
 use crate::number::number_if;
-use crate::turns::{TURNS_LIMIT, turns_command};
+use crate::start::{from_command, start_in};
+use crate::turns::TURNS_LIMIT;
 use clap::{Arg, ArgMatches, Command};
 use ga_jobs::{Job, Loading};
+use ga_profile::WindowStart;
 use std::alloc::{AllocError, Global};
 
 const HELP: &str = "\
@@ -20,12 +23,13 @@ Writes a page in HTML that shows a run: a race, a deadlock or the bottleneck as 
 did, turn by turn; the profile; the chip at the end, with its pending words; and the listing, with how often
 each word was fetched. It needs no script and no other file. Reads from FILE, or from standard input if FILE
 is left out or is -: a session or a transcript, whose commands are done first; or source text, whose words
-are placed in their nodes. Makes turns until no node moves but those that spin, or N.
+are placed in their nodes. Makes turns until no node moves but those that spin, or N. What is shown begins
+where --from says.
 
 Example: printf 'node 708 right b! !b\\nnode 709 right b! @b' | ga-bench report > r.html
 More: report in docs/FORMATS.md";
 
-/// The subcommand `report [--turns N] [--place | --route ROUTE] [FILE]`.
+/// The subcommand `report [--from WHERE] [--turns N] [--place | --route ROUTE] [FILE]`.
 #[tactic(auto, unfolding(crate::specs::ReportLine::report_command))]
 pub fn command<'a>(alloc: Global) -> Result<Command<'a>, AllocError>
     ensures { IfOk result (IsCommandOf report_command) }
@@ -33,7 +37,7 @@ pub fn command<'a>(alloc: Global) -> Result<Command<'a>, AllocError>
     let file = Arg::new(alloc, "FILE").help(
         "The session or the source text; standard input by default or if it is -",
     );
-    let command = turns_command(
+    let command = from_command(
         alloc,
         "report",
         "Writes a page in HTML that shows what each node did in a run",
@@ -46,17 +50,21 @@ pub fn command<'a>(alloc: Global) -> Result<Command<'a>, AllocError>
 pub fn job_of(alloc: Global, found: &ArgMatches<'_>) -> Result<Job, LineError>
     ensures in_range { IfOk result InRange }
     ensures asked { IfOk result (AsksFor (codes "report", rows_of (found_of found.now))) }
-    ensures right { IfErr result (λ error. (loading : Loading) (turns : Option ℕ)
-        → IfSome turns (λ number. number ≤ 1000000)
+    ensures right { IfErr result (λ error. (loading : Loading) (start : WindowStart)
+        (turns : Option ℕ)
+        → IfSome turns (λ number. number ≤ 1000000) → IsStartInRange start
         → IsLoadingAt (rows_of (found_of found.now)) loading
         → IsNumberIfAt (codes "N") (rows_of (found_of found.now)) turns
+        → IsStartAt (rows_of (found_of found.now)) start
         → error ≡ LineError.Memory) }
 {
     let loading = loading_in(alloc, found)?;
     let turns = number_if(alloc, found, "N", 0, TURNS_LIMIT)?;
+    let start = start_in(alloc, found)?;
     let file = file_in(alloc, found)?;
     Ok(Job::Report {
         loading,
+        start,
         turns,
         file,
     })

@@ -13,4 +13,7 @@ mod Judged
 mod Sourcing
 mod WithWaits
 mod Traced
+mod Pieces
+mod Waving
+mod Limit
 mod FileAnswers

@@ -45,12 +45,11 @@ module _ (loading : Loading) (turns : Option ℕ) (names : Option (List ℕ)) (i
   wave_right view nodes named (Ok a) is = inr (live, opened, inr (nodes, named, is))
   wave_right view nodes named (Err fault) is = wave_fails nodes named fault is
 
-  pub traced : {A : Type 0} (view : A → List ℕ) (nodes shown : List ℕ) (most : ℕ)
-      (result : Result A ServeError) → nodes_named live names ≡ Ok nodes → shown ≡ nodes
+  pub traced : {A : Type 0} (view : A → List ℕ) (nodes : List ℕ) (most : ℕ)
+      (result : Result A ServeError) → nodes_named live names ≡ Ok nodes
       → most ≡ most_turns turns
-      → Answers view (λ right. wave_within live shown most ≡ right) result
+      → Answers view (λ right. wave_within live nodes most ≡ right) result
       → Answers view (IsTraceOutput loading turns names input) result
-  traced view nodes shown most result named same limit is =
+  traced view nodes most result named limit is =
       wave_right view nodes named result
-      (subst (λ n. Answers view (λ right. wave_within live nodes n ≡ right) result) limit
-      (subst (λ some. Answers view (λ right. wave_within live some most ≡ right) result) same is))
+      (subst (λ n. Answers view (λ right. wave_within live nodes n ≡ right) result) limit is)

@@ -34,8 +34,8 @@ HasOneOutput (Talk loading file) input = Unit {0}
 -- the lines of an expansion are free
 HasOneOutput (Expand file) input = Unit {0}
 HasOneOutput (Map loading turns file) input = Unit {0}
-HasOneOutput (Profile loading start turns file) input = Unit {0}
+HasOneOutput (Profile loading start json turns file) input = Unit {0}
 HasOneOutput (Trace loading turns nodes save file) input = Unit {0}
 HasOneOutput (Counts loading turns file) input = Unit {0}
-HasOneOutput (Report loading turns file) input = Unit {0}
+HasOneOutput (Report loading start turns file) input = Unit {0}
 HasOneOutput job input = AtMostOne (IsOutput job input)

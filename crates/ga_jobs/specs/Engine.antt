@@ -1,35 +1,34 @@
 -- What a run does to its writer, and the exit status of the program.
-use Rattle.std.specs.Prelude.{◌≡◌, List, ℕ, Option, Result, Ok, Err, codes, nat_eq, take, if◌then◌else◌}
-use Rattle.std.specs.List.{starts_with}
+use Rattle.std.specs.Prelude.{◌≡◌, ◌⊎◌, List, ℕ, true, Option, Result, Ok, Err}
 use Rattle.std.specs.Io.KnownBytes.{Appends, Keeps}
 use Rattle.ga_jobs.specs.declared.Job.{Job}
-use Rattle.ga_jobs.specs.declared.Job.TheVariants as job
 use Rattle.ga_jobs.specs.declared.engine.Ending.{Ending}
 use Rattle.ga_jobs.specs.declared.engine.Ending.TheVariants as ending
 use Rattle.ga_jobs.specs.declared.fault.ServeError.{ServeError}
 use Rattle.ga_jobs.specs.declared.fault.ServeError.TheVariants.{Read, Write, Memory}
+use Rattle.ga_jobs.specs.{writes_pieces}
 use Rattle.ga_jobs.specs.Answering.{IsOutput}
 use Rattle.ga_jobs.specs.Larger.{IsOfFile}
+use Rattle.ga_jobs.specs.Outputs.{AppendsPart, ending_of}
 
--- how a job ended, by the text that it wrote: a race is each text of `race` but for those without
--- one
-abbrev pub ending_of : Job → List ℕ → Ending
-ending_of (job.Race loading turns witness file) text =
-    if starts_with nat_eq text (codes "no race") then ending.Done else ending.Race
-ending_of job text = ending.Done
+-- a prefix of an output was appended
+abbrev pub WritesPart : (Result (List ℕ) ServeError → Type 0) → Option (List ℕ) → Option (List ℕ)
+    → Type 0
+WritesPart Is old new = (text : List ℕ) × Is (Ok text) × AppendsPart old new text
 
 -- What an answer means for the writer's bytes, old and new, if outputs are those of a relation.
 -- Without a fault an output was appended, and nothing else, and the answer says how it ended. If a
--- write failed, a prefix of one was appended. Otherwise nothing was written, and a fault of the
--- input is one that the relation has.
+-- write failed, a prefix of one was appended; if memory ran out, nothing, or a prefix of one that
+-- is written in pieces. Otherwise nothing was written, and a fault of the input is one that the
+-- relation has.
 abbrev pub WritesAnswer : (Result (List ℕ) ServeError → Type 0) → Job → Option (List ℕ)
     → Option (List ℕ) → Result Ending ServeError → Type 0
 WritesAnswer Is job old new (Ok ended) =
     (text : List ℕ) × Is (Ok text) × Appends old new text × (ended ≡ ending_of job text)
-WritesAnswer Is job old new (Err Write) =
-    (text : List ℕ) × Is (Ok text) × ((count : ℕ) × Appends old new (take count text))
+WritesAnswer Is job old new (Err Write) = WritesPart Is old new
 WritesAnswer Is job old new (Err Read) = Keeps old new
-WritesAnswer Is job old new (Err Memory) = Keeps old new
+WritesAnswer Is job old new (Err Memory) =
+    Keeps old new ⊎ ((writes_pieces job ≡ true) × WritesPart Is old new)
 WritesAnswer Is job old new (Err fault) = Is (Err fault) × Keeps old new
 
 -- for an input of standard input

@@ -54,6 +54,7 @@ pub mod Debug
 pub mod Answering
 pub mod Reading
 pub mod Writing
+pub mod Outputs
 pub mod Larger
 pub mod Engine
 pub mod inner
@@ -77,20 +78,25 @@ IsJobOutput (job.Rewrite files) input answer = IsRecordOutput input answer
 IsJobOutput (job.Race loading turns witness file) input answer =
     IsRaceOutput loading turns witness input answer
 IsJobOutput (job.Map loading turns file) input answer = IsMapOutput loading turns input answer
-IsJobOutput (job.Profile loading start turns file) input answer =
-    IsProfileOutput loading start turns input answer
+IsJobOutput (job.Profile loading start json turns file) input answer =
+    IsProfileOutput loading start json turns input answer
 IsJobOutput (job.Trace loading turns nodes save file) input answer =
     IsTraceOutput loading turns (option_map string_bytes nodes) input answer
 IsJobOutput (job.Counts loading turns file) input answer =
     IsCountsOutput loading turns input answer
-IsJobOutput (job.Report loading turns file) input answer =
-    IsReportOutput loading turns input answer
+IsJobOutput (job.Report loading start turns file) input answer =
+    IsReportOutput loading start turns input answer
 IsJobOutput (job.Explain topic) input answer = answer ≡ Ok (explain_output topic)
 
 -- each job except `explain` reads an input
 abbrev pub reads_input : Job → Bool
 reads_input (job.Explain topic) = false
 reads_input job = true
+
+-- a waveform is written in pieces, as it is made
+abbrev pub writes_pieces : Job → Bool
+writes_pieces (job.Trace loading turns nodes save file) = true
+writes_pieces job = false
 
 -- `-` means standard input
 abbrev pub named_file : {A : Type 0} → String A → Option (List ℕ)
@@ -118,10 +124,10 @@ file_of (job.Check files) = only_file files.items
 file_of (job.Record file) = given_file file
 file_of (job.Race loading turns witness file) = given_file file
 file_of (job.Map loading turns file) = given_file file
-file_of (job.Profile loading start turns file) = given_file file
+file_of (job.Profile loading start json turns file) = given_file file
 file_of (job.Trace loading turns nodes save file) = given_file file
 file_of (job.Counts loading turns file) = given_file file
-file_of (job.Report loading turns file) = given_file file
+file_of (job.Report loading start turns file) = given_file file
 file_of (job.Talk loading file) = named_file file
 file_of job = None
 

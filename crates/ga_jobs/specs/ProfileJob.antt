@@ -1,5 +1,5 @@
 -- The job `profile`: what it writes.
-use Rattle.std.specs.Prelude.{◌≡◌, ◌++◌, ℕ, List, codes, Option, Result, Ok, Err}
+use Rattle.std.specs.Prelude.{◌≡◌, ◌++◌, ℕ, Bool, List, MatchBool, codes, Option, Result, Ok, Err}
 use Rattle.ga_asm.specs.Image.{ImageView}
 use Rattle.ga_profile.specs.Lines.{line_turns}
 use Rattle.ga_profile.specs.NodePass.{node_passes}
@@ -15,7 +15,7 @@ use Rattle.ga_waits.specs.Folded.{nodes_text}
 use Rattle.ga_jobs.specs.declared.fault.ServeError.{ServeError}
 use Rattle.ga_jobs.specs.declared.race.Loading.{Loading}
 use Rattle.ga_jobs.specs.Race.{most_turns}
-use Rattle.ga_jobs.specs.Session.{IsSession}
+use Rattle.ga_jobs.specs.Session.{IsSession, IsSessionOutput}
 
 -- the profile of a window of the run of a session's chip, and who waits for whom at its end
 abbrev pub profile_in : LiveView → Window → List ℕ
@@ -38,9 +38,16 @@ with_waits images profile =
     ++ nodes_text images profile.chip
 
 -- the profile of the session that an input opens, or the first fault of that session
-abbrev pub IsProfileOutput : Loading → WindowStart → Option ℕ → List ℕ
+abbrev pub IsProfileText : Loading → WindowStart → Option ℕ → List ℕ
     → Result (List ℕ) ServeError → Type 0
-IsProfileOutput loading start turns input (Ok text) =
+IsProfileText loading start turns input (Ok text) =
     (live : LiveView) × IsSession loading input (Ok live)
     × (text ≡ profile_after live start (most_turns turns))
-IsProfileOutput loading start turns input (Err fault) = IsSession loading input (Err fault)
+IsProfileText loading start turns input (Err fault) = IsSession loading input (Err fault)
+
+-- the same; as JSON nothing but the first fault of the session is an output of the job
+abbrev pub IsProfileOutput : Loading → WindowStart → Bool → Option ℕ → List ℕ
+    → Result (List ℕ) ServeError → Type 0
+IsProfileOutput loading start json turns input answer =
+    MatchBool json (IsSessionOutput loading input answer)
+    (IsProfileText loading start turns input answer)

@@ -12,6 +12,7 @@ use Rattle.ga_jobs.specs.declared.fault.RouteFault.TheVariants.{BadRoute}
 use Rattle.ga_jobs.specs.declared.fault.ServeError.{ServeError}
 use Rattle.ga_jobs.specs.declared.fault.ServeError.TheVariants.{Output, Route}
 use Rattle.ga_jobs.specs.declared.race.Loading.{Loading}
+use Rattle.ga_jobs.specs.declared.trace.Waveform.{Waveform}
 use Rattle.ga_jobs.specs.Race.{most_turns}
 use Rattle.ga_jobs.specs.Session.{IsSession}
 
@@ -39,8 +40,12 @@ wave_of live nodes turns =
 -- the waveform of these turns, if it isn't too long
 abbrev pub wave_within : LiveView → List ℕ → ℕ → Result (List ℕ) ServeError
 wave_within live nodes turns =
-    if nat_lt 268435456 (length (wave_of live nodes turns)) then Err (Output TooLong)
+    if nat_lt 1073741824 (length (wave_of live nodes turns)) then Err (Output TooLong)
     else Ok (wave_of live nodes turns)
+
+-- the text of a waveform that isn't made yet
+abbrev pub text_of : Waveform → List ℕ
+text_of made = waveform made.live.program.images made.nodes.items made.live.chip made.turns
 
 -- the waveform of the session that an input opens, or the first fault: that of the session; that of
 -- the names; or the waveform is too long

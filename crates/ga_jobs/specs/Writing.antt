@@ -1,5 +1,6 @@
 -- What is written of an output.
-use Rattle.std.specs.Prelude.{ℕ, Bool}
+use Rattle.std.specs.Prelude.{◌≡◌, ℕ, Bool, List, ◌++◌, Option}
+use Rattle.std.specs.Io.KnownBytes.{Appends}
 use Rattle.ga_jobs.specs.declared.writes.Writes.{Writes}
 
 -- how many calls of `write` were made, and whether one failed or a flush did
@@ -8,3 +9,7 @@ calls_of writes = writes.calls
 
 abbrev pub has_failed : Writes → Bool
 has_failed writes = writes.has_failed
+
+-- the front of a piece was written, and this is left of it
+abbrev pub Leaves : Option (List ℕ) → Option (List ℕ) → List ℕ → List ℕ → Type 0
+Leaves old new piece rest = (front : List ℕ) × Appends old new front × (front ++ rest ≡ piece)

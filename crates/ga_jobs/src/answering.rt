@@ -61,7 +61,7 @@ pub fn answer_alone(alloc: Global, job: &Job, input: &[u8]) -> Option<Result<Str
 }
 
 /// Refuses more bytes than a job may read.
-fn within_limit(job: &Job, input: &[u8]) -> Result<(), ServeError>
+pub(crate) fn within_limit(job: &Job, input: &[u8]) -> Result<(), ServeError>
     ensures { result ≡ if is_too_long job.now input.now then Err (Input TooLong) else Ok tt }
 {
     if job.reads_input() && input.len() > INPUT_LIMIT {

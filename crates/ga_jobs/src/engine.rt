@@ -1,17 +1,16 @@
 ghost use Rattle.std.specs.Prelude.{◌≡◌, ◌≢◌, ◌≤◌, ℕ, ◌+◌, false, List, IfErr, IfSome, MatchBool, length};
 ghost use Rattle.std.specs.Io.KnownBytes.{Consumes, Keeps};
-ghost use Rattle.ga_jobs.specs.{reads_input};
+ghost use Rattle.ga_jobs.specs.{reads_input, writes_pieces};
 ghost use Rattle.ga_jobs.specs.Answering.{HasOneOutput, INPUT_LIMIT};
+ghost use Rattle.ga_jobs.specs.Outputs.{ending_of};
 ghost use Rattle.ga_jobs.specs.Reading.{ReadsToEnd};
-ghost use Rattle.ga_jobs.specs.Engine.{Serves, ending_of, status_of};
+ghost use Rattle.ga_jobs.specs.Engine.{Serves, status_of};
 
 use crate::Job;
-use crate::answering::answer;
 use crate::fault::ServeError;
+use crate::outputs::output_of;
 use crate::reading::read_input;
 use crate::reads::Reads;
-use crate::writes::Writes;
-use crate::writing::write_output;
 use std::io::{Read, Write};
 use std::thread::Threads;
 use std::time::Clock;
@@ -25,12 +24,13 @@ pub enum Ending {
 }
 
 /// Serves a job, the engine under every subcommand: reads the whole input, makes the whole output,
-/// and then writes it. An input has at most 1,048,576 bytes, and comes in at most 2,097,152 reads.
-/// For `explain` nothing is read.
+/// and then writes it; a waveform is written as it is made. An input has at most 1,048,576 bytes,
+/// and comes in at most 2,097,152 reads. For `explain` nothing is read.
 ///
 /// The first fault is answered. `Read` and `Input(TooLong)` come while the input is read, the
 /// faults of the input in the order of the job's output, and `Write` last; a prefix of the output
-/// may then have been written. `Memory` comes when out of memory, before anything is written.
+/// may then have been written. `Memory` comes when out of memory, before anything is written but a
+/// prefix of a waveform.
 #[tactic(auto, using(crate::proofs::OneAnswer::one_output))]
 pub fn serve<Rt: AllocGlobal + Threads + Clock + Sync, R: Read, W: Write>(
     rt: &Rt,
@@ -55,6 +55,7 @@ pub fn serve<Rt: AllocGlobal + Threads + Clock + Sync, R: Read, W: Write>(
         → IfErr result (λ fault. fault ≢ ServeError.Read) }
     ensures only { (input : List ℕ) → HasOneOutput job.now input }
     ensures unwritten { IfErr result (λ fault. fault ≢ ServeError.Write
+        → (fault ≡ ServeError.Memory → writes_pieces job.now ≡ false)
         → Keeps (W.contents writer.old) (W.contents writer.new)) }
 {
     if !job.reads_input() {
@@ -64,7 +65,7 @@ pub fn serve<Rt: AllocGlobal + Threads + Clock + Sync, R: Read, W: Write>(
     respond(rt, writer, job, &input)
 }
 
-/// Makes the whole output for an input, and then writes it.
+/// Writes the output for an input.
 fn respond<Rt: AllocGlobal + Threads + Clock + Sync, W: Write>(
     rt: &Rt,
     writer: &mut W,
@@ -75,11 +76,11 @@ fn respond<Rt: AllocGlobal + Threads + Clock + Sync, W: Write>(
         (W.contents writer.old) (W.contents writer.new) result }
     ensures no_read { IfErr result (λ fault. fault ≢ ServeError.Read) }
     ensures unwritten { IfErr result (λ fault. fault ≢ ServeError.Write
+        → (fault ≡ ServeError.Memory → writes_pieces job.now ≡ false)
         → Keeps (W.contents writer.old) (W.contents writer.new)) }
 {
-    let text = answer(rt, job, input)?;
-    write_output(writer, text.as_bytes(), &mut Writes::default())?;
-    Ok(ending_of(job, text.as_str()))
+    let output = output_of(rt, job, input)?;
+    output.write(rt.alloc(), writer, job)
 }
 
 /// How a job ended, by the text that it wrote.

@@ -1,22 +1,22 @@
 //! Files whose source text may be of the larger language.
-ghost use Rattle.std.specs.Prelude.{◌≡◌, IfOk, string_bytes};
+ghost use Rattle.std.specs.Prelude.{◌≡◌, IfOk, true};
 ghost use Rattle.ga_source.specs.Token.{place_of};
+ghost use Rattle.ga_jobs.specs.{writes_pieces};
 ghost use Rattle.ga_jobs.specs.Answering.{IsOutput};
 ghost use Rattle.ga_jobs.specs.Engine.{ServesFile};
 ghost use Rattle.ga_jobs.specs.Fault.{Answers};
 ghost use Rattle.ga_jobs.specs.Larger.{IsExpandedInput, IsOfFile, IsOfLarger, as_written, at_origin, origin, plain_fault, source_fault};
+ghost use Rattle.ga_jobs.specs.Outputs.{in_pieces, text_of};
 ghost use Rattle.ga_jobs.specs.Session.{IsSession};
 
 use crate::Job;
-use crate::answering::answer;
-use crate::engine::{Ending, ending_of};
+use crate::engine::Ending;
 use crate::fault::{ServeError, TextFault};
+use crate::outputs::{Output, output_of};
 use crate::race::Loading;
 use crate::session::open_session;
 use crate::text::input_text;
 use crate::text_fault::{shown_expand_fault, shown_fault};
-use crate::writes::Writes;
-use crate::writing::write_output;
 use ga_asm::{AsmError, TextError};
 use ga_expand::{Expansion, expand};
 use ga_source::{Place, SourceError, end_place};
@@ -26,9 +26,9 @@ use std::io::Write;
 use std::thread::Threads;
 use std::time::Clock;
 
-/// Serves a job for the bytes of a file: makes the whole output, as [`answer_file`] answers it, and
-/// then writes it. `Write` comes last; a prefix of the output may then have been written. At any
-/// other fault nothing is written.
+/// Serves a job for the bytes of a file: writes what [`output_of_file`] answers. `Write` comes
+/// last; a prefix of the output may then have been written, and of a waveform also when out of
+/// memory. At any other fault nothing is written.
 pub fn serve_file<Rt: AllocGlobal + Threads + Clock + Sync, W: Write>(
     rt: &Rt,
     writer: &mut W,
@@ -37,36 +37,37 @@ pub fn serve_file<Rt: AllocGlobal + Threads + Clock + Sync, W: Write>(
 ) -> Result<Ending, ServeError>
     ensures { ServesFile job.now input.now (W.contents writer.old) (W.contents writer.new) result }
 {
-    let text = answer_file(rt, job, input)?;
-    write_output(writer, text.as_bytes(), &mut Writes::default())?;
-    Ok(ending_of(job, text.as_str()))
+    let output = output_of_file(rt, job, input)?;
+    output.write(rt.alloc(), writer, job)
 }
 
-/// What a job answers to the bytes of a file, as [`answer`] does. If they are refused as source
-/// text, and don't begin with `profile`, they are read as text of the larger language: the answer
-/// is the one to the text that they expand to. A fault of that text comes at the place where its
-/// token was written, and one of the larger language as `expand` reports it. (The language is this
-/// project's own: profile.)
-pub fn answer_file<Rt: AllocGlobal + Threads + Clock + Sync>(
+/// What a job writes for the bytes of a file, as [`output_of`] answers it. If they are refused as
+/// source text, and don't begin with `profile`, they are read as text of the larger language: the
+/// answer is the one to the text that they expand to. A fault of that text comes at the place where
+/// its token was written, and one of the larger language as `expand` reports it. (The language is
+/// this project's own: profile.)
+pub fn output_of_file<Rt: AllocGlobal + Threads + Clock + Sync>(
     rt: &Rt,
     job: &Job,
     input: &[u8],
-) -> Result<String, ServeError>
-    ensures { Answers string_bytes (IsOfFile (IsOutput job.now) input.now) result }
+) -> Result<Output, ServeError>
+    ensures output { Answers text_of (IsOfFile (IsOutput job.now) input.now) result }
+    ensures pieces { IfOk result (λ output. in_pieces output ≡ true
+        → writes_pieces job.now ≡ true) }
 {
-    match answer(rt, job, input) {
+    match output_of(rt, job, input) {
         Ok(output) => Ok(output),
         Err(fault) => match plain_fault(input, &fault) {
-            Some(_) => answer_larger(rt, job, input),
+            Some(_) => output_of_larger(rt, job, input),
             None => Err(fault),
         },
     }
 }
 
 /// The session that the bytes of a file open: a transcript, or the head of a session, whose
-/// commands are done; or source text, which may be of the larger language, as for [`answer_file`].
-/// Or the first fault, as `race` reports it. `Memory` comes only when out of memory. (The sessions
-/// are this project's own: profile.)
+/// commands are done; or source text, which may be of the larger language, as for
+/// [`output_of_file`]. Or the first fault, as `race` reports it. `Memory` comes only when out of
+/// memory. (The sessions are this project's own: profile.)
 pub fn open_file(alloc: Global, loading: &Loading, input: &[u8]) -> Result<Live, ServeError>
     ensures { Answers (λ live. live) (IsOfFile (IsSession loading.now) input.now) result }
 {
@@ -106,16 +107,18 @@ fn source_fault(fault: &ServeError) -> Option<TextError>
     }
 }
 
-/// What a job answers to text of the larger language.
-fn answer_larger<Rt: AllocGlobal + Threads + Clock + Sync>(
+/// What a job writes for text of the larger language.
+fn output_of_larger<Rt: AllocGlobal + Threads + Clock + Sync>(
     rt: &Rt,
     job: &Job,
     input: &[u8],
-) -> Result<String, ServeError>
-    ensures { Answers string_bytes (IsOfLarger (IsOutput job.now) input.now) result }
+) -> Result<Output, ServeError>
+    ensures output { Answers text_of (IsOfLarger (IsOutput job.now) input.now) result }
+    ensures pieces { IfOk result (λ output. in_pieces output ≡ true
+        → writes_pieces job.now ≡ true) }
 {
     let (text, made) = expanded(rt.alloc(), input)?;
-    match answer(rt, job, made.text.as_bytes()) {
+    match output_of(rt, job, made.text.as_bytes()) {
         Ok(output) => Ok(output),
         Err(fault) => Err(as_written(rt.alloc(), text, &made, fault)?),
     }

@@ -24,6 +24,7 @@ pub mod list;
 pub mod map;
 mod meaning;
 pub mod one;
+mod outputs;
 pub mod profile;
 pub mod race;
 mod race_text;
@@ -51,7 +52,8 @@ pub use crate::answering::{answer, answer_alone};
 pub use crate::engine::{Ending, serve, status};
 pub use crate::fault::{InputFault, OutputFault, RouteFault, ServeError, TextFault, WordsFault};
 pub use crate::file_report::FileReport;
-pub use crate::larger::{answer_file, open_file, serve_file};
+pub use crate::larger::{open_file, output_of_file, serve_file};
+pub use crate::outputs::{Output, output_of};
 pub use crate::race::Loading;
 pub use crate::reading::read_input;
 pub use crate::reads::{Reads, tried_again};
@@ -151,10 +153,12 @@ pub enum Job {
         file: Option<String>,
     },
     /// What each node of a chip does in a run, after the commands of its session, the bottleneck,
-    /// and who waits at the end.
+    /// and who waits at the end. As JSON it is no part of the job's output: as a job its session is
+    /// opened then, and nothing is written.
     Profile {
         loading: Loading,
         start: WindowStart,
+        json: bool,
         turns: Option<u32>,
         file: Option<String>,
     },
@@ -171,6 +175,7 @@ pub enum Job {
     /// A page in HTML of what a chip does in a run, after the commands of its session.
     Report {
         loading: Loading,
+        start: WindowStart,
         turns: Option<u32>,
         file: Option<String>,
     },
@@ -288,9 +293,10 @@ fn output(alloc: Global, job: &Job, input: &[u8]) -> Option<Result<String, Serve
         Job::Profile {
             loading,
             start,
+            json,
             turns,
             ..
-        } => Some(profile::output(alloc, loading, *start, *turns, input)),
+        } => Some(profile::output(alloc, loading, *start, *json, *turns, input)),
         Job::Trace {
             loading,
             turns,
@@ -300,9 +306,12 @@ fn output(alloc: Global, job: &Job, input: &[u8]) -> Option<Result<String, Serve
         Job::Counts { loading, turns, .. } => {
             Some(counts::output(alloc, loading, *turns, input))
         }
-        Job::Report { loading, turns, .. } => {
-            Some(report::output(alloc, loading, *turns, input))
-        }
+        Job::Report {
+            loading,
+            start,
+            turns,
+            ..
+        } => Some(report::output(alloc, loading, *start, *turns, input)),
         Job::Explain { topic } => Some(explain::output(alloc, *topic)),
     }
 }

@@ -1,9 +1,10 @@
 ghost use Rattle.std.specs.Prelude.{◌≡◌, IfOk, string_bytes};
 ghost use Rattle.ga_jobs.specs.Fault.{Answers};
-ghost use Rattle.ga_jobs.specs.ProfileJob.{IsProfileOutput, profile_after, with_waits};
+ghost use Rattle.ga_jobs.specs.ProfileJob.{IsProfileOutput, IsProfileText, profile_after, with_waits};
 
 use crate::fault::ServeError;
 use crate::race::{Loading, TURNS};
+use crate::session;
 use crate::session::open_session;
 use ga_asm::Images;
 use ga_profile::{Profile, WindowStart, measure, profile_text};
@@ -14,15 +15,35 @@ use std::alloc::{AllocError, Global};
 /// What each node of the input's chip does in a run, the bottleneck, and who waits at the end. The
 /// commands behind the head of a session are done first. Then come at most `turns` turns (by
 /// default 1,000,000), until no node moves but those that spin. The profile begins as `start` says.
+///
+/// As JSON it is written by another crate. Here the session is opened then, and the text is empty.
 pub fn output(
+    alloc: Global,
+    loading: &Loading,
+    start: WindowStart,
+    json: bool,
+    turns: Option<u32>,
+    input: &[u8],
+) -> Result<String, ServeError>
+    ensures { Answers string_bytes
+        (IsProfileOutput loading.now start json turns input.now) result }
+{
+    if json {
+        session::output(alloc, loading, input)
+    } else {
+        written(alloc, loading, start, turns, input)
+    }
+}
+
+/// The text of a profile.
+fn written(
     alloc: Global,
     loading: &Loading,
     start: WindowStart,
     turns: Option<u32>,
     input: &[u8],
 ) -> Result<String, ServeError>
-    ensures { Answers string_bytes
-        (IsProfileOutput loading.now start turns input.now) result }
+    ensures { Answers string_bytes (IsProfileText loading.now start turns input.now) result }
 {
     let live = open_session(alloc, loading, input)?;
     let text = profile_after(alloc, &live, start, turns.unwrap_or(TURNS))?;

@@ -18,7 +18,7 @@ use ga_transcript::TranscriptError;
 use std::alloc::{AllocError, Global};
 
 /// The most turns by default.
-pub(crate) const TURNS: u32 = 1_000_000;
+pub const TURNS: u32 = 1_000_000;
 
 /// What an input is, and how a chip is loaded from it.
 #[derive(Debug, PartialEq, Eq, Drop)]

@@ -1,8 +1,7 @@
 ghost use Rattle.std.specs.Prelude.{◌≡◌, IfOk, string_bytes};
 ghost use Rattle.ga_jobs.specs.Fault.{Answers};
 ghost use Rattle.ga_jobs.specs.ReportJob as spec;
-ghost use Rattle.ga_jobs.specs.ReportJob.{IsCloseUp, IsHeadline, IsMeasured, IsPage, IsReport, IsReportOutput, IsTimeline};
-ghost use Rattle.ga_profile.specs.declared.window.WindowStart.TheVariants.{LastNode};
+ghost use Rattle.ga_jobs.specs.ReportJob.{IsCloseUp, IsHeadline, IsMeasured, IsNear, IsPage, IsReport, IsReportOutput, IsTimeline};
 
 use crate::counts::counted;
 use crate::fault::ServeError;
@@ -12,25 +11,27 @@ use crate::session::open_session;
 use crate::text::input_text;
 use ga_profile::{Profile, Window, WindowStart, bottleneck_text, measure};
 use ga_race::{Race, Verdict, race};
-use ga_report::{Page, Timeline, close_up_window, page_text, timeline_in};
+use ga_report::{CloseUp, Page, Timeline, close_up_in, close_up_window, page_text, timeline_in};
 use ga_transcript::Live;
 use std::alloc::{AllocError, Global};
 
 /// A page in HTML of what the input's chip does in a run: a race, a deadlock or the bottleneck as
-/// its headline; timelines; the profile, from when the last node began; the chip at the end; and
-/// the listing with counts. The commands behind the head of a session are done first. Then come at
-/// most `turns` turns (by default 1,000,000), until no node moves but those that spin.
+/// its headline; timelines; the profile; the chip at the end; and the listing with counts. The
+/// commands behind the head of a session are done first. Then come at most `turns` turns (by
+/// default 1,000,000), until no node moves but those that spin. The profile and the timelines begin
+/// as `start` says.
 pub fn output(
     alloc: Global,
     loading: &Loading,
+    start: WindowStart,
     turns: Option<u32>,
     input: &[u8],
 ) -> Result<String, ServeError>
-    ensures { Answers string_bytes (IsReportOutput loading.now turns input.now) result }
+    ensures { Answers string_bytes (IsReportOutput loading.now start turns input.now) result }
 {
     let live = open_session(alloc, loading, input)?;
     let text = input_text(input)?;
-    let page = page_after(alloc, &live, turns.unwrap_or(TURNS), loading, text)?;
+    let page = page_after(alloc, &live, start, turns.unwrap_or(TURNS), loading, text)?;
     Ok(page)
 }
 
@@ -38,30 +39,36 @@ pub fn output(
 fn page_after(
     alloc: Global,
     live: &Live,
+    start: WindowStart,
     most: u32,
     loading: &Loading,
     text: &str,
 ) -> Result<String, AllocError>
     ensures { IfOk result (λ page.
-        IsReport live.now most loading.now text.now (string_bytes page)) }
+        IsReport live.now start most loading.now text.now (string_bytes page)) }
 {
     let listing = counted(alloc, live, most, loading, text)?;
-    let profile = measured(alloc, live, most)?;
+    let profile = measured(alloc, live, start, most)?;
     let headline = headline(alloc, live, most, &profile)?;
     page_of(alloc, live, &profile, headline.as_str(), listing.as_str())
 }
 
-/// The profile of a session's chip, from when the last node began.
-fn measured(alloc: Global, live: &Live, most: u32) -> Result<Profile, AllocError>
-    ensures { IfOk result (IsMeasured live.now.chip LastNode most) }
+/// The profile of a session's chip, from where a start says.
+fn measured(
+    alloc: Global,
+    live: &Live,
+    start: WindowStart,
+    most: u32,
+) -> Result<Profile, AllocError>
+    ensures { IfOk result (IsMeasured live.now.chip start most) }
 {
-    measure(alloc, live.chip(), WindowStart::LastNode, most)
+    measure(alloc, live.chip(), start, most)
 }
 
 /// The headline of a session with this profile.
 fn headline(alloc: Global, live: &Live, most: u32, profile: &Profile) -> Result<String, AllocError>
     ensures { IfOk result (λ headline.
-        IsHeadline live.now.chip profile.now (string_bytes headline)) }
+        IsHeadline live.now.chip most profile.now (string_bytes headline)) }
 {
     let mut chip = live.chip().copied(alloc)?;
     let report = race(alloc, &mut chip, most)?;
@@ -99,7 +106,7 @@ fn page_of(
         IsPage live.now profile.now headline.now listing.now (string_bytes page)) }
 {
     let timeline = timeline_of(alloc, live, profile.window)?;
-    let near = close_up(alloc, live, close_up_window(profile))?;
+    let near = close_up(alloc, live, profile.window, close_up_window(profile))?;
     let shown = with_waits(alloc, profile, live.images())?;
     let page = Page {
         headline,
@@ -123,12 +130,20 @@ fn timeline_of(alloc: Global, live: &Live, window: Window) -> Result<Timeline, A
 fn close_up(
     alloc: Global,
     live: &Live,
+    whole: Window,
     window: Option<Window>,
-) -> Result<Option<Timeline>, AllocError>
-    ensures { IfOk result (IsCloseUp live.now.chip window) }
+) -> Result<Option<CloseUp>, AllocError>
+    ensures { IfOk result (IsCloseUp live.now.chip whole window) }
 {
     match window {
-        Some(window) => Ok(Some(timeline_of(alloc, live, window)?)),
+        Some(window) => Ok(Some(near_of(alloc, live, whole, window)?)),
         None => Ok(None),
     }
+}
+
+/// The close-up of a part of a window of the run of a session's chip.
+fn near_of(alloc: Global, live: &Live, whole: Window, window: Window) -> Result<CloseUp, AllocError>
+    ensures { IfOk result (IsNear live.now.chip whole window) }
+{
+    close_up_in(alloc, live.chip(), whole, window)
 }

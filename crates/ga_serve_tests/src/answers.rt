@@ -4,7 +4,7 @@ ghost use Rattle.ga_jobs.specs.Answering.{IsOutput};
 
 use crate::streams::{FIVE_TRIES, LARGER, LARGER_IMAGES, LINE, WORDS, run_of};
 use ga_jobs::{
-    Ending, Job, Loading, ServeError, answer, answer_alone, answer_file, open_file, serve,
+    Ending, Job, Loading, ServeError, answer, answer_alone, open_file, output_of_file, serve,
     serve_file, status,
 };
 use std::test::Fail;
@@ -48,8 +48,10 @@ fn answers_bytes_in_memory(rt: HostRuntime) -> Result<(), Fail> {
 #[test]
 fn answers_a_file_of_the_larger_language(rt: HostRuntime) -> Result<(), Fail> {
     let job = Job::Asm { file: None };
-    let text = answer_file(&rt, &job, LARGER.as_bytes())?;
-    assert!(rt; text.as_str() == LARGER_IMAGES);
+    let made = output_of_file(&rt, &job, LARGER.as_bytes())?;
+    let mut written = Vec::new(rt.alloc());
+    assert!(rt; made.write(rt.alloc(), &mut written, &job) == Ok(Ending::Done));
+    assert!(rt; written.as_slice() == LARGER_IMAGES.as_bytes());
     let mut output = Vec::new(rt.alloc());
     assert!(rt; serve_file(&rt, &mut output, &job, LARGER.as_bytes()) == Ok(Ending::Done));
     assert!(rt; output.as_slice() == LARGER_IMAGES.as_bytes());

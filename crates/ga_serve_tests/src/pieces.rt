@@ -82,6 +82,7 @@ fn profile_job() -> Job {
     Job::Profile {
         loading: Loading::Place,
         start: WindowStart::LastNode,
+        json: false,
         turns: Some(40),
         file: None,
     }
@@ -121,6 +122,7 @@ fn counts_job() -> Job {
 fn report_job() -> Job {
     Job::Report {
         loading: Loading::Place,
+        start: WindowStart::LastNode,
         turns: Some(40),
         file: None,
     }

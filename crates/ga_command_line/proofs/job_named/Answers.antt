@@ -7,13 +7,13 @@ use Rattle.ga_jobs.specs.declared.Job.{Job}
 use Rattle.ga_jobs.specs.declared.Job.TheVariants.{Asm, Boot, Dis, Map, One, Profile, Race, Report, Run, Trace}
 use Rattle.ga_jobs.specs.declared.race.Loading.{Loading}
 use Rattle.ga_profile.specs.declared.window.WindowStart.{WindowStart}
-use Rattle.ga_command_line.specs.ProfileLine.{IsStartAt, IsStartInRange}
 use Rattle.ga_command_line.specs.declared.command_line.LineError.{LineError}
 use Rattle.ga_command_line.specs.declared.command_line.LineError.TheVariants.{Memory}
 use Rattle.ga_command_line.specs.CommandLine.{AsksFor, InRange}
 use Rattle.ga_command_line.specs.Number.{IsNumberAt, IsNumberIfAt}
 use Rattle.ga_command_line.specs.Loading.{IsLoadingAt}
 use Rattle.ga_command_line.specs.Route.{IsRouteAt}
+use Rattle.ga_command_line.specs.Start.{IsStartAt, IsStartInRange}
 use Rattle.ga_command_line.proofs.job_named.Goals as goal
 
 -- a name that is none of a subcommand's asks for no job
@@ -149,7 +149,7 @@ profile_right : (name : Text) (rows : List Row) (result : Result Job LineError)
 profile_right name rows (Ok job) is right = right
 profile_right name rows (Err error) is right =
     λ asked. elim asked as (λ job. AsksFor (name, rows) job → InRange job → error ≡ Memory) [
-      | Profile loading start turns file ↦ λ asks within.
+      | Profile loading start json turns file ↦ λ asks within.
           right loading start turns within.0 within.1 asks.1.0 asks.1.1 asks.1.2
       | _ ↦ λ asks within. absurd (false≢true
           (sym (ap (λ (text : Text). bytes_eq text (codes "profile")) (sym is ∙ asks.0))))
@@ -184,14 +184,16 @@ returns-in-trace-clause-right c =
 -- and the name `report` for a page alone
 report_right : (name : Text) (rows : List Row) (result : Result Job LineError)
     → name ≡ codes "report"
-    → IfErr result (λ error. (loading : Loading) (turns : Option ℕ)
-    → IfSome turns (λ number. number ≤ 1000000) → IsLoadingAt rows loading
-    → IsNumberIfAt (codes "N") rows turns → error ≡ Memory)
+    → IfErr result (λ error. (loading : Loading) (start : WindowStart) (turns : Option ℕ)
+    → IfSome turns (λ number. number ≤ 1000000) → IsStartInRange start
+    → IsLoadingAt rows loading → IsNumberIfAt (codes "N") rows turns → IsStartAt rows start
+    → error ≡ Memory)
     → IfErr result (λ error. (job : Job) → AsksFor (name, rows) job → InRange job → error ≡ Memory)
 report_right name rows (Ok job) is right = right
 report_right name rows (Err error) is right =
     λ asked. elim asked as (λ job. AsksFor (name, rows) job → InRange job → error ≡ Memory) [
-      | Report loading turns file ↦ λ asks within. right loading turns within asks.1.0 asks.1.1
+      | Report loading start turns file ↦ λ asks within.
+          right loading start turns within.0 within.1 asks.1.0 asks.1.1 asks.1.2
       | _ ↦ λ asks within. absurd (false≢true
           (sym (ap (λ (text : Text). bytes_eq text (codes "report")) (sym is ∙ asks.0))))
     ]

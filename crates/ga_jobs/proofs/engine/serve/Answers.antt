@@ -1,4 +1,4 @@
-use Rattle.std.proofs.Common.{◌≡◌, [], ℕ, false, IfSome, List, Option, Some, None, Result, Ok, Err, rules}
+use Rattle.std.proofs.Common.{◌≡◌, inl, inr, [], ℕ, false, IfSome, List, Option, Some, None, Result, Ok, Err, rules}
 use Rattle.std.proofs.lemmas.Bool.{true≢false}
 use Rattle.ga_jobs.specs.{reads_input}
 use Rattle.ga_jobs.specs.declared.Job.{Job}
@@ -26,7 +26,9 @@ serves_any job input other old new (Ok ended) reads is =
 serves_any job input other old new (Err Write) reads is =
     (is.0, any_input job input other (Ok is.0) reads is.1, is.2)
 serves_any job input other old new (Err Read) reads is = is
-serves_any job input other old new (Err Memory) reads is = is
+serves_any job input other old new (Err Memory) reads (inl kept) = inl kept
+serves_any job input other old new (Err Memory) reads (inr (pieces, part)) =
+    inr (pieces, (part.0, any_input job input other (Ok part.0) reads part.1, part.2))
 serves_any job input other old new (Err fault) reads is =
     (any_input job input other (Err fault) reads is.0, is.1)
 

@@ -1,0 +1,45 @@
+-- What a job writes, and what writing it does to a writer's bytes.
+use Rattle.std.specs.Prelude.{◌≡◌, ℕ, Bool, true, false, List, codes, nat_eq, Option, Result, Ok, Err, string_bytes, take, if◌then◌else◌}
+use Rattle.std.specs.List.{starts_with}
+use Rattle.std.specs.Io.KnownBytes.{Appends}
+use Rattle.ga_jobs.specs.declared.Job.{Job}
+use Rattle.ga_jobs.specs.declared.Job.TheVariants as job
+use Rattle.ga_jobs.specs.declared.engine.Ending.{Ending}
+use Rattle.ga_jobs.specs.declared.engine.Ending.TheVariants as ending
+use Rattle.ga_jobs.specs.declared.fault.ServeError.{ServeError}
+use Rattle.ga_jobs.specs.declared.fault.ServeError.TheVariants.{Write, Memory}
+use Rattle.ga_jobs.specs.declared.outputs.Output.{Output}
+use Rattle.ga_jobs.specs.declared.outputs.Output.TheVariants as output
+use Rattle.ga_jobs.specs.{writes_pieces}
+use Rattle.ga_jobs.specs.TraceJob as trace
+
+-- its text
+abbrev pub text_of : Output → List ℕ
+text_of (output.Text text) = string_bytes text
+text_of (output.Waveform made) = trace.text_of made
+
+-- it is written in pieces, as it is made
+abbrev pub in_pieces : Output → Bool
+in_pieces (output.Text text) = false
+in_pieces (output.Waveform made) = true
+
+-- how a job ended, by the text that it wrote: a race is each text of `race` but for those without
+-- one
+abbrev pub ending_of : Job → List ℕ → Ending
+ending_of (job.Race loading turns witness file) text =
+    if starts_with nat_eq text (codes "no race") then ending.Done else ending.Race
+ending_of job text = ending.Done
+
+-- a prefix of a text was appended to a writer's bytes, old and new, and nothing else
+abbrev pub AppendsPart : Option (List ℕ) → Option (List ℕ) → List ℕ → Type 0
+AppendsPart old new text = (count : ℕ) × Appends old new (take count text)
+
+-- A text was written, and how the job ended; or a prefix of it, since a write failed, or memory ran
+-- out while it was made.
+abbrev pub WritesText : Job → List ℕ → Option (List ℕ) → Option (List ℕ)
+    → Result Ending ServeError → Type 0
+WritesText job text old new (Ok ended) = Appends old new text × (ended ≡ ending_of job text)
+WritesText job text old new (Err Write) = AppendsPart old new text
+WritesText job text old new (Err Memory) =
+    (writes_pieces job ≡ true) × AppendsPart old new text
+WritesText job text old new (Err fault) = ⊥

@@ -1,0 +1,170 @@
+//! A profile as JSON: one object.
+ghost use Rattle.std.specs.Prelude.{◌≡◌, ◌<◌, ◌≤◌, ◌∷◌, [], ◌++◌, get_or, IfOk, OnOk, length, map, string_bytes};
+ghost use Rattle.serde_json.specs.Written.{compact_text};
+ghost use Rattle.serde_json.specs.View.{view};
+ghost use Rattle.ga_json.specs.Profile as spec;
+ghost use Rattle.ga_json.specs.Profile.{node_data, pass_data, profile_data, stacks_data, turns_data, window_data, words_data};
+
+use ga_place::Node;
+use ga_profile::{NodePass, NodeTurns, Profile, TurnCounts, Window, bottleneck_text};
+use ga_trace::StackDepths;
+use serde_json::{Value, json};
+use std::alloc::{AllocError, Global};
+
+/// A profile as JSON, on one line without its end: `bottleneck`, the sentences of its text;
+/// `nodes`, an object for each node that began, in order of name; and `window`, the turn in which
+/// it begins, and the one behind its last. Turns and words are counts. Fails only when out of
+/// memory. (The form is this project's own: profile.)
+pub fn profile_json(alloc: Global, profile: &Profile) -> Result<String, AllocError>
+    ensures { IfOk result (λ text. string_bytes text ≡ compact_text (profile_data profile.now)) }
+{
+    let value = profile_value(alloc, profile)?;
+    value.to_string(alloc)
+}
+
+/// The bottleneck, the nodes that began, and the window.
+#[tactic(auto, unfolding(crate::specs::Profile::profile_data))]
+fn profile_value(alloc: Global, profile: &Profile) -> Result<Value, AllocError>
+    ensures { IfOk result (λ value. view value ≡ profile_data profile.now) }
+{
+    let bottleneck = bottleneck_text(alloc, profile)?;
+    let nodes = nodes_value(alloc, profile)?;
+    let window = window_value(alloc, profile.window)?;
+    json!(in alloc; {
+        "bottleneck": bottleneck,
+        "nodes": nodes,
+        "window": window
+    })
+}
+
+/// The nodes that began.
+#[tactic(auto, unfolding(crate::specs::Profile::nodes_data))]
+fn nodes_value(alloc: Global, profile: &Profile) -> Result<Value, AllocError>
+    ensures { IfOk result (λ value. view value ≡ spec.nodes_data profile.now) }
+{
+    let mut nodes = Vec::new(alloc);
+    for index in 0..144 {
+        push_node(&mut nodes, alloc, profile, index)?;
+    }
+    Ok(Value::Array(nodes))
+}
+
+/// Adds the node with an index, if it began.
+fn push_node(
+    nodes: &mut Vec<Value>,
+    alloc: Global,
+    profile: &Profile,
+    index: usize,
+) -> Result<(), AllocError>
+    requires { index < 144 }
+    ensures { OnOk result (map view nodes.new.items
+        ≡ map view nodes.old.items ++ spec.node_at profile.now index) }
+{
+    let turns = profile.nodes[index];
+    if turns.began.is_some() {
+        let node = node_value(
+            alloc,
+            Node::at(index),
+            &turns,
+            profile.passes[index],
+            profile.path[index],
+            &profile.depths[index],
+        )?;
+        nodes.push(node)?;
+    }
+    Ok(())
+}
+
+/// What a node did.
+#[tactic(auto, unfolding(crate::specs::Profile::node_data))]
+fn node_value(
+    alloc: Global,
+    node: Node,
+    turns: &NodeTurns,
+    pass: Option<NodePass>,
+    path: u64,
+    depths: &StackDepths,
+) -> Result<Value, AllocError>
+    ensures { IfOk result (λ value. view value ≡ node_data node turns.now pass path depths.now) }
+{
+    let name = node.to_string(alloc)?;
+    let pass = pass_value(alloc, pass)?;
+    let stacks = stacks_value(alloc, depths)?;
+    let counts = turns_value(alloc, &turns.counts)?;
+    let words = words_value(alloc, turns)?;
+    json!(in alloc; {
+        "name": name,
+        "pass": pass,
+        "path": path,
+        "stacks": stacks,
+        "turns": counts,
+        "words": words
+    })
+}
+
+/// How long a pass takes, and in how many of its turns the node works; `null` without one.
+#[tactic(auto, unfolding(crate::specs::Profile::pass_data))]
+fn pass_value(alloc: Global, pass: Option<NodePass>) -> Result<Value, AllocError>
+    ensures { IfOk result (λ value. view value ≡ pass_data pass) }
+{
+    match pass {
+        Some(pass) => {
+            let NodePass { turns, works } = pass;
+            json!(in alloc; {"turns": turns, "works": works})
+        }
+        None => Ok(Value::Null),
+    }
+}
+
+/// The most words of each stack.
+#[tactic(auto, unfolding(crate::specs::Profile::stacks_data))]
+fn stacks_value(alloc: Global, depths: &StackDepths) -> Result<Value, AllocError>
+    ensures { IfOk result (λ value. view value ≡ stacks_data depths.now) }
+{
+    let data = depths.data_stack.most;
+    let below = depths.return_stack.most;
+    json!(in alloc; {"data": data, "return": below})
+}
+
+/// In how many turns a node did what.
+#[tactic(auto, unfolding(crate::specs::Profile::turns_data))]
+fn turns_value(alloc: Global, counts: &TurnCounts) -> Result<Value, AllocError>
+    ensures { IfOk result (λ value. view value ≡ turns_data counts.now) }
+{
+    let TurnCounts {
+        boots,
+        works,
+        word_waits,
+        reader_waits,
+        spins,
+        stops,
+    } = *counts;
+    json!(in alloc; {
+        "boots": boots,
+        "reader_waits": reader_waits,
+        "spins": spins,
+        "stops": stops,
+        "word_waits": word_waits,
+        "works": works
+    })
+}
+
+/// How many words a node took and posted.
+#[tactic(auto, unfolding(crate::specs::Profile::words_data))]
+fn words_value(alloc: Global, turns: &NodeTurns) -> Result<Value, AllocError>
+    ensures { IfOk result (λ value. view value ≡ words_data turns.now) }
+{
+    let taken = turns.taken;
+    let posted = turns.posted;
+    json!(in alloc; {"in": taken, "out": posted})
+}
+
+/// The first turn of a window, and the one behind its last.
+#[tactic(auto, unfolding(crate::specs::Profile::window_data))]
+fn window_value(alloc: Global, window: Window) -> Result<Value, AllocError>
+    ensures { IfOk result (λ value. view value ≡ window_data window) }
+{
+    let first = window.first;
+    let end = u64::from(window.end);
+    json!(in alloc; {"end": end, "first": first})
+}
