@@ -44,9 +44,9 @@ _ga_bench() {
     1list) options='--place --route --turns --labels --counts -h --help' operands=(FILE) ;;
     1race) options='--place --route --turns --witness -h --help' operands=(FILE) ;;
     1map) options='--place --route --turns -h --help' operands=(FILE) ;;
-    1profile) options='--place --route --turns --from -h --help' operands=(FILE) ;;
+    1profile) options='--place --route --turns --from --json -h --help' operands=(FILE) ;;
     1trace) options='--place --route --turns --nodes --save -h --help' operands=(FILE) ;;
-    1report) options='--place --route --turns -h --help' operands=(FILE) ;;
+    1report) options='--place --route --turns --from -h --help' operands=(FILE) ;;
     1check) options='-h --help' operands=(FILE...) ;;
     1record) options='--write -h --help' operands=(FILE...) ;;
     1explain) options='-h --help' operands=(NAME) ;;

@@ -90,6 +90,7 @@ complete -c ga-bench -n '__fish_seen_subcommand_from profile' -l place -d 'The i
 complete -c ga-bench -n '__fish_seen_subcommand_from profile' -l route -x -a '(__ga_bench_route)' -d 'The input is source text, which boots along this route, or a tree of routes'
 complete -c ga-bench -n '__fish_seen_subcommand_from profile' -l turns -x -d 'How many turns are made at most, from 0 to 1000000; by default 1000000'
 complete -c ga-bench -n '__fish_seen_subcommand_from profile' -l from -x -d 'Where it begins: with the last node that begins (last, the default), the first (first), or a turn'
+complete -c ga-bench -n '__fish_seen_subcommand_from profile' -l json -d 'Writes the numbers of the window and its nodes as JSON, on one line'
 complete -c ga-bench -n '__fish_seen_subcommand_from profile' -s h -l help -d 'Print help'
 complete -c ga-bench -n '__fish_seen_subcommand_from profile' -F
 complete -c ga-bench -n '__fish_seen_subcommand_from trace' -l place -d 'The input is source text, even if it begins with \'profile\'; its words are placed'
@@ -102,6 +103,7 @@ complete -c ga-bench -n '__fish_seen_subcommand_from trace' -F
 complete -c ga-bench -n '__fish_seen_subcommand_from report' -l place -d 'The input is source text, even if it begins with \'profile\'; its words are placed'
 complete -c ga-bench -n '__fish_seen_subcommand_from report' -l route -x -a '(__ga_bench_route)' -d 'The input is source text, which boots along this route, or a tree of routes'
 complete -c ga-bench -n '__fish_seen_subcommand_from report' -l turns -x -d 'How many turns are made at most, from 0 to 1000000; by default 1000000'
+complete -c ga-bench -n '__fish_seen_subcommand_from report' -l from -x -d 'Where it begins: with the last node that begins (last, the default), the first (first), or a turn'
 complete -c ga-bench -n '__fish_seen_subcommand_from report' -s h -l help -d 'Print help'
 complete -c ga-bench -n '__fish_seen_subcommand_from report' -F
 complete -c ga-bench -n '__fish_seen_subcommand_from check' -s h -l help -d 'Print help'

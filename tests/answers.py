@@ -19,7 +19,7 @@ output of a run must have its form, and must agree with other runs of the progra
 | `race` | `debug` makes as many steps in its turns, and `check` accepts its witness |
 | `trace` | `record` shows the same in the first turns, made by tries, and the same nodes behind `run` |
 | `map` | `record` has it as the reply to `map` behind `run` |
-| `profile` | `record` makes the same tries, one after the other. tests/profiles.py works the text out from their replies |
+| `profile` | `record` makes the same tries, one after the other. tests/profiles.py works text and JSON out from their replies |
 | `report` | it has the texts of `profile` and `list --counts`, and the verdict of `race`. tests/report_page.py reads it |
 | `replay` of profile 2 | it compares with the replies of `debug` |
 | `replay` of profile 1 | it accepts the lines before one that differs, and refuses the last one changed |
@@ -38,9 +38,9 @@ from operands import COMMANDS, IN_REPLAYS, command_of
 from outputs import (
     asm_output, boot_output, dis_output, judge_reached, labels_output, list_output, routes_of, rows_of, tree_of,
 )  # fmt: skip
-from profiles import PROFILE, Run, TooLong, profile_text
+from profiles import PROFILE, Run, TooLong, profile_json, profile_of, profile_text
 from replies import STACKS, agree_in_other_words, agrees, has_form, ledgers, other_words, registers
-from report_page import fault_of_page
+from report_page import BOTTLENECK, fault_of_page
 from sessions import Transcript, head_of, text_of
 from vcd import NODES, Session, Waveform, Wrong, commands_of, compare, compare_end, demand
 
@@ -453,17 +453,47 @@ def map_(ask, job, text, answer):
     return answer.output if session is None else text_of(transcript_of(session).exchanges[-1].reply)
 
 
-@subcommand("FILE", turns=range(1000001), place=None, route="ROUTE", **{"from": "WHERE"})
+@subcommand("FILE", turns=range(1000001), place=None, route="ROUTE", json=None, **{"from": "WHERE"})
 def profile(ask, job, text, answer):
-    """What each node did in turns until rest, by the tries of a run. Of a run of many turns it must have its form."""
+    """What each node did in turns until rest, by the tries of a run. Of a run of many turns the text must have its form, and the
+    JSON must be that of the text."""
+    has_numbers = "json" in job.options
     try:
         run = run_of(ask, job, text)
         if run.turns <= MOST_PROFILED:
-            return profile_text(run, job.options.get("from", "last"))
+            found = profile_of(run, job.options.get("from", "last"))
+            return profile_json(found) if has_numbers else profile_text(found)
     except TooLong:
         pass
-    must_have_form(answer, PROFILE)
+    if has_numbers:
+        demand(answer.status == 0, "no JSON")
+        judge_numbers(answer.output, ask(["profile", *without(job, "json")], text))
+    else:
+        must_have_form(answer, PROFILE)
     return answer.output
+
+
+def without(job, name):
+    """The arguments of a job without an option."""
+    options = [f"--{it}" + f"={value}" * (value is not True) for it, value in job.options.items() if it != name]
+    return [*options, "--", *job.values]
+
+
+def judge_numbers(output, shown):
+    """Compares a profile as JSON with its text: the window, the nodes with their words and passes, and the bottleneck."""
+    try:
+        found = json.loads(output)
+        end, first = found["window"]["end"], found["window"]["first"]
+        names = [it["name"] for it in found["nodes"]]
+        numbers = [[*it["words"].values(), *(it["pass"] or {"turns": ".", "works": "."}).values()] for it in found["nodes"]]
+        bottleneck = found["bottleneck"]
+    except (ValueError, KeyError, TypeError, AttributeError) as error:
+        raise Wrong(f"no JSON of a profile: {error!r}") from None
+    rows = [it.split() for it in re.findall(r"^\d{3} [^|\n]*\|[^|]{24}\|.*", shown, re.M)]
+    demand(shown.startswith(f"{max(end - first, 0)} turns from turn {first} on\n"), "another window")
+    demand(names == [row[0] for row in rows], "other nodes")
+    demand([[*map(str, it)] for it in numbers] == [row[-4:] for row in rows], "other words or passes")
+    demand(bottleneck == BOTTLENECK.search(shown)[0], "another bottleneck")
 
 
 def counted(ask, job, text, answer):
@@ -481,12 +511,12 @@ def counted(ask, job, text, answer):
     return answer.output
 
 
-@subcommand("FILE", turns=range(1000001), place=None, route="ROUTE")
+@subcommand("FILE", turns=range(1000001), place=None, route="ROUTE", **{"from": "WHERE"})
 def report(ask, job, text, answer):
     """A page with the texts of `profile` and `list --counts`. Its headline is the race that `race` finds, or the bottleneck."""
     _, commands = session_in(job, text)
-    options = job.args[1:]
-    shown, listing = ask(["profile", *options], text), ask(["list", "--counts", *options], text)
+    options = without(job, "from")
+    shown, listing = ask(["profile", *job.args[1:]], text), ask(["list", "--counts", *options], text)
     # race does no commands, so behind some it says nothing of the page
     verdict = ask(["race", *options], text, error=None) if not commands else None
     demand(answer.status == 0, "no page")

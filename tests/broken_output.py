@@ -13,12 +13,16 @@ import os
 import subprocess
 import sys
 
+from vcd import FOR_EVER
+
 ROOT = os.path.dirname(os.path.dirname(os.path.abspath(__file__)))
 SECONDS = 60
 FAULT = (1, b"ga-bench: write\n")
 # A pipe holds 65,536 bytes, so this output doesn't fit. These numbers of its bytes are read.
 LONG = (["debug"], b"profile 2\nplace\nnode 000 .\ngo\n" + b"mem 000\n" * 2000)
 FILE = f"{ROOT}/examples/two_nodes/two_nodes.transcript"
+# A waveform is written as it is made.
+LONG_WAVEFORM = (["trace", "--turns", "350"], FOR_EVER.encode())
 TALK = (["debug", FILE], b"turn 4\nback\n")
 LONG_TALK = (["debug", FILE], b"mem 708\n" * 2000)
 PARTS = [1, 100, 5000, 70000]
@@ -32,7 +36,7 @@ def cases():
             for case in map(json.loads, lines):
                 if case.get("status") == 0 and case.get("stdout") and "stdin" in case:
                     found.setdefault(case["args"][0], (case["args"], case["stdin"].encode()))
-    return [*found.values(), (["--help"], b""), (["--version"], b""), LONG, TALK]
+    return [*found.values(), (["--help"], b""), (["--version"], b""), LONG, LONG_WAVEFORM, TALK]
 
 
 def ended(program, args, data, output):
@@ -73,7 +77,7 @@ def main(program):
             passed += told == FAULT
             if told != FAULT:
                 failed.append(f"{args} to an output that is {run.__name__}: {told}")
-    for args, data in (LONG, LONG_TALK):
+    for args, data in (LONG, LONG_WAVEFORM, LONG_TALK):
         whole = subprocess.run([program, *args], input=data, capture_output=True, timeout=SECONDS).stdout
         for most in PARTS:
             told, part = front(program, args, data, most)

@@ -82,6 +82,9 @@ def pools():
         if name in ("profile", "asm"):
             made["list"].append((["list", "--counts", "--turns", "100"], data))
             made["report"].append((["report", "--turns", "100"], data))
+            made["report"].append((["report", "--from", "first", "--turns", "100"], data))
+        if name == "profile":
+            made["profile"].append(([name, "--json", *args[1:]], data))
         if name in ("debug", "replay"):
             made["check"].append((["check"], as_transcript(name, data, output)))
             made["record"].append((["record"], as_transcript(name, data, b"")))

@@ -2,8 +2,8 @@
 """Compares the profiles of the worked programs with those that follow from their tries: python3 tests/profiled.py PROGRAM
 
 Each source text of examples/ is placed, runs for at most TURNS turns, and is profiled from its last node, its first node and
-its turn 10 on. tests/profiles.py works the same text out from the replies of `record`. The last line that is printed is
-'profiled: N passed, M failed', a profile each, and the exit status is 0 if M is 0.
+its turn 10 on, as text and as JSON. tests/profiles.py works both out from the replies of `record`. The last line that is printed
+is 'profiled: N passed, M failed', a profile each, and the exit status is 0 if M is 0.
 """
 import glob
 import os
@@ -11,7 +11,7 @@ import subprocess
 import sys
 
 import answers
-from profiles import Run, profile_text
+from profiles import Run, profile_json, profile_of, profile_text
 from sessions import text_of
 
 ROOT = os.path.dirname(os.path.dirname(os.path.abspath(__file__)))
@@ -33,13 +33,15 @@ def main():
     for file in sorted(glob.glob(f"{ROOT}/examples/*/*.source")):
         with open(file, encoding="utf-8") as it:
             text = it.read()
+        args = ["profile", "--place", "--turns", str(TURNS)]
+        run = Run(session, *answers.session_in(answers.Job(args), text), TURNS)
         for start in STARTS:
-            args = ["profile", "--place", "--turns", str(TURNS), "--from", start]
-            head, commands = answers.session_in(answers.Job(args), text)
-            is_same = output(program, args, text) == profile_text(Run(session, head, commands, TURNS), start)
-            passed, failed = passed + is_same, failed + (not is_same)
-            if not is_same:
-                print(f"FAILED {os.path.relpath(file, ROOT)} from {start}")
+            profile = profile_of(run, start)
+            for options, wanted in (([], profile_text(profile)), (["--json"], profile_json(profile))):
+                is_same = output(program, [*args, "--from", start, *options], text) == wanted
+                passed, failed = passed + is_same, failed + (not is_same)
+                if not is_same:
+                    print(f"FAILED {os.path.relpath(file, ROOT)} from {start} {options}")
     print(f"profiled: {passed} passed, {failed} failed")
     return 1 if failed or not passed else 0
 

@@ -1,9 +1,10 @@
-"""The text of `profile`, worked out from the tries of a run.
+"""The text of `profile`, and its JSON, worked out from the tries of a run.
 
 `record` makes the run again, one try after the other. In front of each turn `where` shows P, the place, the opcode and the
 need of each node, `expect NNN at` the address of its word in execution, and `expect NNN R` its R; the outcome of a try shows
 who moved. Nothing here is taken from `profile` or `depth` themselves, and no chip is run. Labels are those of assembler.py.
 """
+import json
 import re
 from collections import Counter, namedtuple
 from dataclasses import dataclass, field
@@ -26,6 +27,10 @@ SIDE = re.compile(r" ?(?P<side>right|down|left|up) of (?P<node>\d{3})\b.*")
 SLOTS = ["slot0", "slot1", "slot2", "slot3"]
 # What a node does in a turn, in the order in which a bar has it, and the sign.
 SIGNS = {"boots": "b", "works": "#", "takes": "?", "reads": "!", "spins": "~", "stops": "x"}
+# The same in JSON, by its names.
+COUNTS = {
+    "boots": "boots", "reader_waits": "reads", "spins": "spins", "stops": "stops", "word_waits": "takes", "works": "works",
+}  # fmt: skip
 # How many words the stacks have room for, and what an opcode does to them. The end of a loop pops its counter, if R is 0.
 DATA_ROOM, RETURN_ROOM = 10, 9
 DATA_CHANGES = {
@@ -43,6 +48,7 @@ LEGEND = """\
 rest: b boots  ~ spins  x stopped  blank idle
 path: the run waits for this node
 """
+STUCK = r"Stuck, since no node reads its word:(?: \d{3})+\.\n"
 STACKS_HEAD = "node data/10 return/9  the fullest stacks\n"
 # What the profile of a run that isn't worked out has to look like.
 SHARE = r"(?:\.|<1|\d{1,3})"
@@ -52,7 +58,7 @@ PROFILE = [
     rf"(?:\d{{3}}(?: +{SHARE}){{4}} \|b*#*\?*!*~*x* *\| +{SHARE}(?: +\d+){{2}}(?: +\d+){{2}}\n|"
     rf"\d{{3}}(?: +{SHARE}){{4}} \|b*#*\?*!*~*x* *\| +{SHARE}(?: +\d+){{2}}      \.     \.\n)*",
     re.escape(LEGEND),
-    r"Bottleneck: [^\n]*\n(?:(?:The run gets|Side by side,) [^\n]*\n|(?:ring(?: \d{3})+\n)*)",
+    rf"(?:{STUCK})?Bottleneck: [^\n]*\n(?:(?:The run gets|Side by side,) [^\n]*\n|(?:ring(?: \d{{3}})+\n)*)",
     rf"path  node  word  where the path goes\n(?: +{SHARE}   \d{{3}}   (?:  \.|0[0-3][0-9A-F]{LABEL})\n){{0,10}}",
     rf"(?:{STACKS_HEAD}(?:\d{{3}}(?: +\d+){{2}}{PASSED.format('data')}{PASSED.format('return')}\n){{1,10}})?",
     r"At the end:\n(?:\d{3} P [^\n]*\n)*(?:idle:(?: \d{3})+\n)?(?:ring(?: \d{3})+\n)*",
@@ -111,9 +117,15 @@ class Run:
         self.turns = int(replies[144][0].split()[1])
         self.nodes = [node for node, *pair in zip(NODES, *counts) if pair[0] != pair[1]]
         self.session, self.head, self.commands = session, head, commands
-        self.images = head_of(head).images
+        self.images, self.steps = head_of(head).images, None
 
     def look(self):
+        """The steps of each node. The first call makes the tries."""
+        if self.steps is None:
+            self.steps = self.steps_by(self.outcomes())
+        return self.steps
+
+    def outcomes(self):
         """Makes the tries, a session for a part of the turns, which begins with a turn that tries the right side."""
         self.where, outcomes = [], []
         part = max(4, MOST_BYTES // (53 * len(self.nodes) + 8) // 4 * 4)
@@ -128,7 +140,7 @@ class Run:
             for begin in range(0, len(replies), width):
                 self.where.append(replies[begin])
                 outcomes.append(replies[begin + 1 : begin + width])
-        return self.steps_by(outcomes)
+        return outcomes
 
     def nodes_behind(self, turns):
         """Who waits for whom behind some turns."""
@@ -394,33 +406,94 @@ def bottleneck(uses, on_path, length, rings):
     return f"Bottleneck: {who} {names}, in {most // 10000} % of the turns.\n{change}\n"
 
 
+def stuck_text(lines):
+    """The line of the nodes that wait for good for their words to be read, by the lines of `nodes`."""
+    found = [WAITS.fullmatch(line) for line in lines if line.endswith(", stuck") and ", held" not in line]
+    names = [it[1] for it in found if it["need"] in ("post", "check")]
+    return f"Stuck, since no node reads its word: {' '.join(names)}.\n" if names else ""
+
+
 def per_million(part, whole):
     return part * 1000000 // whole if whole else 0
 
 
-def profile_text(run, where="last"):
+@dataclass
+class Profile:
+    """The profile of a run: a window, what each node did in it, and what its end shows. `path` has turns by node and word."""
+
+    first: int
+    end: int
+    nodes: dict
+    passes: dict
+    path: Counter
+    stacks: dict
+    bottleneck: str
+    at_end: str
+    images: dict
+
+    def began(self):
+        return [node for node, it in self.nodes.items() if it.began is not None]
+
+    def length(self):
+        return max(self.end - self.first, 0)
+
+    def on_path(self):
+        return {node: sum(turns for (other, _), turns in self.path.items() if other == node) for node in NODES}
+
+
+def profile_of(run, where="last"):
     """The profile of a run, from the turn in which the last or the first node began, or from the one with a number."""
     steps = run.look()
     whole = [doing_of(it, 0) for it in steps.values()]
     began = [it.began for it in whole if it.began is not None] or [0]
     first = {"last": max(began), "first": min(began)}.get(where)
     first = int(where) if first is None else first
-    last = max((it.last for it in whole if it.last is not None), default=-1)
-    end, length = last + 1, max(last + 1 - first, 0)
+    end = max((it.last for it in whole if it.last is not None), default=-1) + 1
     steps = {node: [step for step in some if step.turn < end] for node, some in steps.items()}
     nodes = {node: doing_of(some, first) for node, some in steps.items()}
     ended = states_of(run.where[end])
     for node, it in nodes.items():
         it.wait(awaited(ended.get(node, IDLE)), it.turns_between(first, end))
-    passes = {node: pass_of(some, first) for node, some in steps.items()}
-    uses = {node: per_million(*reversed(passes[node] or (length, it.counts["works"]))) for node, it in nodes.items()}
     latest = max(NODES, key=lambda node: (-1 if nodes[node].last is None else nodes[node].last, node))
-    found = path_of(steps, first, latest)
-    on_path = {node: sum(turns for (other, _), turns in found.items() if other == node) for node in NODES}
-    rings = "".join(f"{line}\n" for line in run.where[end] if line.startswith("ring "))
-    rows = (row(node, it, passes[node], on_path[node], length) for node, it in nodes.items() if it.began is not None)
-    table = f"{length} turns from turn {first} on\n{HEAD}{''.join(rows)}{LEGEND}"
-    lines = lines_text(found, on_path, length, run.images)
     stacks = {node: stacks_of(some) for node, some in steps.items() if nodes[node].began is not None}
-    text = table + bottleneck(uses, on_path, length, rings) + rings + lines + stacks_text(stacks, run.images)
-    return f"{text}At the end:\n{run.nodes_behind(end)}"
+    passes = {node: pass_of(some, first) for node, some in steps.items()}
+    found = Profile(first, end, nodes, passes, path_of(steps, first, latest), stacks, "", run.nodes_behind(end), run.images)
+    found.bottleneck = bottleneck_of(found, [line for line in run.where[end] if line.startswith("ring ")])
+    return found
+
+
+def bottleneck_of(profile, rings):
+    """What a profile says of the bottleneck, with the lines of rings, and of words that are never read."""
+    nodes, length = profile.nodes, profile.length()
+    uses = {node: per_million(*reversed(profile.passes[node] or (length, it.counts["works"]))) for node, it in nodes.items()}
+    text = bottleneck(uses, profile.on_path(), length, rings)
+    return text + "".join(f"{line}\n" for line in rings) if rings else stuck_text(profile.at_end.splitlines()) + text
+
+
+def profile_text(it):
+    """The text of a profile."""
+    length, on_path = it.length(), it.on_path()
+    rows = "".join(row(node, it.nodes[node], it.passes[node], on_path[node], length) for node in it.began())
+    lines = lines_text(it.path, on_path, length, it.images)
+    stacks = stacks_text(it.stacks, it.images)
+    return f"{length} turns from turn {it.first} on\n{HEAD}{rows}{LEGEND}{it.bottleneck}{lines}{stacks}At the end:\n{it.at_end}"
+
+
+def profile_json(it):
+    """A profile as JSON, on a line."""
+    on_path = it.on_path()
+    nodes = [node_numbers(node, it.nodes[node], it.passes[node], on_path[node], it.stacks[node]) for node in it.began()]
+    value = {"bottleneck": it.bottleneck, "nodes": nodes, "window": {"end": it.end, "first": it.first}}
+    return json.dumps(value, separators=(",", ":")) + "\n"
+
+
+def node_numbers(node, it, mean, on_path, stacks):
+    """What a node did, as an object of JSON."""
+    return {
+        "name": f"{node:03}",
+        "pass": mean and dict(zip(("turns", "works"), mean)),
+        "path": on_path,
+        "stacks": dict(zip(("data", "return"), (stack.most for stack in stacks))),
+        "turns": {name: it.counts[kind] for name, kind in COUNTS.items()},
+        "words": {"in": it.taken, "out": it.posted},
+    }

@@ -4,12 +4,14 @@
 A page is right if it is well-formed XML that needs no script and no other file, and
 - its headline is the race that `race` finds, or the bottleneck of `profile`;
 - it has the text of `profile`, and that of `list --counts`;
-- each node that began has a row, whose parts fill its columns, and are as long as the profile has them;
-- the close-up shows what the timeline shows of its turns;
+- each node that began has a row, whose parts fill its columns; they are as long as the profile has them, and as its title says;
+- the turns below a timeline stand where they begin;
+- the path of the run goes from one row to another, as tests/profiles.py finds it by the waveform of `trace`;
+- the close-up shows what the timeline shows of its turns, and each word that nodes take in them by this waveform;
 - each of the 144 nodes has a box, in its place, with what `profile` shows of it at the end, and its pending words, which
   are a list, too.
 
-The pages are those of EXAMPLES, in as many turns. If chromium is on PATH, it shows each at the WIDTHS, in light and in dark: nothing may
+- the path of the run goes from row to row as tests/profiles.py finds it by the waveform of `trace`;
 come on its console, and the picture has the page's background and at least COLOURS colours. (A page with a script, and an
 empty one, show that this fails.) The last line that is printed is 'pages of report: N passed, M failed', a page or a picture
 each, and the exit status is 0 if M is 0.
@@ -23,16 +25,20 @@ import sys
 import tempfile
 import xml.etree.ElementTree as ET
 import zlib
+from collections import namedtuple
 from concurrent.futures import ThreadPoolExecutor
 
-from profiles import NODES, SHARE, share, states_of
+from profiles import NODES, SHARE, STUCK, Move, before_on_path, share, states_of
 from schedules import neighbours
+from vcd import Waveform
 
 ROOT = os.path.dirname(os.path.dirname(os.path.abspath(__file__)))
-EXAMPLES = {
-    "ring/ring.source": 400, "fir/fir_pipelined.source": 1000, "two_nodes/two_nodes.transcript": 200, "send/send.source": 100,
-    "token_ring/token_ring.transcript": 300,
-}  # fmt: skip
+# Programs with the turns and the options of their pages. The last one boots, so its nodes begin in other turns.
+EXAMPLES = [
+    ("ring/ring.source", 400), ("fir/fir_pipelined.source", 1000), ("two_nodes/two_nodes.transcript", 200),
+    ("send/send.source", 100), ("token_ring/token_ring.transcript", 300), ("ring/ring.source", 400, "--from", "900"),
+    ("fir/fir_pipelined.source", 300, "--from", "20"), ("send/send.source", 300, "--from", "first", "--route", "708,709"),
+]  # fmt: skip
 WIDTHS, HEIGHT, COLOURS, SECONDS = [400, 1600], 700, 12, 120
 # What a node does: the class of its line, and the words.
 KINDS = {
@@ -40,11 +46,22 @@ KINDS = {
     "stopped": "stopped", "boots": "boots", "idle": "idle",
 }  # fmt: skip
 OF_NEED = {"own": "works", "take": "word", "post": "reader", "check": "reader", "stopped": "stopped", "input": "idle"}
+KEY = [*KINDS.values(), "the path: what the run waits for", "\xd7 at a name: the node has stopped"]
 CLOSE_UP = "Turns in the middle"
+# What the close-up says of words, if it has their lines, and if there are too many.
+MOST_LINES = 400
+LINES = ["A thin line is a word, from its post to its take.", f"Nodes take more than {MOST_LINES} words, so none is drawn."]
+LINE = re.compile(r"M(-?\d+) (\d+)\.5L(\d+) (\d+)\.5")
+WORD = re.compile(r"(\d{3}) to (\d{3}): ([0-3][0-9A-F]{4}), turn (\d+) to turn (\d+)")
 HEADINGS = ["Timeline", "Profile", "Chip at the end", "Listing"]
 ROW = re.compile(rf"^(\d{{3}}) +({SHARE}) +({SHARE}) +({SHARE}) +{SHARE} \|(.{{24}})\|", re.M)
-BOTTLENECK = re.compile(r"^Bottleneck: .*\n(?:(?:The run gets|Side by side,) .*\n)?(?:ring(?: \d{3})+\n)*", re.M)
-TITLE = re.compile(r"(\d{3}) works in (\d+) columns, waits for a word in (\d+), and for a reader in (\d+)")
+STUCK = r"Stuck, since no node reads its word:(?: \d{3})+\.\n"
+# The need of a step at a port, by what a waveform shows of it.
+NEEDS = {"posts": "post", "takes": "take", "sees": "check"}
+BOTTLENECK = re.compile(
+    rf"^(?:{STUCK})?Bottleneck: .*\n(?:(?:The run gets|Side by side,) .*\n)?(?:ring(?: \d{{3}})+\n)*", re.M
+)
+TITLE = re.compile(r"(\d{3}) works in (\d+) turns, waits for a word in (\d+), and for a reader in (\d+)")
 WINDOW = re.compile(r"(\d+) turns from turn (\d+) on\n")
 ENDS = re.compile(r"\d{3} P [^\n]*")
 
@@ -77,7 +94,9 @@ class Page:
         self.headings = [it.text for it in page.iter("h2")]
         main = [*page.find("body/main")]
         self.charts = charts_in(main)
-        self.notes = [it.text for it in main if it.tag == "p"][1:]
+        self.lines = words_in(page.findall("body/main/div[@class='over']/svg"), self.charts)
+        notes = [it.text for it in main if it.tag == "p"][1:]
+        self.notes, self.said = [it for it in notes if it not in LINES], [it for it in notes if it in LINES]
         self.key, self.pending = (["".join(item.itertext()) for item in it] for it in page.findall("body/main/ul"))
         self.boxes = [Box(it) for it in page.findall("body/main/div[@class='chip']/svg/g")]
 
@@ -93,37 +112,71 @@ class Box:
         self.pending = [it.find("title").text for it in paths if it.get("class") == "arrow"]
 
 
+# A row: its node, whether it has a cross, what the node does in each column, and whether it has the path, and the title's counts.
+Row = namedtuple("Row", "name is_crossed columns path counts")
+# A timeline: its rows, its turns, and how many of them a column has.
+Chart = namedtuple("Chart", "rows ticks stride")
+# A word that a node takes.
+Taken = namedtuple("Taken", "poster reader word posted taken")
+
+
 def charts_in(main):
-    """The rows of each timeline, with the turns of its scale."""
+    """The timelines."""
     charts, rows = [], []
-    for it in main:
+    for it in (inner for it in main for inner in (it if it.get("class") == "over" else [it])):
         if it.get("class") == "row":
             rows.append(row_in(it))
         elif it.get("class") == "scale":
-            charts.append((rows, [int(span.text) for span in it]))
+            ticks = [int(span.text) for span in it]
+            stride = max(1, -(-(ticks[-1] - ticks[0]) // 600))
+            width = stride * -(-(ticks[-1] - ticks[0]) // stride)
+            places = [f"left:calc(100%*{tick - ticks[0]}/{width})" for tick in ticks]
+            demand([span.get("style") for span in it] == places, f"the turns {ticks} are elsewhere")
+            charts.append(Chart(rows, ticks, stride))
             rows = []
     demand(not rows, "rows without a scale")
     return charts
 
 
 def row_in(div):
-    """The node of a row, and what it does in each column."""
+    """A row of a timeline."""
     name, svg = [*div]
     zero, top, width, height = map(int, svg.get("viewBox").split())
     demand((zero, top, height) == (0, 0, 24), "another box of a row")
-    columns = [None] * width
-    for path in svg.findall("path"):
-        parts = re.findall(r"M(\d+) (\d+)H(\d+)", path.get("d"))
-        demand("".join("M{} {}H{}".format(*it) for it in parts) == path.get("d"), f"no line: {path.get('d')}")
+    columns, path = [None] * width, [None] * width
+    for line in svg.findall("path"):
+        parts = re.findall(r"M(\d+) (\d+)H(\d+)", line.get("d"))
+        demand(parts and "".join("M{} {}H{}".format(*it) for it in parts) == line.get("d"), f"no line: {line.get('d')}")
+        drawn = path if line.get("class") == "path" else columns
         for begin, _, end in parts:
-            demand(columns[int(begin) : int(end)] == [None] * (int(end) - int(begin)) != [], "parts overlap")
-            columns[int(begin) : int(end)] = [path.get("class")] * (int(end) - int(begin))
+            demand(drawn[int(begin) : int(end)] == [None] * (int(end) - int(begin)) != [], "parts overlap")
+            drawn[int(begin) : int(end)] = [line.get("class")] * (int(end) - int(begin))
     demand({*columns} <= {*KINDS}, f"the row of {name.text} has a gap")
     found = TITLE.fullmatch(svg.find("title").text)
-    counts = [str(columns.count(kind)) for kind in ("works", "word", "reader")]
-    demand(found and [name.text[:3], *counts] == [*found.groups()], f"the row of {name.text} has other counts: {counts}")
-    demand(name.text[3:] == (" \xd7" if "stopped" in columns else ""), "a node has stopped, or has no cross")
-    return name.text[:3], columns
+    demand(found and name.text in (found[1], f"{found[1]} \xd7"), f"the row of {name.text} has another name")
+    return Row(found[1], name.text != found[1], columns, [*map(bool, path)], [*map(int, found.groups()[1:])])
+
+
+def words_in(drawings, charts):
+    """The words that the close-up has as lines, each in its place, or None without a drawing."""
+    if not drawings:
+        return None
+    demand(len(drawings) == 1 and len(charts) == 2, "several drawings of words, or one without a close-up")
+    rows, ticks, stride = charts[1]
+    width = stride * -(-(ticks[-1] - ticks[0]) // stride)
+    demand(drawings[0].get("viewBox") == f"-.5 0 {width} {len(rows)}", "another box of words")
+    names, words = [row.name for row in rows], []
+    for line in drawings[0]:
+        title = WORD.fullmatch(line.find("title").text)
+        demand(line.get("class") == "transfer" and title, "a line without a word")
+        demand({title[1], title[2]} <= {*names}, f"{title[0]} has a node without a row")
+        word = Taken(title[1], title[2], int(title[3], 16), int(title[4]), int(title[5]))
+        ends = [word.posted - ticks[0], names.index(word.poster), word.taken - ticks[0], names.index(word.reader)]
+        found = LINE.fullmatch(line.get("d"))
+        demand(found and [*map(int, found.groups())] == ends, f"{word} is elsewhere")
+        demand(word.posted <= word.taken < ticks[-1] and ticks[0] <= word.taken, f"{word} isn't in the close-up")
+        words.append(word)
+    return words
 
 
 # ---- What a page shows.
@@ -133,17 +186,20 @@ def judge_timelines(page, profile):
     """Compares the timelines with the first line and the rows of the profile."""
     length, first = map(int, WINDOW.match(profile).groups())
     shown = ROW.findall(profile)
-    stride = max(1, -(-length // 600))
-    for number, (rows, ticks) in enumerate(page.charts):
+    for number, (rows, ticks, stride) in enumerate(page.charts):
         begin, turns = (first, length) if number == 0 else (ticks[0], ticks[-1] - ticks[0])
-        wide = max(1, -(-turns // 600))
-        demand([name for name, _ in rows] == [it[0] for it in shown], "another node has a row")
-        demand(all(len(it) == -(-turns // wide) for _, it in rows), "a row has other columns")
+        demand([row.name for row in rows] == [it[0] for it in shown], "another node has a row")
+        demand(all(len(row.columns) == -(-turns // stride) for row in rows), "a row has other columns")
         demand(ticks == [begin + turns * part // 4 for part in range(5)], f"another scale: {ticks}")
         demand(first <= begin and begin + turns <= first + length, "a timeline leaves the window")
-        demand(page.notes[number : number + 1] == [note(wide)], "another note")
-    if stride == 1:
-        judge_turns(page.charts, shown, first, length)
+        demand(page.notes[number : number + 1] == [note(stride)], "another note")
+        demand(all(sum(some) <= 1 for some in zip(*(row.path for row in rows))), "several rows have the path")
+        for row in rows:
+            judge_row(row, turns, stride)
+    judge_shares(page.charts, shown, length)
+    if page.charts[0].stride == 1:
+        judge_turns(page.charts, first)
+    demand(page.said == [LINES[page.lines is None]] * (len(page.charts) - 1), f"another note on words: {page.said}")
 
 
 def note(turns):
@@ -152,14 +208,91 @@ def note(turns):
     return f"A column of {turns} turns shows what the node did in most of them."
 
 
-def judge_turns(charts, shown, first, length):
-    """Compares the turns of a window with the shares of the profile, and with the close-up."""
-    for (name, columns), (_, *shares, _) in zip(charts[0][0], shown):
-        counts = [share(columns.count(kind), length) for kind in ("works", "word", "reader")]
-        demand(counts == shares, f"the row of {name} has other shares: {counts}")
-    for rows, ticks in charts[1:]:
-        for (name, columns), (_, whole) in zip(rows, charts[0][0]):
-            demand(columns == whole[ticks[0] - first : ticks[-1] - first], f"the close-up of {name} differs")
+def judge_row(row, turns, stride):
+    """Compares the counts of a row with its columns."""
+    counts = [row.columns.count(kind) for kind in ("works", "word", "reader")]
+    demand(sum(row.counts) <= turns, f"{row.name} did more than there are turns")
+    demand(row.is_crossed or "stopped" not in row.columns, f"{row.name} has stopped, and has no cross")
+    if stride == 1:
+        demand(row.counts == counts, f"the row of {row.name} has other counts: {counts}")
+        demand(row.is_crossed == ("stopped" in row.columns), f"{row.name} has a cross")
+
+
+def judge_shares(charts, shown, length):
+    """Compares the counts of the rows with the shares of the profile; a close-up has no more."""
+    for row, (name, *shares, bar) in zip(charts[0].rows, shown):
+        demand([share(count, length) for count in row.counts] == shares, f"the row of {name} has other shares")
+        demand(row.is_crossed or "x" not in bar, f"{name} has stopped, and has no cross")
+    for chart in charts[1:]:
+        for near, row in zip(chart.rows, charts[0].rows):
+            demand(all(some <= whole for some, whole in zip(near.counts, row.counts)), f"the close-up of {near.name} has more")
+            demand(row.is_crossed or not near.is_crossed, f"{near.name} has stopped in the close-up alone")
+
+
+def judge_turns(charts, first):
+    """Compares the close-up with the same turns of a window that has a column for each."""
+    for rows, ticks, _ in charts[1:]:
+        for near, whole in zip(rows, charts[0].rows):
+            part = slice(ticks[0] - first, ticks[-1] - first)
+            demand(near.columns == whole.columns[part], f"the close-up of {near.name} differs")
+
+
+class Turns:
+    """The steps of nodes by a waveform, also by node, need and side, and the words that nodes take, in order of the tries."""
+
+    def __init__(self, wave):
+        nodes = [*map(int, wave.nodes())]
+        self.moves, self.ports, self.words, self.posts = {node: [] for node in nodes}, {}, [], {}
+        for turn, shown in enumerate(wave.turns()):
+            for node in nodes:
+                if shown[f"chip.n{node:03}.busy"]:
+                    did, _, side = shown[f"chip.n{node:03}.did"].removesuffix("_read").partition("_")
+                    self.step(node, turn, NEEDS.get(did), side, shown)
+
+    def step(self, node, turn, need, side, shown):
+        other = neighbours(node).get(side)
+        awaited = {"take": (other, "post", side), "check": (other, "take", side)}.get(need)
+        move = Move(turn, (turn, node), None, awaited)
+        self.moves[node].append(move)
+        self.ports.setdefault((node, need, side), []).append(move)
+        if need == "post":
+            self.posts[node, side] = shown[f"chip.n{node:03}.{side}_to_{other:03}"], turn
+        if need == "take" and (other, side) in self.posts:
+            self.words.append(Taken(f"{other:03}", f"{node:03}", *self.posts[other, side], turn))
+
+    def path_before(self, node, end):
+        """The turns and the nodes of the path to the last step of a node in front of a turn, the last one first."""
+        move = max((it for it in self.moves[node] if it.turn < end), key=lambda it: it.order, default=None)
+        while move is not None:
+            yield move.turn, node
+            node, move = before_on_path(self.moves, self.ports, node, move)
+
+
+def judge_words(page, words):
+    """Compares the lines of the close-up with the words that nodes take in its turns."""
+    for rows, ticks, _ in page.charts[1:]:
+        names = [row.name for row in rows]
+        found = [it for it in words if ticks[0] <= it.taken < ticks[-1]]
+        demand((page.lines is None) == (len(found) > MOST_LINES), f"nodes take {len(found)} words")
+        drawn = [it for it in found if it.poster in names and it.reader in names]
+        demand(page.lines is None or page.lines == drawn, f"other words: {page.lines[:3]} in place of {drawn[:3]}")
+
+
+def judge_path(charts, turns):
+    """Compares the path with that to the last step of the window that is no spin."""
+    rows, ticks, _ = charts[0]
+    spins = {int(row.name) for row in rows if row.columns[-1:] == ["spins"]}
+    last = {node: max((it.order for it in moves if it.turn < ticks[-1]), default=(-1, 0)) for node, moves in turns.moves.items()}
+    path = [*turns.path_before(max((node for node in last if node not in spins), key=last.get), ticks[-1])]
+    for rows, ticks, stride in charts:
+        holders, holder = {}, None
+        for turn, node in reversed(path):
+            if ticks[0] <= turn < ticks[-1]:
+                holders[(turn - ticks[0]) // stride] = f"{node:03}"
+        for column in range(-(-(ticks[-1] - ticks[0]) // stride)):
+            holder = holders.get(column, holder)
+            shown = [row.name for row in rows if row.path[column]]
+            demand(shown == [holder] * (holder is not None), f"{shown} has the path in column {column}, not {holder}")
 
 
 def judge_chip(page, profile):
@@ -202,9 +335,9 @@ def headline_of(profile, verdict):
     return BOTTLENECK.search(profile)[0]
 
 
-def fault_of_page(text, profile, listing, verdict=None):
-    """What is wrong with a page of a run with these outputs of `profile`, `list --counts` and `race`, or None. Without one of
-    `race` it may have any race."""
+def fault_of_page(text, profile, listing, verdict=None, wave=None):
+    """What is wrong with a page of a run with these outputs of `profile`, `list --counts` and `race`, and this waveform, or None.
+    Without one of `race` it may have any race, and without a waveform any words and path."""
     try:
         page = Page(text)
         demand(page.title == page.headline, "the title isn't the headline")
@@ -213,10 +346,14 @@ def fault_of_page(text, profile, listing, verdict=None):
         demand(page.headline == headline_of(profile, verdict), f"another headline: {page.headline!r}")
         demand([it for it in page.headings if it != CLOSE_UP] == HEADINGS, f"other headings: {page.headings}")
         demand(len(page.charts) == 1 + page.headings.count(CLOSE_UP), "a heading without a timeline")
-        demand(page.key == [*KINDS.values()], f"another key: {page.key}")
+        demand(page.key == KEY, f"another key: {page.key}")
         demand(page.texts == [profile, listing], "another profile or listing")
         judge_timelines(page, profile)
         judge_chip(page, profile)
+        if wave is not None:
+            turns = Turns(wave)
+            judge_words(page, turns.words)
+            judge_path(page.charts, turns)
     except Wrong as fault:
         return f"page: {fault}"
     return None
@@ -304,14 +441,17 @@ def output(program, *arguments):
 
 def made(program, folder, example):
     """Makes a page, and returns its name and what is wrong with it, or None."""
-    file, turns = example
-    path, name, options = f"{ROOT}/examples/{file}", file.replace("/", "-"), ["--turns", str(turns)]
-    text = output(program, "report", *options, path)
+    file, turns, *start = example
+    path, options = f"{ROOT}/examples/{file}", ["--turns", str(turns)]
+    if "--route" in start:
+        start, options = start[:2], options + start[2:]
+    name = "-".join([file.replace("/", "-"), *start[1:]])
+    text = output(program, "report", *start, *options, path)
     with open(f"{folder}/{name}.html", "w", encoding="utf-8") as page:
         page.write(text)
-    shown = (output(program, *words, *options, path) for words in (["profile"], ["list", "--counts"]))
+    shown = output(program, "profile", *start, *options, path), output(program, "list", "--counts", *options, path)
     verdict = output(program, "race", *options, path) if path.endswith(".source") else None
-    return name, fault_of_page(text, *shown, verdict)
+    return name, fault_of_page(text, *shown, verdict, Waveform(output(program, "trace", *options, path)))
 
 
 def tried_by_browser(folder, names, pool):
@@ -330,7 +470,7 @@ def tried_by_browser(folder, names, pool):
 
 def main(program):
     with tempfile.TemporaryDirectory(ignore_cleanup_errors=True) as folder, ThreadPoolExecutor(os.cpu_count()) as pool:
-        results = [*pool.map(lambda it: made(program, folder, it), EXAMPLES.items())]
+        results = [*pool.map(lambda it: made(program, folder, it), EXAMPLES)]
         if shutil.which("chromium"):
             results += tried_by_browser(folder, [name for name, _ in results], pool)
         else:

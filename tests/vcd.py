@@ -10,9 +10,9 @@ the session shows: what each node did, by `where` and by the outcome of its try;
 label that the source has there; its registers; and the words at its ports, also those that are read in the turn in which they are
 posted.
 
-The sessions are those of worked programs, of recorded cases, with their breakpoints, and of some programs for races. Then come save
-files. The last line is 'vcd: N passed, M failed', a session or a save file each; the exit status is 0 if M is 0. tests/answers.py
-uses the same reader.
+The sessions are those of worked programs, of recorded cases, with their breakpoints, and of some programs for races. Then come
+save files, and a waveform that is longer than the memory of its run. The last line is 'vcd: N passed, M failed', a session, a
+save file or this waveform each; the exit status is 0 if M is 0. tests/answers.py uses the same reader.
 """
 import argparse
 import json
@@ -41,6 +41,12 @@ REST = {
 # Worked programs, and how many turns are made before.
 EXAMPLES = {"ring/ring": 0, "queue/queue": 600, "fir/fir_pipelined": 1400, "token_ring/token_ring": 1500, "two_nodes/two_nodes": 90}
 SECONDS = 60
+# Pairs of nodes that go on for ever. In FOR_EVER_TURNS turns their waveform has more bytes than the run has memory.
+FOR_EVER = "".join(
+    f"node 7{column:02} right b! again: $15555 !b jump again\nnode 7{column + 1:02} right b! again: @b drop jump again\n"
+    for column in range(0, 18, 2)
+)
+FOR_EVER_TURNS, KIB = 150000, 65536
 
 
 class Wrong(Exception):
@@ -343,6 +349,22 @@ def save_faults(program):
         yield None if is_right else f"FILE as a save file: {status} {errors}"
 
 
+def fault_of_memory(program):
+    """What is wrong with a waveform that is longer than the memory of its run, or None. A program with an address sanitizer needs
+    more memory and is slow, so it has no limit, and makes few turns."""
+    with open(program, "rb") as file:
+        has_limit = b"__asan_init" not in file.read()
+    limit, turns = (f"ulimit -S -v {KIB} && ", FOR_EVER_TURNS) if has_limit else ("", 300)
+    command = ["bash", "-c", limit + 'exec "$0" "$@"', program, "trace", "--turns", str(turns)]
+    with tempfile.TemporaryFile() as output:
+        done = subprocess.run(command, input=FOR_EVER.encode(), stdout=output, stderr=subprocess.PIPE, timeout=SECONDS)
+        size, end = os.fstat(output.fileno()).st_size, f"\n#{turns}\n".encode()
+        output.seek(max(0, size - len(end)))
+        is_whole = output.read() == end
+    is_right = done.returncode == 0 and is_whole and (size > 1024 * KIB or not has_limit)
+    return None if is_right else f"a long waveform: status {done.returncode}, {done.stderr}, {size} bytes"
+
+
 def signals_of(output):
     """The names of the signals that a waveform declares, in their scopes."""
     scopes, names = [], []
@@ -367,7 +389,7 @@ def main():
     for text, fault in zip(texts, faults):
         if fault is not None:
             print(f"FAILED {fault}\n{text}")
-    saves = list(save_faults(program))
+    saves = [*save_faults(program), fault_of_memory(program)]
     for fault in saves:
         if fault is not None:
             print(f"FAILED {fault}")
