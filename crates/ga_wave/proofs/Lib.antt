@@ -3,4 +3,8 @@ pub mod Tracing
 pub mod Turning
 pub mod Fitting
 pub mod LastValues
+pub mod Posting
+pub mod OneMove
+pub mod PortTurns
+pub mod WordsInOrder
 mod Worked

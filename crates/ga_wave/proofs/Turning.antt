@@ -5,7 +5,6 @@ use Rattle.ga_chip.specs.Chip.{Chip}
 use Rattle.ga_chip.specs.Run.{side_of_turn}
 use Rattle.ga_trace.specs.Traced.{turned}
 use Rattle.ga_wave.specs.declared.tracer.Tracer.{Tracer}
-use Rattle.ga_wave.specs.declared.wave.Traced.{Traced}
 use Rattle.ga_wave.specs.Tracer.{IsBehind, traced_by}
 use Rattle.ga_wave.specs.Wave.{UNIT, chip_behind, header, numbered, turn_block, turn_text}
 use Rattle.ga_wave.specs.inner.Traced.{header_of, next_traced, traced_changes}

@@ -1,5 +1,5 @@
 -- Waveforms that were worked out by hand.
-use Rattle.std.proofs.Common.{◌≡◌, ◌++◌, false, true, [], Some, None, codes, refl}
+use Rattle.std.proofs.Common.{◌≡◌, ◌++◌, false, true, [], ◌∷◌, Some, None, codes, refl}
 use Rattle.ga_place.specs.declared.address.Where.TheVariants.{Ram}
 use Rattle.ga_place.specs.declared.side.Side.TheVariants.{Right, Left}
 use Rattle.ga_place.specs.Side.{sides_with}
@@ -7,9 +7,12 @@ use Rattle.std.specs.Fmt.{digits}
 use Rattle.ga_word.specs.Hex.{hex_digits}
 use Rattle.ga_word.specs.declared.op.Op.TheVariants.{Store}
 use Rattle.ga_chip.specs.Chip.{Chip}
+use Rattle.ga_observe.specs.declared.step.Deed.TheVariants.{Posted, SawRead}
+use Rattle.ga_observe.specs.declared.step.Step.{Step}
 use Rattle.ga_wave.specs.declared.deed.Did.TheVariants.{Posts, SeesRead}
 use Rattle.ga_wave.specs.declared.deed.Intent.TheVariants.{Post, Check}
 use Rattle.ga_node.specs.declared.need.Need.TheVariants as need
+use Rattle.ga_node.specs.declared.place.Place.TheVariants.{Slot0}
 use Rattle.ga_wave.specs.declared.sample.Sample.{Sample}
 use Rattle.ga_wave.specs.declared.signal.Signal.TheVariants as signal
 use Rattle.ga_wave.specs.declared.value.Value.TheVariants as value
@@ -18,6 +21,7 @@ use Rattle.ga_wave.specs.Change.{changes}
 use Rattle.ga_wave.specs.Deed.{did_text, intent_of, step_did}
 use Rattle.ga_wave.specs.Header.{declarations, scope}
 use Rattle.ga_wave.specs.Identifier.{identifier}
+use Rattle.ga_wave.specs.Laws.{word_of, words_posted}
 use Rattle.ga_wave.specs.Sample.{word_at}
 use Rattle.ga_wave.specs.Save.{heading, saved_signal}
 use Rattle.ga_wave.specs.Value.{label_or, value_text}
@@ -139,3 +143,26 @@ saved_port = refl
 saved_heading : heading 5 ≡ codes "@200\n-005\n"
 unfolding digits
 saved_heading = refl
+
+-- a node posts 5 at its right twice; a check, a post at its left, and a post of another node aren't
+-- its posts there
+abbrev post_5 : Step
+post_5 = record {
+  node = 708;
+  number = 3;
+  turn = 6;
+  place = Slot0;
+  p = 2;
+  word = 0;
+  deed = Posted Right 5;
+}
+
+two_posts : words_posted 708 Right
+    (post_5 ∷ record post_5 { deed = SawRead Right } ∷ record post_5 { deed = Posted Left 7 }
+    ∷ record post_5 { node = 709 } ∷ record post_5 { turn = 12 } ∷ [])
+    ≡ 5 ∷ 5 ∷ []
+two_posts = refl
+
+-- an empty port is no word
+words : (word_of (value.Bits 5) ≡ Some 5) × (word_of value.Nothing ≡ None)
+words = (refl, refl)

@@ -1,19 +1,30 @@
--- What a viewer shows at a time.
-use Rattle.std.specs.Prelude.{◌≡◌, ℕ, zero, suc, List, Option, Some, None, option_map, if◌then◌else◌}
-use Rattle.std.specs.Option.{option_or}
+-- What a viewer shows at a time, and the words that it shows of a port.
+use Rattle.std.specs.Prelude.{◌≡◌, ℕ, zero, suc, ◌+◌, ◌==◌, List, ◌++◌, Option, Some, None, option_map, if◌then◌else◌}
+use Rattle.std.specs.List.{filter_map, range_with_len}
+use Rattle.std.specs.Option.{option_and_then, option_or, option_to_list}
+use Rattle.ga_place.specs.declared.side.Side.{Side}
 use Rattle.ga_asm.specs.Image.{ImageView}
 use Rattle.ga_chip.specs.Chip.{Chip}
+use Rattle.ga_chip.specs.Legal.{IsLegal}
+use Rattle.ga_observe.specs.declared.step.Step.{Step}
+use Rattle.ga_observe.specs.Seen.{steps_seen, turns_numbered}
+use Rattle.ga_trace.specs.Watched.{posted_at}
 use Rattle.ga_wave.specs.declared.signal.Signal.{Signal}
+use Rattle.ga_wave.specs.declared.signal.Signal.TheVariants.{Port}
 use Rattle.ga_wave.specs.declared.value.Value.{Value}
+use Rattle.ga_wave.specs.declared.value.Value.TheVariants.{Bits}
 use Rattle.ga_wave.specs.Change.{is_new}
+use Rattle.ga_wave.specs.Sample.{pending_at}
 use Rattle.ga_wave.specs.Value.{value_of, value_text}
-use Rattle.ga_wave.specs.Wave.{shown_before, shown_in}
+use Rattle.ga_wave.specs.Wave.{chip_behind, shown_before, shown_in}
 
 -- the value that a turn writes for a signal of a node, if it writes one
 abbrev pub written_in : Chip → ℕ → Signal → ℕ → Option Value
 written_in start name signal turn =
     if is_new (shown_before start turn name) signal (value_of signal (shown_in start turn name))
     then Some (value_of signal (shown_in start turn name)) else None
+
+-- ---- the last value
 
 -- the last value that is written up to a turn
 abbrev pub last_written : Chip → ℕ → Signal → ℕ → Option Value
@@ -27,3 +38,39 @@ LastValuesAreShown =
     (images : List (ℕ × ImageView)) (start : Chip) (name : ℕ) (signal : Signal) (turn : ℕ)
     → option_map (value_text images name) (last_written start name signal turn)
     ≡ Some (value_text images name (value_of signal (shown_in start turn name)))
+
+-- ---- the words of a port
+
+-- the word that a value is, if it is one
+abbrev pub word_of : Value → Option ℕ
+word_of (Bits word) = Some word
+word_of value = None
+
+-- the words that are written for a port of a node up to a turn, in order
+abbrev pub words_written : Chip → ℕ → Side → ℕ → List ℕ
+words_written start name side turn =
+    filter_map (λ at. option_and_then word_of (written_in start name (Port side) at))
+    (range_with_len 0 (turn + 1))
+
+-- the word that a node posts at a side by a step, and those that it posts there by some steps
+abbrev pub word_posted : ℕ → Side → Step → Option ℕ
+word_posted name side step = if step.node == name then posted_at side step.deed else None
+
+abbrev pub words_posted : ℕ → Side → List Step → List ℕ
+words_posted name side steps = filter_map (word_posted name side) steps
+
+-- the word that was pending at a side of a node at the start and still is behind the first turn
+abbrev pub unread_word : Chip → ℕ → Side → Option ℕ
+unread_word start name side =
+    option_and_then (λ word. pending_at (chip_behind start 1) name side)
+    (pending_at start name side)
+
+-- The words that are written for a port up to a turn are those that the node posts there in these
+-- turns, in order. In front of them is the word that was pending at the start, unless the first
+-- turn reads it.
+abbrev pub WordsAreInOrder : Type 0
+WordsAreInOrder =
+    (start : Chip) (name : ℕ) (side : Side) (turn : ℕ) → IsLegal start
+    → words_written start name side turn
+    ≡ option_to_list (unread_word start name side)
+    ++ words_posted name side (steps_seen start (turns_numbered (turn + 1)))

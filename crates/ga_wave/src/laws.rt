@@ -1,8 +1,16 @@
-//! A law of the definitions. It does nothing when run.
-ghost use Rattle.ga_wave.specs.Laws.{LastValuesAreShown};
+//! Laws of the definitions. They do nothing when run.
+ghost use Rattle.ga_wave.specs.Laws.{LastValuesAreShown, WordsAreInOrder};
 
 /// At each time the last value that a waveform has of a signal is what the turn of that number
 /// shows of it.
 pub fn last_values()
     ensures { LastValuesAreShown }
+{}
+
+/// The words that a waveform has of a port up to a turn are those that its node posts there in
+/// these turns, in order, and each as often as it is posted. If a word was pending there at the
+/// start, it comes first, unless it is read in the first turn. Each chip is legal
+/// (`Chip::legal`).
+pub fn words_in_order()
+    ensures { WordsAreInOrder }
 {}
