@@ -1,19 +1,23 @@
 -- A profile as JSON.
-use Rattle.std.specs.Prelude.{ℕ, List, [], ◌∷◌, codes, get_or, Option, Some, None}
+use Rattle.std.specs.Prelude.{ℕ, List, [], ◌∷◌, codes, get_or, map, Option, Some, None}
 use Rattle.std.specs.List.{flat_map, range_with_len}
 use Rattle.serde_json.specs.Data.{Data, Members, array, member, no_members, null, number, object, string, unsigned}
 use Rattle.serde_json.specs.View.{items_of}
+use Rattle.ga_word.specs.Hex.{hex_digits}
 use Rattle.ga_place.specs.Cell.{name_at}
 use Rattle.ga_place.specs.Node.{node_text}
 use Rattle.ga_trace.specs.Depth.{BOTH_EMPTY}
 use Rattle.ga_trace.specs.declared.depth.StackDepths.{StackDepths}
+use Rattle.ga_profile.specs.declared.lines.PathLine.{PathLine}
 use Rattle.ga_profile.specs.declared.node_pass.NodePass.{NodePass}
 use Rattle.ga_profile.specs.declared.node_turns.NodeTurns.{NodeTurns}
 use Rattle.ga_profile.specs.declared.node_turns.TurnCounts.{TurnCounts}
 use Rattle.ga_profile.specs.declared.profile.Profile.{Profile}
 use Rattle.ga_profile.specs.declared.window.Window.{Window}
 use Rattle.ga_profile.specs.Bottleneck.{bottleneck_text}
+use Rattle.ga_profile.specs.Lines.{path_lines}
 use Rattle.ga_profile.specs.NodeTurns.{NO_TURNS}
+use Rattle.ga_profile.specs.Unread.{unread_nodes}
 use Rattle.ga_profile.specs.Window.{length_of}
 
 -- a member of an object whose value is a number
@@ -70,6 +74,29 @@ node_at profile index =
 unfoldable pub nodes_data : Profile → Data
 nodes_data profile = array (items_of (flat_map (node_at profile) (range_with_len 0 144)))
 
+-- the address of a word of memory, in hex; all other code has none
+abbrev pub word_data : Option ℕ → Data
+word_data (Some word) = string (hex_digits 3 word)
+word_data None = null
+
+-- a word of memory of a node, or all its other code, and its turns on the path
+unfoldable pub line_data : PathLine → Data
+line_data line =
+    object (member (codes "name") (string (node_text line.node)) (counted (codes "path") line.turns
+    (member (codes "word") (word_data line.word) no_members)))
+
+-- where the path goes
+unfoldable pub lines_data : Profile → Data
+lines_data profile =
+    array (items_of (map line_data (path_lines profile.path.items profile.lines.items)))
+
+-- the nodes whose words are never read
+abbrev pub name_data : ℕ → Data
+name_data name = string (node_text name)
+
+unfoldable pub stuck_data : Profile → Data
+stuck_data profile = array (items_of (map name_data (unread_nodes profile.chip)))
+
 -- the first turn of a window, and the one behind its last
 unfoldable pub window_data : Window → Data
 window_data window =
@@ -81,9 +108,11 @@ bottleneck_of profile =
     bottleneck_text profile.chip profile.nodes.items profile.passes.items profile.path.items
     (length_of profile.window)
 
--- A profile: the bottleneck, the nodes that began, and the window.
+-- A profile: the bottleneck, where the path goes, the nodes that began, those that are stuck, and
+-- the window.
 unfoldable pub profile_data : Profile → Data
 profile_data profile =
     object (member (codes "bottleneck") (string (bottleneck_of profile))
-    (member (codes "nodes") (nodes_data profile)
-    (member (codes "window") (window_data profile.window) no_members)))
+    (member (codes "lines") (lines_data profile) (member (codes "nodes") (nodes_data profile)
+    (member (codes "stuck") (stuck_data profile)
+    (member (codes "window") (window_data profile.window) no_members)))))

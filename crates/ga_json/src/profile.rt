@@ -3,18 +3,23 @@ ghost use Rattle.std.specs.Prelude.{◌≡◌, ◌<◌, ◌≤◌, ◌∷◌, []
 ghost use Rattle.serde_json.specs.Written.{compact_text};
 ghost use Rattle.serde_json.specs.View.{view};
 ghost use Rattle.ga_json.specs.Profile as spec;
-ghost use Rattle.ga_json.specs.Profile.{node_data, pass_data, profile_data, stacks_data, turns_data, window_data, words_data};
+ghost use Rattle.ga_json.specs.Profile.{line_data, lines_data, name_data, node_data, pass_data, profile_data, stacks_data, stuck_data, turns_data, window_data, word_data, words_data};
 
 use ga_place::Node;
-use ga_profile::{NodePass, NodeTurns, Profile, TurnCounts, Window, bottleneck_text};
+use ga_profile::{
+    NodePass, NodeTurns, PathLine, Profile, TurnCounts, Window, bottleneck_text, path_lines,
+    unread_nodes,
+};
 use ga_trace::StackDepths;
+use ga_word::Hex3;
 use serde_json::{Value, json};
 use std::alloc::{AllocError, Global};
 
 /// A profile as JSON, on one line without its end: `bottleneck`, the sentences of its text;
-/// `nodes`, an object for each node that began, in order of name; and `window`, the turn in which
-/// it begins, and the one behind its last. Turns and words are counts. Fails only when out of
-/// memory. (The form is this project's own: profile.)
+/// `lines`, where the path goes, an object for each line of the text; `nodes`, an object for each
+/// node that began, in order of name; `stuck`, the names of the nodes whose words are never read;
+/// and `window`, the turn in which it begins, and the one behind its last. Turns and words are
+/// counts. Fails only when out of memory. (The form is this project's own: profile.)
 pub fn profile_json(alloc: Global, profile: &Profile) -> Result<String, AllocError>
     ensures { IfOk result (λ text. string_bytes text ≡ compact_text (profile_data profile.now)) }
 {
@@ -22,19 +27,77 @@ pub fn profile_json(alloc: Global, profile: &Profile) -> Result<String, AllocErr
     value.to_string(alloc)
 }
 
-/// The bottleneck, the nodes that began, and the window.
+/// The bottleneck, where the path goes, the nodes that began, those that are stuck, and the window.
 #[tactic(auto, unfolding(crate::specs::Profile::profile_data))]
 fn profile_value(alloc: Global, profile: &Profile) -> Result<Value, AllocError>
     ensures { IfOk result (λ value. view value ≡ profile_data profile.now) }
 {
     let bottleneck = bottleneck_text(alloc, profile)?;
+    let lines = lines_value(alloc, profile)?;
     let nodes = nodes_value(alloc, profile)?;
+    let stuck = stuck_value(alloc, profile)?;
     let window = window_value(alloc, profile.window)?;
     json!(in alloc; {
         "bottleneck": bottleneck,
+        "lines": lines,
         "nodes": nodes,
+        "stuck": stuck,
         "window": window
     })
+}
+
+/// Where the path goes.
+#[tactic(auto, unfolding(crate::specs::Profile::lines_data))]
+fn lines_value(alloc: Global, profile: &Profile) -> Result<Value, AllocError>
+    ensures { IfOk result (λ value. view value ≡ lines_data profile.now) }
+{
+    let lines = path_lines(alloc, profile)?;
+    let mut values = Vec::new(alloc);
+    for line in &lines {
+        values.push(line_value(alloc, line)?)?;
+    }
+    Ok(Value::Array(values))
+}
+
+/// A word of memory of a node, or `null` for its other code, and its turns on the path.
+#[tactic(auto, unfolding(crate::specs::Profile::line_data))]
+fn line_value(alloc: Global, line: &PathLine) -> Result<Value, AllocError>
+    ensures { IfOk result (λ value. view value ≡ line_data line.now) }
+{
+    let name = line.node.to_string(alloc)?;
+    let path = line.turns;
+    let word = word_value(alloc, line.word)?;
+    json!(in alloc; {"name": name, "path": path, "word": word})
+}
+
+/// The address of a word of memory, in hex.
+fn word_value(alloc: Global, word: Option<u8>) -> Result<Value, AllocError>
+    ensures { IfOk result (λ value. view value ≡ word_data word) }
+{
+    match word {
+        Some(word) => Ok(Value::String(Hex3::new(u16::from(word)).to_string(alloc)?)),
+        None => Ok(Value::Null),
+    }
+}
+
+/// The nodes whose words are never read.
+#[tactic(auto, unfolding(crate::specs::Profile::stuck_data))]
+fn stuck_value(alloc: Global, profile: &Profile) -> Result<Value, AllocError>
+    ensures { IfOk result (λ value. view value ≡ stuck_data profile.now) }
+{
+    let nodes = unread_nodes(alloc, &profile.chip)?;
+    let mut names = Vec::new(alloc);
+    for node in &nodes {
+        names.push(name_value(alloc, *node)?)?;
+    }
+    Ok(Value::Array(names))
+}
+
+/// The name of a node.
+fn name_value(alloc: Global, node: Node) -> Result<Value, AllocError>
+    ensures { IfOk result (λ value. view value ≡ name_data node) }
+{
+    Ok(Value::String(node.to_string(alloc)?))
 }
 
 /// The nodes that began.

@@ -7,3 +7,4 @@ mod Worked
 mod WorkedPath
 mod WorkedLines
 mod WorkedStacks
+mod WorkedUnread

@@ -1,6 +1,6 @@
 -- The definitions of the lines of the path at worked values.
-use Rattle.std.proofs.Common.{◌≡◌, ℕ, ◌+◌, ◌*◌, [], ◌∷◌, refl}
-use Rattle.std.specs.Prelude.{codes, replicate}
+use Rattle.std.proofs.Common.{◌≡◌, ℕ, ◌+◌, ◌*◌, [], ◌∷◌, Option, Some, refl}
+use Rattle.std.specs.Prelude.{codes, None, replicate}
 use Rattle.std.specs.Fmt.{digits}
 use Rattle.ga_word.specs.Hex.{hex_digits}
 use Rattle.ga_word.specs.Op.{op_with}
@@ -12,8 +12,9 @@ use Rattle.ga_observe.specs.declared.step.Step.{Step}
 use Rattle.ga_trace.specs.At.{at_word}
 use Rattle.ga_waits.specs.Label.{label_text}
 use Rattle.ga_profile.specs.declared.kinds.Kinds.TheVariants.{Nodes, Lines}
+use Rattle.ga_profile.specs.declared.lines.PathLine.{PathLine}
 use Rattle.ga_profile.specs.Kinds.{kind_of}
-use Rattle.ga_profile.specs.Lines.{line_row}
+use Rattle.ga_profile.specs.Lines.{line_if, line_row, word_of}
 use Rattle.ga_profile.specs.Rank.{rank_of, ranked}
 use Rattle.ga_profile.specs.Share.{cell, share_of}
 
@@ -58,11 +59,15 @@ no_leader : kind_of (Lines (replicate 144 77)) (a_step 4) ≡ 10 * 65 + 3
 unfolding at_word reading_of op_with
 no_leader = refl
 
-a_line : line_row [] 709 11 1000 11225 ≡ codes "   9   709   00B\n"
+-- the lines of 709 at 00B, and of its code that isn't in memory
+abbrev line_of : Option ℕ → PathLine
+line_of word = record { node = 709; word = word; turns = 1000 }
+
+a_line : line_row [] 11225 (line_of (Some 11)) ≡ codes "   9   709   00B\n"
 unfolding line_row share_of cell digits hex_digits
 a_line = refl
 
-other_code : line_row [] 709 64 1000 11225 ≡ codes "   9   709     .\n"
+other_code : line_row [] 11225 (line_of None) ≡ codes "   9   709     .\n"
 unfolding line_row share_of cell digits hex_digits
 other_code = refl
 
@@ -76,10 +81,23 @@ an_image = record {
   item_counts = [];
 }
 
-with_label : line_row ((709, an_image) ∷ []) 709 11 1000 11225 ≡ codes "   9   709   00B main+3\n"
+with_label : line_row ((709, an_image) ∷ []) 11225 (line_of (Some 11))
+    ≡ codes "   9   709   00B main+3\n"
 unfolding line_row share_of cell digits hex_digits label_text
 with_label = refl
 
-no_label : line_row ((709, an_image) ∷ []) 709 64 1000 11225 ≡ codes "   9   709     .\n"
+no_label : line_row ((709, an_image) ∷ []) 11225 (line_of None) ≡ codes "   9   709     .\n"
 unfolding line_row share_of cell digits hex_digits label_text
 no_label = refl
+
+-- kind 76 is the word 00B of the node with rank 1; a line without turns isn't one
+of_rank_1 : line_if (3 ∷ 7 ∷ 5 ∷ []) 76 1000
+    ≡ record { node = 2; word = Some 11; turns = 1000 } ∷ []
+unfolding ranked rank_of
+of_rank_1 = refl
+
+beyond_memory : word_of 64 ≡ None
+beyond_memory = refl
+
+no_turns : line_if (3 ∷ 7 ∷ 5 ∷ []) 76 0 ≡ []
+no_turns = refl

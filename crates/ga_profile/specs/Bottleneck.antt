@@ -4,19 +4,14 @@ use Rattle.std.specs.Fmt.{decimal}
 use Rattle.std.specs.List.{flat_map, range_with_len}
 use Rattle.ga_place.specs.Cell.{name_at}
 use Rattle.ga_place.specs.Node.{node_text}
-use Rattle.ga_chip.specs.Chip.{Chip, state_of}
-use Rattle.ga_chip.specs.Run.{stands_held}
-use Rattle.ga_node.specs.Need.{need_of}
-use Rattle.ga_node.specs.State.{State}
-use Rattle.ga_node.specs.declared.need.Need.{Need}
-use Rattle.ga_node.specs.declared.need.Need.TheVariants as need
-use Rattle.ga_waits.specs.Closed.{stuck_in}
+use Rattle.ga_chip.specs.Chip.{Chip}
 use Rattle.ga_waits.specs.Waits.{all_ring_lines, text_of}
 use Rattle.ga_profile.specs.declared.bottleneck.Bottleneck.{Bottleneck}
 use Rattle.ga_profile.specs.declared.bottleneck.Bottleneck.TheVariants.{Deadlock, Nothing, OneNode, EachNode, NoNode, OnPath}
 use Rattle.ga_profile.specs.declared.node_pass.NodePass.{NodePass}
 use Rattle.ga_profile.specs.declared.node_turns.NodeTurns.{NodeTurns}
 use Rattle.ga_profile.specs.NodeTurns.{NO_TURNS}
+use Rattle.ga_profile.specs.Unread.{unread_nodes, unread_text}
 
 -- a part in parts per million, rounded down
 abbrev pub per_million : ℕ → ℕ → ℕ
@@ -161,31 +156,7 @@ busiest_text nodes passes paths turns rings =
     let used = most_use (use_at nodes passes turns) 144 in
     judged_text paths turns rings (busy_names (use_at nodes passes turns) used) used
 
--- ---- words that are never read
-
-abbrev pub awaits_reader : Need → Bool
-awaits_reader (need.Post side word) = true
-awaits_reader (need.Check side) = true
-awaits_reader other = false
-
--- a node waits for good for its word to be read
-abbrev pub is_unread : Bool → Bool → Option State → Bool
-is_unread stuck held (Some state) = stuck && not held && awaits_reader (need_of state)
-is_unread stuck held None = false
-
-abbrev pub unread_name : Chip → ℕ → List ℕ
-unread_name chip name =
-    if is_unread (stuck_in chip name) (stands_held chip name) (state_of chip name)
-    then 32 ∷ node_text name else []
-
--- the names of these nodes, each behind a blank
-unfoldable pub unread_names : Chip → List ℕ
-unread_names chip = flat_map (λ index. unread_name chip (name_at index)) (range_with_len 0 144)
-
-abbrev pub unread_text : List ℕ → List ℕ
-unread_text names =
-    if length names == 0 then []
-    else codes "Stuck, since no node reads its word:" ++ names ++ codes ".\n"
+-- ---- with what waits for good
 
 -- without rings, the words that are never read come first
 abbrev pub with_unread : List ℕ → List ℕ → List ℕ → List ℕ
@@ -197,5 +168,5 @@ unfoldable pub bottleneck_text : Chip → List NodeTurns → List (Option NodePa
     → List ℕ
 bottleneck_text chip nodes passes paths turns =
     let rings = text_of (all_ring_lines chip) in
-    with_unread rings (unread_text (unread_names chip))
+    with_unread rings (unread_text (unread_nodes chip))
     (busiest_text nodes passes paths turns (not (length rings == 0)))

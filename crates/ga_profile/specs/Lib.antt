@@ -5,6 +5,7 @@ pub mod Profile
 pub mod Share
 pub mod Bar
 pub mod Table
+pub mod Unread
 pub mod Bottleneck
 pub mod Text
 pub mod Passes

@@ -1,5 +1,5 @@
 -- Where the path goes: the words of memory with the most turns on it.
-use Rattle.std.specs.Prelude.{ℕ, ◌/◌, ◌%◌, ◌==◌, List, [], ◌∷◌, ◌++◌, codes, get_or, map, nat_lt, if◌then◌else◌}
+use Rattle.std.specs.Prelude.{ℕ, ◌/◌, ◌%◌, ◌==◌, Option, Some, None, List, [], ◌∷◌, ◌++◌, codes, get_or, map, nat_lt, if◌then◌else◌}
 use Rattle.std.specs.List.{concat, flat_map, range_with_len}
 use Rattle.ga_word.specs.Hex.{hex_digits}
 use Rattle.ga_place.specs.Cell.{name_at}
@@ -9,6 +9,7 @@ use Rattle.ga_asm.specs.Image.{ImageView, image_of}
 use Rattle.ga_chip.specs.Chip.{Chip}
 use Rattle.ga_waits.specs.Label.{label_in}
 use Rattle.ga_profile.specs.declared.kinds.Kinds.TheVariants.{Lines}
+use Rattle.ga_profile.specs.declared.lines.PathLine.{PathLine}
 use Rattle.ga_profile.specs.declared.window.Window.{Window}
 use Rattle.ga_profile.specs.Kinds.{kind_of}
 use Rattle.ga_profile.specs.Path.{path_in, turns_of}
@@ -26,34 +27,48 @@ line_turns window chip paths =
     map (λ kind. turns_of (kind_of (Lines (node_ranks paths))) kind (path_in window chip))
     (range_with_len 0 650)
 
--- ---- as text
+-- ---- the lines with the most turns
 
-abbrev pub word_text : ℕ → List ℕ
-word_text word = if nat_lt word 64 then hex_digits 3 word else codes "."
+-- the word of memory that is a line of a node; the last line has none: it is all other code
+abbrev pub word_of : ℕ → Option ℕ
+word_of line = if nat_lt line 64 then Some line else None
 
--- the label of a word of memory of a node; all other code has none
-abbrev pub word_label : List (ℕ × ImageView) → ℕ → ℕ → List ℕ
-word_label images name word =
-    if nat_lt word 64 then label_in (image_of images name) (Ram word) else []
+-- a line, if it has turns
+abbrev pub line_if : List ℕ → ℕ → ℕ → List PathLine
+line_if paths kind turns =
+    if turns == 0 then []
+    else record {
+      node = name_at (ranked paths (kind / 65));
+      word = word_of (kind % 65);
+      turns = turns;
+    } ∷ []
 
--- a line, by the share of the turns that it has on the path
-unfoldable pub line_row : List (ℕ × ImageView) → ℕ → ℕ → ℕ → ℕ → List ℕ
-line_row images name word path turns =
-    concat (cell 4 (share_text (share_of path turns)) ∷ cell 6 (node_text name)
-    ∷ cell 6 (word_text word) ∷ word_label images name word ∷ codes "\n" ∷ [])
-
--- the line of a rank, if it has turns
-abbrev pub line_if : List (ℕ × ImageView) → List ℕ → ℕ → ℕ → ℕ → List ℕ
-line_if images paths kind path turns =
-    if path == 0 then []
-    else line_row images (name_at (ranked paths (kind / 65))) (kind % 65) path turns
-
-abbrev pub line_at : List (ℕ × ImageView) → List ℕ → List ℕ → ℕ → ℕ → List ℕ
-line_at images paths lines turns rank =
-    let kind = ranked lines rank in line_if images paths kind (get_or lines kind 0) turns
+-- the line of a rank
+abbrev pub line_at : List ℕ → List ℕ → ℕ → List PathLine
+line_at paths lines rank =
+    let kind = ranked lines rank in line_if paths kind (get_or lines kind 0)
 
 -- The ten lines with the most turns, the most first.
-unfoldable pub lines_text : List (ℕ × ImageView) → List ℕ → List ℕ → ℕ → List ℕ
-lines_text images paths lines turns =
-    codes "path  node  word  where the path goes\n"
-    ++ flat_map (line_at images paths lines turns) (range_with_len 0 10)
+unfoldable pub path_lines : List ℕ → List ℕ → List PathLine
+path_lines paths lines = flat_map (line_at paths lines) (range_with_len 0 10)
+
+-- ---- as text
+
+abbrev pub word_text : Option ℕ → List ℕ
+word_text (Some word) = hex_digits 3 word
+word_text None = codes "."
+
+-- the label of a word of memory of a node; all other code has none
+abbrev pub word_label : List (ℕ × ImageView) → ℕ → Option ℕ → List ℕ
+word_label images name (Some word) = label_in (image_of images name) (Ram word)
+word_label images name None = []
+
+-- a line, by the share of the turns that it has on the path
+unfoldable pub line_row : List (ℕ × ImageView) → ℕ → PathLine → List ℕ
+line_row images turns line =
+    concat (cell 4 (share_text (share_of line.turns turns)) ∷ cell 6 (node_text line.node)
+    ∷ cell 6 (word_text line.word) ∷ word_label images line.node line.word ∷ codes "\n" ∷ [])
+
+unfoldable pub lines_text : List (ℕ × ImageView) → List PathLine → ℕ → List ℕ
+lines_text images lines turns =
+    codes "path  node  word  where the path goes\n" ++ flat_map (line_row images turns) lines

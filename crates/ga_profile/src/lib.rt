@@ -25,9 +25,11 @@ mod unread;
 mod window;
 
 pub use bottleneck::bottleneck_text;
+pub use lines::{PathLine, path_lines};
 pub use node_pass::NodePass;
 pub use node_turns::{NodeTurns, TurnCounts, after_step, no_turns};
 pub use passes::{Moment, Passes};
 pub use profile::{Profile, ended, measure};
 pub use text::profile_text;
+pub use unread::unread_nodes;
 pub use window::{Window, WindowStart};

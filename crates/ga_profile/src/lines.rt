@@ -1,11 +1,12 @@
 //! Where the path goes: the words of memory with the most turns on it.
-ghost use Rattle.std.specs.Prelude.{◌≡◌, ◌<◌, ◌++◌, IfOk, OnOk, get_or, length, string_bytes};
+ghost use Rattle.std.specs.Prelude.{◌≡◌, ◌++◌, IfOk, OnOk, length, string_bytes};
 ghost use Rattle.ga_word.specs.Hex.{hex_digits};
 ghost use Rattle.ga_place.specs.Node as place_spec;
 ghost use Rattle.ga_waits.specs.Label.{images_in};
 ghost use Rattle.ga_profile.specs.Lines as spec;
-ghost use Rattle.ga_profile.specs.Lines.{line_row, lines_text, node_ranks};
+ghost use Rattle.ga_profile.specs.Lines.{line_row, lines_text, node_ranks, path_lines};
 
+use crate::profile::Profile;
 use crate::rank::{rank_of, ranked};
 use crate::share::{push_cell, push_share, share_of};
 use ga_asm::Images;
@@ -26,48 +27,85 @@ pub(crate) fn node_ranks(paths: &[u64]) -> [usize; 144]
     ranks
 }
 
-/// Adds the ten lines with the most turns on the path, the most first.
+/// A word of memory of a node, or all its other code.
+#[derive(Clone, Copy)]
+pub struct PathLine {
+    pub node: Node,
+    /// The address of the word, or `None` for code that isn't in memory.
+    pub word: Option<u8>,
+    /// How many turns of the window it has on the path.
+    pub turns: u64,
+}
+
+/// The words of memory with the most turns on the path of a profile, the most first: at most ten,
+/// of the ten nodes with the most turns on it. Fails only when out of memory.
+pub fn path_lines(alloc: Global, profile: &Profile) -> Result<Vec<PathLine>, AllocError>
+    ensures { IfOk result (λ lines.
+        lines.items ≡ path_lines profile.now.path.items profile.now.lines.items) }
+{
+    ranked_lines(alloc, profile.path.as_slice(), profile.lines.as_slice())
+}
+
+/// The ten lines with the most turns, the most first.
+fn ranked_lines(alloc: Global, paths: &[u64], lines: &[u64]) -> Result<Vec<PathLine>, AllocError>
+    requires paths { length paths.now ≡ 144 }
+    requires lines { length lines.now ≡ 650 }
+    ensures { IfOk result (λ found. found.items ≡ path_lines paths.now lines.now) }
+{
+    let mut found = Vec::new(alloc);
+    for rank in 0..10 {
+        let kind = ranked(lines, rank);
+        push_line_if(&mut found, paths, kind, lines[kind])?;
+    }
+    Ok(found)
+}
+
+/// Adds a line if it has turns.
+fn push_line_if(
+    found: &mut Vec<PathLine>,
+    paths: &[u64],
+    kind: usize,
+    turns: u64,
+) -> Result<(), AllocError>
+    requires { length paths.now ≡ 144 }
+    ensures { OnOk result (found.new.items
+        ≡ found.old.items ++ spec.line_if paths.now kind turns) }
+{
+    if turns == 0 {
+        return Ok(());
+    }
+    found.push(PathLine {
+        node: Node::at(ranked(paths, kind / 65)),
+        word: word_of(kind % 65),
+        turns,
+    })?;
+    Ok(())
+}
+
+/// The word of memory that is a line of a node.
+fn word_of(line: usize) -> Option<u8>
+    ensures { result ≡ spec.word_of line }
+{
+    if line < 64 { Some(line as u8) } else { None }
+}
+
+/// Adds lines as text.
 #[tactic(auto, unfolding(crate::specs::Lines::lines_text))]
 pub(crate) fn push_lines(
     text: &mut String,
     alloc: Global,
     images: Option<&Images>,
-    paths: &[u64],
-    lines: &[u64],
+    lines: &[PathLine],
     turns: u64,
 ) -> Result<(), AllocError>
-    requires paths { length paths.now ≡ 144 }
-    requires lines { length lines.now ≡ 650 }
     ensures { OnOk result (string_bytes text.new ≡ string_bytes text.old
-        ++ lines_text (images_in images.entry) paths.now lines.now turns) }
+        ++ lines_text (images_in images.entry) lines.now turns) }
 {
     text.push_str("path  node  word  where the path goes\n")?;
-    for rank in 0..10 {
-        let kind = ranked(lines, rank);
-        push_line_if(text, alloc, images, paths, kind, lines[kind], turns)?;
+    for line in lines {
+        push_line_row(text, alloc, images, line, turns)?;
     }
     Ok(())
-}
-
-/// Adds a line if it has turns on the path.
-fn push_line_if(
-    text: &mut String,
-    alloc: Global,
-    images: Option<&Images>,
-    paths: &[u64],
-    kind: usize,
-    path: u64,
-    turns: u64,
-) -> Result<(), AllocError>
-    requires paths { length paths.now ≡ 144 }
-    ensures { OnOk result (string_bytes text.new ≡ string_bytes text.old
-        ++ spec.line_if (images_in images.entry) paths.now kind path turns) }
-{
-    if path == 0 {
-        return Ok(());
-    }
-    let node = Node::at(ranked(paths, kind / 65));
-    push_line_row(text, alloc, images, node, kind % 65, path, turns)
 }
 
 /// Adds a line.
@@ -76,19 +114,16 @@ fn push_line_row(
     text: &mut String,
     alloc: Global,
     images: Option<&Images>,
-    node: Node,
-    word: usize,
-    path: u64,
+    line: &PathLine,
     turns: u64,
 ) -> Result<(), AllocError>
-    requires { word < 65 }
-    ensures { OnOk result (string_bytes text.new ≡ string_bytes text.old
-        ++ line_row (images_in images.entry) node word path turns) }
+    ensures { OnOk result (string_bytes text.new
+        ≡ string_bytes text.old ++ line_row (images_in images.entry) turns line.now) }
 {
-    push_share(text, alloc, 4, share_of(path, turns))?;
-    push_cell(text, 6, node_text(alloc, node)?.as_str())?;
-    push_cell(text, 6, word_text(alloc, word)?.as_str())?;
-    push_word_label(text, images, node, word)?;
+    push_share(text, alloc, 4, share_of(line.turns, turns))?;
+    push_cell(text, 6, node_text(alloc, line.node)?.as_str())?;
+    push_cell(text, 6, word_text(alloc, line.word)?.as_str())?;
+    push_word_label(text, images, line.node, line.word)?;
     text.push_str("\n")
 }
 
@@ -97,16 +132,14 @@ fn push_word_label(
     text: &mut String,
     images: Option<&Images>,
     node: Node,
-    word: usize,
+    word: Option<u8>,
 ) -> Result<(), AllocError>
-    requires { word < 65 }
     ensures { OnOk result (string_bytes text.new ≡ string_bytes text.old
         ++ spec.word_label (images_in images.entry) node word) }
 {
-    if word < 64 {
-        push_label(text, images, node, Where::Ram(word as u8))
-    } else {
-        Ok(())
+    match word {
+        Some(word) => push_label(text, images, node, Where::Ram(word)),
+        None => Ok(()),
     }
 }
 
@@ -117,14 +150,12 @@ fn node_text(alloc: Global, node: Node) -> Result<String, AllocError>
 }
 
 /// The address of a word.
-fn word_text(alloc: Global, word: usize) -> Result<String, AllocError>
-    requires { word < 65 }
+fn word_text(alloc: Global, word: Option<u8>) -> Result<String, AllocError>
     ensures { IfOk result (λ text. string_bytes text ≡ spec.word_text word) }
 {
-    if word < 64 {
-        address_text(alloc, Hex3::new(word as u16))
-    } else {
-        String::from_str(alloc, ".")
+    match word {
+        Some(word) => address_text(alloc, Hex3::new(u16::from(word))),
+        None => String::from_str(alloc, "."),
     }
 }
 

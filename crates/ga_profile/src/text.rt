@@ -4,7 +4,7 @@ ghost use Rattle.ga_waits.specs.Label.{images_in};
 ghost use Rattle.ga_profile.specs.Text.{profile_text, window_text};
 
 use crate::bottleneck::push_bottleneck;
-use crate::lines::push_lines;
+use crate::lines::{path_lines, push_lines};
 use crate::profile::Profile;
 use crate::stacks::push_stacks;
 use crate::table::{push_head, push_legend, push_rows};
@@ -40,14 +40,8 @@ pub fn profile_text(
     push_rows(&mut text, alloc, nodes, passes, path, turns)?;
     push_legend(&mut text)?;
     push_bottleneck(&mut text, alloc, profile)?;
-    push_lines(
-        &mut text,
-        alloc,
-        images,
-        path,
-        profile.lines.as_slice(),
-        turns,
-    )?;
+    let lines = path_lines(alloc, profile)?;
+    push_lines(&mut text, alloc, images, lines.as_slice(), turns)?;
     push_stacks(&mut text, alloc, images, nodes, profile.depths.as_slice())?;
     Ok(text)
 }
