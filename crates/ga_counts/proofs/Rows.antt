@@ -16,7 +16,7 @@ use Rattle.ga_source.specs.Program.{item_place, item_place_of, items_at}
 use Rattle.ga_source.specs.declared.places.ItemPlace as found
 use Rattle.ga_counts.specs.declared.row.Row.{Row}
 use Rattle.ga_counts.specs.declared.word_counts.WordCounts.{WordCounts}
-use Rattle.ga_counts.specs.Listing.{listing_from, node_listing}
+use Rattle.ga_counts.specs.Listing.{SectionView, section_of, sections_from}
 use Rattle.ga_counts.specs.Row.{row_text, rows_from}
 
 -- each word is one item
@@ -80,23 +80,25 @@ cut_at (y ∷ l) zero x e = let same : x ≡ y = cc in ap (λ t. t ∷ l) (sym s
 cut_at (y ∷ l) (suc n) x e = cut_at l n x e
 
 -- the listing of an image more, of those that are left
-pub listing_next : (counts : List WordCounts) (before : ℕ) (program : List PlacedSection)
+pub section_next : (counts : List WordCounts) (before : ℕ) (program : List PlacedSection)
     (images : List (ℕ × ImageView)) (section : ℕ) (image : ℕ × ImageView)
-    (old new total : List ℕ) → Some image ≡ slice_get images section
-    → old ++ listing_from counts before program section (drop section images) ≡ total → new ≡ old
-    ++ node_listing counts before image.0 image.1
-    (word_places image.1.item_counts (items_at program section))
-    → new ++ listing_from counts before program (section + 1) (drop (section + 1) images) ≡ total
-listing_next counts before program images section image old new total at inv new_is =
+    (old new total : List SectionView) → Some image ≡ slice_get images section
+    → old ++ sections_from counts before program images section (drop section images) ≡ total
+    → new ≡ old ++ section_of counts before images image.0 image.1
+    (word_places image.1.item_counts (items_at program section)) ∷ []
+    → new ++ sections_from counts before program images (section + 1) (drop (section + 1) images)
+    ≡ total
+section_next counts before program images section image old new total at inv new_is =
     let cut : drop section images ≡ image ∷ drop (suc section) images =
     cut_at images section image at in
     let next : section + 1 ≡ suc section = omega arith in
-    let rest = listing_from counts before program (suc section) (drop (suc section) images) in
-    let own = node_listing counts before image.0 image.1
+    let rest = sections_from counts before program images (suc section)
+    (drop (suc section) images) in
+    let own = section_of counts before images image.0 image.1
     (word_places image.1.item_counts (items_at program section)) in
-    ap (λ n. new ++ listing_from counts before program n (drop n images)) next
-    ∙ ap (λ t. t ++ rest) new_is ∙ append_assoc old own rest
-    ∙ ap (λ l. old ++ listing_from counts before program section l) (sym cut) ∙ inv
+    ap (λ n. new ++ sections_from counts before program images n (drop n images)) next
+    ∙ ap (λ t. t ++ rest) new_is ∙ append_assoc old (own ∷ []) rest
+    ∙ ap (λ l. old ++ sections_from counts before program images section l) (sym cut) ∙ inv
 
 -- of the places of all sections' items those of a section
 pub section_found : {V : Type 0} (items : V → List found.ItemPlace) (all : List V)

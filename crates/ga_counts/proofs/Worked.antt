@@ -12,10 +12,12 @@ use Rattle.ga_node.specs.declared.place.Place.TheVariants.{Fetch, Slot0, Slot1, 
 use Rattle.ga_observe.specs.declared.step.Deed.{Deed}
 use Rattle.ga_observe.specs.declared.step.Deed.TheVariants as did
 use Rattle.ga_observe.specs.declared.step.Step.{Step}
+use Rattle.ga_asm.specs.Image.{ImageView}
 use Rattle.ga_disasm.specs.Disassembling.{Code, Data}
 use Rattle.ga_counts.specs.Columns.{HEAD, cell, counts_text, slots_text}
 use Rattle.ga_counts.specs.Counts.{NO_COUNTS, counts_behind, place_of, word_behind}
 use Rattle.ga_counts.specs.Heat.{heat, is_hot, most_heat}
+use Rattle.ga_counts.specs.Listing.{same_before}
 use Rattle.ga_counts.specs.Row.{place_text, row_text}
 use Rattle.ga_counts.specs.declared.row.Row.{Row}
 use Rattle.ga_counts.specs.declared.word_counts.WordCounts.{WordCounts}
@@ -146,3 +148,25 @@ the_head : HEAD
     ≡ codes "  fetches  slot0  slot1  slot2  slot3  at   word    line  kind      reading\n"
 unfolding HEAD
 the_head = refl
+
+-- 708 and 710 have the same words and the same entry, and 709 has another entry
+abbrev image_from : ℕ → ImageView
+image_from entry = record {
+  words = 0x2C9B2 ∷ 0x10000 ∷ [];
+  code_len = 2;
+  entry = entry;
+  labels = [];
+  item_counts = [];
+}
+
+abbrev images : List (ℕ × ImageView)
+images = (708, image_from 0) ∷ (709, image_from 1) ∷ (710, image_from 0) ∷ []
+
+of_710 : same_before images 710 (image_from 0) ≡ Some 708
+of_710 = refl
+
+of_709 : same_before images 709 (image_from 1) ≡ None
+of_709 = refl
+
+of_708 : same_before images 708 (image_from 0) ≡ None
+of_708 = refl

@@ -7,8 +7,10 @@ mod counts;
 mod heat;
 mod listing;
 mod row;
+mod section;
 mod word_counts;
 
 pub use counts::{Counts, count};
-pub use listing::counted_list;
+pub use listing::{counted_list, counted_sections};
+pub use section::CountedSection;
 pub use word_counts::WordCounts;

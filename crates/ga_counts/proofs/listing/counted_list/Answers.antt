@@ -1,14 +1,12 @@
+use Rattle.std.proofs.Common.{◌∙◌, ap, map}
+use Rattle.ga_counts.specs.Listing.{listing_of, section_view}
 use Rattle.ga_counts.proofs.listing.counted_list.Goals as goal
 
 pub returns-in-Ok-clause-listing : goal.returns-in-Ok-clause-listing
 returns-in-Ok-clause-listing c =
     record {
-      images = _;
-      images_are = record {
-        program = _;
-        program_is = c.in_ok-program.ensures.program;
-        faultless = c.in_ok-images.ensures.none;
-        assembled = c.in_ok-images.ensures.images;
-      };
-      listing_is = c.in-Ok.ensures;
+      sections = _;
+      sections_are = c.in_ok-sections.ensures.sections;
+      listing_is = c.in-Ok.ensures
+          ∙ ap (λ sections. listing_of (map section_view sections)) c.as_slice.ensures.value;
     }
