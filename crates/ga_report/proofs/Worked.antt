@@ -9,6 +9,7 @@ use Rattle.ga_place.specs.Side.{sides_with}
 use Rattle.ga_place.specs.declared.side.Side.TheVariants.{Right}
 use Rattle.ga_node.specs.declared.need.Need.TheVariants as need
 use Rattle.ga_node.specs.declared.place.Place.TheVariants.{Fetch, Slot0}
+use Rattle.ga_counts.specs.Listing.{SectionView}
 use Rattle.ga_profile.specs.declared.node_pass.NodePass.{NodePass}
 use Rattle.ga_profile.specs.declared.node_turns.TurnCounts.{TurnCounts}
 use Rattle.ga_profile.specs.declared.window.Window.{Window}
@@ -21,6 +22,7 @@ use Rattle.ga_report.specs.Ending.{kind_by, kind_since}
 use Rattle.ga_report.specs.Escape.{escaped}
 use Rattle.ga_report.specs.Holder.{column_at, held}
 use Rattle.ga_report.specs.Line.{line_of, line_with, path_data}
+use Rattle.ga_report.specs.Listing.{section_part}
 use Rattle.ga_report.specs.Most.{between, most_of}
 use Rattle.ga_report.specs.PathLine.{path_edges}
 use Rattle.ga_report.specs.Picture.{arrow, group}
@@ -205,3 +207,24 @@ one_pass = refl
 
 all_of_it : close_up_window (record { first = 0; end = 300 }) (Some (a_pass 101 100) ∷ []) ≡ None
 all_of_it = refl
+
+-- 710 has the program of 708, so its listing is folded; that of 708 isn't
+abbrev section : ℕ → Option ℕ → SectionView
+section name same_as = record {
+  node = name;
+  same_as = same_as;
+  line = codes "node 710\n";
+  rows = codes "a < b\n";
+}
+
+folded : section_part (section 710 (Some 708))
+    ≡ codes "<details><summary>node 710\n(the same program as 708)</summary>\n"
+    ++ codes "<pre tabindex='0'>a &lt; b\n</pre></details>\n"
+unfolding section_part escaped chars encode
+folded = refl
+
+shown : section_part (section 710 None)
+    ≡ codes "<details open=''><summary>node 710\n</summary>\n"
+    ++ codes "<pre tabindex='0'>a &lt; b\n</pre></details>\n"
+unfolding section_part escaped chars encode
+shown = refl

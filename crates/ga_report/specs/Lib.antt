@@ -16,6 +16,7 @@ pub mod CloseUpRows
 pub mod Ending
 pub mod Words
 pub mod Picture
+pub mod Listing
 pub mod Page
 pub mod Laws
 pub mod inner

@@ -2,11 +2,13 @@
 use Rattle.std.specs.Prelude.{ℕ, Option, List, [], ◌∷◌, ◌++◌, codes}
 use Rattle.std.specs.Borrow.{Bor}
 use Rattle.std.specs.List.{concat}
+use Rattle.ga_counts.specs.Listing.{SectionView}
 use Rattle.ga_profile.specs.declared.profile.Profile.{Profile}
 use Rattle.ga_report.specs.declared.close_up.CloseUp.{CloseUp}
 use Rattle.ga_report.specs.declared.timeline.Timeline.{Timeline}
 use Rattle.ga_report.specs.CloseUpRows.{close_up_part}
 use Rattle.ga_report.specs.Escape.{escaped}
+use Rattle.ga_report.specs.Listing.{listing_part}
 use Rattle.ga_report.specs.Picture.{picture}
 use Rattle.ga_report.specs.Rows.{timeline_part}
 use Rattle.ga_report.specs.Style.{STYLE}
@@ -41,11 +43,10 @@ unfoldable pub CLOSING : List ℕ
 CLOSING = codes "</main></body></html>\n"
 
 -- A page, by the profile of a run and its timelines: the headline; the timelines; the text of the
--- profile; the chip; and the listing.
-unfoldable pub page_text : List ℕ → Profile → Timeline → Option (Bor CloseUp) → List ℕ → List ℕ
-    → List ℕ
-page_text headline profile timeline close_up shown listing =
+-- profile; the chip; and the listings of its nodes.
+unfoldable pub page_text : List ℕ → Profile → Timeline → Option (Bor CloseUp) → List ℕ
+    → List SectionView → List ℕ
+page_text headline profile timeline close_up shown sections =
     concat (head headline ∷ timeline_part profile.nodes.items timeline
     ∷ close_up_part profile.nodes.items close_up ∷ preformatted (codes "Profile") shown
-    ∷ picture profile.chip profile.nodes.items ∷ preformatted (codes "Listing") listing
-    ∷ CLOSING ∷ [])
+    ∷ picture profile.chip profile.nodes.items ∷ listing_part sections ∷ CLOSING ∷ [])

@@ -26,8 +26,9 @@ LAYOUT =
     ∷ codes "linear-gradient(to right,var(--page) 40%,transparent) 0/32px 100% no-repeat local,\n"
     ∷ codes "linear-gradient(to left,var(--page) 40%,transparent) 100%/32px 100% no-repeat local,\n"
     ∷ codes "linear-gradient(to right,var(--rule),transparent) 0/16px 100% no-repeat,\n"
-    ∷ codes "linear-gradient(to left,var(--rule),transparent) 100%/16px 100% no-repeat;\n"
-    ∷ codes "font:12px/1.45 ui-monospace,Menlo,Consolas,monospace}\n" ∷ [])
+    ∷ codes "linear-gradient(to left,var(--rule),transparent) 100%/16px 100% no-repeat}\n"
+    ∷ codes "pre,summary{font:12px/1.45 ui-monospace,Menlo,Consolas,monospace}\n"
+    ∷ codes "summary{padding:4px 0;cursor:pointer}\n" ∷ [])
 
 -- the rows of the timeline, its scale and its key
 unfoldable pub ROWS : List ℕ

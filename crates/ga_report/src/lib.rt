@@ -10,6 +10,7 @@ mod holders;
 mod kind;
 pub mod laws;
 mod line;
+mod listing;
 mod marks;
 mod most;
 mod page;

@@ -1,15 +1,18 @@
 //! A page of a run.
-ghost use Rattle.std.specs.Prelude.{◌≡◌, ◌++◌, IfOk, OnOk, string_bytes};
+ghost use Rattle.std.specs.Prelude.{◌≡◌, ◌++◌, IfOk, OnOk, map, string_bytes};
+ghost use Rattle.ga_counts.specs.Listing.{section_view};
 ghost use Rattle.ga_report.specs.Page.{CLOSING, OPENING, REMARK, head, heading, page_text, preformatted};
 
 use crate::close_up::CloseUp;
 use crate::close_up_rows::push_close_up;
 use crate::escape::push_escaped;
+use crate::listing::push_listing;
 use crate::parts::push_parts;
 use crate::picture::push_picture;
 use crate::rows::push_timeline;
 use crate::style::push_style;
 use crate::timeline::Timeline;
+use ga_counts::CountedSection;
 use ga_profile::Profile;
 use std::alloc::{AllocError, Global};
 use std::fmt::Write;
@@ -26,18 +29,19 @@ pub struct Page<'a> {
     pub close_up: Option<&'a CloseUp>,
     /// The text of the profile.
     pub profile_text: &'a str,
-    /// The listing of its program, with counts.
-    pub listing: &'a str,
+    /// The listings of its nodes, with counts.
+    pub listing: &'a [CountedSection],
 }
 
 /// A run as one page in HTML that is well-formed XML too, and needs no other file and no script:
-/// the headline; the timelines; the profile; the chip at the end of the window; and the listing.
+/// the headline; the timelines; the profile; the chip at the end of the window; and the listing of
+/// each node, which is folded if a node in front of it has the same program.
 /// Fails only when out of memory. (The page is this project's own: profile.)
 #[tactic(auto, unfolding(crate::specs::Page::page_text))]
 pub fn page_text(alloc: Global, page: &Page<'_>) -> Result<String, AllocError>
     ensures { IfOk result (λ text. string_bytes text
         ≡ page_text page.now.headline.now page.now.profile.now page.now.timeline.now
-        page.now.close_up page.now.profile_text.now page.now.listing.now) }
+        page.now.close_up page.now.profile_text.now (map section_view page.now.listing.now)) }
 {
     let mut text = String::new(alloc);
     let nodes = page.profile.nodes.as_slice();
@@ -46,7 +50,7 @@ pub fn page_text(alloc: Global, page: &Page<'_>) -> Result<String, AllocError>
     push_close_up(&mut text, alloc, nodes, page.close_up)?;
     push_preformatted(&mut text, "Profile", page.profile_text)?;
     push_picture(&mut text, &page.profile.chip, nodes)?;
-    push_preformatted(&mut text, "Listing", page.listing)?;
+    push_listing(&mut text, page.listing)?;
     push_closing(&mut text)?;
     Ok(text)
 }

@@ -50,8 +50,9 @@ fn push_layout(text: &mut String) -> Result<(), AllocError>
         "linear-gradient(to right,var(--page) 40%,transparent) 0/32px 100% no-repeat local,\n",
         "linear-gradient(to left,var(--page) 40%,transparent) 100%/32px 100% no-repeat local,\n",
         "linear-gradient(to right,var(--rule),transparent) 0/16px 100% no-repeat,\n",
-        "linear-gradient(to left,var(--rule),transparent) 100%/16px 100% no-repeat;\n",
-        "font:12px/1.45 ui-monospace,Menlo,Consolas,monospace}\n",
+        "linear-gradient(to left,var(--rule),transparent) 100%/16px 100% no-repeat}\n",
+        "pre,summary{font:12px/1.45 ui-monospace,Menlo,Consolas,monospace}\n",
+        "summary{padding:4px 0;cursor:pointer}\n",
     ];
     push_parts(text, &parts)
 }
