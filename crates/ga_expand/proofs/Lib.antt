@@ -10,5 +10,6 @@ mod Origins
 mod Lists
 mod TokensRead
 mod Copies
+mod Expressions
 mod PlainTexts
 mod WorkedExpansions

@@ -24,7 +24,8 @@ use Rattle.ga_expand.specs.declared.error.ExpandError.{ExpandError}
 use Rattle.ga_expand.specs.declared.expander.Expander.{Expander}
 use Rattle.ga_expand.specs.declared.expansion.Expansion.{Expansion}
 use Rattle.ga_expand.specs.Error.{Fault, fault_of}
-use Rattle.ga_expand.specs.Constants.{Constants, constant_named, is_kept, number_of, value_of}
+use Rattle.ga_expand.specs.Constants.{Constants, constant_named, is_kept, number_of}
+use Rattle.ga_expand.specs.Expression.{value_of}
 use Rattle.ga_expand.specs.Expanding.{Body, Head, Naming, NodeName, Piece, Scope, Stage, Step, Towards, Value, Valuing, address_texts, addressed, all_at, directed, ended, expansion_from, further, in_node, is_ascii, is_const, is_to, item_at, label_in, number_step, number_text, onto, pieces_of, plain_at, same_or, silent, stage_by, start, step_at, valued, with_constant, with_stage, word_at, word_by, word_of, word_step}
 use Rattle.ga_expand.specs.Places.{direction_named, port_named, port_towards}
 use Rattle.ga_expand.specs.Literal.{literal_of}

@@ -7,7 +7,8 @@ use Rattle.ga_pack.specs.Model.Token.{is_reserved, meaning_of}
 use Rattle.ga_place.specs.Side.{North}
 use Rattle.ga_expand.specs.declared.error.ExpandErrorKind.{ExpandErrorKind}
 use Rattle.ga_expand.specs.declared.error.ExpandErrorKind.TheVariants.{BadNode, BadToken, DuplicateName, NoNeighbour, NumberRange, OpenDefinition, ReservedName, TooLarge, UnknownBody}
-use Rattle.ga_expand.specs.Constants.{value_of}
+use Rattle.ga_expand.specs.Constants.{Constants}
+use Rattle.ga_expand.specs.Expression.{inside, left_of, made_by, parted, right_of, value_of}
 use Rattle.ga_expand.specs.Error.{Fault}
 use Rattle.ga_expand.specs.Expanding.{Piece, expansion_from, pieces_of, step_at, word_of}
 use Rattle.ga_expand.specs.Bodies.{Part, SharedBody, Unfolding, first, read_at, unfolded_from, use_of}
@@ -53,6 +54,48 @@ no_side : ◌≡◌ {A = Literal} (literal_of (codes "right|io")) (Ok None)
 unfolding literal_of
 no_side = refl
 
+-- ---- expressions
+
+abbrev Value : Type 0
+Value = Result ℕ ExpandErrorKind
+
+abbrev some_constants : Constants
+some_constants = (codes "SIZE", 8) ∷ (codes "M", 0x3FFFF) ∷ []
+
+-- `*` binds before `+`, and operators that bind alike go from left to right
+products_first : ◌≡◌ {A = Value} (value_of some_constants (codes "1+SIZE*2-3-4")) (Ok 10)
+unfolding value_of literal_of parted inside left_of right_of made_by
+products_first = refl
+
+in_parentheses : ◌≡◌ {A = Value} (value_of [] (codes "(1+2)*(3+4)")) (Ok 21)
+unfolding value_of literal_of parted inside left_of right_of made_by
+in_parentheses = refl
+
+shifts_and_masks : ◌≡◌ {A = Value} (value_of some_constants (codes "1<<SIZE|$F0&M>>4")) (Ok 0x1F0)
+unfolding value_of literal_of parted inside left_of right_of made_by
+shifts_and_masks = refl
+
+-- signs between quotes, and a sign without an operand in front of it, are no operators
+quoted_sign : ◌≡◌ {A = Value} (value_of [] (codes "'+'+'('*-131072")) (Err NumberRange)
+unfolding value_of literal_of parted inside left_of right_of made_by
+quoted_sign = refl
+
+less_than_none : ◌≡◌ {A = Value} (value_of some_constants (codes "5-SIZE")) (Ok 0x3FFFD)
+unfolding value_of literal_of parted inside left_of right_of made_by
+less_than_none = refl
+
+over_a_word : ◌≡◌ {A = Value} (value_of some_constants (codes "M+1")) (Err NumberRange)
+unfolding value_of literal_of parted inside left_of right_of made_by
+over_a_word = refl
+
+no_operand : ◌≡◌ {A = Value} (value_of [] (codes "5+")) (Err BadToken)
+unfolding value_of literal_of parted inside left_of right_of made_by
+no_operand = refl
+
+not_closed : ◌≡◌ {A = Value} (value_of [] (codes "(5+6")) (Err BadToken)
+unfolding value_of literal_of parted inside left_of right_of made_by
+not_closed = refl
+
 -- ---- ports: east is right in even columns, north is down in even rows
 
 abbrev Port : Type 0
@@ -95,7 +138,7 @@ constant_and_neighbour : ◌≡◌ {A = Expansion} (expansion (codes "const A 'A
     (Ok (at (codes "node") 1 13 ∷ at (codes "708") 1 18 ∷ at (codes "$00041") 1 22
     ∷ at (codes "$001D5") 1 24 ∷ at (codes "b!") 1 31 ∷ []))
 unfolding expansion unfolded_from read_at spread_from expansion_from pieces_of lexemes step_at
-    word_of literal_of value_of meaning_of is_reserved hex_digits at
+    word_of literal_of value_of parted inside meaning_of is_reserved hex_digits at
 constant_and_neighbour = refl
 
 -- behind an opcode that takes a destination, and behind `,`, `to` and `east` are names of labels
@@ -110,7 +153,7 @@ labels_stay = refl
 open_definition : ◌≡◌ {A = Expansion} (expansion (codes "const A 1 const B"))
     (failed OpenDefinition 1 11)
 unfolding expansion unfolded_from read_at spread_from expansion_from pieces_of lexemes step_at
-    literal_of value_of is_reserved meaning_of failed
+    literal_of value_of parted inside is_reserved meaning_of failed
 open_definition = refl
 
 reserved_name : ◌≡◌ {A = Expansion} (expansion (codes "const dup 1")) (failed ReservedName 1 7)
@@ -121,12 +164,12 @@ reserved_name = refl
 duplicate_name : ◌≡◌ {A = Expansion} (expansion (codes "const A 1 const A 2"))
     (failed DuplicateName 1 17)
 unfolding expansion unfolded_from read_at spread_from expansion_from pieces_of lexemes step_at
-    literal_of value_of is_reserved meaning_of failed
+    literal_of value_of parted inside is_reserved meaning_of failed
 duplicate_name = refl
 
 no_value : ◌≡◌ {A = Expansion} (expansion (codes "const A B")) (failed BadToken 1 9)
 unfolding expansion unfolded_from read_at spread_from expansion_from pieces_of lexemes step_at
-    literal_of value_of is_reserved meaning_of failed
+    literal_of value_of parted inside is_reserved meaning_of failed
 no_value = refl
 
 no_neighbour : ◌≡◌ {A = Expansion} (expansion (codes "node 708 dup to 710"))
@@ -249,7 +292,7 @@ address_of_a_label : ◌≡◌ {A = Expansion} (expansion (codes "const A 1 node
     ∷ at (codes "@p") 1 20 ∷ at (codes ".") 1 20 ∷ at (codes ".") 1 20 ∷ at (codes ".") 1 20
     ∷ at (codes "]") 1 20 ∷ at (codes ",") 1 20 ∷ at (codes "A") 1 20 ∷ []))
 unfolding expansion unfolded_from read_at spread_from expansion_from pieces_of lexemes step_at
-    word_of literal_of value_of meaning_of is_reserved at
+    word_of literal_of value_of parted inside meaning_of is_reserved at
 address_of_a_label = refl
 
 -- no name, and one that is reserved

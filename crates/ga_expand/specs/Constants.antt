@@ -6,7 +6,7 @@ use Rattle.std.specs.Str.{bytes_eq}
 use Rattle.ga_pack.specs.Model.Token.{is_name, is_reserved, number_named}
 use Rattle.ga_expand.specs.declared.error.ExpandErrorKind.{ExpandErrorKind}
 use Rattle.ga_expand.specs.declared.error.ExpandErrorKind.TheVariants.{BadToken, NumberRange}
-use Rattle.ga_expand.specs.Literal.{literal_of, numeral}
+use Rattle.ga_expand.specs.Literal.{numeral}
 
 -- names and their numbers
 abbrev pub Constants : Type 0
@@ -52,13 +52,8 @@ abbrev pub in_range : Option ℕ → Result ℕ ExpandErrorKind
 in_range None = Err BadToken
 in_range (Some n) = if nat_lt n (2 ^ 18) then Ok n else Err NumberRange
 
-abbrev pub value_by : Constants → List ℕ → Result (Option ℕ) ExpandErrorKind
-    → Result ℕ ExpandErrorKind
-value_by constants text (Err kind) = Err kind
-value_by constants text (Ok (Some n)) = Ok n
-value_by constants text (Ok None) =
+-- the number that a token without parts writes: the name of a constant, or a number in the plain
+-- language
+abbrev pub plain_value_of : Constants → List ℕ → Result ℕ ExpandErrorKind
+plain_value_of constants text =
     in_range (option_or (constant_named constants text) (as_number text))
-
--- The number that a token writes: in a form of either language, or as the name of a constant.
-unfoldable pub value_of : Constants → List ℕ → Result ℕ ExpandErrorKind
-value_of constants text = value_by constants text (literal_of text)

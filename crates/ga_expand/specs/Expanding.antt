@@ -11,7 +11,8 @@ use Rattle.ga_place.specs.Side.{Direction}
 use Rattle.ga_word.specs.Op.{takes_dest}
 use Rattle.ga_expand.specs.declared.error.ExpandErrorKind.{ExpandErrorKind}
 use Rattle.ga_expand.specs.declared.error.ExpandErrorKind.TheVariants.{BadNode, BadToken, DuplicateName, OpenDefinition, ReservedName}
-use Rattle.ga_expand.specs.Constants.{Constants, constant_named, is_kept, number_of, value_of}
+use Rattle.ga_expand.specs.Constants.{Constants, constant_named, is_kept, number_of}
+use Rattle.ga_expand.specs.Expression.{value_of}
 use Rattle.ga_expand.specs.Error.{Fault}
 use Rattle.ga_expand.specs.Literal.{literal_of}
 use Rattle.ga_expand.specs.Places.{direction_named, port_named, port_towards}

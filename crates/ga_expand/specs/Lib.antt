@@ -2,6 +2,7 @@ pub mod Error
 pub mod Sides
 pub mod Literal
 pub mod Constants
+pub mod Expression
 pub mod Places
 pub mod Expanding
 pub mod Bodies

@@ -6,10 +6,12 @@ ghost use Rattle.std.specs.Str.{bytes_eq};
 ghost use Rattle.ga_pack.specs.Model.Token as plain;
 ghost use Rattle.ga_pack.specs.Model.Token.{is_name};
 ghost use Rattle.ga_expand.specs.Constants as model;
+ghost use Rattle.ga_expand.specs.Expression.{value_of, value_within};
 ghost use Rattle.ga_expand.specs.declared.error.ExpandErrorKind.TheVariants.{Memory};
 ghost use Rattle.ga_expand.specs.inner.Constants.{constants_in};
 
 use crate::error::ExpandErrorKind;
+use crate::expression::{inside, parted};
 use crate::literal::{literal, numeral};
 use ga_source::Name;
 use ga_word::{Op, Word18};
@@ -68,22 +70,42 @@ impl Constants {
         Ok(())
     }
 
-    /// The number that a token writes, in a form of either language or as the name of a constant.
-    #[tactic(auto, unfolding(crate::specs::Constants::value_of))]
+    /// The number that a token writes: in a form of either language, as the name of a constant, or
+    /// as an expression.
+    #[tactic(auto, unfolding(crate::specs::Expression::value_of))]
     pub(crate) fn value(&self, text: &[u8]) -> Result<Word18, ExpandErrorKind>
-        ensures { result ≡ model.value_of (constants_in self.now.values.entries) text.now }
+        ensures { result ≡ value_of (constants_in self.now.values.entries) text.now }
     {
+        self.value_within(64, text)
+    }
+
+    /// The number of an expression of at most this many levels.
+    fn value_within(&self, levels: u32, text: &[u8]) -> Result<Word18, ExpandErrorKind>
+        ensures { result ≡ value_within levels (constants_in self.now.values.entries) text.now }
+    {
+        if levels == 0 {
+            return Err(ExpandErrorKind::BadToken);
+        }
         match literal(text) {
             Ok(Some(number)) => Ok(number),
-            Ok(None) => self.plain_value(text),
+            Ok(None) => match parted(text) {
+                Some(parting) => {
+                    let left = self.value_within(levels - 1, parting.left_of(text));
+                    let right = self.value_within(levels - 1, parting.right_of(text));
+                    parting.operator.applied(left, right)
+                }
+                None => match inside(text) {
+                    Some(within) => self.value_within(levels - 1, within),
+                    None => self.plain_value(text),
+                },
+            },
             Err(kind) => Err(kind),
         }
     }
 
     /// The number of the constant that a token names, or that it writes in the plain language.
     fn plain_value(&self, text: &[u8]) -> Result<Word18, ExpandErrorKind>
-        ensures { result ≡ model.value_by (constants_in self.now.values.entries) text.now
-            (Ok None) }
+        ensures { result ≡ model.plain_value_of (constants_in self.now.values.entries) text.now }
     {
         if let Some(number) = self.named(text) {
             return Ok(number);

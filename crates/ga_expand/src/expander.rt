@@ -2,9 +2,10 @@
 ghost use Rattle.std.specs.Prelude.{◌≡◌, ◌≢◌, ℕ, [], IfErr, IfOk, Err, None, Ok, OnOk, Some, option_map};
 ghost use Rattle.std.specs.Str.{IsAscii};
 ghost use Rattle.ga_source.specs.Token.{place_of};
-ghost use Rattle.ga_expand.specs.Constants.{number_of, value_of};
+ghost use Rattle.ga_expand.specs.Constants.{number_of};
 ghost use Rattle.ga_expand.specs.Error.{fault_of};
 ghost use Rattle.ga_expand.specs.Expanding as model;
+ghost use Rattle.ga_expand.specs.Expression.{value_of};
 ghost use Rattle.ga_expand.specs.Places.{direction_named, port_named};
 ghost use Rattle.ga_pack.specs.Model.Token as plain;
 ghost use Rattle.ga_pack.specs.Model.Token.{meaning_of};

@@ -6,6 +6,7 @@ mod constants;
 mod error;
 mod expander;
 mod expansion;
+mod expression;
 mod literal;
 mod node_lists;
 mod piece;
