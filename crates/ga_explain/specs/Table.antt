@@ -5,6 +5,7 @@ use Rattle.ga_explain.specs.Topic.{Entry}
 use Rattle.ga_explain.specs.declared.source.TheConstants.{BAD_TOKEN, NUMBER_RANGE, BAD_NODE, DUPLICATE_NODE, DUPLICATE_LABEL, RESERVED_LABEL, OPEN_BRACKET, BAD_WORD, NO_NODE, EMPTY}
 use Rattle.ga_explain.specs.declared.layout.TheConstants.{UNDEFINED_LABEL, OUT_OF_REACH, UNEXT_ALONE, TOO_LONG}
 use Rattle.ga_explain.specs.declared.larger.TheConstants.{RESERVED_NAME, DUPLICATE_NAME, OPEN_DEFINITION, NO_NEIGHBOUR, UNKNOWN_BODY, TOO_LARGE}
+use Rattle.ga_explain.specs.declared.warnings.TheConstants.{UNEXT_REPEATS, SPLIT_LOOP, RUNS_OFF, PUSHES_TOO_MANY, POPS_TOO_MANY, UNUSED_LABEL, UNREACHABLE, SEVERAL_PORTS, RETURNS_NOWHERE, LEAVES_EXTENDED, OVER_MEMORY}
 use Rattle.ga_explain.specs.declared.routes.TheConstants.{BAD_ROUTE, NOT_EDGE, NOT_NEIGHBOUR, REPEATED, OTHER_ROOT, UNREACHED}
 use Rattle.ga_explain.specs.declared.sessions.TheConstants.{BAD_COMMAND, BAD_ADDRESS, BAD_SIDE, BAD_COUNT, BAD_VALUE, NOT_HELD, BAD_PROFILE, NO_GO, SOURCE, ASM, ROUTE, TREE, BOOT, EARLY_REPLY, DIFFERS}
 use Rattle.ga_explain.specs.declared.input.TheConstants.{READ, NO_FILE, FOLDER, NOT_A_FILE, EXISTS, NO_NAME, BAD_TEXT, BAD_CODE, WRITE, REFUSED_WRITE, MEMORY, REFUSED_MEMORY}
@@ -83,6 +84,55 @@ larger_entries = (
       codes "all 'use' of the text, or all its lists, stand for more than 262,144 tokens",
       TOO_LARGE.now,
     ) ∷
+    []
+
+-- the warnings of `lint`
+unfoldable pub warnings_entries : List Entry
+warnings_entries = (
+  codes "UnextRepeats",
+  codes "each round of this 'unext' also runs the 'push' or the number in its word",
+  UNEXT_REPEATS.now,
+) ∷ (
+  codes "SplitLoop",
+  codes "a loop by 'unext' that begins in a new word only since the last one was full",
+  SPLIT_LOOP.now,
+) ∷ (
+  codes "RunsOff",
+  codes "the last word of the code, and execution goes on behind it",
+  RUNS_OFF.now,
+) ∷ (
+  codes "PushesTooMany",
+  codes "an eleventh word on the data stack: the first one is lost",
+  PUSHES_TOO_MANY.now,
+) ∷ (
+  codes "PopsTooMany",
+  codes "a word taken from the data stack that the node never pushed",
+  POPS_TOO_MANY.now,
+) ∷ (
+  codes "UnusedLabel",
+  codes "a label that no item names, at code that never runs",
+  UNUSED_LABEL.now,
+) ∷ (
+  codes "Unreachable",
+  codes "code that never runs: nothing leads to it",
+  UNREACHABLE.now,
+) ∷ (
+  codes "SeveralPorts",
+  codes "the address of several sides, to which the node writes: that stops it",
+  SEVERAL_PORTS.now,
+) ∷ (
+  codes "ReturnsNowhere",
+  codes "a ';' without a call or a push before it",
+  RETURNS_NOWHERE.now,
+) ∷ (
+  codes "LeavesExtended",
+  codes "a destination in slot 0 that leaves extended mode",
+  LEAVES_EXTENDED.now,
+) ∷ (
+  codes "OverMemory",
+  codes "a destination behind the words of the node",
+  OVER_MEMORY.now,
+) ∷
     []
 
 -- the faults of routes, of trees and of boots
@@ -183,5 +233,5 @@ terms_entries =
 abbrev pub entries : List Entry
 entries =
     fold (λ all group. all ++ group) []
-    (source_entries ∷ layout_entries ∷ larger_entries ∷ routes_entries ∷ sessions_entries
-    ∷ input_entries ∷ needs_entries ∷ terms_entries ∷ [])
+    (source_entries ∷ layout_entries ∷ larger_entries ∷ warnings_entries ∷ routes_entries
+    ∷ sessions_entries ∷ input_entries ∷ needs_entries ∷ terms_entries ∷ [])

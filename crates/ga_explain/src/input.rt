@@ -41,7 +41,7 @@ const NO_FILE: &str = "\
 NoFile: no file has this name. Nothing was read.
 
   $ ga-bench list no.source
-  ga-bench: input NoFile
+  ga-bench: no.source: input NoFile
 
 Fixed, with the text on standard input (- means the same as no name):
 
@@ -54,7 +54,7 @@ const FOLDER: &str = "\
 Folder: the name is that of a folder, not of a file.
 
   $ ga-bench list .
-  ga-bench: input Folder
+  ga-bench: .: input Folder
 
 Fixed, with the text on standard input (- means the same as no name):
 

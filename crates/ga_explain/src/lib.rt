@@ -11,6 +11,7 @@ mod sessions;
 mod source;
 mod terms;
 mod topic;
+mod warnings;
 
 pub use crate::output::output as explain;
 pub use crate::topic::{Topic, meaning};
