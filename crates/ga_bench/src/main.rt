@@ -3,6 +3,7 @@
 
 mod named;
 mod numbers;
+mod reporting;
 mod saved_files;
 
 ghost use Rattle.std.specs.Prelude.{◌≡◌, IfErr, IfOk, IfSome, map, string_bytes, true};
@@ -11,10 +12,11 @@ ghost use Rattle.ga_transcript.specs.Record.{Holds};
 ghost use Rattle.ga_jobs.specs.{writes_pieces};
 ghost use Rattle.ga_jobs.specs.Engine.{status_of};
 ghost use Rattle.ga_jobs.specs.Outputs.{in_pieces};
-ghost use Rattle.ga_bench.specs.Status.{HasServed, HasStatus, IsStatusOf};
+ghost use Rattle.ga_bench.specs.Status.{HasServed, HasStatus};
 
 use crate::named::Named;
 use crate::numbers::numbers_of;
+use crate::reporting::{refuse, refuse_missing, report_on_file, reported, reported_in_file};
 use crate::saved_files::SavedFiles;
 use clap::error::ErrorKind::{ArgumentConflict, InvalidValue};
 use ga_command_line::{LineError, job, refusal};
@@ -81,7 +83,7 @@ fn job_status<
     }
     match (job.several_files(), job.file()) {
         (Some(files), _) => check_status(rt, reader, files),
-        (None, Some(name)) if is_wrong_word(rt, name, job) => refuse_missing(rt),
+        (None, Some(name)) if is_wrong_word(rt, name, job) => refuse_missing(rt, name),
         (None, Some(name)) => serve_named(rt, name, job),
         (None, None) => serve_job(rt, reader, &mut io::writer(rt), job),
     }
@@ -98,12 +100,12 @@ fn numbers_status<Rt: AllocGlobal + Print + Eprint + Threads + Clock + Sync + Fi
 ) -> u8 {
     let text = match numbers_of(rt, reader, job, loading, start, turns) {
         Ok(text) => text,
-        Err(fault) => return reported(rt, &Err(fault)),
+        Err(fault) => return reported_of(rt, job, &Err(fault)),
     };
     let mut writer = io::writer(rt);
     match write_output(&mut writer, text.as_bytes(), &mut Writes::default()) {
         Ok(()) => status(&Ok(Ending::Done)),
-        Err(fault) => reported(rt, &Err(fault)),
+        Err(fault) => reported_of(rt, job, &Err(fault)),
     }
 }
 
@@ -117,40 +119,50 @@ fn trace_status<Rt: AllocGlobal + Print + Eprint + Threads + Clock + Sync + File
     nodes: &Option<String>,
     save: &str,
 ) -> u8 {
-    if job.file() == Some(save) {
+    let input = match input_named(rt, reader, job.file().unwrap_or("-")) {
+        Ok(input) => input,
+        Err(fault) => return reported_of(rt, job, &Err(fault)),
+    };
+    if job.file() == Some(save) || has_bytes(rt, save, &input) {
         let why = "the save file would replace FILE";
         return refuse(rt, refusal(rt.alloc(), ArgumentConflict, why));
     }
-    let (waveform, saved) = match traced(rt, reader, job, loading, nodes) {
+    let (waveform, saved) = match traced(rt, job, loading, nodes, &input) {
         Ok(made) => made,
-        Err(fault) => return reported(rt, &Err(fault)),
+        Err(fault) => return reported_of(rt, job, &Err(fault)),
     };
     if let Err(fault) = put(rt, save, saved.as_str()) {
         report_on_file(rt, save, &fault);
         return status(&Err(fault));
     }
     let outcome = waveform.write(rt.alloc(), &mut io::writer(rt), job);
-    reported(rt, &outcome)
+    reported_of(rt, job, &outcome)
 }
 
-/// The waveform of a job, and a viewer's save file for it.
-fn traced<Rt: AllocGlobal + Threads + Clock + Sync + Files, R: Read>(
+/// Whether the regular file with a name has these bytes, as FILE has by another name.
+fn has_bytes<Rt: AllocGlobal + Files>(rt: &Rt, name: &str, bytes: &[u8]) -> bool {
+    match regular_input(rt, name) {
+        Ok(found) => found.len() == bytes.len() && found.starts_with(bytes),
+        Err(_) => false,
+    }
+}
+
+/// The waveform of a job for its input, and a viewer's save file for it.
+fn traced<Rt: AllocGlobal + Threads + Clock + Sync + Files>(
     rt: &Rt,
-    reader: &mut R,
     job: &Job,
     loading: &Loading,
     nodes: &Option<String>,
+    input: &[u8],
 ) -> Result<(Output, String), ServeError>
     ensures { IfOk result (λ made. in_pieces made.0 ≡ true → writes_pieces job.now ≡ true) }
 {
     let alloc = rt.alloc();
-    let name = job.file().unwrap_or("-");
-    let input = input_named(rt, reader, name)?;
-    let waveform = match name {
-        "-" => output_of(rt, job, &input)?,
-        _ => output_of_file(rt, job, &input)?,
+    let waveform = match job.file() {
+        None => output_of(rt, job, input)?,
+        Some(_) => output_of_file(rt, job, input)?,
     };
-    let live = open_file(alloc, loading, &input)?;
+    let live = open_file(alloc, loading, input)?;
     Ok((waveform, save_text(alloc, &live, nodes)?))
 }
 
@@ -163,20 +175,10 @@ fn talk_status<Rt: AllocGlobal + Print + Eprint + Files, R: Read + IsTerminal>(
 ) -> u8 {
     match talk_about(rt, reader, loading, name) {
         Ok(()) => status(&Ok(Ending::Done)),
-        Err(ServeError::Input(InputFault::NoFile)) => refuse_missing(rt),
-        Err(fault) => {
-            let _ = eprintln!(rt; "ga-bench: {fault}");
-            status(&Err(fault))
-        }
+        Err(ServeError::Input(InputFault::NoFile)) => refuse_missing(rt, name),
+        Err(fault) if name == "-" => reported(rt, &Err(fault)),
+        Err(fault) => reported_in_file(rt, name, &Err(fault)),
     }
-}
-
-/// Refuses a command line with a word that names no file. Answers the exit status.
-fn refuse_missing<Rt: AllocGlobal + Print + Eprint>(rt: &Rt) -> u8 {
-    refuse(
-        rt,
-        refusal(rt.alloc(), InvalidValue, "there is no such FILE"),
-    )
 }
 
 /// Whether a word names no file, and so is one that the command line of this job may not have.
@@ -331,18 +333,6 @@ fn rewrite_status<Rt: AllocGlobal + Print + Eprint + Files>(rt: &Rt, files: &[St
     worst
 }
 
-/// Reports the fault of the file with a name.
-fn report_on_file<Rt: AllocGlobal + Eprint>(rt: &Rt, name: &str, fault: &ServeError) {
-    match ShownText::of_name(rt.alloc(), name) {
-        Ok(shown) => {
-            let _ = eprintln!(rt; "ga-bench: {shown}: {fault}");
-        }
-        Err(_) => {
-            let _ = eprintln!(rt; "ga-bench: {fault}");
-        }
-    }
-}
-
 /// Replaces a file by its recording, and writes what was done. A file that is its own recording is
 /// left as it is.
 fn rewrite<Rt: AllocGlobal + Files, W: Write>(
@@ -419,7 +409,22 @@ fn serve_named<Rt: AllocGlobal + Print + Eprint + Threads + Clock + Sync + Files
     ensures { HasStatus result }
 {
     let outcome = served(rt, &mut io::writer(rt), name, job);
-    reported(rt, &outcome)
+    reported_of(rt, job, &outcome)
+}
+
+/// Reports the fault of a job's outcome, if it has one: that of its file as compilers do, but that
+/// of a transcript as for standard input. Answers the exit status.
+fn reported_of<Rt: AllocGlobal + Eprint>(
+    rt: &Rt,
+    job: &Job,
+    outcome: &Result<Ending, ServeError>,
+) -> u8
+    ensures { result ≡ status_of outcome.now }
+{
+    match (job, job.file()) {
+        (Job::Check { .. } | Job::Record { .. }, _) | (_, None) => reported(rt, outcome),
+        (_, Some(name)) => reported_in_file(rt, name, outcome),
+    }
 }
 
 /// Serves a job for the file with a name. If that is a transcript, its head may name its source.
@@ -436,7 +441,20 @@ fn served<Rt: AllocGlobal + Threads + Clock + Sync + Files, W: Write>(
     };
     match sourced(rt, name, named, &input)? {
         Some(transcript) => serve_transcript(rt.alloc(), writer, &transcript, job),
-        None => serve_file(rt, writer, job, &input),
+        None => serve_bytes(rt, writer, job, &input),
+    }
+}
+
+/// Serves a job for the bytes of a file. `lint` reads text of the larger language itself.
+fn serve_bytes<Rt: AllocGlobal + Threads + Clock + Sync, W: Write>(
+    rt: &Rt,
+    writer: &mut W,
+    job: &Job,
+    input: &[u8],
+) -> Result<Ending, ServeError> {
+    match job {
+        Job::Lint { .. } => output_of(rt, job, input)?.write(rt.alloc(), writer, job),
+        _ => serve_file(rt, writer, job, input),
     }
 }
 
@@ -453,17 +471,6 @@ fn serve_transcript<W: Write>(
     };
     write_output(writer, text.as_bytes(), &mut Writes::default())?;
     Ok(Ending::Done)
-}
-
-/// Reports the fault of an outcome, if it has one. Answers the exit status.
-fn reported<Rt: Eprint>(rt: &Rt, outcome: &Result<Ending, ServeError>) -> u8
-    ensures { result ≡ status_of outcome.now }
-{
-    if let Err(fault) = outcome {
-        // If this can't be written either, the status still reports it.
-        let _ = eprintln!(rt; "ga-bench: {fault}");
-    }
-    status(outcome)
 }
 
 /// The file with a name, to be read.
@@ -496,23 +503,6 @@ fn serve_job<Rt: AllocGlobal + Eprint + Threads + Clock + Sync, R: Read, W: Writ
 {
     let outcome = serve(rt, reader, writer, job);
     reported(rt, &outcome)
-}
-
-/// Reports why a command line names no job, or prints the help or version that it asks for. Answers
-/// the exit status.
-fn refuse<R: Print + Eprint>(rt: &R, error: LineError) -> u8
-    ensures { IsStatusOf error result }
-{
-    let fault = match error {
-        LineError::Memory => ServeError::Memory,
-        LineError::Parse(error) => match error.print(rt) {
-            _ if error.use_stderr() => return 2,
-            Ok(()) => return 0,
-            Err(_) => ServeError::Write,
-        },
-    };
-    let _ = eprintln!(rt; "ga-bench: {fault}");
-    status(&Err(fault))
 }
 
 /// The job that the arguments of the program name. The kit's contract has nothing about the

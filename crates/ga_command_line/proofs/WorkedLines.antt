@@ -3,7 +3,7 @@ use Rattle.std.proofs.Common.{◌≡◌, ◌<◌, Global, String, Vec, length, m
 use Rattle.std.specs.Prelude.{codes}
 use Rattle.clap.proofs.OnLiterals.{clap_on_literals}
 use Rattle.clap.specs.Words.{takes}
-use Rattle.ga_jobs.specs.declared.Job.TheVariants.{One, Asm, Dis, Boot, List, Counts, Race, Map, Trace, Report, Check, Record, Rewrite, Explain}
+use Rattle.ga_jobs.specs.declared.Job.TheVariants.{One, Asm, Dis, Boot, List, Lint, Counts, Race, Map, Trace, Report, Check, Record, Rewrite, Explain}
 use Rattle.ga_jobs.specs.declared.race.Loading.TheVariants.{Any}
 use Rattle.ga_explain.specs.declared.topic.Topic.{Topic}
 use Rattle.ga_profile.specs.declared.window.WindowStart.TheVariants.{LastNode}
@@ -33,6 +33,10 @@ asm_line : (file : String Global) → string_bytes file ≡ codes "ring"
     → IsRight (codes "ga-bench" ∷ codes "asm" ∷ codes "ring" ∷ []) (Asm (Some file))
 unfolding whole_command clap_on_literals
 asm_line file is = (refl, (refl, ap Some is), tt)
+
+lint_line : IsRight (codes "ga-bench" ∷ codes "lint" ∷ codes "--deny" ∷ []) (Lint true None)
+unfolding whole_command clap_on_literals
+lint_line = (refl, (refl, (refl, refl)), tt)
 
 check_line : (files : Vec (String Global) Global)
     → map string_bytes files.items ≡ codes "ring" ∷ codes "sum" ∷ []

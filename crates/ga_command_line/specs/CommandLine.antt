@@ -15,6 +15,7 @@ use Rattle.ga_command_line.specs.Dis.{dis_command}
 use Rattle.ga_command_line.specs.Explain.{IsOfTable, IsTopicAt, explain_command}
 use Rattle.ga_command_line.specs.File.{IsFileAt, file_command, files_at, files_command, writing_command}
 use Rattle.ga_command_line.specs.Flag.{is_set}
+use Rattle.ga_command_line.specs.LintLine.{lint_command}
 use Rattle.ga_command_line.specs.List.{list_command}
 use Rattle.ga_command_line.specs.Loading.{IsLoadingAt}
 use Rattle.ga_command_line.specs.Number.{IsNumberAt, IsNumberIfAt}
@@ -45,6 +46,7 @@ command_of sub.Debug = debug_command
 command_of sub.Replay = file_command (codes "replay")
 command_of sub.Expand = file_command (codes "expand")
 command_of sub.List = list_command
+command_of sub.Lint = lint_command
 command_of sub.Race = race_command
 command_of sub.Map = map_command
 command_of sub.Profile = profile_command
@@ -58,8 +60,8 @@ command_of sub.Explain = explain_command
 abbrev pub subcommands : List Subcommand
 subcommands =
     sub.One ∷ sub.Asm ∷ sub.Dis ∷ sub.Boot ∷ sub.Run ∷ sub.Debug ∷ sub.Replay ∷ sub.Expand ∷
-    sub.List ∷ sub.Race ∷ sub.Map ∷ sub.Profile ∷ sub.Trace ∷ sub.Report ∷ sub.Check ∷
-    sub.Record ∷ sub.Explain ∷ []
+    sub.List ∷ sub.Lint ∷ sub.Race ∷ sub.Map ∷ sub.Profile ∷ sub.Trace ∷ sub.Report ∷
+    sub.Check ∷ sub.Record ∷ sub.Explain ∷ []
 
 -- the whole command
 unfoldable pub bench_command : App
@@ -77,6 +79,7 @@ job_name (Talk loading file) = codes "debug"
 job_name (Replay file) = codes "replay"
 job_name (job.Expand file) = codes "expand"
 job_name (job.List labels file) = codes "list"
+job_name (job.Lint deny file) = codes "lint"
 job_name (job.Race loading turns witness file) = codes "race"
 job_name (job.Map loading turns file) = codes "map"
 job_name (job.Profile loading start json turns file) = codes "profile"
@@ -109,6 +112,8 @@ HasArguments rows (job.List labels file) =
     (is_set (codes "COUNTS") rows ≡ false) × (labels ≡ is_set (codes "LABELS") rows)
     × IsLoadingAt rows Any × IsNumberIfAt (codes "N") rows None
     × IsFileAt rows (option_map string_bytes file)
+HasArguments rows (job.Lint deny file) =
+    (deny ≡ is_set (codes "DENY") rows) × IsFileAt rows (option_map string_bytes file)
 HasArguments rows (job.Counts loading turns file) =
     (is_set (codes "COUNTS") rows ≡ true) × (is_set (codes "LABELS") rows ≡ false)
     × IsLoadingAt rows loading × IsNumberIfAt (codes "N") rows turns

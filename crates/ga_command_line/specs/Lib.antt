@@ -12,6 +12,7 @@ pub mod Loading
 pub mod Turns
 pub mod Start
 pub mod List
+pub mod LintLine
 pub mod Race
 pub mod MapLine
 pub mod ProfileLine

@@ -131,8 +131,8 @@ fn linked<'a>(command: Command<'a>, subcommand: Command<'a>) -> Result<Command<'
 
 const STATUS_HELP: &str = "\
 Each command except explain reads its whole input, standard input or a file, and then writes standard
-output. 'ga-bench explain NAME' explains an error, a state or a term.
+output. 'ga-bench explain NAME' explains an error, a warning, a state or a term.
 
-Exit status: 0 if the output was written, 1 if the input was refused, a read or a write failed, or race
-found a race, 2 if the command line is wrong, 3 if the program ran out of memory. Errors are reported on standard
-error.";
+Exit status: 0 if the output was written, 1 if the input was refused, a read or a write failed, race
+found a race, or lint --deny a warning, 2 if the command line is wrong, 3 if the program ran out of memory.
+Errors are reported on standard error.";

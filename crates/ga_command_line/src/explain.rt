@@ -26,7 +26,7 @@ pub fn command<'a>(alloc: Global) -> Result<Command<'a>, AllocError>
 {
     let name = Arg::new(alloc, "NAME").help("The name, as the program writes it, or a term");
     Command::new(alloc, "explain")
-        .about("Explains an error, a state or a term")
+        .about("Explains an error, a warning, a state or a term")
         .after_help(HELP)
         .arg(name)
 }

@@ -18,6 +18,7 @@ mod explain;
 mod file;
 mod files;
 mod flag;
+mod lint;
 mod list;
 mod loading;
 mod map;
@@ -53,6 +54,7 @@ pub enum Subcommand {
     Replay,
     Expand,
     List,
+    Lint,
     Race,
     Map,
     Profile,
@@ -64,7 +66,7 @@ pub enum Subcommand {
 }
 
 /// All subcommands.
-const SUBCOMMANDS: [Subcommand; 17] = [
+const SUBCOMMANDS: [Subcommand; 18] = [
     Subcommand::One,
     Subcommand::Asm,
     Subcommand::Dis,
@@ -74,6 +76,7 @@ const SUBCOMMANDS: [Subcommand; 17] = [
     Subcommand::Replay,
     Subcommand::Expand,
     Subcommand::List,
+    Subcommand::Lint,
     Subcommand::Race,
     Subcommand::Map,
     Subcommand::Profile,
@@ -98,6 +101,7 @@ fn command_of<'a>(alloc: Global, subcommand: Subcommand) -> Result<Command<'a>, 
         Subcommand::Replay => replay::command(alloc),
         Subcommand::Expand => expand::command(alloc),
         Subcommand::List => list::command(alloc),
+        Subcommand::Lint => lint::command(alloc),
         Subcommand::Race => race::command(alloc),
         Subcommand::Map => map::command(alloc),
         Subcommand::Profile => profile::command(alloc),
@@ -127,6 +131,7 @@ fn job_named(alloc: Global, name: &str, found: &ArgMatches<'_>) -> Result<Job, L
         "replay" => Ok(replay::job_of(alloc, found)?),
         "expand" => Ok(expand::job_of(alloc, found)?),
         "list" => list::job_of(alloc, found),
+        "lint" => Ok(lint::job_of(alloc, found)?),
         "race" => race::job_of(alloc, found),
         "map" => map::job_of(alloc, found),
         "profile" => profile::job_of(alloc, found),

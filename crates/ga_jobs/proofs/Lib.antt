@@ -1,5 +1,6 @@
 mod NthItem
 mod Listed
+mod Linted
 mod Dealing
 mod Faults
 pub mod OneOutput

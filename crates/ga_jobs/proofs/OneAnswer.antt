@@ -3,7 +3,7 @@ use Rattle.std.proofs.Common.{◌≡◌, ◌∙◌, sym, ℕ, Bool, true, false,
 use Rattle.std.specs.Prelude.{MatchBool, string_bytes}
 use Rattle.ga_asm.specs.Text.{AtMostOne}
 use Rattle.ga_jobs.specs.declared.Job.{Job}
-use Rattle.ga_jobs.specs.declared.Job.TheVariants.{Counts, Expand, Map, Profile, Race, Report, Run, Talk, Trace}
+use Rattle.ga_jobs.specs.declared.Job.TheVariants.{Counts, Expand, Lint, Map, Profile, Race, Report, Run, Talk, Trace}
 use Rattle.ga_jobs.specs.declared.fault.ServeError.TheVariants.{Input}
 use Rattle.ga_jobs.specs.declared.fault.InputFault.TheVariants.{TooLong}
 use Rattle.ga_jobs.proofs.OneOutput.{one_outputs}
@@ -50,6 +50,7 @@ one_output (Run route workers turns file) input =
 one_output (Race loading turns witness file) input = tt
 one_output (Talk loading file) input = tt
 one_output (Expand file) input = tt
+one_output (Lint deny file) input = tt
 one_output (Map loading turns file) input = tt
 one_output (Profile loading start json turns file) input = tt
 one_output (Trace loading turns nodes save file) input = tt

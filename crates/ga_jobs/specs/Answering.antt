@@ -2,7 +2,7 @@
 use Rattle.std.specs.Prelude.{◌≡◌, ◌&&◌, ℕ, Bool, List, length, nat_lt, MatchBool, Result, Err}
 use Rattle.ga_asm.specs.Text.{AtMostOne}
 use Rattle.ga_jobs.specs.declared.Job.{Job}
-use Rattle.ga_jobs.specs.declared.Job.TheVariants.{Counts, Expand, Map, Profile, Race, Report, Run, Talk, Trace}
+use Rattle.ga_jobs.specs.declared.Job.TheVariants.{Counts, Expand, Lint, Map, Profile, Race, Report, Run, Talk, Trace}
 use Rattle.ga_jobs.specs.declared.fault.ServeError.{ServeError}
 use Rattle.ga_jobs.specs.declared.fault.ServeError.TheVariants.{Input}
 use Rattle.ga_jobs.specs.declared.fault.InputFault.TheVariants.{TooLong}
@@ -31,8 +31,9 @@ HasOneOutput (Run route workers turns file) input =
 HasOneOutput (Race loading turns witness file) input = Unit {0}
 -- the faults of a session that is opened aren't compared
 HasOneOutput (Talk loading file) input = Unit {0}
--- the lines of an expansion are free
+-- the lines of an expansion are free, and warnings are those about one
 HasOneOutput (Expand file) input = Unit {0}
+HasOneOutput (Lint deny file) input = Unit {0}
 HasOneOutput (Map loading turns file) input = Unit {0}
 HasOneOutput (Profile loading start json turns file) input = Unit {0}
 HasOneOutput (Trace loading turns nodes save file) input = Unit {0}

@@ -1,7 +1,7 @@
 -- The job `list --counts`: what it writes.
 use Rattle.std.specs.Prelude.{◌≡◌, ℕ, List, MatchBool, Option, Result, Ok, Err, if◌then◌else◌}
 use Rattle.ga_counts.specs.Counts.{counts_of}
-use Rattle.ga_counts.specs.Listing.{HasCountedListing}
+use Rattle.ga_counts.specs.Listing.{HasCountedListing, HasCountedSections, SectionView}
 use Rattle.ga_debug.specs.Beginning.{IsHeadSource}
 use Rattle.ga_transcript.specs.Live.{LiveView}
 use Rattle.ga_jobs.specs.declared.fault.ServeError.{ServeError}
@@ -26,6 +26,13 @@ IsCounted live most loading text listing =
     (source : List ℕ) × IsSourceOf loading text source
     × HasCountedListing source (lines_before loading text)
     (counts_of (turns_until_rest live most) live.chip) listing
+
+-- the same for the listings of the nodes
+unfoldable pub AreCounted : LiveView → ℕ → Loading → List ℕ → List SectionView → Type 0
+AreCounted live most loading text sections =
+    (source : List ℕ) × IsSourceOf loading text source
+    × HasCountedSections source (lines_before loading text)
+    (counts_of (turns_until_rest live most) live.chip) sections
 
 -- the listing of the session that an input opens, or the first fault of that session
 abbrev pub IsCountsOutput : Loading → Option ℕ → List ℕ → Result (List ℕ) ServeError → Type 0

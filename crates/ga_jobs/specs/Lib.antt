@@ -12,6 +12,7 @@ use Rattle.ga_jobs.specs.CountsJob.{IsCountsOutput}
 use Rattle.ga_jobs.specs.Debug.{IsDebugOutput}
 use Rattle.ga_jobs.specs.Dis.{dis_output}
 use Rattle.ga_jobs.specs.ExpandJob.{IsExpandOutput}
+use Rattle.ga_jobs.specs.LintJob.{IsLintOutput}
 use Rattle.ga_jobs.specs.Listing.{IsListOutput}
 use Rattle.ga_jobs.specs.MapJob.{IsMapOutput}
 use Rattle.ga_jobs.specs.One.{one_output}
@@ -57,6 +58,8 @@ pub mod Writing
 pub mod Outputs
 pub mod Larger
 pub mod Engine
+pub mod Message
+pub mod LintJob
 pub mod inner
 
 -- what a job may answer to an input that is not too long
@@ -72,6 +75,8 @@ IsJobOutput (job.Talk loading file) input answer = IsSessionOutput loading input
 IsJobOutput (job.Replay file) input answer = IsReplayOutput input answer
 IsJobOutput (job.Expand file) input answer = IsExpandOutput input answer
 IsJobOutput (job.List labels file) input answer = IsListOutput labels input answer
+IsJobOutput (job.Lint deny file) input answer =
+    IsLintOutput (option_map string_bytes file) input answer
 IsJobOutput (job.Check files) input answer = IsCheckOutput input answer
 IsJobOutput (job.Record file) input answer = IsRecordOutput input answer
 IsJobOutput (job.Rewrite files) input answer = IsRecordOutput input answer
@@ -120,6 +125,7 @@ file_of (job.Run route workers turns file) = given_file file
 file_of (job.Replay file) = given_file file
 file_of (job.Expand file) = given_file file
 file_of (job.List labels file) = given_file file
+file_of (job.Lint deny file) = given_file file
 file_of (job.Check files) = only_file files.items
 file_of (job.Record file) = given_file file
 file_of (job.Race loading turns witness file) = given_file file

@@ -2,6 +2,7 @@
 use Rattle.std.specs.Prelude.{◌≡◌, ℕ, Bool, true, false, List, codes, nat_eq, Option, Result, Ok, Err, string_bytes, take, if◌then◌else◌}
 use Rattle.std.specs.List.{starts_with}
 use Rattle.std.specs.Io.KnownBytes.{Appends}
+use Rattle.ga_word.specs.Text.{is_empty}
 use Rattle.ga_jobs.specs.declared.Job.{Job}
 use Rattle.ga_jobs.specs.declared.Job.TheVariants as job
 use Rattle.ga_jobs.specs.declared.engine.Ending.{Ending}
@@ -24,10 +25,11 @@ in_pieces (output.Text text) = false
 in_pieces (output.Waveform made) = true
 
 -- how a job ended, by the text that it wrote: a race is each text of `race` but for those without
--- one
+-- one, and warnings are all texts of `lint` but the empty one
 abbrev pub ending_of : Job → List ℕ → Ending
 ending_of (job.Race loading turns witness file) text =
     if starts_with nat_eq text (codes "no race") then ending.Done else ending.Race
+ending_of (job.Lint true file) text = if is_empty text then ending.Done else ending.Denied
 ending_of job text = ending.Done
 
 -- a prefix of a text was appended to a writer's bytes, old and new, and nothing else

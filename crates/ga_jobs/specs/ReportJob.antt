@@ -2,6 +2,7 @@
 use Rattle.std.specs.Prelude.{◌≡◌, ◌++◌, ℕ, List, codes, Option, Some, None, Result, Ok, Err, option_map, take}
 use Rattle.std.specs.Borrow.{Bor}
 use Rattle.ga_chip.specs.Chip.{Chip}
+use Rattle.ga_counts.specs.Listing.{SectionView}
 use Rattle.ga_place.specs.Node.{node_text}
 use Rattle.ga_profile.specs.Bottleneck.{bottleneck_text}
 use Rattle.ga_profile.specs.Lines.{line_turns}
@@ -28,7 +29,7 @@ use Rattle.ga_trace.specs.Depth.{all_depths}
 use Rattle.ga_transcript.specs.Live.{LiveView}
 use Rattle.ga_jobs.specs.declared.fault.ServeError.{ServeError}
 use Rattle.ga_jobs.specs.declared.race.Loading.{Loading}
-use Rattle.ga_jobs.specs.CountsJob.{IsCounted}
+use Rattle.ga_jobs.specs.CountsJob.{AreCounted}
 use Rattle.ga_jobs.specs.ProfileJob.{with_waits}
 use Rattle.ga_jobs.specs.Race.{most_turns}
 use Rattle.ga_jobs.specs.Session.{IsSession}
@@ -87,15 +88,15 @@ IsCloseUp chip whole (Some window) (Some near) = IsNear chip whole window near
 IsCloseUp chip whole None None = Unit {0}
 IsCloseUp chip whole window near = ⊥
 
--- the page of a profile of a session's chip, with its timelines, a headline and a listing
-abbrev pub IsPage : LiveView → Profile → List ℕ → List ℕ → List ℕ → Type 0
-IsPage live profile headline listing page =
+-- the page of a profile of a session's chip, with its timelines, a headline and listings of nodes
+abbrev pub IsPage : LiveView → Profile → List ℕ → List SectionView → List ℕ → Type 0
+IsPage live profile headline sections page =
     (timeline : Timeline) × IsTimeline live.chip profile.window timeline
     × ((close_up : Option (Bor CloseUp))
     × IsCloseUp live.chip profile.window (close_up_window profile.window profile.passes.items)
     (option_map (λ (lent : Bor CloseUp). lent.now) close_up)
     × (page ≡ page_text headline profile timeline close_up
-    (with_waits live.program.images profile) listing))
+    (with_waits live.program.images profile) sections))
 
 -- the page of a session, whose source is in a text, from where a start says, in at most this many
 -- turns
@@ -103,8 +104,8 @@ unfoldable pub IsReport : LiveView → WindowStart → ℕ → Loading → List 
 IsReport live start most loading text page =
     (profile : Profile) × IsMeasured live.chip start most profile
     × ((headline : List ℕ) × IsHeadline live.chip most profile headline
-    × ((listing : List ℕ) × IsCounted live most loading text listing
-    × IsPage live profile headline listing page))
+    × ((sections : List SectionView) × AreCounted live most loading text sections
+    × IsPage live profile headline sections page))
 
 -- the page of the session that an input opens, or the first fault of that session
 abbrev pub IsReportOutput : Loading → WindowStart → Option ℕ → List ℕ

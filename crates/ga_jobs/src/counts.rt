@@ -1,6 +1,7 @@
-ghost use Rattle.std.specs.Prelude.{◌≡◌, IfOk, string_bytes};
+ghost use Rattle.std.specs.Prelude.{◌≡◌, IfOk, map, string_bytes};
+ghost use Rattle.ga_counts.specs.Listing.{section_view};
 ghost use Rattle.ga_jobs.specs.CountsJob as spec;
-ghost use Rattle.ga_jobs.specs.CountsJob.{IsCounted, IsCountsOutput, IsSourceOf};
+ghost use Rattle.ga_jobs.specs.CountsJob.{AreCounted, IsCounted, IsCountsOutput, IsSourceOf};
 ghost use Rattle.ga_jobs.specs.Fault.{Answers};
 
 use crate::fault::ServeError;
@@ -8,7 +9,7 @@ use crate::race::{Loading, TURNS, is_head};
 use crate::session::open_session;
 use crate::text::input_text;
 use crate::trace::turns_until_rest;
-use ga_counts::{count, counted_list};
+use ga_counts::{CountedSection, count, counted_list, counted_sections};
 use ga_debug::head_source;
 use ga_transcript::Live;
 use std::alloc::{AllocError, Global};
@@ -32,7 +33,7 @@ pub fn output(
 
 /// The listing of a session's program with the counts of turns until rest, at most `most`.
 #[tactic(auto, unfolding(crate::specs::CountsJob::IsCounted))]
-pub(crate) fn counted(
+fn counted(
     alloc: Global,
     live: &Live,
     most: u32,
@@ -48,6 +49,29 @@ pub(crate) fn counted(
     let before = lines_before(loading, text);
     match counted_list(alloc, source.as_str(), before, &counts) {
         Ok(listing) => Ok(listing),
+        // The source was assembled before, so only memory can be missing.
+        Err(_) => Err(AllocError),
+    }
+}
+
+/// The same for the listings of the nodes.
+#[tactic(auto, unfolding(crate::specs::CountsJob::AreCounted))]
+pub(crate) fn counted_nodes(
+    alloc: Global,
+    live: &Live,
+    most: u32,
+    loading: &Loading,
+    text: &str,
+) -> Result<Vec<CountedSection>, AllocError>
+    ensures { IfOk result (λ sections. AreCounted live.now most loading.now text.now
+        (map section_view sections.items)) }
+{
+    let turns = turns_until_rest(alloc, live, most)?;
+    let counts = count(alloc, live.chip(), turns)?;
+    let source = source_lines(alloc, loading, text)?;
+    let before = lines_before(loading, text);
+    match counted_sections(alloc, source.as_str(), before, &counts) {
+        Ok(sections) => Ok(sections),
         // The source was assembled before, so only memory can be missing.
         Err(_) => Err(AllocError),
     }

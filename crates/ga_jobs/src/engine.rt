@@ -21,6 +21,8 @@ pub enum Ending {
     Done,
     /// The output reports a race.
     Race,
+    /// The output has warnings, which are denied.
+    Denied,
 }
 
 /// Serves a job, the engine under every subcommand: reads the whole input, makes the whole output,
@@ -89,18 +91,20 @@ pub(crate) fn ending_of(job: &Job, text: &str) -> Ending
 {
     match job {
         Job::Race { .. } if !text.starts_with("no race") => Ending::Race,
+        Job::Lint { deny: true, .. } if !text.is_empty() => Ending::Denied,
         _ => Ending::Done,
     }
 }
 
-/// The exit status of the program: 0 for an output that was written, 1 for one that reports a race,
-/// for a refused input, and for a read or a write that failed, and 3 when out of memory.
+/// The exit status of the program: 0 for an output that was written, 1 for one that reports a race
+/// or warnings that are denied, for a refused input, and for a read or a write that failed, and 3
+/// when out of memory.
 pub fn status(outcome: &Result<Ending, ServeError>) -> u8
     ensures { result ≡ status_of outcome.now }
 {
     match outcome {
         Ok(Ending::Done) => 0,
         Err(ServeError::Memory) => 3,
-        Ok(Ending::Race) | Err(_) => 1,
+        Ok(Ending::Race | Ending::Denied) | Err(_) => 1,
     }
 }

@@ -137,7 +137,7 @@ fn open_larger(alloc: Global, loading: &Loading, input: &[u8]) -> Result<Live, S
 
 /// An input as text, and what it expands to; or its first fault with the lines that are shown of
 /// the text.
-fn expanded(alloc: Global, input: &[u8]) -> Result<(&str, Expansion), ServeError>
+pub(crate) fn expanded(alloc: Global, input: &[u8]) -> Result<(&str, Expansion), ServeError>
     ensures text { IfOk result (λ found. found.0.now ≡ input.now) }
     ensures made { Answers (λ found. found.1) (IsExpandedInput input.now) result }
 {
@@ -166,7 +166,7 @@ fn as_written(
 
 /// A fault of an expansion, at the place where its token was written.
 #[tactic(auto, unfolding(crate::specs::Larger::at_origin))]
-fn at_origin(
+pub(crate) fn at_origin(
     alloc: Global,
     text: &str,
     made: &Expansion,
@@ -197,7 +197,7 @@ fn at_origin(
 
 /// The place where the token at a place of an expansion was written. The expansion's end is the
 /// text's end.
-fn origin(
+pub(crate) fn origin(
     alloc: Global,
     text: &str,
     made: &Expansion,

@@ -20,9 +20,11 @@ mod explain;
 mod fault;
 mod file_report;
 mod larger;
+pub mod lint;
 pub mod list;
 pub mod map;
 mod meaning;
+mod message;
 pub mod one;
 mod outputs;
 pub mod profile;
@@ -53,6 +55,7 @@ pub use crate::engine::{Ending, serve, status};
 pub use crate::fault::{InputFault, OutputFault, RouteFault, ServeError, TextFault, WordsFault};
 pub use crate::file_report::FileReport;
 pub use crate::larger::{open_file, output_of_file, serve_file};
+pub use crate::message::fault_in_file;
 pub use crate::outputs::{Output, output_of};
 pub use crate::race::Loading;
 pub use crate::reading::read_input;
@@ -115,6 +118,11 @@ pub enum Job {
     /// The words of a source text with their instructions, or only its labels.
     List {
         labels: bool,
+        file: Option<String>,
+    },
+    /// The warnings about a source text. If they are denied, one is a fault of the text.
+    Lint {
+        deny: bool,
         file: Option<String>,
     },
     /// How many commands a transcript has, if each has the expected reply. As a job it has one
@@ -218,6 +226,7 @@ impl Job {
             | Job::Replay { file }
             | Job::Expand { file }
             | Job::List { file, .. }
+            | Job::Lint { file, .. }
             | Job::Record { file }
             | Job::Race { file, .. }
             | Job::Map { file, .. }
@@ -281,6 +290,7 @@ fn output(alloc: Global, job: &Job, input: &[u8]) -> Option<Result<String, Serve
         Job::Replay { .. } => Some(replay::output(alloc, input)),
         Job::Expand { .. } => Some(expand::output(alloc, input)),
         Job::List { labels, .. } => Some(list::output(alloc, *labels, input)),
+        Job::Lint { file, .. } => Some(lint::output(alloc, file, input)),
         Job::Check { .. } => Some(check::output(alloc, input)),
         Job::Record { .. } | Job::Rewrite { .. } => Some(record::output(alloc, input)),
         Job::Race {

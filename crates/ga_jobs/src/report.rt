@@ -1,14 +1,16 @@
-ghost use Rattle.std.specs.Prelude.{◌≡◌, IfOk, string_bytes};
+ghost use Rattle.std.specs.Prelude.{◌≡◌, IfOk, map, string_bytes};
+ghost use Rattle.ga_counts.specs.Listing.{section_view};
 ghost use Rattle.ga_jobs.specs.Fault.{Answers};
 ghost use Rattle.ga_jobs.specs.ReportJob as spec;
 ghost use Rattle.ga_jobs.specs.ReportJob.{IsCloseUp, IsHeadline, IsMeasured, IsNear, IsPage, IsReport, IsReportOutput, IsTimeline};
 
-use crate::counts::counted;
+use crate::counts::counted_nodes;
 use crate::fault::ServeError;
 use crate::profile::with_waits;
 use crate::race::{Loading, TURNS};
 use crate::session::open_session;
 use crate::text::input_text;
+use ga_counts::CountedSection;
 use ga_profile::{Profile, Window, WindowStart, bottleneck_text, measure};
 use ga_race::{Race, Verdict, race};
 use ga_report::{CloseUp, Page, Timeline, close_up_in, close_up_window, page_text, timeline_in};
@@ -16,10 +18,10 @@ use ga_transcript::Live;
 use std::alloc::{AllocError, Global};
 
 /// A page in HTML of what the input's chip does in a run: a race, a deadlock or the bottleneck as
-/// its headline; timelines; the profile; the chip at the end; and the listing with counts. The
-/// commands behind the head of a session are done first. Then come at most `turns` turns (by
-/// default 1,000,000), until no node moves but those that spin. The profile and the timelines begin
-/// as `start` says.
+/// its headline; timelines; the profile; the chip at the end; and the listing of each node with
+/// counts. The commands behind the head of a session are done first. Then come at most `turns`
+/// turns (by default 1,000,000), until no node moves but those that spin. The profile and the
+/// timelines begin as `start` says.
 pub fn output(
     alloc: Global,
     loading: &Loading,
@@ -47,10 +49,16 @@ fn page_after(
     ensures { IfOk result (λ page.
         IsReport live.now start most loading.now text.now (string_bytes page)) }
 {
-    let listing = counted(alloc, live, most, loading, text)?;
+    let sections = counted_nodes(alloc, live, most, loading, text)?;
     let profile = measured(alloc, live, start, most)?;
     let headline = headline(alloc, live, most, &profile)?;
-    page_of(alloc, live, &profile, headline.as_str(), listing.as_str())
+    page_of(
+        alloc,
+        live,
+        &profile,
+        headline.as_str(),
+        sections.as_slice(),
+    )
 }
 
 /// The profile of a session's chip, from where a start says.
@@ -94,16 +102,17 @@ fn race_headline(alloc: Global, race: &Race) -> Result<String, AllocError>
     format!(in alloc; "Race: the schedule decides which word {node} takes.")
 }
 
-/// The page of a profile of a session's chip, with a headline and a listing.
+/// The page of a profile of a session's chip, with a headline and the listings of its nodes.
 fn page_of(
     alloc: Global,
     live: &Live,
     profile: &Profile,
     headline: &str,
-    listing: &str,
+    listing: &[CountedSection],
 ) -> Result<String, AllocError>
     ensures { IfOk result (λ page.
-        IsPage live.now profile.now headline.now listing.now (string_bytes page)) }
+        IsPage live.now profile.now headline.now (map section_view listing.now)
+        (string_bytes page)) }
 {
     let timeline = timeline_of(alloc, live, profile.window)?;
     let near = close_up(alloc, live, profile.window, close_up_window(profile))?;

@@ -49,6 +49,13 @@ impl ShownText {
         Ok(ShownText { text })
     }
 
+    /// The text.
+    pub(crate) fn as_str(&self) -> &str
+        ensures { result.now ≡ self.now }
+    {
+        self.text.as_str()
+    }
+
     /// What is shown at a line of a text, from 1, and at a column of it, from 1, which counts
     /// characters. Without a column there is no caret. Fails only when out of memory.
     #[tactic(auto, unfolding(crate::specs::Shown::shown_text))]

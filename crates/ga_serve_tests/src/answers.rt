@@ -4,8 +4,8 @@ ghost use Rattle.ga_jobs.specs.Answering.{IsOutput};
 
 use crate::streams::{FIVE_TRIES, LARGER, LARGER_IMAGES, LINE, WORDS, run_of};
 use ga_jobs::{
-    Ending, Job, Loading, ServeError, answer, answer_alone, open_file, output_of_file, serve,
-    serve_file, status,
+    Ending, Job, Loading, ServeError, answer, answer_alone, fault_in_file, open_file,
+    output_of_file, serve, serve_file, status,
 };
 use std::test::Fail;
 use std::thread::Threads;
@@ -57,5 +57,22 @@ fn answers_a_file_of_the_larger_language(rt: HostRuntime) -> Result<(), Fail> {
     assert!(rt; output.as_slice() == LARGER_IMAGES.as_bytes());
     let live = open_file(rt.alloc(), &Loading::Place, LARGER.as_bytes())?;
     assert!(rt; live.images().images().len() == 1);
+    Ok(())
+}
+
+#[test]
+fn reports_warnings_and_faults_at_their_places(rt: HostRuntime) -> Result<(), Fail> {
+    let job = Job::Lint {
+        deny: true,
+        file: None,
+    };
+    let mut output = Vec::new(rt.alloc());
+    let outcome = serve_file(&rt, &mut output, &job, b"node 708 + jump warm");
+    assert!(rt; outcome == Ok(Ending::Denied) && status(&outcome) == 1);
+    let fault = output_of_file(&rt, &job, b"node 800")
+        .err()
+        .ok_or("accepted")?;
+    let shown = fault_in_file(rt.alloc(), "my.source", &fault)?.ok_or("no place")?;
+    assert!(rt; shown.starts_with("my.source:1:6: error: BadNode: no name of a node"));
     Ok(())
 }

@@ -54,3 +54,9 @@ unfolding IsJobOutput
 returns-in-Report-clause-answer c =
     subst (λ job. Answers string_bytes (IsJobOutput job c.args.input.now)
     c.output-in-Report.result) (sym c.in-Report.is) c.output-in-Report.ensures
+
+pub returns-in-Lint-clause-answer : goal.returns-in-Lint-clause-answer
+unfolding IsJobOutput
+returns-in-Lint-clause-answer c =
+    subst (λ job. Answers string_bytes (IsJobOutput job c.args.input.now) c.output-in-Lint.result)
+    (sym c.in-Lint.is) c.output-in-Lint.ensures

@@ -19,7 +19,7 @@ loop-subcommand-init c = (
 )
 
 -- the next one is linked
-next_linked : (before : App) (index : ℕ) → index < 17
+next_linked : (before : App) (index : ℕ) → index < 18
     → with_all (linked before (command_of (get_or subcommands index One)))
     (drop (index + 1) subcommands) ≡ with_all before (drop index subcommands)
 next_linked before index below =
@@ -40,7 +40,7 @@ loop-subcommand-preserved c =
 
 pub returns : goal.returns
 returns c =
-    let last : c.loop-subcommand.subcommand-index ≡ 17 = omega arith in (
+    let last : c.loop-subcommand.subcommand-index ≡ 18 = omega arith in (
       sym (ap (λ (n : ℕ). with_all (app_of c.loop-subcommand.command) (drop n subcommands)) last)
           ∙ c.loop-subcommand.invariant.0,
       c.loop-subcommand.invariant.1,

@@ -1,0 +1,89 @@
+//! Faults on standard error, and the exit statuses that they give.
+ghost use Rattle.std.specs.Prelude.{◌≡◌};
+ghost use Rattle.ga_jobs.specs.Engine.{status_of};
+ghost use Rattle.ga_bench.specs.Status.{IsStatusOf};
+
+use clap::error::ErrorKind::InvalidValue;
+use ga_command_line::{LineError, refusal};
+use ga_jobs::{Ending, ServeError, ShownText, fault_in_file, status};
+use std::io::Write;
+
+/// Reports the fault of an outcome, if it has one. Answers the exit status.
+pub fn reported<Rt: Eprint>(rt: &Rt, outcome: &Result<Ending, ServeError>) -> u8
+    ensures { result ≡ status_of outcome.now }
+{
+    if let Err(fault) = outcome {
+        // If this can't be written either, the status still reports it.
+        let _ = eprintln!(rt; "ga-bench: {fault}");
+    }
+    status(outcome)
+}
+
+/// Reports the fault of an outcome for the file with a name, if it has one. Answers the exit
+/// status.
+pub fn reported_in_file<Rt: AllocGlobal + Eprint>(
+    rt: &Rt,
+    name: &str,
+    outcome: &Result<Ending, ServeError>,
+) -> u8
+    ensures { result ≡ status_of outcome.now }
+{
+    if let Err(fault) = outcome {
+        report_in_file(rt, name, fault);
+    }
+    status(outcome)
+}
+
+/// Reports the fault of the file with a name: as compilers do, if it has a place in source text.
+fn report_in_file<Rt: AllocGlobal + Eprint>(rt: &Rt, name: &str, fault: &ServeError) {
+    match (fault_in_file(rt.alloc(), name, fault), fault) {
+        (Ok(Some(text)), _) => {
+            let _ = eprint!(rt; "{text}");
+        }
+        (_, ServeError::Input(_)) => report_on_file(rt, name, fault),
+        _ => {
+            let _ = eprintln!(rt; "ga-bench: {fault}");
+        }
+    }
+}
+
+/// Reports the fault of the file with a name, behind the name.
+pub fn report_on_file<Rt: AllocGlobal + Eprint>(rt: &Rt, name: &str, fault: &ServeError) {
+    match ShownText::of_name(rt.alloc(), name) {
+        Ok(shown) => {
+            let _ = eprintln!(rt; "ga-bench: {shown}: {fault}");
+        }
+        Err(_) => {
+            let _ = eprintln!(rt; "ga-bench: {fault}");
+        }
+    }
+}
+
+/// Reports why a command line names no job, or prints the help or version that it asks for. Answers
+/// the exit status.
+pub fn refuse<R: Print + Eprint>(rt: &R, error: LineError) -> u8
+    ensures { IsStatusOf error result }
+{
+    let fault = match error {
+        LineError::Memory => ServeError::Memory,
+        LineError::Parse(error) => match error.print(rt) {
+            _ if error.use_stderr() => return 2,
+            Ok(()) => return 0,
+            Err(_) => ServeError::Write,
+        },
+    };
+    let _ = eprintln!(rt; "ga-bench: {fault}");
+    status(&Err(fault))
+}
+
+/// Refuses a command line with a word that names no file. Answers the exit status.
+pub fn refuse_missing<Rt: AllocGlobal + Print + Eprint>(rt: &Rt, name: &str) -> u8 {
+    let alloc = rt.alloc();
+    let Ok(shown) = ShownText::of_name(alloc, name) else {
+        return refuse(rt, LineError::Memory);
+    };
+    match format!(in alloc; "there is no such FILE: {shown}") {
+        Ok(why) => refuse(rt, refusal(alloc, InvalidValue, why.as_str())),
+        Err(_) => refuse(rt, LineError::Memory),
+    }
+}

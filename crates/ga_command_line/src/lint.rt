@@ -1,0 +1,48 @@
+ghost use Rattle.std.specs.Prelude.{IfOk, codes};
+ghost use Rattle.clap.specs.Words.{found_of, rows_of};
+ghost use Rattle.ga_command_line.specs.CommandLine.{AsksFor, InRange};
+ghost use Rattle.ga_command_line.specs.LintLine.{lint_command};
+ghost use Rattle.ga_command_line.specs.inner.Command.{IsCommandOf};
+
+use crate::file::file_in;
+use crate::flag::flag_in;
+use clap::{Arg, ArgAction, ArgMatches, Command};
+use ga_jobs::Job;
+use std::alloc::{AllocError, Global};
+
+const HELP: &str = "\
+Reads source text, which may be of the larger language, from FILE, or from standard input if FILE is left
+out or is -. Writes each warning as FILE:LINE:COLUMN: warning: NAME: what it means, and below it the line
+and a caret. 'ga-bench explain NAME' has an example of each. A text with warnings assembles as before.
+
+Example: printf 'node 708 right b! 5 !b' | ga-bench lint
+More: Find mistakes before you run in docs/GUIDE.md, and Warnings in docs/FORMATS.md";
+
+/// The subcommand `lint [--deny] [FILE]`.
+#[tactic(auto, unfolding(crate::specs::LintLine::lint_command))]
+pub fn command<'a>(alloc: Global) -> Result<Command<'a>, AllocError>
+    ensures { IfOk result (IsCommandOf lint_command) }
+{
+    let deny = Arg::new(alloc, "DENY")
+        .long("deny")
+        .action(ArgAction::SetTrue)
+        .help("Exits with status 1 if there is a warning");
+    let file = Arg::new(alloc, "FILE").help(
+        "The source text; standard input by default or if it is -",
+    );
+    let command = Command::new(alloc, "lint")
+        .about("Warns of code that assembles, but is nearly always wrong")
+        .after_help(HELP)
+        .arg(deny)?;
+    command.arg(file)
+}
+
+/// The job for the arguments of `lint`.
+pub fn job_of(alloc: Global, found: &ArgMatches<'_>) -> Result<Job, AllocError>
+    ensures in_range { IfOk result InRange }
+    ensures asked { IfOk result (AsksFor (codes "lint", rows_of (found_of found.now))) }
+{
+    let deny = flag_in(found, "DENY");
+    let file = file_in(alloc, found)?;
+    Ok(Job::Lint { deny, file })
+}
