@@ -42,6 +42,7 @@ _ga_bench() {
     1replay) options='-h --help' operands=(FILE) ;;
     1expand) options='-h --help' operands=(FILE) ;;
     1list) options='--place --route --turns --labels --counts -h --help' operands=(FILE) ;;
+    1lint) options='--deny -h --help' operands=(FILE) ;;
     1race) options='--place --route --turns --witness -h --help' operands=(FILE) ;;
     1map) options='--place --route --turns -h --help' operands=(FILE) ;;
     1profile) options='--place --route --turns --from --json -h --help' operands=(FILE) ;;
@@ -87,11 +88,13 @@ _ga_bench() {
         words=$(_ga_bench_route "$word")
         compopt -o nospace 2>/dev/null
         ;;
-    COMMAND) words='one asm dis boot run debug replay expand list race map profile trace report check record explain help' ;;
+    COMMAND) words='one asm dis boot run debug replay expand list lint race map profile trace report check record explain help' ;;
     NAME)
         words='BadToken NumberRange BadNode DuplicateNode DuplicateLabel ReservedLabel OpenBracket
             BadWord NoNode Empty UndefinedLabel OutOfReach UnextAlone TooLong ReservedName
-            DuplicateName OpenDefinition NoNeighbour UnknownBody TooLarge BadRoute NotEdge
+            DuplicateName OpenDefinition NoNeighbour UnknownBody TooLarge UnextRepeats
+            SplitLoop RunsOff PushesTooMany PopsTooMany UnusedLabel Unreachable
+            SeveralPorts ReturnsNowhere LeavesExtended OverMemory BadRoute NotEdge
             NotNeighbour Repeated OtherRoot Unreached BadCommand BadAddress BadSide
             BadCount BadValue NotHeld BadProfile NoGo Source Asm Route Tree Boot
             EarlyReply differs read NoFile Folder NotAFile Exists NoName BadText BadCode

@@ -38,6 +38,7 @@ complete -c ga-bench -n __fish_use_subcommand -a debug -d 'Loads source text int
 complete -c ga-bench -n __fish_use_subcommand -a replay -d 'Runs the commands of a replay text, and compares their results'
 complete -c ga-bench -n __fish_use_subcommand -a expand -d 'Expands constants, sides, directions and shared bodies to source text'
 complete -c ga-bench -n __fish_use_subcommand -a list -d 'Lists the words of a source text, with their instructions and their lines in the text'
+complete -c ga-bench -n __fish_use_subcommand -a lint -d 'Warns of code that assembles, but is nearly always wrong'
 complete -c ga-bench -n __fish_use_subcommand -a race -d 'Decides whether the schedule can change what a program does'
 complete -c ga-bench -n __fish_use_subcommand -a map -d 'Shows what each node does and which words are pending, as a picture'
 complete -c ga-bench -n __fish_use_subcommand -a profile -d 'Shows in how many turns each node worked and waited, and the bottleneck'
@@ -45,7 +46,7 @@ complete -c ga-bench -n __fish_use_subcommand -a trace -d 'Writes a run as a wav
 complete -c ga-bench -n __fish_use_subcommand -a report -d 'Writes a page in HTML that shows what each node did in a run'
 complete -c ga-bench -n __fish_use_subcommand -a check -d 'Runs the commands of a transcript, and compares the replies with those in it'
 complete -c ga-bench -n __fish_use_subcommand -a record -d 'Runs the commands of a transcript, and writes it with their replies'
-complete -c ga-bench -n __fish_use_subcommand -a explain -d 'Explains an error, a state or a term'
+complete -c ga-bench -n __fish_use_subcommand -a explain -d 'Explains an error, a warning, a state or a term'
 complete -c ga-bench -n __fish_use_subcommand -a help -d 'Print this message or the help of the given subcommand(s)'
 complete -c ga-bench -n '__fish_seen_subcommand_from one' -s h -l help -d 'Print help'
 complete -c ga-bench -n '__fish_seen_subcommand_from one' -F
@@ -75,6 +76,9 @@ complete -c ga-bench -n '__fish_seen_subcommand_from list' -l labels -d 'Writes 
 complete -c ga-bench -n '__fish_seen_subcommand_from list' -l counts -d 'Makes a run, and writes how often each word was fetched and each opcode ran'
 complete -c ga-bench -n '__fish_seen_subcommand_from list' -s h -l help -d 'Print help'
 complete -c ga-bench -n '__fish_seen_subcommand_from list' -F
+complete -c ga-bench -n '__fish_seen_subcommand_from lint' -l deny -d 'Exits with status 1 if there is a warning'
+complete -c ga-bench -n '__fish_seen_subcommand_from lint' -s h -l help -d 'Print help'
+complete -c ga-bench -n '__fish_seen_subcommand_from lint' -F
 complete -c ga-bench -n '__fish_seen_subcommand_from race' -l place -d 'The input is source text, even if it begins with \'profile\'; its words are placed'
 complete -c ga-bench -n '__fish_seen_subcommand_from race' -l route -x -a '(__ga_bench_route)' -d 'The input is source text, which boots along this route, or a tree of routes'
 complete -c ga-bench -n '__fish_seen_subcommand_from race' -l turns -x -d 'How many turns are made at most, from 0 to 1000000; by default 1000000'
@@ -112,5 +116,5 @@ complete -c ga-bench -n '__fish_seen_subcommand_from record' -l write -d 'Replac
 complete -c ga-bench -n '__fish_seen_subcommand_from record' -s h -l help -d 'Print help'
 complete -c ga-bench -n '__fish_seen_subcommand_from record' -F
 complete -c ga-bench -n '__fish_seen_subcommand_from explain' -s h -l help -d 'Print help'
-complete -c ga-bench -n '__fish_seen_subcommand_from explain' -a 'BadToken NumberRange BadNode DuplicateNode DuplicateLabel ReservedLabel OpenBracket BadWord NoNode Empty UndefinedLabel OutOfReach UnextAlone TooLong ReservedName DuplicateName OpenDefinition NoNeighbour UnknownBody TooLarge BadRoute NotEdge NotNeighbour Repeated OtherRoot Unreached BadCommand BadAddress BadSide BadCount BadValue NotHeld BadProfile NoGo Source Asm Route Tree Boot EarlyReply differs read NoFile Folder NotAFile Exists NoName BadText BadCode write Write memory Memory own take post check input stopped Counted IoRead Rom Unmapped MultiWrite carry moved waits held stuck ring race turn place step slot follower profile'
-complete -c ga-bench -n '__fish_seen_subcommand_from help' -a 'one asm dis boot run debug replay expand list race map profile trace report check record explain help'
+complete -c ga-bench -n '__fish_seen_subcommand_from explain' -a 'BadToken NumberRange BadNode DuplicateNode DuplicateLabel ReservedLabel OpenBracket BadWord NoNode Empty UndefinedLabel OutOfReach UnextAlone TooLong ReservedName DuplicateName OpenDefinition NoNeighbour UnknownBody TooLarge UnextRepeats SplitLoop RunsOff PushesTooMany PopsTooMany UnusedLabel Unreachable SeveralPorts ReturnsNowhere LeavesExtended OverMemory BadRoute NotEdge NotNeighbour Repeated OtherRoot Unreached BadCommand BadAddress BadSide BadCount BadValue NotHeld BadProfile NoGo Source Asm Route Tree Boot EarlyReply differs read NoFile Folder NotAFile Exists NoName BadText BadCode write Write memory Memory own take post check input stopped Counted IoRead Rom Unmapped MultiWrite carry moved waits held stuck ring race turn place step slot follower profile'
+complete -c ga-bench -n '__fish_seen_subcommand_from help' -a 'one asm dis boot run debug replay expand list lint race map profile trace report check record explain help'

@@ -111,6 +111,13 @@ def added_tokens(words):
     ]
 
 
+def expression():
+    """The tokens that may be expressions, and those that are one name or number."""
+    part = rf"(?:-?[0-9]{{1,8}}|\$[0-9A-Fa-f]{{1,8}}|%[01]{{1,18}}|'[!-~]'|{NAME})"
+    operator = "(?:[<]{2}|[>]{2}|[-+*|]|&)"
+    return rf"[(]*{part}(?:[)]*{operator}[(]*{part})*[)]*"
+
+
 def tokens(words, is_larger):
     """The kinds of tokens of source text. The first that fits is shown."""
     every = words.opcodes + words.jumps + words.numbers + words.keywords
@@ -128,6 +135,7 @@ def tokens(words, is_larger):
         Token("Mark", "Delimiter", "punctuation.definition", any_of(["[", "]", ",", "/"])),
         Token("Number", "Number", "constant.numeric", r"(?:[0-9]{1,8}|\$[0-9A-Fa-f]{1,8})"),
         Token("Name", "Identifier", "variable.other", NAME),
+        *([Token("Number", "Number", "constant.numeric", expression())] if is_larger else []),
         Token("Error", "Error", "invalid.illegal", r"\S+"),
     ]
 

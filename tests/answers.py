@@ -2,8 +2,8 @@
 is a function here, under `@subcommand`. The other tests use the recorded cases of each of SUBCOMMANDS.
 
 A text has one meaning or one first fault, and so have a command line and a command. This file computes them after
-docs/FORMATS.md, with tests/assembler.py, expander.py, outputs.py and sessions.py, which share nothing with the program.
-So all refusals are compared to the byte, and all outputs of `asm`, `expand`, `list`, `dis` and `boot`. These files have no chip: the
+docs/FORMATS.md, with tests/assembler.py, expander.py, linter.py, outputs.py and sessions.py, which share nothing with the program.
+So all refusals are compared to the byte, and all outputs of `asm`, `expand`, `list`, `lint`, `dis` and `boot`. These files have no chip: the
 output of a run must have its form, and must agree with other runs of the program.
 
 | Of | The relation |
@@ -34,11 +34,12 @@ from collections import namedtuple
 from assembler import Fault, images_of
 from counts import counted_list, is_listing_of
 from expander import expanded_text, expansion, pieces_of
+from linter import warnings_of
 from operands import COMMANDS, IN_REPLAYS, command_of
 from outputs import (
     asm_output, boot_output, dis_output, judge_reached, labels_output, list_output, routes_of, rows_of, tree_of,
 )  # fmt: skip
-from profiles import PROFILE, Run, TooLong, profile_json, profile_of, profile_text
+from profiles import LINES_HEAD, PROFILE, Run, TooLong, profile_json, profile_of, profile_text, share, stuck_text
 from replies import STACKS, agree_in_other_words, agrees, has_form, ledgers, other_words, registers
 from report_page import BOTTLENECK, fault_of_page
 from sessions import Transcript, head_of, text_of
@@ -54,7 +55,11 @@ HELP = {"-h", "--help", "-V", "--version"}
 # The subcommands of which a word that names no file is a wrong one.
 DEMANDING = {"one", "asm", "dis", "boot", "run", "replay"}
 # The subcommands that show the line of a fault.
-SHOWING = {"expand", "list", "race", "map", "profile", "report", "trace", "check", "record"}
+SHOWING = {"expand", "list", "lint", "race", "map", "profile", "report", "trace", "check", "record"}
+# The subcommands whose faults have no name of FILE.
+NAMELESS = {"check", "record"}
+# A fault at a place of source text: its node, the place, and its name.
+PLACED = re.compile(r"(?:source|expand|asm (\d+)) (\d+:\d+) (\w+)")
 # The status, the output, and the text on standard error; no status if no answer came in time.
 Answer = namedtuple("Answer", "status output error")
 
@@ -68,10 +73,12 @@ def recorded_cases():
 
 
 def meanings():
-    """What each name of a fault means, as the recorded cases of `expand`, `list` and `check` show it."""
+    """What each name of a fault or a warning means, as the recorded cases of `expand`, `list`, `lint` and `check` show it."""
     kinds = (["expand"], ["list"], ["check"])
     shown = [case.get("stderr", "").splitlines() for case in CASES if case["args"][:1] in kinds]
-    return {lines[0].split()[-1]: lines[-1] for lines in shown if len(lines) > 2}
+    found = {lines[0].split()[-1]: lines[-1] for lines in shown if len(lines) > 2 and lines[0].startswith("ga-bench: ")}
+    linted = "".join(case.get("stdout", "") for case in CASES if case["args"][:1] == ["lint"])
+    return found | dict(re.findall(r"^\S.*?:\d+:\d+: warning: (\w+): (.*)$", linted, re.M))
 
 
 CASES = recorded_cases()
@@ -143,6 +150,10 @@ class Job:
         given = self.kind.values[-1:] == ["FILE"] and len(self.values) == len(self.kind.values)
         return given and self.values[-1] != "-"
 
+    def named(self):
+        """FILE as faults show it, or None."""
+        return drawn(self.values[-1].replace("\n", " ")) if self.has_file() and self.name not in NAMELESS else None
+
     def file(self):
         """The file that is read in place of standard input, or None."""
         return self.values[-1] if self.has_file() and self.values[-1] != "/dev/stdin" else None
@@ -209,20 +220,27 @@ def meaning_of(name, text):
     return f"the first line isn't 'profile 2'{beside}"
 
 
+def shown_text(text, line, column):
+    """The line of a text, and a caret under its column, if it has one."""
+    rows = [*text.split("\n"), ""]
+    row = rows[line - 1].removesuffix("\r" if line < len(rows) - 1 else "")
+    begin = column - 41 if column and column > 80 else 0
+    shown = f"  {drawn(row[begin : begin + 100])}\n"
+    return shown + ("  " + re.sub("[^\t]", " ", row[begin : column - 1]) + "^\n" if column else "")
+
+
 def reported(job, fault, text):
     """The expected standard error: the fault, and behind it what some subcommands show of the text."""
-    shown = fault.behind
-    is_of_source = job.has_file() and re.match("(source|asm|expand) ", fault.text)
-    if fault.place and (job.name in SHOWING or is_of_source):
-        line, column = fault.place
-        rows = [*(text if fault.shows is None else fault.shows).split("\n"), ""]
-        row = rows[line - 1].removesuffix("\r" if line < len(rows) - 1 else "")
-        begin = column - 41 if column and column > 80 else 0
-        shown = f"  {drawn(row[begin : begin + 100])}\n"
-        if column:
-            shown += "  " + re.sub("[^\t]", " ", row[begin : column - 1]) + "^\n"
-        shown += meaning_of(fault.text.split()[-1], text) + "\n"
-    return f"ga-bench: {fault.text}\n{shown}"
+    placed, shown = PLACED.fullmatch(fault.text), fault.behind
+    if fault.place and (job.name in SHOWING or placed and job.has_file()):
+        shown = shown_text(text if fault.shows is None else fault.shows, *fault.place)
+        meaning = meaning_of(fault.text.split()[-1], text)
+        if placed and job.named() is not None:
+            node = f" (node {placed[1]})" if placed[1] else ""
+            return f"{job.named()}:{placed[2]}: error: {placed[3]}: {meaning}{node}\n{shown}"
+        shown += meaning + "\n"
+    name = f"{job.named()}: " if job.named() is not None and fault.text.startswith("input ") else ""
+    return f"ga-bench: {name}{fault.text}\n{shown}"
 
 
 # The expected output of each subcommand for a text, or its Fault. What a chip does is taken from other runs: `ask` gives
@@ -255,6 +273,25 @@ def list_(ask, job, text, answer):
     images = images_of(text)
     ask(["asm"], text, asm_output(images))
     return labels_output(images) if job.options else list_output(images)
+
+
+@subcommand("FILE", deny=None)
+def lint(ask, job, text, answer):
+    """The warnings about the expansion, at the places where their tokens were written."""
+    pieces = [*expansion(text)]
+    plain = expanded_text(pieces)
+    try:
+        found = warnings_of(plain)
+    except Fault as fault:
+        raise written_fault(fault, text, plain, pieces) from None
+    written = written_pieces(plain, pieces)
+    return "".join(warning_text(job, text, kind, written[token.line, token.column]) for kind, token in found)
+
+
+def warning_text(job, text, kind, at):
+    meaning = MEANINGS.get(kind, "no recorded case shows what this means")
+    name = "-" if job.named() is None else job.named()
+    return f"{name}:{at.line}:{at.column}: warning: {kind}: {meaning}\n{shown_text(text, at.line, at.column)}"
 
 
 @subcommand("FILE", code=range(65))
@@ -480,20 +517,26 @@ def without(job, name):
 
 
 def judge_numbers(output, shown):
-    """Compares a profile as JSON with its text: the window, the nodes with their words and passes, and the bottleneck."""
+    """Compares a profile as JSON with its text: the window, the nodes with their words and passes, where the path goes, and the
+    bottleneck with the nodes that are stuck."""
     try:
         found = json.loads(output)
         end, first = found["window"]["end"], found["window"]["first"]
         names = [it["name"] for it in found["nodes"]]
         numbers = [[*it["words"].values(), *(it["pass"] or {"turns": ".", "works": "."}).values()] for it in found["nodes"]]
-        bottleneck = found["bottleneck"]
+        lines = [[share(it["path"], max(end - first, 0)), it["name"], it["word"] or "."] for it in found["lines"]]
+        bottleneck, stuck = found["bottleneck"], found["stuck"]
     except (ValueError, KeyError, TypeError, AttributeError) as error:
         raise Wrong(f"no JSON of a profile: {error!r}") from None
     rows = [it.split() for it in re.findall(r"^\d{3} [^|\n]*\|[^|]{24}\|.*", shown, re.M)]
     demand(shown.startswith(f"{max(end - first, 0)} turns from turn {first} on\n"), "another window")
     demand(names == [row[0] for row in rows], "other nodes")
     demand([[*map(str, it)] for it in numbers] == [row[-4:] for row in rows], "other words or passes")
+    rows = itertools.takewhile(lambda it: it.startswith(" "), shown.split(LINES_HEAD)[1].splitlines())
+    demand(lines == [row.split()[:3] for row in rows], "other lines")
     demand(bottleneck == BOTTLENECK.search(shown)[0], "another bottleneck")
+    is_stuck = bottleneck.startswith(stuck_text(map(int, stuck)) + "Bottleneck: ")
+    demand(is_stuck or "\nring " in bottleneck, "other nodes are stuck")
 
 
 def counted(ask, job, text, answer):
@@ -632,7 +675,8 @@ def output_of(ask, job, text, answer):
     try:
         return job.kind.answer(ask, job, text, answer)
     except Fault as fault:
-        if not job.has_file() or text.startswith("profile") or not re.match("(source|asm) ", fault.text):
+        is_plain = job.name == "lint" or not job.has_file() or text.startswith("profile")
+        if is_plain or not re.match("(source|asm) ", fault.text):
             raise
     pieces = [*expansion(text)]
     plain = expanded_text(pieces)
@@ -642,15 +686,19 @@ def output_of(ask, job, text, answer):
         raise written_fault(fault, text, plain, pieces) from None
 
 
+def written_pieces(plain, pieces):
+    """By its place in an expansion, each of its tokens as it was written."""
+    return {(it.line, it.column): piece for it, piece in zip(pieces_of(plain), pieces)}
+
+
 def written_fault(fault, text, plain, pieces):
     """A fault of an expansion, at the place where its token was written; the expansion's end is the text's end. One that isn't
     of source text, as of an expansion that is a session, shows the expansion."""
     if not re.match("(source|asm) ", fault.text):
         return Fault(fault.text, fault.place, fault.behind, shows=plain)
-    written = {(it.line, it.column): piece for it, piece in zip(pieces_of(plain), pieces)}
     rows = text.split("\n")
     end = len(rows), len(rows[-1]) + 1
-    piece = written.get(fault.place)
+    piece = written_pieces(plain, pieces).get(fault.place)
     place = (piece.line, piece.column) if piece else end
     return Fault(re.sub(r"\d+:\d+", f"{place[0]}:{place[1]}", fault.text), place)
 
@@ -659,7 +707,7 @@ def judge(ask, args, data, answer):
     if HELP & {*args} and answer.status == 0 and answer.output and not answer.error:
         return
     if args[:1] == ["debug"] and len(args) == 2 and os.path.isdir(args[1]):
-        if answer != Answer(1, "", "ga-bench: input Folder\n"):
+        if answer != Answer(1, "", f"ga-bench: {drawn(args[1])}: input Folder\n"):
             raise Wrong("expected input Folder")
         return
     try:
@@ -672,11 +720,17 @@ def judge(ask, args, data, answer):
     try:
         text = job.input_of(data) if job.name != "explain" else ""
         output = output_of(ask, job, text, answer)
-        wanted = Answer(int(job.name == "race" and not output.startswith("no race")), output, "")
+        wanted = Answer(status_of(job, output), output, "")
     except Fault as fault:
         wanted = Answer(1, "", reported(job, fault, text))
     if answer != wanted:
         raise Wrong(f"expected {shortened(wanted)}")
+
+
+def status_of(job, output):
+    if job.name == "lint":
+        return int("deny" in job.options and output != "")
+    return int(job.name == "race" and not output.startswith("no race"))
 
 
 def shortened(answer):

@@ -26,10 +26,16 @@ RAM = 64
 Token = namedtuple("Token", "text line column kind value")
 # Its number is `value`, or `name` is the token that has to be a label; `spare` are the spare bits of a destination.
 Item = namedtuple("Item", "kind token ops value name spare", defaults=[(), None, None, 0])
-# `kind` is code, follower or data, and `line` is that of its first item.
-Word = namedtuple("Word", "value kind line")
 # `code` is how many words are code, and `labels` are the addresses by name, in the text's order.
-Image = namedtuple("Image", "words code labels")
+Image = namedtuple("Image", "words code labels items")
+
+
+class Word(namedtuple("Word", "value kind first")):
+    """A word. Its kind is code, follower or data, and `first` is the item that it begins with."""
+
+    @property
+    def line(self):
+        return self.first.token.line
 
 
 class Fault(Exception):
@@ -238,7 +244,7 @@ class Layout:
 
     def __init__(self, node):
         self.node = node
-        # Of each word its opcodes, if it is code, and the item of its destination or its number; its kind; its line.
+        # Of each word its opcodes, if it is code, and the item of its destination or its number; its kind; its first item.
         self.words = []
         self.labels = {}
         self.open = None  # the address of the word whose next slot is free
@@ -255,8 +261,8 @@ class Layout:
         for address, (ops, item, _, _) in enumerate(self.words):
             if item.kind == "word":
                 self.judge_reach(ops, item, address)
-        words = [Word(self.value(ops, item), kind, line) for ops, item, kind, line in self.words]
-        return Image(words, len(words) if self.data is None else self.data, self.labels)
+        words = [Word(self.value(ops, item), kind, first) for ops, item, kind, first in self.words]
+        return Image(words, len(words) if self.data is None else self.data, self.labels, items)
 
     def refuse(self, item, name):
         raise fault_at(f"asm {self.node:03}", item.name or item.token, name)
@@ -278,14 +284,14 @@ class Layout:
             self.pack(item, item.ops[0])
         elif item.kind == "number":
             self.pack(item, "@p")
-            self.words.append(([], item, "follower", item.token.line))
+            self.words.append(([], item, "follower", item))
         elif item.kind == ",":
-            self.words.append(([], item, "follower" if self.data is None else "data", item.token.line))
+            self.words.append(([], item, "follower" if self.data is None else "data", item))
         else:
             self.open = None
         if item.kind == "word":
             self.judge_reach(item.ops, item, len(self.words))
-            self.words.append((item.ops, item, "code", item.token.line))
+            self.words.append((item.ops, item, "code", item))
         elif item.kind == "label":
             self.labels[item.token.value] = len(self.words)
         elif item.kind == "data":
@@ -294,15 +300,15 @@ class Layout:
     def pack(self, item, op):
         """Puts an opcode outside brackets into the next slot, if it fits there, or else into a new word."""
         if self.open is not None:
-            ops, _, kind, line = self.words[self.open]
+            ops, _, kind, first = self.words[self.open]
             if fits(op, len(ops), self.destination(item), p_behind(self.open, ops)):
-                self.words[self.open] = ([*ops, op], item, kind, line)
+                self.words[self.open] = ([*ops, op], item, kind, first)
                 self.open = None if op in ENDS else self.open
                 return
         if op == "unext":
             self.refuse(item, "UnextAlone")
         self.open = None if op in ENDS else len(self.words)
-        self.words.append(([op], item, "code", item.token.line))
+        self.words.append(([op], item, "code", item))
 
 
 def images_of(text, line=1):

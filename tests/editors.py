@@ -6,7 +6,7 @@
 - vscode: the JSON can be read, all files and scopes that it names are there, and the grammars show each sign of each
   example as what it is.
 - vim: Vim opens each example without an error, and shows each sign as what it is.
-- errors: `:make` of Vim goes to the place of each error, and the tasks of VS Code report it.
+- errors: `:make` of Vim goes to the place of each error and warning, and the tasks of VS Code report it.
 
 What a sign is, this file works out itself, from docs/FORMATS.md. What needs Vim isn't tried if it isn't there, and that
 is printed. With KINDs only these are tried. The last line that is printed is 'N passed, M failed', and the exit status
@@ -80,7 +80,8 @@ MORE = {
         ("node 709,710,0x1 node 709,710 node 708", "node,bad node,node,name of a node,node,name of a node"),
         ("to 709 north ' 'A' '\\' '' 'AB' '~'", "keyword,number,name of a number,error,number,number,error,error,number"),
         ("%101 %2 % -123456789 - -1 include", "number,error,error,error,opcode,number,name"),
-        ("up|down up|io right|left|up|down |up", "name of a number,error,name of a number,error"),
+        ("up|down up|io right|left|up|down |up", "name of a number,number,name of a number,error"),
+        ("const A 2*(ONE-1)<<3 const B (1|2 *3", "keyword,name,number,keyword,name,number,error"),
         ("&again & &1 to: - &x", "name,error,error,label,opcode,name"),
     ],
     "named.transcript": [
@@ -124,6 +125,11 @@ FAULTS = {
     "source.transcript": ("profile 2\nplace\nsource token.source\ngo\n> turn 4\nmoved 4\n", "BadToken", 3, 7, "token.source"),
     "side.replay": ("profile 2\nplace\nnode 000 .\ngo\ntry 000 r = moved\ntry 000 x = moved\n", "BadSide", 6, 0),
     "outcome.replay": ("profile 2\nplace\nnode 000 .\ngo\nturn 4 = 5\n", "differs", 5, 0),
+}
+# Texts with warnings: what each is, its line and its column.
+WARNED = {
+    "two warnings.source": ("node 000 main: 5 b! jump main\n  dup\nunused: jump $3F\n", [("Unreachable", 2, 3), ("UnusedLabel", 3, 1), ("OverMemory", 3, 9)]),
+    "body.larger": ("body END\n  5 !b\nend\nnode 708,709 use END\n", [("RunsOff", 2, 3), ("RunsOff", 2, 3)]),
 }
 GOOD = {
     "good.source": "node 000 main: . again: jump again\n",
@@ -397,7 +403,7 @@ qall!
 """
 # Writes the filetype, the last error, the list of errors, and the file, line and column of the first one.
 MAKE = """silent make!
-let s:errors = map(getqflist(), '[bufname(v:val.bufnr), v:val.lnum, v:val.col, v:val.valid, v:val.text]')
+let s:errors = map(getqflist(), '[bufname(v:val.bufnr), v:val.lnum, v:val.col, v:val.valid, v:val.text, v:val.type]')
 let s:told = v:errmsg
 silent! cfirst
 call writefile([json_encode([&filetype, s:told, s:errors, [bufname('%'), line('.'), col('.')]])], $SHOWN)
@@ -457,7 +463,7 @@ def vim(counts, program, room, opcodes):
 
 
 def reported(path, room, tasks, matchers):
-    """What a task of VS Code reports for this file: file, line, column and message of each match."""
+    """What a task of VS Code reports for this file: file, line, column, message and severity of each match."""
     task = tasks[TASKS[os.path.splitext(path)[1]]]
     environment = {**os.environ, "FILE": path, "PATH": f"{room}/bin:{os.environ['PATH']}"}
     told = subprocess.run(["/bin/sh", "-c", task["command"]], stdout=subprocess.PIPE, stderr=subprocess.STDOUT, env=environment,
@@ -470,13 +476,14 @@ def reported(path, room, tasks, matchers):
             hits = [re.search(it["regexp"], line) for it, line in zip(patterns, lines[at:])]
             if all(hits):
                 groups = {key: hit[it[key]] for it, hit in zip(patterns, hits) for key in it if key != "regexp"}
-                yield groups["file"], int(groups["line"]), int(groups["column"] or 0), groups["message"]
+                place = groups["file"], int(groups["line"]), int(groups["column"] or 0)
+                yield *place, groups["message"], groups.get("severity", "error")
 
 
 def errors(counts, program, room, opcodes):
     folder = f"{room}/faults"
     os.makedirs(folder)
-    for name, text in {**{name: it[0] for name, it in FAULTS.items()}, **GOOD}.items():
+    for name, text in {**{name: it[0] for name, it in (FAULTS | WARNED).items()}, **GOOD}.items():
         with open(f"{folder}/{name}", "w", encoding="utf-8") as file:
             file.write(text)
     tasks = json.loads(read(f"{VSCODE}/tasks.json"))["tasks"]
@@ -485,7 +492,11 @@ def errors(counts, program, room, opcodes):
         file = other[0] if other else name
         found = [*reported(f"{folder}/{name}", room, tasks, matchers)]
         counts.same(f"VS Code's report of {name}", [it[:3] for it in found], [(f"{folder}/{file}", line, column)])
-        counts.same(f"VS Code's message of {name}", [fault in it[3] for it in found], [True])
+        counts.same(f"VS Code's message of {name}", [(fault in it[3], it[4]) for it in found], [(True, "error")])
+    for name, (_, warnings) in WARNED.items():
+        found = [(*it[:3], it[3].split(":")[0], it[4]) for it in reported(f"{folder}/{name}", room, tasks, matchers)]
+        wanted = [(f"{folder}/{name}", line, column, kind, "warning") for kind, line, column in warnings]
+        counts.same(f"VS Code's report of {name}", found, wanted)
     for name in GOOD:
         counts.same(f"VS Code's reports of {name}", [*reported(f"{folder}/{name}", room, tasks, matchers)], [])
     if not has_vim():
@@ -495,8 +506,13 @@ def errors(counts, program, room, opcodes):
         file = other[0] if other else name
         (filetype, told, found, place), _ = by_vim(name, MAKE, room, folder)
         counts.same(f":make of {name}, its error", ([it[:4] for it in found], told), ([[file, line, column, 1]], ""))
-        counts.same(f":make of {name}, its text", [it[4].startswith(fault) for it in found], [True])
+        counts.same(f":make of {name}, its text", [(it[4].startswith(fault), it[5]) for it in found], [(True, "E")])
         counts.same(f":make of {name}, where it goes", place, [file, line, max(column, 1)])
+    for name, (_, warnings) in WARNED.items():
+        (filetype, told, found, place), _ = by_vim(name, MAKE, room, folder)
+        shown = [[*it[:4], it[4].split(":")[0], it[5]] for it in found]
+        counts.same(f":make of {name}", (shown, told), ([[name, line, column, 1, kind, "W"] for kind, line, column in warnings], ""))
+        counts.same(f":make of {name}, where it goes", place, [name, *warnings[0][1:]])
     for name in GOOD:
         (filetype, told, found, place), _ = by_vim(name, MAKE, room, folder)
         counts.same(f":make of {name}", ([it for it in found if it[3]], told), ([], ""))

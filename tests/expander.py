@@ -46,10 +46,59 @@ def literal_of(piece):
     return None
 
 
-def value_of(piece, constants):
-    """The number of a constant's value."""
+# Operators of an expression, from those that bind least.
+STRENGTHS = {"|": 0, "&": 1, "<<": 2, ">>": 2, "+": 3, "-": 3, "*": 4}
+MOST_LEVELS = 64
+
+
+def split_at_weakest(text):
+    """The last of the weakest operators between two operands, outside parentheses and quotes, with what is beside it."""
+    found, depth, behind_operand, at = None, 0, False, 0
+    while at < len(text):
+        if text[at] == "'":
+            at, behind_operand = at + 3, True
+            continue
+        sign = text[at : at + 2] if text[at : at + 2] in STRENGTHS else text[at]
+        if text[at] in "()":
+            depth = max(0, depth + (1 if text[at] == "(" else -1))
+            behind_operand = text[at] == ")"
+        elif depth == 0 and behind_operand and sign in STRENGTHS:
+            if found is None or STRENGTHS[sign] <= STRENGTHS[found[0]]:
+                found = sign, text[:at], text[at + len(sign) :]
+            # The second character of a shift is read as one that isn't an operator.
+            at, behind_operand = at + len(sign) - 1, len(sign) == 2
+        else:
+            behind_operand = True
+        at += 1
+    return found
+
+
+def calculated(piece, sign, left, right):
+    """What an operator makes of two words."""
+    if sign in ("<<", ">>") and right > 17:
+        raise fault_at(piece, "NumberRange")
+    number = {"|": left | right, "&": left & right, "<<": left << min(right, 17), ">>": left >> min(right, 17), "+": left + right,
+              "-": left - right, "*": left * right}[sign]  # fmt: skip
+    if not -0x20000 <= number <= 0x3FFFF:
+        raise fault_at(piece, "NumberRange")
+    return number % 0x40000
+
+
+def value_of(piece, constants, levels=MOST_LEVELS):
+    """The number of a constant's value, which may be an expression."""
+    if levels == 0:
+        raise fault_at(piece, "BadToken")
     number = literal_of(piece)
-    if number is None and piece.text in constants:
+    if number is not None:
+        return number
+    parted = split_at_weakest(piece.text) if len(piece.text.encode()) <= MOST_BYTES else None
+    if parted:
+        sign, *sides = parted
+        left, right = (value_of(piece._replace(text=side), constants, levels - 1) for side in sides)
+        return calculated(piece, sign, left, right)
+    if len(piece.text) > 1 and piece.text[0] == "(" and piece.text[-1] == ")":
+        return value_of(piece._replace(text=piece.text[1:-1]), constants, levels - 1)
+    if piece.text in constants:
         number = constants[piece.text]
     if number is None and piece.text in NUMBERS:
         number = NUMBERS[piece.text]

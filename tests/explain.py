@@ -1,10 +1,11 @@
 #!/usr/bin/env python3
 """Compares the texts of `explain` with the pages and with the recorded cases: tests/explain.py PROGRAM
 
-- Its names are those of the tables of faults, needs, stops, outcomes and the carry in docs/FORMATS.md and docs/CHIP.md,
-  and the TERMS, which are entries of docs/GLOSSARY.md. No name of the tables is missing, nor any that the code has for
+- Its names are those of the tables of faults, warnings, needs, stops, outcomes and the carry in docs/FORMATS.md and
+  docs/CHIP.md, and the TERMS, which are entries of docs/GLOSSARY.md. No name of the tables is missing, nor any that the code has for
   a reply or a message (NAMING).
-- A fault of source text or of layout has a meaning, which a recorded case of `list` shows.
+- A fault of source text or of layout has a meaning, which a recorded case of `list` shows; a warning has one that a case of
+  `lint` and the table of the page show.
 - A text has at most 24 lines of 80 columns (that of BadToken is longer), and begins with its name.
 - A text has an example that shows its name, or what is SHOWN for it, and a fixed one that doesn't. Exceptions are
   names without an example (UNRECORDED) and those that aren't faults (HARMLESS).
@@ -32,6 +33,7 @@ CASES = f"{ROOT}/tests/cases/explain.jsonl"
 SECONDS = 60
 LINES, COLUMNS = 24, 80
 
+WARNINGS = "`lint`: warnings"
 TERMS = {"stuck", "ring", "race", "turn", "place", "step", "slot", "follower", "profile"}
 # No recorded case can make a read, a write or an allocation fail, or a node step 2^64 times. The example of `ring` is
 # that of `stuck`.
@@ -40,8 +42,8 @@ HARMLESS = {"own", "moved"} | TERMS
 # What an output has in place of a name.
 # The files of crates/ that have the names of replies and messages.
 NAMING = [
-    "ga_debug/src/error.rt", "ga_debug/src/replay_error.rt", "ga_expand/src/error.rt", "ga_jobs/src/fault.rt", "ga_prompt/src/answer.rt",
-    "ga_prompt/src/refusal.rt", "ga_transcript/src/error.rt",
+    "ga_debug/src/error.rt", "ga_debug/src/replay_error.rt", "ga_expand/src/error.rt", "ga_jobs/src/fault.rt", "ga_lint/src/warning.rt",
+    "ga_prompt/src/answer.rt", "ga_prompt/src/refusal.rt", "ga_transcript/src/error.rt",
 ]  # fmt: skip
 SHOWN = {"carry": "C 1", "turn": "moved", "place": "at fetch", "step": "steps", "slot": "slot2"}
 
@@ -67,9 +69,12 @@ def names_of_code():
 
 
 def names_of_pages():
-    """Returns the names that the pages have in their tables of faults, needs, stops, outcomes and the carry."""
+    """Returns the names that the pages have in their tables of faults, warnings, needs, stops, outcomes and the carry."""
     names = set()
-    headings = ["Faults of source text", "Faults of layout", "Faults of larger source text", "Routes", "Trees", "Plans", "Sessions", "Replay texts"]
+    headings = [
+        "Faults of source text", "Faults of layout", "Faults of larger source text", WARNINGS, "Routes", "Trees", "Plans", "Sessions",
+        "Replay texts",
+    ]  # fmt: skip
     for heading in headings:
         for cell in rows("FORMATS.md", heading):
             names.update(re.findall(r"^`([A-Z][a-z]\w*)(?: [A-Z]+)?`$", cell))
@@ -182,10 +187,12 @@ def main():
     checks.append(("names of the pages that are missing", sorted(expected - set(names))))
     checks.append(("names of the code that are missing", sorted(names_of_code() - set(names))))
     checks.append(("terms that the glossary lacks", sorted(TERMS - glossary())))
-    headings = ["Faults of source text", "Faults of layout", "Faults of larger source text"]
+    headings = ["Faults of source text", "Faults of layout", "Faults of larger source text", WARNINGS]
     of_texts = {cell for heading in headings for cell in rows("FORMATS.md", heading)}
     of_texts = {cell.strip("`") for cell in of_texts if re.fullmatch(r"`[A-Z]\w+`", cell)}
     checks.append(("faults without a meaning", sorted(name for name in of_texts if not MEANINGS.get(name))))
+    described = re.findall(r"^\| `(\w+)` \| (.*) \|$", section("FORMATS.md", WARNINGS), flags=re.M)
+    checks.append(("warnings with another meaning", [name for name, meaning in described if MEANINGS.get(name) != meaning]))
     with open(CASES, encoding="utf-8") as lines:
         cases = [json.loads(line) for line in lines]
     recorded = {key_of_case(case): case["name"] for case in cases if case["args"][0] != "explain"}

@@ -3,8 +3,8 @@ python3 tests/fuzz.py PROGRAM [--runs N | --seconds N] [--seed S] [--first NUMBE
 
 An input is a recorded case of tests/cases/, changed at random: words replaced by others of their kind; or cut, doubled,
 with other bytes, with lines swapped or taken from another case, with numbers at their limits. Its command line may be
-changed too. A third of the inputs are for `list`, `check` and `record`: their own cases, texts of `asm` and `boot`, and
-sessions of `debug` and `replay` as transcripts. An answer is right if
+changed too, and it may be read as FILE. A third of the inputs are for `list`, `check` and `record`: their own cases, texts
+of `asm` and `boot`, and sessions of `debug` and `replay` as transcripts. An answer is right if
 - tests/answers.py finds its status, its output and its text on standard error right;
 - it comes within 20 seconds, and takes at most 256 MiB of memory and 1,024 bytes for each byte of the input.
 A turn costs up to 144 tries, so an input asks for at most 2,000 turns in all. (It has at most 1,048,576 bytes, so at
@@ -46,7 +46,7 @@ ROUTES = ["708,709", "708,709,710/708,608/708,709,609", "708/708", "708,709/000,
 KINDS = [kind.encode().split() for kind in (
     "@p a! ; ex unext @+ @b @ !p !+ !b ! +* 2* 2/ - + and or drop dup pop over a . push b!", "jump call next if -if",
     "right down left up io rdlu warm", "0 1 2 3 5 10 17 $1D5 $3FFFF", "708 709 710 608 609 017 300", "r d l u",
-    "const body end use to north east south west", "-1 %101 'A' right|left",
+    "const body end use to north east south west", "-1 %101 'A' right|left 2*(3+4) 1<<5|3 A-1",
     "000 001 002 003 008 03F 041 0A9 175", "moved waits held stopped", "regs mem ports node sides depth", "break clear until",
     "step trace", "where nodes map breaks", "P A B R S T C io steps at", "none IoRead Rom Unmapped", "written read",
 )]  # fmt: skip
@@ -77,6 +77,8 @@ def pools():
         args, data, output = case["args"], stream(case, "stdin") or b"", stream(case, "stdout") or b""
         name = args[0] if args[:1] and args[0] in recorded else "other"
         recorded[name].append((args, data))
+        if name in ("asm", "boot", "list", "expand"):
+            made["lint"].append((["lint"] + ["--deny"] * (len(data) % 2), data))
         if name in ("asm", "boot"):
             made["list"].append((["list"] + ["--labels"] * (name == "boot"), data))
         if name in ("profile", "asm"):
@@ -200,6 +202,10 @@ def input_of(seed, number):
         change = words_of_a_kind if is_kept else chance.choice(CHANGES)
         data = change(chance, data, any_case(chance)[1])
     args = list(args)
+    # `check` of several files has an output of its own: tests/checking.py.
+    has_one_file = args and args[0] in SUBCOMMANDS and args[0] != "check" and "FILE" in SUBCOMMANDS[args[0]].values
+    if has_one_file and chance.random() < 0.1:
+        args.append("/dev/stdin")
     if args and chance.random() < 0.05:
         args[chance.randrange(len(args))] = chance.choice([*NUMBERS, *any_case(chance)[0], "", *ROUTES, "--", "é"])
     if chance.random() < 0.001:

@@ -65,7 +65,17 @@ def lacks_last_line_of_fault(run, args, data, answer):
 
 def next_column(run, args, data, answer):
     """Each fault is reported one column further on."""
-    return answer._replace(error=re.sub("(?<=[0-9]:)[0-9]+(?= )", lambda it: str(int(it[0]) + 1), answer.error))
+    return answer._replace(error=re.sub("(?<=[0-9]:)[0-9]+(?=:? )", lambda it: str(int(it[0]) + 1), answer.error))
+
+
+def never_denies(run, args, data, answer):
+    return answer._replace(status=0) if answer.output else answer
+
+
+def warns_of_the_expansion(run, args, data, answer):
+    """The lines and columns are those of the expansion."""
+    expanded = run(["expand"], data)
+    return run([it for it in args if it != "/dev/stdin"], expanded.output.encode()) if expanded.status == 0 else answer
 
 
 def answers_as_asm(run, args, data, answer):
@@ -94,8 +104,10 @@ CHANGES = {
     accepts_all: ["all"],
     refuses_2000_bytes: ["all"],
     next_column: ["all"],
-    lacks_last_line_of_fault: ["expand", "list", "check", "record"],
+    lacks_last_line_of_fault: ["expand", "list", "lint", "check", "record"],
     answers_as_asm: ["list"],
+    never_denies: ["lint"],
+    warns_of_the_expansion: ["lint"],
     writes_its_input: ["expand", "record"],
     finds_all_the_same: ["check", "replay"],
     always("input TooLong"): ["all"],

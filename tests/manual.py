@@ -22,12 +22,13 @@ sys.path.insert(0, f"{ROOT}/scripts")
 import from_help  # noqa: E402
 
 EDGE = {f"{row}{column:02}" for row in range(8) for column in range(18) if row in (0, 7) or column in (0, 17)}
-COMMANDS = "one asm dis boot run debug replay expand list race map profile report trace check record explain help".split()
+COMMANDS = "one asm dis boot run debug replay expand list lint race map profile report trace check record explain help".split()
 # What is completed for a line: all of it, and for a file the names in a folder with these.
 FILES = ["first.source", "two words.source", "other.text"]
 COMPLETED = {
     "ga-bench ": set(COMMANDS),
     "ga-bench re": {"replay", "record", "report"},
+    "ga-bench li": {"list", "lint"},
     "ga-bench help di": {"dis"},
     "ga-bench race --p": {"--place"},
     "ga-bench trace --no": {"--nodes"},
@@ -35,11 +36,14 @@ COMPLETED = {
     "ga-bench record --": {"--write", "--help"},
     "ga-bench list --c": {"--counts"},
     "ga-bench report --t": {"--turns"},
+    "ga-bench lint --d": {"--deny"},
     "ga-bench list fi": {"first.source"},
+    "ga-bench lint --deny o": {"other.text"},
     "ga-bench check first.source o": {"other.text"},
     "ga-bench debug --place t": {"two words.source"},
     "ga-bench explain NotN": {"NotNeighbour"},
     "ga-bench explain sl": {"slot"},
+    "ga-bench explain Un": {"UndefinedLabel", "UnextAlone", "UnknownBody", "UnextRepeats", "UnusedLabel", "Unreachable", "Unreached", "Unmapped"},
     "ga-bench boot ": EDGE,
     "ga-bench boot 70": {name for name in EDGE if name.startswith("70")},
     "ga-bench boot 717,": {"717,716", "717,617"},

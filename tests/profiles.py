@@ -49,6 +49,7 @@ rest: b boots  ~ spins  x stopped  blank idle
 path: the run waits for this node
 """
 STUCK = r"Stuck, since no node reads its word:(?: \d{3})+\.\n"
+LINES_HEAD = "path  node  word  where the path goes\n"
 STACKS_HEAD = "node data/10 return/9  the fullest stacks\n"
 # What the profile of a run that isn't worked out has to look like.
 SHARE = r"(?:\.|<1|\d{1,3})"
@@ -59,7 +60,7 @@ PROFILE = [
     rf"\d{{3}}(?: +{SHARE}){{4}} \|b*#*\?*!*~*x* *\| +{SHARE}(?: +\d+){{2}}      \.     \.\n)*",
     re.escape(LEGEND),
     rf"(?:{STUCK})?Bottleneck: [^\n]*\n(?:(?:The run gets|Side by side,) [^\n]*\n|(?:ring(?: \d{{3}})+\n)*)",
-    rf"path  node  word  where the path goes\n(?: +{SHARE}   \d{{3}}   (?:  \.|0[0-3][0-9A-F]{LABEL})\n){{0,10}}",
+    rf"{LINES_HEAD}(?: +{SHARE}   \d{{3}}   (?:  \.|0[0-3][0-9A-F]{LABEL})\n){{0,10}}",
     rf"(?:{STACKS_HEAD}(?:\d{{3}}(?: +\d+){{2}}{PASSED.format('data')}{PASSED.format('return')}\n){{1,10}})?",
     r"At the end:\n(?:\d{3} P [^\n]*\n)*(?:idle:(?: \d{3})+\n)?(?:ring(?: \d{3})+\n)*",
 ]
@@ -90,6 +91,11 @@ def states_of(lines):
         int(it[1]): State(int(it[2], 16), it["place"], it["op"], it["need"].split()[0], sides_in(it["rest"]), None, None)
         for it in found
     }
+
+
+def found_in(reply):
+    """What is there, by the reply to a command that expects 0."""
+    return 0 if reply == "ok" else int(reply.split()[-1], 16)
 
 
 def sides_in(text):
@@ -142,12 +148,40 @@ class Run:
                 outcomes.append(replies[begin + 1 : begin + width])
         return outcomes
 
-    def nodes_behind(self, turns):
-        """Who waits for whom behind some turns."""
-        replies = self.session(self.head, [*self.commands, f"turn {turns}", "nodes"])
+    def replies_behind(self, turns, commands):
+        """The replies to commands behind some turns."""
+        replies = self.session(self.head, [*self.commands, f"turn {turns}", *commands])
         if replies is None:
             raise TooLong
-        return "".join(f"{line}\n" for line in replies[-1])
+        return replies[len(self.commands) + 1 :]
+
+    def nodes_behind(self, turns):
+        """Who waits for whom behind some turns."""
+        return "".join(f"{line}\n" for line in self.replies_behind(turns, ["nodes"])[0])
+
+    def unread_behind(self, turns):
+        """The nodes that wait for good for their words to be read behind some turns. Each node that could read one of these
+        words is stuck or spins."""
+        lines = [line for line in self.where[turns] if not line.startswith("ring ")]
+        states = states_of(line for line in lines if ", held" not in line)
+        stuck = {int(line[:3]) for line in lines if line.endswith(", stuck")}
+        waiting = [node for node, state in states.items() if state.need in ("post", "check") and self.waits(turns, node)]
+        return [node for node in waiting if all(it in stuck or self.spins(turns, it) for it in states[node].sides.values())]
+
+    def waits(self, turns, node):
+        """Whether a node waits behind some turns."""
+        return self.replies_behind(turns, [f"try {node:03} r"]) == [["waits"]]
+
+    def spins(self, turns, node):
+        """Whether a node behind some turns is about to fetch a word that jumps to itself, or to jump to one: its second step is
+        such a jump, or else its third."""
+        look = ["where", f"expect {node:03} at 000", f"try {node:03} r"]
+        replies = self.replies_behind(turns, [*look * 3, "where"])
+        states = [states_of(replies[index]).get(node, idle(node)) for index in range(0, 10, 3)]
+        states = [state._replace(at=found_in(at)) for state, (at,) in zip(states, replies[1::3])] + states[3:]
+        jumps = [jumps_to_itself(*pair) for pair in zip(states, states[1:])]
+        enters = states[0].place == "slot0" and states[0].op == "jump"
+        return jumps[2] if enters else states[0].place == "fetch" and jumps[1]
 
     def lines_of(self, turn):
         side = "rdlu"[turn % 4]
@@ -161,8 +195,7 @@ class Run:
             for index, node in enumerate(self.nodes):
                 (at,), (r,), (outcome,) = outcomes[turn][3 * index : 3 * index + 3]
                 if outcome == "moved":
-                    at, r = (0 if it == "ok" else int(it.split()[-1], 16) for it in (at, r))
-                    state = states[turn].get(node, idle(node))._replace(at=at, r=r)
+                    state = states[turn].get(node, idle(node))._replace(at=found_in(at), r=found_in(r))
                     after = states[turn + 1][node]
                     steps[node].append(Step(turn, len(steps[node]), state, jumps_to_itself(state, after)))
         return steps
@@ -367,17 +400,23 @@ def row(node, it, mean, on_path, length):
     return f"{node:03}{shares} |{bar(it.counts, length)}|{numbers}\n"
 
 
-def lines_text(turns, on_path, length, images):
-    """The ten words with the most turns on the path, of the ten nodes with the most."""
+def lines_of(turns, on_path):
+    """The ten words with the most turns on the path, of the ten nodes with the most: node, word and turns. Code that isn't in
+    memory has the word None."""
     ranks = sorted(NODES, key=lambda node: (-on_path[node], node))[:10]
     found = [(-turns[node, word], rank, word) for rank, node in enumerate(ranks) for word in range(64)]
     found += [(-turns[node, None], rank, 64) for rank, node in enumerate(ranks)]
+    return [(ranks[rank], None if word == 64 else word, -less) for less, rank, word in sorted(found)[:10] if less]
+
+
+def lines_text(lines, length, images):
+    """Words of memory with their turns on the path, as text."""
     rows = []
-    for less, rank, word in (it for it in sorted(found)[:10] if it[0]):
-        shown = "." if word == 64 else f"{word:03X}"
-        label = "" if word == 64 else label_of(images.get(ranks[rank]), word)
-        rows.append(f"{cells((4, share(-less, length)), (6, f'{ranks[rank]:03}'), (6, shown))}{label}\n")
-    return "path  node  word  where the path goes\n" + "".join(rows)
+    for node, word, turns in lines:
+        shown = "." if word is None else f"{word:03X}"
+        label = "" if word is None else label_of(images.get(node), word)
+        rows.append(f"{cells((4, share(turns, length)), (6, f'{node:03}'), (6, shown))}{label}\n")
+    return LINES_HEAD + "".join(rows)
 
 
 def bottleneck(uses, on_path, length, rings):
@@ -406,11 +445,10 @@ def bottleneck(uses, on_path, length, rings):
     return f"Bottleneck: {who} {names}, in {most // 10000} % of the turns.\n{change}\n"
 
 
-def stuck_text(lines):
-    """The line of the nodes that wait for good for their words to be read, by the lines of `nodes`."""
-    found = [WAITS.fullmatch(line) for line in lines if line.endswith(", stuck") and ", held" not in line]
-    names = [it[1] for it in found if it["need"] in ("post", "check")]
-    return f"Stuck, since no node reads its word: {' '.join(names)}.\n" if names else ""
+def stuck_text(nodes):
+    """The line of the nodes that wait for good for their words to be read."""
+    names = "".join(f" {node:03}" for node in nodes)
+    return f"Stuck, since no node reads its word:{names}.\n" if names else ""
 
 
 def per_million(part, whole):
@@ -427,6 +465,7 @@ class Profile:
     passes: dict
     path: Counter
     stacks: dict
+    stuck: list
     bottleneck: str
     at_end: str
     images: dict
@@ -457,7 +496,8 @@ def profile_of(run, where="last"):
     latest = max(NODES, key=lambda node: (-1 if nodes[node].last is None else nodes[node].last, node))
     stacks = {node: stacks_of(some) for node, some in steps.items() if nodes[node].began is not None}
     passes = {node: pass_of(some, first) for node, some in steps.items()}
-    found = Profile(first, end, nodes, passes, path_of(steps, first, latest), stacks, "", run.nodes_behind(end), run.images)
+    path, stuck = path_of(steps, first, latest), run.unread_behind(end)
+    found = Profile(first, end, nodes, passes, path, stacks, stuck, "", run.nodes_behind(end), run.images)
     found.bottleneck = bottleneck_of(found, [line for line in run.where[end] if line.startswith("ring ")])
     return found
 
@@ -467,14 +507,14 @@ def bottleneck_of(profile, rings):
     nodes, length = profile.nodes, profile.length()
     uses = {node: per_million(*reversed(profile.passes[node] or (length, it.counts["works"]))) for node, it in nodes.items()}
     text = bottleneck(uses, profile.on_path(), length, rings)
-    return text + "".join(f"{line}\n" for line in rings) if rings else stuck_text(profile.at_end.splitlines()) + text
+    return text + "".join(f"{line}\n" for line in rings) if rings else stuck_text(profile.stuck) + text
 
 
 def profile_text(it):
     """The text of a profile."""
     length, on_path = it.length(), it.on_path()
     rows = "".join(row(node, it.nodes[node], it.passes[node], on_path[node], length) for node in it.began())
-    lines = lines_text(it.path, on_path, length, it.images)
+    lines = lines_text(lines_of(it.path, on_path), length, it.images)
     stacks = stacks_text(it.stacks, it.images)
     return f"{length} turns from turn {it.first} on\n{HEAD}{rows}{LEGEND}{it.bottleneck}{lines}{stacks}At the end:\n{it.at_end}"
 
@@ -482,9 +522,19 @@ def profile_text(it):
 def profile_json(it):
     """A profile as JSON, on a line."""
     on_path = it.on_path()
-    nodes = [node_numbers(node, it.nodes[node], it.passes[node], on_path[node], it.stacks[node]) for node in it.began()]
-    value = {"bottleneck": it.bottleneck, "nodes": nodes, "window": {"end": it.end, "first": it.first}}
+    value = {
+        "bottleneck": it.bottleneck,
+        "lines": [line_numbers(*line) for line in lines_of(it.path, on_path)],
+        "nodes": [node_numbers(node, it.nodes[node], it.passes[node], on_path[node], it.stacks[node]) for node in it.began()],
+        "stuck": [f"{node:03}" for node in it.stuck],
+        "window": {"end": it.end, "first": it.first},
+    }
     return json.dumps(value, separators=(",", ":")) + "\n"
+
+
+def line_numbers(node, word, turns):
+    """A word of memory on the path, as an object of JSON."""
+    return {"name": f"{node:03}", "path": turns, "word": None if word is None else f"{word:03X}"}
 
 
 def node_numbers(node, it, mean, on_path, stacks):

@@ -205,17 +205,19 @@ def hostile(program, folder):
     fault = talk(program, [f"{folder}/none"], b"")
     check("no file", (fault.returncode, fault.stdout) == (2, b"") and b"there is no such FILE" in fault.stderr)
     fault = talk(program, [folder], b"")
-    check("a folder", (fault.returncode, fault.stderr) == (1, b"ga-bench: input Folder\n"))
+    check("a folder", (fault.returncode, fault.stderr) == (1, f"ga-bench: {folder}: input Folder\n".encode()))
     for name, text, message in [
-        ("bytes", b"\xff\xfe", b"ga-bench: input BadText\n"),
-        ("long", b" " * 1048577, b"ga-bench: input TooLong\n"),
-        ("token", b"node 000 nothing\n", b"ga-bench: source 1:10 BadToken\n"),
-        ("early", HEAD.encode() + b"moved 4\n", b"ga-bench: transcript line 10 EarlyReply\n"),
+        ("bytes", b"\xff\xfe", "ga-bench: {}: input BadText\n"),
+        ("long", b" " * 1048577, "ga-bench: {}: input TooLong\n"),
+        ("token", b"node 000 nothing\n", "{}:1:10: error: BadToken: "),
+        ("label", b"node 000 jump x\n", "{}:1:15: error: UndefinedLabel: a name that is no label of its node (node 000)\n"),
+        ("early", HEAD.encode() + b"moved 4\n", "ga-bench: transcript line 10 EarlyReply\n"),
     ]:
         with open(f"{folder}/{name}", "wb") as file:
             file.write(text)
         run = talk(program, [f"{folder}/{name}"], b"turn 4\n")
-        check(f"a file that is {name}", run.returncode == 1 and run.stdout == b"" and run.stderr.startswith(message))
+        begin = message.format(f"{folder}/{name}").encode()
+        check(f"a file that is {name}", run.returncode == 1 and run.stdout == b"" and run.stderr.startswith(begin))
     moved = recorded(program, session(["turn 4"], "profile 2\nplace\n" + LOOP + "go\n")).split("\n")[1].encode() + b"\n"
     for line, reply in [
         (b"\xff", b"refused BadText\n"),

@@ -36,6 +36,8 @@ SESSIONS = [
     (["replay"], TREE + b"turn 1 = 1\n"),
     (["replay"], b"profile 1\nplace\nnode 000 jump $200\ngo\nturn 4 = 2\ntry 000 r = stopped\n"),
     (["asm", "/dev/stdin"], b"const A 5\nbody B X\n  X b! A !b\nend\nnode 708,709 use B east &here\nhere: .\n"),
+    (["lint"], b"node 709 5 push x:\nsub: [ push unext ]\n1 2 3 dup @ ! +\nnode 708 jump warm sub: $1F5 a! 5 ! ;\n"),
+    (["lint", "--deny", "/dev/stdin"], b"const A 5\nbody B X\n  X b! A !b\nend\nnode 708,709 use B east &here\nhere: .\n"),
     (["list", "-"], b"node 709 main: $5 $7 + @b\ndata x: , main"),
     (["list", "--labels", "-"], b"node 709 main: $5 $7 + @b\ndata x: , main"),
     (["list", "--counts", "--turns", "9", "-"], HEAD + b"> turn 3\n"),

@@ -3,7 +3,8 @@
 
 A page is right if it is well-formed XML that needs no script and no other file, and
 - its headline is the race that `race` finds, or the bottleneck of `profile`;
-- it has the text of `profile`, and that of `list --counts`;
+- it has the text of `profile`, and that of `list --counts`, node by node: the first line of a node is the summary of its other
+  lines, which are folded if a node in front of it has the same words and entry, and the summary says which;
 - each node that began has a row, whose parts fill its columns; they are as long as the profile has them, and as its title says;
 - the turns below a timeline stand where they begin;
 - the path of the run goes from one row to another, as tests/profiles.py finds it by the waveform of `trace`;
@@ -11,8 +12,7 @@ A page is right if it is well-formed XML that needs no script and no other file,
 - each of the 144 nodes has a box, in its place, with what `profile` shows of it at the end, and its pending words, which
   are a list, too.
 
-- the path of the run goes from row to row as tests/profiles.py finds it by the waveform of `trace`;
-come on its console, and the picture has the page's background and at least COLOURS colours. (A page with a script, and an
+If chromium is there it shows some of them, in two widths and both colour schemes: no error may come on its console, and the picture has the page's background and at least COLOURS colours. (A page with a script, and an
 empty one, show that this fails.) The last line that is printed is 'pages of report: N passed, M failed', a page or a picture
 each, and the exit status is 0 if M is 0.
 """
@@ -64,6 +64,9 @@ BOTTLENECK = re.compile(
 TITLE = re.compile(r"(\d{3}) works in (\d+) turns, waits for a word in (\d+), and for a reader in (\d+)")
 WINDOW = re.compile(r"(\d+) turns from turn (\d+) on\n")
 ENDS = re.compile(r"\d{3} P [^\n]*")
+# The first line of a node's listing with what a page adds, and the address and the word in a row of it.
+SUMMARY = r"(node \d{3} entry [^\n]*\n)(?:\(the same program as (\d{3})\))?"
+LISTED = re.compile(r"^[* ].*  ([0-3][0-9A-F]{2})  ([0-3][0-9A-F]{4}) +\d+  [a-z]", re.M)
 
 
 class Wrong(Exception):
@@ -90,7 +93,8 @@ class Page:
             raise Wrong(f"no XML: {error}") from None
         demand(len(page.findall("body/main/ul")) == 2, "other lists")
         self.title, self.headline = ("".join(page.find(path).itertext()) for path in ("head/title", "body/main/h1"))
-        self.texts = [it.text for it in page.iter("pre")]
+        self.texts = [it.text for it in page.findall("body/main/pre")]
+        self.listings = [listing_in(it) for it in page.findall("body/main/details")]
         self.headings = [it.text for it in page.iter("h2")]
         main = [*page.find("body/main")]
         self.charts = charts_in(main)
@@ -112,12 +116,23 @@ class Box:
         self.pending = [it.find("title").text for it in paths if it.get("class") == "arrow"]
 
 
+# The listing of a node: its first line, the name of the node that is said to have the same program, the other lines, and
+# whether these are shown.
+Listing = namedtuple("Listing", "line same_as rows is_open")
 # A row: its node, whether it has a cross, what the node does in each column, and whether it has the path, and the title's counts.
 Row = namedtuple("Row", "name is_crossed columns path counts")
 # A timeline: its rows, its turns, and how many of them a column has.
 Chart = namedtuple("Chart", "rows ticks stride")
 # A word that a node takes.
 Taken = namedtuple("Taken", "poster reader word posted taken")
+
+
+def listing_in(details):
+    """The listing of a node."""
+    demand([it.tag for it in details] == ["summary", "pre"] and not details.text, "other parts of a listing")
+    found = re.fullmatch(SUMMARY, details[0].text)
+    demand(found, f"another summary: {details[0].text!r}")
+    return Listing(found[1], found[2], details[1].text, details.get("open") is not None)
 
 
 def charts_in(main):
@@ -335,6 +350,17 @@ def headline_of(profile, verdict):
     return BOTTLENECK.search(profile)[0]
 
 
+def judge_listings(listings, text):
+    """Compares the listings of nodes with the text of `list --counts`, and which of them have the same program."""
+    demand("".join(it.line + it.rows for it in listings) == text, "another listing")
+    programs = {}
+    for it in listings:
+        program = it.line.split()[3], *LISTED.findall(it.rows)
+        same_as = programs.setdefault(program, it.line.split()[1])
+        demand(it.same_as == (same_as if same_as != it.line.split()[1] else None), f"another program of {it.line.split()[1]}")
+        demand(it.is_open == (it.same_as is None), f"{it.line.split()[1]} isn't folded, or is")
+
+
 def fault_of_page(text, profile, listing, verdict=None, wave=None):
     """What is wrong with a page of a run with these outputs of `profile`, `list --counts` and `race`, and this waveform, or None.
     Without one of `race` it may have any race, and without a waveform any words and path."""
@@ -347,7 +373,8 @@ def fault_of_page(text, profile, listing, verdict=None, wave=None):
         demand([it for it in page.headings if it != CLOSE_UP] == HEADINGS, f"other headings: {page.headings}")
         demand(len(page.charts) == 1 + page.headings.count(CLOSE_UP), "a heading without a timeline")
         demand(page.key == KEY, f"another key: {page.key}")
-        demand(page.texts == [profile, listing], "another profile or listing")
+        demand(page.texts == [profile], "another profile")
+        judge_listings(page.listings, listing)
         judge_timelines(page, profile)
         judge_chip(page, profile)
         if wave is not None:

@@ -129,13 +129,21 @@ def faults(program, folder):
         write(folder, "label", "node 000\n. jump x\n"): "asm 000 label:2:8 UndefinedLabel\n  . jump x\n         ^",
         write(folder, "fits", b"node 000 .".ljust(LIMIT)): "input TooLong",
     }
+    # `debug` has the name in front of an error with a place, and FILE in front of one of the whole input.
+    shown = {
+        "token": "token:3:7: error: BadToken: a token that the language doesn't have, or one that may not stand there\n    . . what\n        ^\n",
+        "label": "label:2:8: error: UndefinedLabel: a name that is no label of its node (node 000)\n  . jump x\n         ^\n",
+        "fits": "ga-bench: faulty: input TooLong\n",
+    }
     for name, fault in odd.items():
         texts = {"right": f"profile 2\nplace\nsource {name}\ngo\n> turn 1\nmoved 0\n"}
         texts["head"] = texts["right"].replace("place", "plac").replace("profile 2", "profile 3")
         texts["early"] = texts["right"].replace("> ", "")
         for what, text in texts.items():
             file = write(folder, "faulty", text)
-            for arguments in (["check", file], ["record", file], ["debug", file]):
+            debugged = shown.get(name, f"ga-bench: {fault}\n")
+            expect(f"faults: {name}, {what}, debug", run(program, ["debug", file], cwd=folder), (1, "", debugged))
+            for arguments in (["check", file], ["record", file]):
                 code, out, error = run(program, arguments, cwd=folder)
                 expect(f"faults: {name}, {what}, {arguments}", (code, out, error[:10 + len(fault)]), (1, "", f"ga-bench: {fault}"))
             code, out, error = run(program, ["record", "--write", file], cwd=folder)

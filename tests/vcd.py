@@ -342,11 +342,14 @@ def save_faults(program):
         for name, fault in ((".", ".: input NotAFile"), ("none/it.gtkw", "none/it.gtkw: write")):
             answer = run(program, folder, "--save", name, "it.source")
             yield None if answer == (1, "", f"ga-bench: {fault}\n") else f"{name}: {answer}"
-        status, output, errors = run(program, folder, "--save", "it.source", "it.source")
-        with open(f"{folder}/it.source", encoding="utf-8") as file:
-            is_left = "node 708" in file.read()
-        is_right = (status, output) == (2, "") and is_left and "would replace FILE" in errors
-        yield None if is_right else f"FILE as a save file: {status} {errors}"
+        os.symlink("it.source", f"{folder}/link")
+        os.link(f"{folder}/it.source", f"{folder}/twin")
+        for name in ("it.source", "./it.source", "link", "twin"):
+            status, output, errors = run(program, folder, "--save", name, "it.source")
+            with open(f"{folder}/it.source", encoding="utf-8") as file:
+                is_left = "node 708" in file.read()
+            is_right = (status, output) == (2, "") and is_left and "would replace FILE" in errors
+            yield None if is_right else f"FILE as a save file, by the name {name}: {status} {errors}"
 
 
 def fault_of_memory(program):

@@ -1,25 +1,31 @@
-" Vim compiler file: ga-bench checks the file. `:make` then goes to the first error or difference.
+" Vim compiler file: ga-bench checks the file. `:make` then goes to the first error, warning or difference.
 if exists('current_compiler')
   finish
 endif
 let current_compiler = 'gabench'
 
-" The first line of the output is the file's name, since errors don't have it.
-if &filetype ==# 'gatranscript'
-  CompilerSet makeprg=(echo\ %:S;\ ga-bench\ check\ %:S)
-elseif &filetype ==# 'gasession'
-  CompilerSet makeprg=(echo\ %:S;\ ga-bench\ replay\ <\ %:S)
-else
-  CompilerSet makeprg=(echo\ %:S;\ ga-bench\ list\ --labels\ %:S)
+" Errors and warnings of source text have the file's name. Then come the line and a mark.
+if &filetype ==# 'gasource' || &filetype ==# 'galarger'
+  CompilerSet makeprg=ga-bench\ lint\ %:S
+  CompilerSet errorformat=%E%f:%l:%c:\ error:\ %m
+  CompilerSet errorformat+=%W%f:%l:%c:\ warning:\ %m
+  CompilerSet errorformat+=%-C\ \ %.%#
+  CompilerSet errorformat+=%Ega-bench:\ %m
+  finish
 endif
 
-" The name; labels and counts, which aren't errors; errors in a source that the file names; other errors with a place;
-" those without one. Then come the line, a mark and what the error means, or the expected and the actual reply.
+" The first line of the output is the file's name, since errors of sessions don't have it.
+if &filetype ==# 'gatranscript'
+  CompilerSet makeprg=(echo\ %:S;\ ga-bench\ check\ %:S)
+else
+  CompilerSet makeprg=(echo\ %:S;\ ga-bench\ replay\ <\ %:S)
+endif
+
+" The name; counts, which aren't errors; errors in a source that the file names; other errors with a place; those
+" without one. Then come the line, a mark and what the error means, or the expected and the actual reply.
 CompilerSet errorformat=%-P%f
-CompilerSet errorformat+=%-G%*\\d\ %*\\S\ %*\\x
 CompilerSet errorformat+=%-Gsame\ %*\\d
 CompilerSet errorformat+=%Ega-bench:\ source\ %l:%c\ %m
-CompilerSet errorformat+=%Ega-bench:\ expand\ %l:%c\ %m
 CompilerSet errorformat+=%Ega-bench:\ asm\ %*\\d\ %l:%c\ %m
 CompilerSet errorformat+=%Ega-bench:\ source\ %f:%l:%c\ %m
 CompilerSet errorformat+=%Ega-bench:\ asm\ %*\\d\ %f:%l:%c\ %m
