@@ -1,7 +1,8 @@
 """Refuses each allocation of the program in turn: python3 tests/refuse_memory.py PROGRAM [CALLER]
 
 With one allocation refused a run must report `ga-bench: memory`, with status 3 and nothing on standard output, or answer
-as it does with ample memory. The runs are those of recorded cases, and SESSIONS. CALLER is the program of the crate
+as it does with ample memory, save that the fault of a file may be told as one of standard input is: without the file's
+name. The runs are those of recorded cases, and SESSIONS. CALLER is the program of the crate
 ga_refused_calls: its call must answer as it does with ample memory, or be refused and leave its borrowed values as they
 were before, unless memory runs out outside the call; and at least one is refused. In a conversation at the prompt it may
 also be one line that is answered `refused Memory`; the others are then answered as if this one had no effect. The last
@@ -107,6 +108,8 @@ CALLS = [
     *[(["serve", *words], data) for words, data in RUNS],
 ]  # fmt: skip
 MOST = 10000
+# The fault of a file with a name, as compilers tell it.
+NAMED_FAULT = re.compile(rb".*:(\d+:\d+): error: (\w+): (.*?)(?: \(node (\d+)\))?\n((?:  .*\n)*)$")
 
 
 def answer(program, words, data, **variables):
@@ -174,7 +177,14 @@ def named_runs(folder):
 
 
 def rights_of_run(ample):
-    return [ample, (3, b"", b"ga-bench: memory\n")] if ample[0] != 3 else []
+    """Memory may be too short for the name of a file, too, so that its fault is told as one of standard input."""
+    code, told, fault = ample
+    unnamed = [re.sub(rb"^ga-bench: .*: (input \w+\n)$", rb"ga-bench: \1", fault)]
+    if named := NAMED_FAULT.match(fault):
+        place, name, means, node, lines = named.groups()
+        kinds = [b"asm " + node] if node else [b"source", b"expand"]
+        unnamed = [b"ga-bench: %b %b %b\n%b%b\n" % (kind, place, name, lines, means) for kind in kinds]
+    return [ample, *[(code, told, text) for text in unnamed], (3, b"", b"ga-bench: memory\n")] if code != 3 else []
 
 
 def rights_of_files(ample):
