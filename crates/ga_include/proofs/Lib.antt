@@ -1,0 +1,9 @@
+mod Cutting
+mod Positions
+mod Lines
+mod Adding
+mod Opening
+mod Worked
+mod Plain
+mod Fine
+mod Tokens

@@ -1,0 +1,7 @@
+pub mod File
+pub mod Error
+pub mod Path
+pub mod IncludeLine
+pub mod Including
+pub mod Laws
+pub mod inner
