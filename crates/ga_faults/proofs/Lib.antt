@@ -1,0 +1,9 @@
+mod AllFaults
+mod FirstFaults
+mod Keeping
+mod Once
+mod SamePlaces
+mod Starting
+mod TokensRead
+mod WorkedFaults
+mod WorkedSections

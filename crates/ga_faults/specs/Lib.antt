@@ -1,0 +1,5 @@
+pub mod Origin
+pub mod Sections
+pub mod Faults
+pub mod Laws
+pub mod inner

@@ -1,0 +1,92 @@
+-- The sections of a text, and the parts of the text that have one of them.
+use Rattle.std.specs.Prelude.{◌&&◌, ◌||◌, ◌+◌, ◌-◌, ℕ, Bool, false, List, [], ◌∷◌, ◌++◌, codes, map, nat_le, nat_lt, slice_get, take, unwrap_or, Option, Some, None, if◌then◌else◌}
+use Rattle.std.specs.List.{join_with_byte}
+use Rattle.std.specs.Str.{bytes_eq}
+use Rattle.ga_pack.specs.Model.Text.{lines_of}
+use Rattle.ga_expand.specs.Expanding.{Piece, pieces_of}
+use Rattle.ga_faults.specs.declared.reading.Reading.{Reading}
+use Rattle.ga_faults.specs.declared.reading.Reading.TheVariants.{Body, ConstantName, ConstantValue, Definition, Rest}
+use Rattle.ga_faults.specs.declared.sections.Section.{Section}
+
+-- ---- the definitions that a text begins with
+
+abbrev pub behind_definition : List ℕ → Reading
+behind_definition text =
+    if bytes_eq text (codes "const") then ConstantName
+    else if bytes_eq text (codes "body") then Body else Rest
+
+-- What the token behind one is for. A constant is three tokens, and a body ends at the first `end`.
+abbrev pub behind : Reading → List ℕ → Reading
+behind Definition text = behind_definition text
+behind ConstantName text = ConstantValue
+behind ConstantValue text = Definition
+behind Body text = if bytes_eq text (codes "end") then Definition else Body
+behind Rest text = Rest
+
+-- ---- sections
+
+-- A token on a line begins a section if it is `node`, stands behind the definitions, and is the
+-- first one of its line: the token before it is on another one.
+abbrev pub begins_section : Reading → ℕ → List ℕ → ℕ → Bool
+begins_section Rest before text line = bytes_eq text (codes "node") && nat_lt before line
+begins_section reading before text line = false
+
+abbrev pub if_begun : Bool → ℕ → List ℕ
+if_begun begun line = if begun then line ∷ [] else []
+
+-- The lines at which sections begin, in the tokens that are left. The first of these is for this,
+-- and the token before it is on a line.
+unfoldable pub starts_from : Reading → ℕ → List Piece → List ℕ
+starts_from reading before [] = []
+starts_from reading before (token ∷ tokens) =
+    let line = token.place.line in
+    if_begun (begins_section (behind reading token.text) before token.text line) line
+    ++ starts_from (behind reading token.text) line tokens
+
+-- the lines at which the sections of a text begin
+abbrev pub section_starts : List ℕ → List ℕ
+section_starts text = starts_from Definition 0 (pieces_of text)
+
+-- the sections that begin at these lines: each reaches up to the next one, and the last to the end
+abbrev pub sections_at : List ℕ → List Section
+sections_at [] = []
+sections_at (first ∷ starts) =
+    record { first = first; next = slice_get starts 0 } ∷ sections_at starts
+
+-- ---- parts
+
+-- the lines before the one at which the next section begins
+abbrev pub up_to : {X : Type 0} → Option ℕ → List X → List X
+up_to None lines = lines
+up_to (Some next) lines = take (next - 1) lines
+
+-- The lines between the head and a section are empty in its part. The head is before the line at
+-- which the first section begins.
+abbrev pub is_kept : ℕ → ℕ → ℕ → Bool
+is_kept head first line = nat_lt line head || nat_le first line
+
+abbrev pub kept_line : ℕ → ℕ → ℕ → List ℕ → List ℕ
+kept_line head first line bytes = if is_kept head first line then bytes else []
+
+-- these lines, of which the first has a number, in the part of a section that begins at a line
+unfoldable pub kept_lines : ℕ → ℕ → ℕ → List (List ℕ) → List (List ℕ)
+kept_lines head first line [] = []
+kept_lines head first line (bytes ∷ lines) =
+    kept_line head first line bytes ∷ kept_lines head first (line + 1) lines
+
+-- The part of a section: the text up to the section's end, with the lines of the head and of the
+-- section. So its tokens have the lines and columns that they have in the whole text.
+abbrev pub part_in : List (List ℕ) → ℕ → Section → List ℕ
+part_in lines head section =
+    join_with_byte 10 (kept_lines head section.first 1 (up_to section.next lines))
+
+-- A chip has 144 nodes, so only the first 144 sections are looked at.
+abbrev pub most_sections : ℕ
+most_sections = 144
+
+-- the parts of the sections of a text
+abbrev pub parts_of : List ℕ → List (List ℕ)
+parts_of text =
+    let starts = section_starts text in
+    map (part_in (lines_of text) (unwrap_or (slice_get starts 0) 0))
+    (take most_sections (sections_at starts))

@@ -1,0 +1,16 @@
+//! The faults of a source text: the first one of each of its sections.
+#![tactic(auto)]
+
+mod fault;
+mod first;
+pub mod laws;
+mod listing;
+mod origins;
+mod parts;
+mod reading;
+mod sections;
+
+pub use fault::Fault;
+pub use first::first_fault;
+pub use listing::faults;
+pub use origins::{at_origin, origin};
