@@ -5,6 +5,7 @@ use Rattle.ga_explain.specs.Topic.{Entry}
 use Rattle.ga_explain.specs.declared.source.TheConstants.{BAD_TOKEN, NUMBER_RANGE, BAD_NODE, DUPLICATE_NODE, DUPLICATE_LABEL, RESERVED_LABEL, OPEN_BRACKET, BAD_WORD, NO_NODE, EMPTY}
 use Rattle.ga_explain.specs.declared.layout.TheConstants.{UNDEFINED_LABEL, OUT_OF_REACH, UNEXT_ALONE, TOO_LONG}
 use Rattle.ga_explain.specs.declared.larger.TheConstants.{RESERVED_NAME, DUPLICATE_NAME, OPEN_DEFINITION, NO_NEIGHBOUR, UNKNOWN_BODY, TOO_LARGE}
+use Rattle.ga_explain.specs.declared.includes.TheConstants.{BAD_INCLUDE, INCLUDE_CYCLE, INCLUDE_DEPTH, INCLUDE_COUNT, INCLUDE_SIZE}
 use Rattle.ga_explain.specs.declared.warnings.TheConstants.{UNEXT_REPEATS, SPLIT_LOOP, RUNS_OFF, PUSHES_TOO_MANY, POPS_TOO_MANY, UNUSED_LABEL, UNREACHABLE, SEVERAL_PORTS, RETURNS_NOWHERE, LEAVES_EXTENDED, OVER_MEMORY}
 use Rattle.ga_explain.specs.declared.routes.TheConstants.{BAD_ROUTE, NOT_EDGE, NOT_NEIGHBOUR, REPEATED, OTHER_ROOT, UNREACHED}
 use Rattle.ga_explain.specs.declared.sessions.TheConstants.{BAD_COMMAND, BAD_ADDRESS, BAD_SIDE, BAD_COUNT, BAD_VALUE, NOT_HELD, BAD_PROFILE, NO_GO, SOURCE, ASM, ROUTE, TREE, BOOT, EARLY_REPLY, DIFFERS}
@@ -83,6 +84,28 @@ larger_entries = (
       codes "TooLarge",
       codes "all 'use' of the text, or all its lists, stand for more than 262,144 tokens",
       TOO_LARGE.now,
+    ) ∷
+    []
+
+-- the faults of lines that include a file
+unfoldable pub includes_entries : List Entry
+includes_entries = (
+  codes "BadInclude",
+  codes "an include needs the name of one file in quotation marks",
+  BAD_INCLUDE.now,
+) ∷ (
+  codes "IncludeCycle",
+  codes "a file that includes itself, directly or through others",
+  INCLUDE_CYCLE.now,
+) ∷ (
+  codes "IncludeDepth",
+  codes "files that include one another more than 16 deep",
+  INCLUDE_DEPTH.now,
+) ∷
+    (codes "IncludeCount", codes "a text of more than 64 files", INCLUDE_COUNT.now) ∷ (
+      codes "IncludeSize",
+      codes "with this file the text has more than 1,048,576 bytes",
+      INCLUDE_SIZE.now,
     ) ∷
     []
 
@@ -182,12 +205,12 @@ sessions_entries =
 unfoldable pub input_entries : List Entry
 input_entries =
     (codes "read", [], READ.now) ∷
-    (codes "NoFile", [], NO_FILE.now) ∷
-    (codes "Folder", [], FOLDER.now) ∷
-    (codes "NotAFile", [], NOT_A_FILE.now) ∷
+    (codes "NoFile", codes "no file has this name", NO_FILE.now) ∷
+    (codes "Folder", codes "the name of a folder, not of a file", FOLDER.now) ∷
+    (codes "NotAFile", codes "the name of a pipe or a device, not of a file", NOT_A_FILE.now) ∷
     (codes "Exists", [], EXISTS.now) ∷
     (codes "NoName", [], NO_NAME.now) ∷
-    (codes "BadText", [], BAD_TEXT.now) ∷
+    (codes "BadText", codes "a text that isn't UTF-8", BAD_TEXT.now) ∷
     (codes "BadCode", [], BAD_CODE.now) ∷
     (codes "write", [], WRITE.now) ∷
     (codes "Write", [], REFUSED_WRITE.now) ∷
@@ -233,5 +256,5 @@ terms_entries =
 abbrev pub entries : List Entry
 entries =
     fold (λ all group. all ++ group) []
-    (source_entries ∷ layout_entries ∷ larger_entries ∷ warnings_entries ∷ routes_entries
-    ∷ sessions_entries ∷ input_entries ∷ needs_entries ∷ terms_entries ∷ [])
+    (source_entries ∷ layout_entries ∷ larger_entries ∷ includes_entries ∷ warnings_entries
+    ∷ routes_entries ∷ sessions_entries ∷ input_entries ∷ needs_entries ∷ terms_entries ∷ [])

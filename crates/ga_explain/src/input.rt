@@ -11,12 +11,16 @@ pub fn topics() -> [Topic; 12]
 {
     [
         topic!("read", "", READ),
-        topic!("NoFile", "", NO_FILE),
-        topic!("Folder", "", FOLDER),
-        topic!("NotAFile", "", NOT_A_FILE),
+        topic!("NoFile", "no file has this name", NO_FILE),
+        topic!("Folder", "the name of a folder, not of a file", FOLDER),
+        topic!(
+            "NotAFile",
+            "the name of a pipe or a device, not of a file",
+            NOT_A_FILE
+        ),
         topic!("Exists", "", EXISTS),
         topic!("NoName", "", NO_NAME),
-        topic!("BadText", "", BAD_TEXT),
+        topic!("BadText", "a text that isn't UTF-8", BAD_TEXT),
         topic!("BadCode", "", BAD_CODE),
         topic!("write", "", WRITE),
         topic!("Write", "", REFUSED_WRITE),

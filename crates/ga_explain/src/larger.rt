@@ -45,8 +45,7 @@ pub fn topics() -> [Topic; 6]
 
 const RESERVED_NAME: &str = "\
 ReservedName: a constant, a body or a parameter has the name of an opcode or of
-a number, or of a word of either language, as 'node' or 'to'. 'include' is kept
-for what the language is to have.
+a number, or of a word of either language, as 'node', 'to' or 'include'.
 
   $ printf 'const up 5\\nnode 709 up\\n' | ga-bench expand
   ga-bench: expand 1:7 ReservedName

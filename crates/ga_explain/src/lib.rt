@@ -1,6 +1,7 @@
 //! What the names and terms mean that the program writes: faults, needs, stops, outcomes and more.
 #![tactic(auto)]
 
+mod includes;
 mod input;
 mod larger;
 mod layout;

@@ -3,7 +3,7 @@ ghost use Rattle.ga_explain.specs.Output.{entry_in, meaning_of};
 ghost use Rattle.ga_explain.specs.Table.{entries};
 ghost use Rattle.ga_explain.specs.Topic.{entry_of};
 
-use crate::{input, larger, layout, needs, routes, sessions, source, terms, warnings};
+use crate::{includes, input, larger, layout, needs, routes, sessions, source, terms, warnings};
 use std::alloc::{AllocError, Global};
 
 /// A row of the table: a name, its meaning in one line, and its text.
@@ -61,6 +61,7 @@ pub fn topics(alloc: Global) -> Result<Vec<Topic>, AllocError>
     append(&mut topics, &source::topics())?;
     append(&mut topics, &layout::topics())?;
     append(&mut topics, &larger::topics())?;
+    append(&mut topics, &includes::topics())?;
     append(&mut topics, &warnings::topics())?;
     append(&mut topics, &routes::topics())?;
     append(&mut topics, &sessions::topics())?;
