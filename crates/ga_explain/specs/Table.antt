@@ -104,7 +104,7 @@ includes_entries = (
 ) ∷
     (codes "IncludeCount", codes "a text of more than 64 files", INCLUDE_COUNT.now) ∷ (
       codes "IncludeSize",
-      codes "with this file the text has more than 1,048,576 bytes",
+      codes "here the text gets longer than 1,048,576 bytes",
       INCLUDE_SIZE.now,
     ) ∷
     []
@@ -204,10 +204,10 @@ sessions_entries =
 -- the faults of the input and of the output
 unfoldable pub input_entries : List Entry
 input_entries =
-    (codes "read", [], READ.now) ∷
+    (codes "read", codes "the file can't be opened or read", READ.now) ∷
     (codes "NoFile", codes "no file has this name", NO_FILE.now) ∷
     (codes "Folder", codes "the name of a folder, not of a file", FOLDER.now) ∷
-    (codes "NotAFile", codes "the name of a pipe or a device, not of a file", NOT_A_FILE.now) ∷
+    (codes "NotAFile", codes "the name of something that isn't a regular file", NOT_A_FILE.now) ∷
     (codes "Exists", [], EXISTS.now) ∷
     (codes "NoName", [], NO_NAME.now) ∷
     (codes "BadText", codes "a text that isn't UTF-8", BAD_TEXT.now) ∷

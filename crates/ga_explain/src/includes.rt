@@ -32,7 +32,7 @@ pub fn topics() -> [Topic; 5]
         ),
         topic!(
             "IncludeSize",
-            "with this file the text has more than 1,048,576 bytes",
+            "here the text gets longer than 1,048,576 bytes",
             INCLUDE_SIZE,
         ),
     ]
@@ -110,13 +110,12 @@ Fixed:
 ";
 
 const INCLUDE_SIZE: &str = "\
-IncludeSize: the lines of this file and those before them have more bytes than
-an input may have, 1,048,576.
+IncludeSize: with this line, or the file that it includes, the text has more
+bytes than an input may have, 1,048,576.
 
   $ { cat my.source; yes | head -n 600000; } >big; echo 'include \"big\"' >all; \\
     ga-bench asm all
-  all:1:1: error: IncludeSize: with this file the text has more than 1,048,576
-   bytes
+  all:1:1: error: IncludeSize: here the text gets longer than 1,048,576 bytes
     include \"big\"
     ^
 

@@ -10,12 +10,12 @@ pub fn topics() -> [Topic; 12]
     ensures { map entry_of result ≡ input_entries }
 {
     [
-        topic!("read", "", READ),
+        topic!("read", "the file can't be opened or read", READ),
         topic!("NoFile", "no file has this name", NO_FILE),
         topic!("Folder", "the name of a folder, not of a file", FOLDER),
         topic!(
             "NotAFile",
-            "the name of a pipe or a device, not of a file",
+            "the name of something that isn't a regular file",
             NOT_A_FILE
         ),
         topic!("Exists", "", EXISTS),
@@ -30,8 +30,9 @@ pub fn topics() -> [Topic; 12]
 }
 
 const READ: &str = "\
-read: a read of standard input failed, or 2,097,152 reads didn't reach its end.
-Nothing is written. For example, the input is a folder:
+read: a read of the input failed, or 2,097,152 reads didn't reach its end. Or a
+file couldn't be opened, also one that an include names. Nothing is written. For
+example, standard input is a folder:
 
   ga-bench asm < .
   ga-bench: read
@@ -42,7 +43,7 @@ Fixed, with a file as the input:
 ";
 
 const NO_FILE: &str = "\
-NoFile: no file has this name. Nothing was read.
+NoFile: no file has this name. It may be the name in an include.
 
   $ ga-bench list no.source
   ga-bench: no.source: input NoFile
@@ -55,7 +56,8 @@ Fixed, with the text on standard input (- means the same as no name):
 ";
 
 const FOLDER: &str = "\
-Folder: the name is that of a folder, not of a file.
+Folder: the name is that of a folder, not of a file. It may be the name in an
+include.
 
   $ ga-bench list .
   ga-bench: .: input Folder
@@ -69,8 +71,8 @@ Fixed, with the text on standard input (- means the same as no name):
 
 const NOT_A_FILE: &str = "\
 NotAFile: 'save!' at the prompt and 'record --write' replace only regular files,
-and this name is that of a pipe or a device. 'save!' also reports it for a
-folder, and for a link that leads to no file.
+an include reads only those, and this name is that of a pipe or a device. 'save!'
+also reports it for a folder, and for a link that leads to no file.
 
   $ echo 'save! .' | ga-bench debug my.source
   refused NotAFile
