@@ -2,7 +2,7 @@
 use Rattle.std.proofs.Common.{◌≡◌, None, Some, [], ◌∷◌, refl}
 use Rattle.std.specs.Fmt.{digits}
 use Rattle.std.specs.Prelude.{codes}
-use Rattle.ga_jobs.specs.SourceName.{source_named, source_path}
+use Rattle.ga_jobs.specs.SourceName.{source_named}
 use Rattle.ga_jobs.specs.Sourced.{line_in_file, report_in_file, with_lines}
 
 a_name : source_named (codes "profile 2\nplace\nsource a b\ngo\n> turn 1\n") ≡ Some (codes "a b")
@@ -10,12 +10,6 @@ a_name = refl
 
 not_before_go : source_named (codes "profile 2\nplace\nsource a\n\ngo\n") ≡ None
 not_before_go = refl
-
-a_folder : source_path (codes "x//y/z") (codes "../a") ≡ codes "x//y/../a"
-a_folder = refl
-
-from_the_root : source_path (codes "x/z") (codes "/a") ≡ codes "/a"
-from_the_root = refl
 
 -- a line `go` of the source gets a space
 a_whole_text : with_lines (codes "1\n2\nsource a\ngo\n") 1 (codes "x" ∷ codes "go" ∷ [])

@@ -1,14 +1,13 @@
 -- What the program may do for a file, whose source text may be of the larger language.
-use Rattle.std.specs.Prelude.{◌≡◌, ◌⊎◌, ℕ, Bool, List, codes, map, nat_eq, Option, Some, None, Result, Ok, Err, string_bytes, unwrap_or, if◌then◌else◌}
+use Rattle.std.specs.Prelude.{◌≡◌, ◌⊎◌, ℕ, Bool, List, codes, nat_eq, Option, Some, None, Result, Ok, Err, string_bytes, if◌then◌else◌}
 use Rattle.std.specs.List.{starts_with}
-use Rattle.ga_pack.specs.Model.Text.{Place, end_of}
-use Rattle.ga_source.specs.Token.{place_of}
 use Rattle.ga_asm.specs.declared.text.TextError.{TextError}
 use Rattle.ga_asm.specs.declared.text.TextError.TheVariants as text_error
 use Rattle.ga_expand.specs.Error.{fault_of}
-use Rattle.ga_expand.specs.Texts.{IsExpansion, expansion, origin_of}
+use Rattle.ga_expand.specs.Texts.{IsExpansion, expansion}
 use Rattle.ga_expand.specs.declared.error.ExpandError.{ExpandError}
 use Rattle.ga_expand.specs.declared.expansion.Expansion.{Expansion}
+use Rattle.ga_faults.specs.Origin.{at_origin}
 use Rattle.ga_jobs.specs.declared.fault.ServeError.{ServeError}
 use Rattle.ga_jobs.specs.declared.fault.ServeError.TheVariants.{Asm, Shown, Source}
 use Rattle.ga_jobs.specs.declared.fault.TextFault.TheVariants as shown
@@ -30,25 +29,6 @@ is_session input = starts_with nat_eq input (codes "profile")
 -- the fault of an input that is source text, if a fault is one
 abbrev pub plain_fault : List ℕ → ServeError → Option TextError
 plain_fault input fault = if is_session input then None else source_fault fault
-
--- ---- places
-
--- The place where the token at a place of an expansion was written. The expansion's end is the
--- text's end.
-abbrev pub origin : List ℕ → Expansion → Place → Place
-origin text made place =
-    unwrap_or (origin_of (string_bytes made.text) (map place_of made.origins.items) place)
-    (end_of text)
-
--- a fault of an expansion, at the place where its token was written
-unfoldable pub at_origin : List ℕ → Expansion → TextError → TextError
-at_origin text made (text_error.Source error) =
-    let place = origin text made (record { line = error.line; column = error.column }) in
-    text_error.Source (record error { line = place.line; column = place.column })
-at_origin text made (text_error.Asm error) =
-    let place = origin text made (record { line = error.line; column = error.column }) in
-    text_error.Asm (record error { line = place.line; column = place.column })
-at_origin text made text_error.Memory = text_error.Memory
 
 abbrev pub written_if : List ℕ → Expansion → ServeError → Option TextError → ServeError
 written_if text made fault (Some error) = shown_fault text (at_origin text made error)

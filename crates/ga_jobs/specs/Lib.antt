@@ -12,7 +12,8 @@ use Rattle.ga_jobs.specs.CountsJob.{IsCountsOutput}
 use Rattle.ga_jobs.specs.Debug.{IsDebugOutput}
 use Rattle.ga_jobs.specs.Dis.{dis_output}
 use Rattle.ga_jobs.specs.ExpandJob.{IsExpandOutput}
-use Rattle.ga_jobs.specs.LintJob.{IsLintOutput}
+use Rattle.ga_jobs.specs.Lines.{origins_in}
+use Rattle.ga_jobs.specs.LintJob.{IsLintOutput, file_name}
 use Rattle.ga_jobs.specs.Listing.{IsListOutput}
 use Rattle.ga_jobs.specs.MapJob.{IsMapOutput}
 use Rattle.ga_jobs.specs.One.{one_output}
@@ -58,8 +59,10 @@ pub mod Writing
 pub mod Outputs
 pub mod Larger
 pub mod Engine
+pub mod Lines
 pub mod Message
 pub mod LintJob
+pub mod FileFaults
 pub mod inner
 
 -- what a job may answer to an input that is not too long
@@ -76,7 +79,7 @@ IsJobOutput (job.Replay file) input answer = IsReplayOutput input answer
 IsJobOutput (job.Expand file) input answer = IsExpandOutput input answer
 IsJobOutput (job.List labels file) input answer = IsListOutput labels input answer
 IsJobOutput (job.Lint deny file) input answer =
-    IsLintOutput (option_map string_bytes file) input answer
+    IsLintOutput (origins_in (file_name (option_map string_bytes file))) input answer
 IsJobOutput (job.Check files) input answer = IsCheckOutput input answer
 IsJobOutput (job.Record file) input answer = IsRecordOutput input answer
 IsJobOutput (job.Rewrite files) input answer = IsRecordOutput input answer

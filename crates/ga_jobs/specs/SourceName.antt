@@ -1,8 +1,7 @@
 -- The name of a source in the head of a transcript, and the faults of that source.
-use Rattle.std.specs.Prelude.{◌==◌, ◌&&◌, ℕ, Bool, List, [], ◌∷◌, ◌++◌, Option, Some, None, codes, drop, length, nat_eq, nat_lt, if◌then◌else◌}
+use Rattle.std.specs.Prelude.{◌&&◌, ℕ, List, Option, Some, None, codes, drop, length, nat_eq, nat_lt, if◌then◌else◌}
 use Rattle.std.specs.List.{starts_with}
 use Rattle.std.specs.Str.{bytes_eq, is_utf8}
-use Rattle.ga_debug.specs.Pieces.{pieces}
 use Rattle.ga_jobs.specs.declared.fault.ServeError.{ServeError}
 use Rattle.ga_jobs.specs.declared.fault.ServeError.TheVariants.{Input, InputOf, Shown}
 use Rattle.ga_jobs.specs.declared.fault.TextFault.{TextFault}
@@ -35,19 +34,6 @@ session_source loading text = if is_head loading text then source_named text els
 abbrev pub session_source_in : Loading → List ℕ → Option (List ℕ)
 session_source_in loading input =
     if is_utf8 input then session_source loading input else None
-
-abbrev pub is_absolute : List ℕ → Bool
-is_absolute name = starts_with nat_eq name (codes "/")
-
--- the parts of a file's name before the last one, each with `/` behind it
-abbrev pub folder_of : List (List ℕ) → List ℕ
-folder_of [] = []
-folder_of (part ∷ parts) = if length parts == 0 then [] else part ++ 47 ∷ folder_of parts
-
--- the file with a name in a text that comes from a file: the name is relative to the folder of that
--- file, unless it begins with `/`
-abbrev pub source_path : List ℕ → List ℕ → List ℕ
-source_path file name = if is_absolute name then name else folder_of (pieces 47 file) ++ name
 
 -- the fault of a source text with the name of its file, which stands in front of the place
 abbrev pub text_fault_in_source : List ℕ → TextFault → TextFault

@@ -8,9 +8,11 @@ use Rattle.ga_expand.specs.Error.{kind_name}
 use Rattle.ga_expand.specs.declared.error.ExpandError.{ExpandError}
 use Rattle.ga_expand.specs.declared.error.ExpandErrorKind.TheVariants as expand_kind
 use Rattle.ga_explain.specs.Output.{meaning_of}
+use Rattle.ga_jobs.specs.declared.fault.IncludeFault.{IncludeFault}
 use Rattle.ga_jobs.specs.declared.fault.ServeError.{ServeError}
 use Rattle.ga_jobs.specs.declared.fault.ServeError.TheVariants.{Shown, Memory}
-use Rattle.ga_jobs.specs.declared.fault.TextFault.TheVariants.{Source, Asm, Expand}
+use Rattle.ga_jobs.specs.declared.fault.TextFault.TheVariants.{Source, Asm, Expand, Include}
+use Rattle.ga_jobs.specs.Fault.{refusal_name}
 use Rattle.ga_jobs.specs.Shown.{shown_text}
 
 -- the fault of a source text, or of its program, with the line of its place, a caret and what it
@@ -31,3 +33,9 @@ shown_expand_fault text error = elim error.kind [
   | _ ↦ let meaning = meaning_of (kind_name error.kind) in
       Shown (Expand error) (shown_text text error.line (Some error.column) meaning)
 ]
+
+-- an include line of a text that was refused, with the line, a caret and what it means
+abbrev pub shown_include_fault : List ℕ → IncludeFault → ServeError
+shown_include_fault text fault =
+    let meaning = meaning_of (refusal_name fault.refusal) in
+    Shown (Include fault) (shown_text text fault.line (Some fault.column) meaning)

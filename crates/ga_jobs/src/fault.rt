@@ -12,11 +12,13 @@ use ga_asm::{AsmError, TextError};
 use ga_debug::ReplayError;
 use ga_expand::ExpandError;
 use ga_group::PlanError;
+use ga_include::IncludeFaultKind;
 use ga_path::{BootError, NamesError, RouteError, TreeError};
 use ga_place::Node;
 use ga_source::SourceError;
 use ga_word::WordsError;
 use std::alloc::{AllocError, AllocFailed};
+use std::fmt;
 use thiserror::Error;
 
 /// Why an input was refused before it was read as a job's own.
@@ -37,6 +39,73 @@ pub enum InputFault {
     /// The name is that of a pipe or a device, which can't be replaced.
     #[error("NotAFile")]
     NotAFile,
+}
+
+impl InputFault {
+    ghost use Rattle.std.specs.Prelude.{◌≡◌};
+    ghost use Rattle.ga_jobs.specs.Fault.{input_name};
+
+    /// The fault's name, as `explain` has it.
+    fn name(&self) -> &'static str
+        ensures { result.now ≡ input_name self.now }
+    {
+        match self {
+            InputFault::TooLong => "TooLong",
+            InputFault::BadText => "BadText",
+            InputFault::NoFile => "NoFile",
+            InputFault::Folder => "Folder",
+            InputFault::NotAFile => "NotAFile",
+        }
+    }
+}
+
+/// Why an include line was refused.
+#[derive(Debug, PartialEq, Eq, Drop)]
+pub enum IncludeRefusal {
+    /// The line is malformed, or its file is one too many, is too long, or includes itself.
+    Line(IncludeFaultKind),
+    /// The file that it names was refused.
+    File(InputFault),
+    /// The file that it names couldn't be opened or read.
+    Read,
+}
+
+impl IncludeRefusal {
+    ghost use Rattle.std.specs.Prelude.{◌≡◌};
+    ghost use Rattle.ga_jobs.specs.Fault.{refusal_name};
+
+    /// The refusal's name, as `explain` has it.
+    pub(crate) fn name(&self) -> &'static str
+        ensures { result.now ≡ refusal_name self.now }
+    {
+        match self {
+            IncludeRefusal::Line(kind) => kind.name(),
+            IncludeRefusal::File(fault) => fault.name(),
+            IncludeRefusal::Read => "read",
+        }
+    }
+}
+
+/// Writes the name.
+impl fmt::Display for IncludeRefusal {
+    ghost use Rattle.std.specs.Prelude.{Some};
+    ghost use Rattle.ga_jobs.specs.Fault.{refusal_name};
+
+    ghost output = { λ refusal. Some (refusal_name refusal) };
+
+    fn fmt<W: fmt::Write>(&self, f: &mut fmt::Formatter<W>) -> fmt::Result {
+        f.write_str(self.name())
+    }
+}
+
+/// An include line that was refused: its number, from 1, the column of its `include`, from 1, and
+/// why.
+#[derive(Debug, PartialEq, Eq, Drop, Error)]
+#[error("{line}:{column} {refusal}")]
+pub struct IncludeFault {
+    pub line: usize,
+    pub column: usize,
+    pub refusal: IncludeRefusal,
 }
 
 /// Why an output isn't written.
@@ -86,6 +155,9 @@ pub enum TextFault {
     /// The fault of a text of the larger language.
     #[error("expand {0}")]
     Expand(ExpandError),
+    /// An include line that was refused.
+    #[error("include {0}")]
+    Include(IncludeFault),
     /// The fault of a source in a file with a name of its own.
     #[error("source {0}:{1}")]
     SourceOf(ShownText, SourceError),

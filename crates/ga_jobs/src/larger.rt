@@ -1,11 +1,10 @@
 //! Files whose source text may be of the larger language.
 ghost use Rattle.std.specs.Prelude.{◌≡◌, IfOk, true};
-ghost use Rattle.ga_source.specs.Token.{place_of};
 ghost use Rattle.ga_jobs.specs.{writes_pieces};
 ghost use Rattle.ga_jobs.specs.Answering.{IsOutput};
 ghost use Rattle.ga_jobs.specs.Engine.{ServesFile};
 ghost use Rattle.ga_jobs.specs.Fault.{Answers};
-ghost use Rattle.ga_jobs.specs.Larger.{IsExpandedInput, IsOfFile, IsOfLarger, as_written, at_origin, origin, plain_fault, source_fault};
+ghost use Rattle.ga_jobs.specs.Larger.{IsExpandedInput, IsOfFile, IsOfLarger, as_written, is_session, plain_fault, source_fault};
 ghost use Rattle.ga_jobs.specs.Outputs.{in_pieces, text_of};
 ghost use Rattle.ga_jobs.specs.Session.{IsSession};
 
@@ -17,9 +16,9 @@ use crate::race::Loading;
 use crate::session::open_session;
 use crate::text::input_text;
 use crate::text_fault::{shown_expand_fault, shown_fault};
-use ga_asm::{AsmError, TextError};
+use ga_asm::TextError;
 use ga_expand::{Expansion, expand};
-use ga_source::{Place, SourceError, end_place};
+use ga_faults::at_origin;
 use ga_transcript::Live;
 use std::alloc::{AllocError, Global};
 use std::io::Write;
@@ -84,11 +83,18 @@ pub fn open_file(alloc: Global, loading: &Loading, input: &[u8]) -> Result<Live,
 fn plain_fault(input: &[u8], fault: &ServeError) -> Option<TextError>
     ensures { result ≡ plain_fault input.now fault.now }
 {
-    if input.starts_with(b"profile") {
+    if is_session(input) {
         None
     } else {
         source_fault(fault)
     }
+}
+
+/// Whether an input is a session, and no source text: it begins with `profile`.
+pub fn is_session(input: &[u8]) -> bool
+    ensures { result ≡ is_session input.now }
+{
+    input.starts_with(b"profile")
 }
 
 /// The fault of source text, if a fault is one.
@@ -161,54 +167,5 @@ fn as_written(
     match source_fault(&fault) {
         Some(error) => shown_fault(alloc, text, at_origin(alloc, text, made, error)?),
         None => Ok(fault),
-    }
-}
-
-/// A fault of an expansion, at the place where its token was written.
-#[tactic(auto, unfolding(crate::specs::Larger::at_origin))]
-pub(crate) fn at_origin(
-    alloc: Global,
-    text: &str,
-    made: &Expansion,
-    error: TextError,
-) -> Result<TextError, AllocError>
-    ensures { IfOk result (λ written. written ≡ at_origin text.now made.now error) }
-{
-    match error {
-        TextError::Source(error) => {
-            let Place { line, column } = origin(alloc, text, made, error.line, error.column)?;
-            Ok(TextError::Source(SourceError {
-                line,
-                column,
-                ..error
-            }))
-        }
-        TextError::Asm(error) => {
-            let Place { line, column } = origin(alloc, text, made, error.line, error.column)?;
-            Ok(TextError::Asm(AsmError {
-                line,
-                column,
-                ..error
-            }))
-        }
-        TextError::Memory => Ok(TextError::Memory),
-    }
-}
-
-/// The place where the token at a place of an expansion was written. The expansion's end is the
-/// text's end.
-pub(crate) fn origin(
-    alloc: Global,
-    text: &str,
-    made: &Expansion,
-    line: usize,
-    column: usize,
-) -> Result<Place, AllocError>
-    ensures { IfOk result (λ place. place_of place
-        ≡ origin text.now made.now (record { line = line; column = column })) }
-{
-    match made.origin(alloc, Place { line, column })? {
-        Some(place) => Ok(place),
-        None => Ok(end_place(text)),
     }
 }

@@ -18,8 +18,10 @@ mod engine;
 pub mod expand;
 mod explain;
 mod fault;
+mod file_faults;
 mod file_report;
 mod larger;
+mod lines;
 pub mod lint;
 pub mod list;
 pub mod map;
@@ -52,17 +54,23 @@ mod writing;
 
 pub use crate::answering::{answer, answer_alone};
 pub use crate::engine::{Ending, serve, status};
-pub use crate::fault::{InputFault, OutputFault, RouteFault, ServeError, TextFault, WordsFault};
+pub use crate::fault::{
+    IncludeFault, IncludeRefusal, InputFault, OutputFault, RouteFault, ServeError, TextFault,
+    WordsFault,
+};
+pub use crate::file_faults::faults_message;
 pub use crate::file_report::FileReport;
-pub use crate::larger::{open_file, output_of_file, serve_file};
-pub use crate::message::fault_in_file;
+pub use crate::larger::{is_session, open_file, output_of_file, serve_file};
+pub use crate::lines::Lines;
+pub use crate::message::fault_message;
 pub use crate::outputs::{Output, output_of};
 pub use crate::race::Loading;
 pub use crate::reading::read_input;
 pub use crate::reads::{Reads, tried_again};
 pub use crate::shown::{ShownText, shown_char};
-pub use crate::source_name::{fault_in_source, session_source, source_named, source_path};
+pub use crate::source_name::{fault_in_source, session_source, source_named};
 pub use crate::sourced::Sourced;
+pub use crate::text_fault::shown_include_fault;
 pub use crate::writes::Writes;
 pub use crate::writing::write_output;
 use ga_explain::Topic;

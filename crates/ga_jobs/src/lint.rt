@@ -1,28 +1,44 @@
 //! The job `lint`: warnings about source text, which may be of the larger language.
 ghost use Rattle.std.specs.Prelude.{◌≡◌, ◌++◌, IfOk, OnOk, option_map, string_bytes};
 ghost use Rattle.ga_jobs.specs.Fault.{Answers};
+ghost use Rattle.ga_jobs.specs.Lines.{origins_in, origins_of};
 ghost use Rattle.ga_jobs.specs.LintJob.{IsLintOutput, file_name, warning_text, warnings_text};
 
 use crate::fault::ServeError;
-use crate::larger::{at_origin, expanded, origin};
+use crate::larger::expanded;
+use crate::lines::Lines;
 use crate::message::{Level, Message, push_message};
-use crate::shown::{ShownText, shown_name};
+use crate::shown::ShownText;
 use crate::text_fault::shown_fault;
 use ga_expand::Expansion;
 use ga_explain::meaning;
+use ga_faults::{at_origin, origin};
 use ga_lint::{Warning, lint};
+use ga_source::Place;
 use std::alloc::{AllocError, Global};
 
-/// The warnings about the input, which is source text of the larger language or the plain one, at
-/// the places where their tokens were written. A fault of the text comes with the lines that are
-/// shown of it.
-pub fn output(alloc: Global, file: &Option<String>, input: &[u8]) -> Result<String, ServeError>
+/// The warnings about the input, which is source text of the larger language or the plain one, in a
+/// file or in standard input, at the places where their tokens were written. A fault of the text
+/// comes with the lines that are shown of it.
+pub(crate) fn output(
+    alloc: Global,
+    file: &Option<String>,
+    input: &[u8],
+) -> Result<String, ServeError>
     ensures { Answers string_bytes
-        (IsLintOutput (option_map string_bytes file.now) input.now) result }
+        (IsLintOutput (origins_in (file_name (option_map string_bytes file.now))) input.now)
+        result }
+{
+    warnings(alloc, &Lines::File(file_name(file)), input)
+}
+
+/// The same for an input whose lines were written there.
+pub fn warnings(alloc: Global, lines: &Lines<'_>, input: &[u8]) -> Result<String, ServeError>
+    ensures { Answers string_bytes (IsLintOutput (origins_of lines.now) input.now) result }
 {
     let (text, made) = expanded(alloc, input)?;
     match lint(alloc, made.text.as_str()) {
-        Ok(warnings) => Ok(warnings_text(alloc, file, text, &made, &warnings)?),
+        Ok(found) => Ok(warnings_text(alloc, lines, text, &made, &found)?),
         Err(error) => Err(shown_fault(alloc, text, at_origin(alloc, text, &made, error)?)?),
     }
 }
@@ -30,18 +46,17 @@ pub fn output(alloc: Global, file: &Option<String>, input: &[u8]) -> Result<Stri
 /// The messages of warnings about an expansion of a text.
 fn warnings_text(
     alloc: Global,
-    file: &Option<String>,
+    lines: &Lines<'_>,
     text: &str,
     made: &Expansion,
     warnings: &[Warning],
 ) -> Result<String, AllocError>
     ensures { IfOk result (λ shown. string_bytes shown
-        ≡ warnings_text (option_map string_bytes file.now) text.now made.now warnings.now) }
+        ≡ warnings_text (origins_of lines.now) text.now made.now warnings.now) }
 {
-    let name = shown_name(alloc, file_name(file))?;
     let mut shown = String::new(alloc);
     for warning in warnings {
-        push_warning(&mut shown, alloc, name.as_str(), text, made, *warning)?;
+        push_warning(&mut shown, alloc, lines, text, made, *warning)?;
     }
     Ok(shown)
 }
@@ -50,27 +65,27 @@ fn warnings_text(
 fn push_warning(
     shown: &mut String,
     alloc: Global,
-    name: &str,
+    lines: &Lines<'_>,
     text: &str,
     made: &Expansion,
     warning: Warning,
 ) -> Result<(), AllocError>
-    ensures { OnOk result (string_bytes shown.new
-        ≡ string_bytes shown.old ++ warning_text name.now text.now made.now warning) }
+    ensures { OnOk result (string_bytes shown.new ≡ string_bytes shown.old
+        ++ warning_text (origins_of lines.now) text.now made.now warning) }
 {
-    let place = origin(alloc, text, made, warning.line, warning.column)?;
+    let Place { line, column } = origin(alloc, text, made, warning.line, warning.column)?;
     let kind = warning.kind.name();
-    let meaning = meaning(alloc, kind)?;
-    let lines = ShownText::new(alloc, text, place.line, Some(place.column), meaning)?;
+    let about = ShownText::new(alloc, text, line, Some(column), meaning(alloc, kind)?)?;
+    let (file, line) = lines.origin(line);
     let message = Message {
-        file: name,
-        place,
+        file,
+        place: Place { line, column },
         level: Level::Warning,
         kind,
         node: None,
-        shown: &lines,
+        shown: &about,
     };
-    push_message(shown, &message)
+    push_message(shown, alloc, &message)
 }
 
 /// The name of a file that may be left out: that of standard input is `-`.

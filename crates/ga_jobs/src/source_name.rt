@@ -1,12 +1,11 @@
 //! The name of a source in the head of a transcript, and the faults of that source.
-ghost use Rattle.std.specs.Prelude.{◌≡◌, ◌==◌, ◌++◌, IfOk, OnOk, length, option_map, string_bytes};
+ghost use Rattle.std.specs.Prelude.{◌≡◌, IfOk, option_map};
 ghost use Rattle.ga_jobs.specs.Shown.{shown_name};
-ghost use Rattle.ga_jobs.specs.SourceName.{fault_in_source, folder_of, is_absolute, name_in_line, session_source, session_source_in, source_named, source_named_in, source_path, text_fault_in_source};
+ghost use Rattle.ga_jobs.specs.SourceName.{fault_in_source, name_in_line, session_source, session_source_in, source_named, source_named_in, text_fault_in_source};
 
 use crate::fault::{ServeError, TextFault};
 use crate::race::{Loading, is_head};
 use crate::shown::{ShownText, whole_line};
-use ga_debug::Pieces;
 use std::alloc::{AllocError, Global};
 use std::str;
 
@@ -60,47 +59,6 @@ fn name_in_line(line: &str) -> Option<&str>
         Some(name) if !name.is_empty() => Some(name),
         _ => None,
     }
-}
-
-/// The file with a name in a text that comes from a file.
-pub fn source_path(alloc: Global, file: &str, name: &str) -> Result<String, AllocError>
-    ensures { IfOk result (λ path. string_bytes path ≡ source_path file.now name.now) }
-{
-    let mut path = String::new(alloc);
-    if !is_absolute(name) {
-        push_folder(&mut path, Pieces::new(file, '/'))?;
-    }
-    path.push_str(name)?;
-    Ok(path)
-}
-
-/// Adds the parts of a file's name before the last one, each with `/` behind it.
-fn push_folder(path: &mut String, mut parts: Pieces<'_>) -> Result<(), AllocError>
-    ensures { OnOk result (string_bytes path.new
-        ≡ string_bytes path.old ++ folder_of parts.entry) }
-{
-    while let Some(part) = parts.next() {
-        if is_over(&parts) {
-            return Ok(());
-        }
-        path.push_str(part)?;
-        path.push('/')?;
-    }
-    Ok(())
-}
-
-/// Whether no part is left.
-fn is_over(parts: &Pieces<'_>) -> bool
-    ensures { result ≡ (length parts.now == 0) }
-{
-    parts.again().next().is_none()
-}
-
-/// Whether the name of a file begins at the root.
-fn is_absolute(name: &str) -> bool
-    ensures { result ≡ is_absolute name.now }
-{
-    name.starts_with("/")
 }
 
 /// The fault of a source with the name of its file. Fails only when out of memory.

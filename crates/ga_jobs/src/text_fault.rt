@@ -1,7 +1,7 @@
 ghost use Rattle.std.specs.Prelude.{◌≡◌, IfOk};
-ghost use Rattle.ga_jobs.specs.TextFault.{shown_expand_fault, shown_fault};
+ghost use Rattle.ga_jobs.specs.TextFault.{shown_expand_fault, shown_fault, shown_include_fault};
 
-use crate::fault::{ServeError, TextFault};
+use crate::fault::{IncludeFault, ServeError, TextFault};
 use crate::shown::ShownText;
 use ga_asm::TextError;
 use ga_expand::{ExpandError, ExpandErrorKind};
@@ -44,5 +44,20 @@ pub fn shown_expand_fault(
     let meaning = meaning(alloc, error.kind.name())?;
     let shown = ShownText::new(alloc, text, error.line, Some(error.column), meaning)?;
     let fault = TextFault::Expand(error);
+    Ok(ServeError::Shown { fault, shown })
+}
+
+/// An include line of a text that was refused, with the lines that are shown at its place. Fails
+/// only when out of memory.
+pub fn shown_include_fault(
+    alloc: Global,
+    text: &str,
+    fault: IncludeFault,
+) -> Result<ServeError, AllocError>
+    ensures { IfOk result (λ told. told ≡ shown_include_fault text.now fault) }
+{
+    let meaning = meaning(alloc, fault.refusal.name())?;
+    let shown = ShownText::new(alloc, text, fault.line, Some(fault.column), meaning)?;
+    let fault = TextFault::Include(fault);
     Ok(ServeError::Shown { fault, shown })
 }

@@ -5,5 +5,5 @@ use Rattle.ga_jobs.specs.Message.{text_at}
 
 abbrev pub message_text : Message → List ℕ
 message_text message =
-    text_at message.file.now message.place.line message.place.column message.level
-    message.kind.now message.node message.shown.now
+    text_at (record { name = message.file.now; line = message.place.line }) message.place.column
+    message.level message.kind.now message.node message.shown.now

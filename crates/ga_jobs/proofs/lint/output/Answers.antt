@@ -1,39 +1,10 @@
-use Rattle.std.proofs.Common.{◌≡◌, option_map, string_bytes, subst, sym}
-use Rattle.ga_asm.specs.Text.{IsTextFault}
-use Rattle.ga_jobs.specs.Fault.{FailsRightly}
-use Rattle.ga_jobs.specs.Larger.{at_origin}
+use Rattle.std.proofs.Common.{string_bytes, subst}
+use Rattle.ga_jobs.specs.Fault.{Answers}
+use Rattle.ga_jobs.specs.Lines.{origins_in}
 use Rattle.ga_jobs.specs.LintJob.{IsLintOutput}
-use Rattle.ga_jobs.specs.TextFault.{shown_fault}
-use Rattle.ga_lint.specs.Linting.{HasWarnings}
-use Rattle.ga_jobs.proofs.Linted.{lint_fails}
 use Rattle.ga_jobs.proofs.lint.output.Goals as goal
-
-pub returns-in-Ok : goal.returns-in-Ok
-returns-in-Ok c = (
-  c.in_ok-text.made,
-  c.in_ok-text.ensures.made,
-  (
-    c.in-Ok.warnings.items,
-    subst (λ text. HasWarnings text c.in-Ok.warnings.items) c.as_str.ensures.value
-        c.in-Ok.ensures.warnings,
-    cc (c.in_ok-warnings_text-in-Ok.ensures, c.in_ok-text.ensures.text, c.deref.ensures.value),
-  ),
-)
 
 pub returns : goal.returns
 returns c =
-    let file = option_map string_bytes c.args.file.now in
-    let input = c.args.input.now in
-    let made = c.in_ok-text.made in
-    let error = c.in-Err.error in
-    let shown : c.in_ok-shown_fault-in-Err.field-0
-    ≡ shown_fault input (at_origin input made error) =
-    cc (
-      c.in_ok-shown_fault-in-Err.ensures,
-      c.in_ok-at_origin-in-Err.ensures,
-      c.in_ok-text.ensures.text,
-    ) in
-    subst (FailsRightly (IsLintOutput file input)) (sym shown)
-    (lint_fails file input made c.in_ok-text.ensures.made error
-    (λ some. subst (λ text. IsTextFault text error) c.as_str.ensures.value
-    (c.in-Err.ensures.fault some)))
+    subst (λ name. Answers string_bytes (IsLintOutput (origins_in name) c.args.input.now)
+    c.warnings.result) c.file_name.ensures c.warnings.ensures
