@@ -5,7 +5,7 @@ ghost use Rattle.ga_bench.specs.Status.{IsStatusOf};
 
 use clap::error::ErrorKind::InvalidValue;
 use ga_command_line::{LineError, refusal};
-use ga_jobs::{Ending, ServeError, ShownText, fault_in_file, status};
+use ga_jobs::{Ending, Lines, ServeError, ShownText, faults_message, status};
 use std::io::Write;
 
 /// Reports the fault of an outcome, if it has one. Answers the exit status.
@@ -19,28 +19,36 @@ pub fn reported<Rt: Eprint>(rt: &Rt, outcome: &Result<Ending, ServeError>) -> u8
     status(outcome)
 }
 
-/// Reports the fault of an outcome for the file with a name, if it has one. Answers the exit
-/// status.
-pub fn reported_in_file<Rt: AllocGlobal + Eprint>(
+/// Reports the fault of an outcome for bytes whose lines were written there, if it has one. Answers
+/// the exit status.
+pub fn reported_in<Rt: AllocGlobal + Eprint>(
     rt: &Rt,
-    name: &str,
+    lines: &Lines<'_>,
+    input: &[u8],
     outcome: &Result<Ending, ServeError>,
 ) -> u8
     ensures { result ≡ status_of outcome.now }
 {
     if let Err(fault) = outcome {
-        report_in_file(rt, name, fault);
+        report_in(rt, lines, input, fault);
     }
     status(outcome)
 }
 
-/// Reports the fault of the file with a name: as compilers do, if it has a place in source text.
-fn report_in_file<Rt: AllocGlobal + Eprint>(rt: &Rt, name: &str, fault: &ServeError) {
-    match (fault_in_file(rt.alloc(), name, fault), fault) {
+/// Reports the fault of bytes whose lines were written there: as compilers do, with all faults of
+/// the text, if it has a place in source text. Without memory for that it is reported as one of
+/// standard input.
+fn report_in<Rt: AllocGlobal + Eprint>(
+    rt: &Rt,
+    lines: &Lines<'_>,
+    input: &[u8],
+    fault: &ServeError,
+) {
+    match (faults_message(rt.alloc(), lines, input, fault), fault) {
         (Ok(Some(text)), _) => {
             let _ = eprint!(rt; "{text}");
         }
-        (_, ServeError::Input(_)) => report_on_file(rt, name, fault),
+        (_, ServeError::Input(_)) => report_on_file(rt, lines.name(), fault),
         _ => {
             let _ = eprintln!(rt; "ga-bench: {fault}");
         }

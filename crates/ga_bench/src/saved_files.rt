@@ -1,4 +1,5 @@
 //! Sessions that are saved in the files of the system.
+use ga_jobs::{InputFault, ServeError};
 use ga_prompt::{SaveFault, Saves};
 use std::alloc::Global;
 use std::fs::{File, OpenFile, OpenOptions, Permissions};
@@ -107,6 +108,17 @@ impl<F: Files> SavedFiles<'_, F> {
                 Err(fault_of(error))
             }
         }
+    }
+}
+
+/// Replaces a file by a text, in one step.
+pub fn put<Rt: AllocGlobal + Files>(rt: &Rt, name: &str, text: &str) -> Result<(), ServeError> {
+    let alloc = rt.alloc();
+    match (SavedFiles { alloc, files: rt }).put(name, text) {
+        Ok(()) => Ok(()),
+        Err(SaveFault::Memory) => Err(ServeError::Memory),
+        Err(SaveFault::NotAFile) => Err(ServeError::Input(InputFault::NotAFile)),
+        Err(SaveFault::Exists | SaveFault::Write(_)) => Err(ServeError::Write),
     }
 }
 

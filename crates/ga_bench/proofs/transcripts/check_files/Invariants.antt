@@ -1,5 +1,5 @@
 use Rattle.std.proofs.Common.{◌≤◌}
-use Rattle.ga_bench.proofs.check_files.Given as goal
+use Rattle.ga_bench.proofs.transcripts.check_files.Given as goal
 
 -- no more files passed than were checked
 abbrev pub invariant-loop-file : goal.invariant-loop-file
