@@ -3,9 +3,12 @@ ghost use Rattle.std.specs.Prelude.{◌≡◌, ◌++◌, List, ℕ, Ok, OnOk};
 ghost use Rattle.ga_jobs.specs.Answering.{IsOutput};
 
 use crate::streams::{FIVE_TRIES, LARGER, LARGER_IMAGES, LINE, WORDS, run_of};
+use ga_include::{SourceFile, expand_includes};
+use ga_jobs::lint::warnings;
 use ga_jobs::{
-    Ending, Job, Loading, ServeError, answer, answer_alone, fault_in_file, open_file,
-    output_of_file, serve, serve_file, status,
+    Ending, IncludeFault, IncludeRefusal, InputFault, Job, Lines, Loading, ServeError, answer,
+    answer_alone, fault_message, faults_message, open_file, output_of_file, serve, serve_file,
+    shown_include_fault, status,
 };
 use std::test::Fail;
 use std::thread::Threads;
@@ -72,7 +75,44 @@ fn reports_warnings_and_faults_at_their_places(rt: HostRuntime) -> Result<(), Fa
     let fault = output_of_file(&rt, &job, b"node 800")
         .err()
         .ok_or("accepted")?;
-    let shown = fault_in_file(rt.alloc(), "my.source", &fault)?.ok_or("no place")?;
+    let lines = Lines::File("my.source");
+    let shown = fault_message(rt.alloc(), &lines, &fault)?.ok_or("no place")?;
     assert!(rt; shown.starts_with("my.source:1:6: error: BadNode: no name of a node"));
+    let two = b"node 800\nnode 801";
+    let shown = faults_message(rt.alloc(), &lines, two, &fault)?.ok_or("no place")?;
+    assert!(rt; shown.as_str().lines().count() == 6);
+    Ok(())
+}
+
+#[test]
+fn reports_in_the_file_where_a_line_was_written(rt: HostRuntime) -> Result<(), Fail> {
+    let alloc = rt.alloc();
+    let mut files = Vec::new(alloc);
+    files.push(SourceFile {
+        name: String::from_str(alloc, "all")?,
+        text: String::from_str(alloc, "node 708 .\ninclude \"low\"\n")?,
+    })?;
+    files.push(SourceFile {
+        name: String::from_str(alloc, "low")?,
+        text: String::from_str(alloc, "jump warm\n+ jump warm\n")?,
+    })?;
+    let made = expand_includes(alloc, &files).map_err(|_| "refused")?;
+    let lines = Lines::Files(&files, &made);
+    assert!(rt; lines.name() == "all");
+    let shown = warnings(alloc, &lines, made.text.as_bytes())?;
+    assert!(rt; shown.starts_with("low:2:1: warning: "));
+    Ok(())
+}
+
+#[test]
+fn reports_a_line_that_includes_no_file(rt: HostRuntime) -> Result<(), Fail> {
+    let refused = IncludeFault {
+        line: 1,
+        column: 2,
+        refusal: IncludeRefusal::File(InputFault::NoFile),
+    };
+    let fault = shown_include_fault(rt.alloc(), " include \"x\"", refused)?;
+    let shown = fault_message(rt.alloc(), &Lines::File("all"), &fault)?.ok_or("no place")?;
+    assert!(rt; shown.starts_with("all:1:2: error: NoFile: no file has this name\n"));
     Ok(())
 }

@@ -7,7 +7,11 @@
 #[cfg(test)]
 mod expanding;
 #[cfg(test)]
+mod faults;
+#[cfg(test)]
 mod frames;
+#[cfg(test)]
+mod including;
 #[cfg(test)]
 mod linting;
 #[cfg(test)]
