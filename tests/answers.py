@@ -2,7 +2,8 @@
 is a function here, under `@subcommand`. The other tests use the recorded cases of each of SUBCOMMANDS.
 
 A text has one meaning or one first fault, and so have a command line and a command. This file computes them after
-docs/FORMATS.md, with tests/assembler.py, expander.py, linter.py, outputs.py and sessions.py, which share nothing with the program.
+docs/FORMATS.md, with tests/assembler.py, expander.py, including.py, text_faults.py, linter.py, outputs.py and sessions.py, which share
+nothing with the program.
 So all refusals are compared to the byte, and all outputs of `asm`, `expand`, `list`, `lint`, `dis` and `boot`. These files have no chip: the
 output of a run must have its form, and must agree with other runs of the program.
 
@@ -33,7 +34,8 @@ from collections import namedtuple
 
 from assembler import Fault, images_of
 from counts import counted_list, is_listing_of
-from expander import expanded_text, expansion, pieces_of
+from expander import expanded_text, expansion, written_fault, written_pieces
+from including import MEANS, IncludeFault, has_includes, included, whole
 from linter import warnings_of
 from operands import COMMANDS, IN_REPLAYS, command_of
 from outputs import (
@@ -43,6 +45,7 @@ from profiles import LINES_HEAD, PROFILE, Run, TooLong, profile_json, profile_of
 from replies import STACKS, agree_in_other_words, agrees, has_form, ledgers, other_words, registers
 from report_page import BOTTLENECK, fault_of_page
 from sessions import Transcript, head_of, text_of
+from text_faults import faults_of
 from vcd import NODES, Session, Waveform, Wrong, commands_of, compare, compare_end, demand
 
 ROOT = os.path.dirname(os.path.dirname(os.path.abspath(__file__)))
@@ -58,6 +61,8 @@ DEMANDING = {"one", "asm", "dis", "boot", "run", "replay"}
 SHOWING = {"expand", "list", "lint", "race", "map", "profile", "report", "trace", "check", "record"}
 # The subcommands whose faults have no name of FILE.
 NAMELESS = {"check", "record"}
+# The subcommands whose FILE is no source text.
+SOURCELESS = {"one", "dis", "replay", "explain", *NAMELESS}
 # A fault at a place of source text: its node, the place, and its name.
 PLACED = re.compile(r"(?:source|expand|asm (\d+)) (\d+:\d+) (\w+)")
 # The status, the output, and the text on standard error; no status if no answer came in time.
@@ -110,6 +115,8 @@ class Job:
             raise ValueError("no such subcommand")
         self.kind = SUBCOMMANDS[self.name]
         self.options, self.values = {}, []
+        # The lines of FILE with those of the files that it includes, if it includes any.
+        self.lines = None
         while rest:
             word = rest.pop(0)
             option, equals, value = word.partition("=")
@@ -152,7 +159,7 @@ class Job:
 
     def named(self):
         """FILE as faults show it, or None."""
-        return drawn(self.values[-1].replace("\n", " ")) if self.has_file() and self.name not in NAMELESS else None
+        return shown_name(self.values[-1]) if self.has_file() and self.name not in NAMELESS else None
 
     def file(self):
         """The file that is read in place of standard input, or None."""
@@ -164,8 +171,20 @@ class Job:
         if self.name in DEMANDING and self.file() is not None and not os.path.exists(self.file()):
             raise ValueError("a word that names no file")
 
+    def origin(self, line):
+        """The name and the line of the file where a line of the text was written. The name is as it is shown."""
+        it = self.lines[line - 1] if self.lines else None
+        return (shown_name(it.file), it.number) if it else ("-" if self.named() is None else self.named(), line)
+
     def input_of(self, data):
-        """The text that is read, if standard input has this data."""
+        """The text that is read, if standard input has this data: FILE with the files that it includes."""
+        text = self.text_of(data)
+        if not self.has_file() or self.name in SOURCELESS or text.startswith("profile") or not has_includes(text):
+            return text
+        self.lines = included(self.values[-1], text)
+        return whole(self.lines)
+
+    def text_of(self, data):
         if (file := self.file()) is not None:
             if os.path.isdir(file):
                 raise Fault("input Folder")
@@ -209,6 +228,10 @@ def drawn(text):
     return re.sub("[\0-\x08\x0b-\x1f\x7f-\x9f\u200b-\u200f\u202a-\u202e\u2066-\u2069]", " ", text)
 
 
+def shown_name(name):
+    return drawn(name.replace("\n", " "))
+
+
 def meaning_of(name, text):
     if name != "BadProfile":
         return MEANINGS.get(name, "no recorded case shows what this means")
@@ -229,16 +252,28 @@ def shown_text(text, line, column):
     return shown + ("  " + re.sub("[^\t]", " ", row[begin : column - 1]) + "^\n" if column else "")
 
 
+def message(origin, fault, text):
+    """What is reported of a fault at a place of source text, if `origin` gives the name and the line where a line was written."""
+    node, _, name = PLACED.fullmatch(fault.text).groups()
+    file, line = origin(fault.place[0])
+    remark = f" (node {node})" if node else ""
+    return f"{file}:{line}:{fault.place[1]}: error: {name}: {meaning_of(name, text)}{remark}\n{shown_text(text, *fault.place)}"
+
+
+def include_message(fault):
+    """What is reported of an include line that is refused."""
+    place = f"{shown_name(fault.file)}:{fault.line}:{fault.column}"
+    return f"{place}: error: {fault.kind}: {MEANS[fault.kind]}\n{shown_text(fault.text, fault.line, fault.column)}"
+
+
 def reported(job, fault, text):
-    """The expected standard error: the fault, and behind it what some subcommands show of the text."""
+    """The expected standard error: the fault, and behind it what some subcommands show of the text. Of source text in FILE all faults
+    are reported."""
     placed, shown = PLACED.fullmatch(fault.text), fault.behind
-    if fault.place and (job.name in SHOWING or placed and job.has_file()):
-        shown = shown_text(text if fault.shows is None else fault.shows, *fault.place)
-        meaning = meaning_of(fault.text.split()[-1], text)
-        if placed and job.named() is not None:
-            node = f" (node {placed[1]})" if placed[1] else ""
-            return f"{job.named()}:{placed[2]}: error: {placed[3]}: {meaning}{node}\n{shown}"
-        shown += meaning + "\n"
+    if placed and fault.place and job.named() is not None:
+        return "".join(message(job.origin, it, text) for it in ([fault] if text.startswith("profile") else faults_of(text)))
+    if fault.place and job.name in SHOWING:
+        shown = shown_text(text if fault.shows is None else fault.shows, *fault.place) + meaning_of(fault.text.split()[-1], text) + "\n"
     name = f"{job.named()}: " if job.named() is not None and fault.text.startswith("input ") else ""
     return f"ga-bench: {name}{fault.text}\n{shown}"
 
@@ -290,8 +325,8 @@ def lint(ask, job, text, answer):
 
 def warning_text(job, text, kind, at):
     meaning = MEANINGS.get(kind, "no recorded case shows what this means")
-    name = "-" if job.named() is None else job.named()
-    return f"{name}:{at.line}:{at.column}: warning: {kind}: {meaning}\n{shown_text(text, at.line, at.column)}"
+    file, line = job.origin(at.line)
+    return f"{file}:{line}:{at.column}: warning: {kind}: {meaning}\n{shown_text(text, at.line, at.column)}"
 
 
 @subcommand("FILE", code=range(65))
@@ -686,23 +721,6 @@ def output_of(ask, job, text, answer):
         raise written_fault(fault, text, plain, pieces) from None
 
 
-def written_pieces(plain, pieces):
-    """By its place in an expansion, each of its tokens as it was written."""
-    return {(it.line, it.column): piece for it, piece in zip(pieces_of(plain), pieces)}
-
-
-def written_fault(fault, text, plain, pieces):
-    """A fault of an expansion, at the place where its token was written; the expansion's end is the text's end. One that isn't
-    of source text, as of an expansion that is a session, shows the expansion."""
-    if not re.match("(source|asm) ", fault.text):
-        return Fault(fault.text, fault.place, fault.behind, shows=plain)
-    rows = text.split("\n")
-    end = len(rows), len(rows[-1]) + 1
-    piece = written_pieces(plain, pieces).get(fault.place)
-    place = (piece.line, piece.column) if piece else end
-    return Fault(re.sub(r"\d+:\d+", f"{place[0]}:{place[1]}", fault.text), place)
-
-
 def judge(ask, args, data, answer):
     if HELP & {*args} and answer.status == 0 and answer.output and not answer.error:
         return
@@ -721,6 +739,8 @@ def judge(ask, args, data, answer):
         text = job.input_of(data) if job.name != "explain" else ""
         output = output_of(ask, job, text, answer)
         wanted = Answer(status_of(job, output), output, "")
+    except IncludeFault as fault:
+        wanted = Answer(1, "", include_message(fault))
     except Fault as fault:
         wanted = Answer(1, "", reported(job, fault, text))
     if answer != wanted:

@@ -126,6 +126,15 @@ FAULTS = {
     "side.replay": ("profile 2\nplace\nnode 000 .\ngo\ntry 000 r = moved\ntry 000 x = moved\n", "BadSide", 6, 0),
     "outcome.replay": ("profile 2\nplace\nnode 000 .\ngo\nturn 4 = 5\n", "differs", 5, 0),
 }
+# Texts with several errors, also in a file that one includes: of each its name, its line and its column, and the file if it is another.
+SEVERAL = {
+    "two errors.source": ("node 000 frob\nnode 001\n  jump gone\n", [("BadToken", 1, 10), ("UndefinedLabel", 3, 8)]),
+    "including.larger": ('include "inner/library.larger"\nnode 708 use B\n include "inner/section.larger"\nnode 709 #\n',
+                         [("BadToken", 2, 3, "inner/library.larger"), ("UndefinedLabel", 2, 8, "inner/section.larger"), ("BadToken", 4, 10)]),
+    "missing.source": ('node 000 .\n  include "gone.source"\n', [("NoFile", 2, 3)]),
+    "malformed.larger": ("node 708 .\n include library.larger\n", [("BadInclude", 2, 2)]),
+}  # fmt: skip
+INNER = {"inner/library.larger": "body B\n  frob\nend\n", "inner/section.larger": "node 710\n  jump gone"}
 # Texts with warnings: what each is, its line and its column.
 WARNED = {
     "two warnings.source": ("node 000 main: 5 b! jump main\n  dup\nunused: jump $3F\n", [("Unreachable", 2, 3), ("UnusedLabel", 3, 1), ("OverMemory", 3, 9)]),
@@ -480,10 +489,17 @@ def reported(path, room, tasks, matchers):
                 yield *place, groups["message"], groups.get("severity", "error")
 
 
+def several():
+    """The texts with several errors or with warnings: the name of each, the level, and what is reported, with the file of each."""
+    for level, texts_with in (("error", SEVERAL), ("warning", WARNED)):
+        for name, (_, found) in texts_with.items():
+            yield name, level, [(*it, name) if len(it) == 3 else it for it in found]
+
+
 def errors(counts, program, room, opcodes):
     folder = f"{room}/faults"
-    os.makedirs(folder)
-    for name, text in {**{name: it[0] for name, it in (FAULTS | WARNED).items()}, **GOOD}.items():
+    os.makedirs(f"{folder}/inner")
+    for name, text in {**{name: it[0] for name, it in (FAULTS | SEVERAL | WARNED).items()}, **INNER, **GOOD}.items():
         with open(f"{folder}/{name}", "w", encoding="utf-8") as file:
             file.write(text)
     tasks = json.loads(read(f"{VSCODE}/tasks.json"))["tasks"]
@@ -493,9 +509,9 @@ def errors(counts, program, room, opcodes):
         found = [*reported(f"{folder}/{name}", room, tasks, matchers)]
         counts.same(f"VS Code's report of {name}", [it[:3] for it in found], [(f"{folder}/{file}", line, column)])
         counts.same(f"VS Code's message of {name}", [(fault in it[3], it[4]) for it in found], [(True, "error")])
-    for name, (_, warnings) in WARNED.items():
+    for name, level, kinds_at in several():
         found = [(*it[:3], it[3].split(":")[0], it[4]) for it in reported(f"{folder}/{name}", room, tasks, matchers)]
-        wanted = [(f"{folder}/{name}", line, column, kind, "warning") for kind, line, column in warnings]
+        wanted = [(f"{folder}/{file}", line, column, kind, level) for kind, line, column, file in kinds_at]
         counts.same(f"VS Code's report of {name}", found, wanted)
     for name in GOOD:
         counts.same(f"VS Code's reports of {name}", [*reported(f"{folder}/{name}", room, tasks, matchers)], [])
@@ -508,11 +524,12 @@ def errors(counts, program, room, opcodes):
         counts.same(f":make of {name}, its error", ([it[:4] for it in found], told), ([[file, line, column, 1]], ""))
         counts.same(f":make of {name}, its text", [(it[4].startswith(fault), it[5]) for it in found], [(True, "E")])
         counts.same(f":make of {name}, where it goes", place, [file, line, max(column, 1)])
-    for name, (_, warnings) in WARNED.items():
+    for name, level, kinds_at in several():
         (filetype, told, found, place), _ = by_vim(name, MAKE, room, folder)
         shown = [[*it[:4], it[4].split(":")[0], it[5]] for it in found]
-        counts.same(f":make of {name}", (shown, told), ([[name, line, column, 1, kind, "W"] for kind, line, column in warnings], ""))
-        counts.same(f":make of {name}, where it goes", place, [name, *warnings[0][1:]])
+        wanted = [[file, line, column, 1, kind, level[0].upper()] for kind, line, column, file in kinds_at]
+        counts.same(f":make of {name}", (shown, told), (wanted, ""))
+        counts.same(f":make of {name}, where it goes", place, wanted[0][:3])
     for name in GOOD:
         (filetype, told, found, place), _ = by_vim(name, MAKE, room, folder)
         counts.same(f":make of {name}", ([it for it in found if it[3]], told), ([], ""))

@@ -344,3 +344,20 @@ def expanded_text(pieces):
     for before, piece in zip([None, *pieces], pieces):
         text += ("" if before is None else " " if before.line == piece.line else "\n") + piece.text
     return text + "\n"
+
+
+def written_pieces(plain, pieces):
+    """By its place in an expansion, each of its tokens as it was written."""
+    return {(it.line, it.column): piece for it, piece in zip(pieces_of(plain), pieces)}
+
+
+def written_fault(fault, text, plain, pieces):
+    """A fault of an expansion, at the place where its token was written; the expansion's end is the text's end. One that isn't
+    of source text, as of an expansion that is a session, shows the expansion."""
+    if not re.match("(source|asm) ", fault.text):
+        return Fault(fault.text, fault.place, fault.behind, shows=plain)
+    rows = text.split("\n")
+    end = len(rows), len(rows[-1]) + 1
+    piece = written_pieces(plain, pieces).get(fault.place)
+    place = (piece.line, piece.column) if piece else end
+    return Fault(re.sub(r"\d+:\d+", f"{place[0]}:{place[1]}", fault.text), place)

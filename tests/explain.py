@@ -42,8 +42,8 @@ HARMLESS = {"own", "moved"} | TERMS
 # What an output has in place of a name.
 # The files of crates/ that have the names of replies and messages.
 NAMING = [
-    "ga_debug/src/error.rt", "ga_debug/src/replay_error.rt", "ga_expand/src/error.rt", "ga_jobs/src/fault.rt", "ga_lint/src/warning.rt",
-    "ga_prompt/src/answer.rt", "ga_prompt/src/refusal.rt", "ga_transcript/src/error.rt",
+    "ga_debug/src/error.rt", "ga_debug/src/replay_error.rt", "ga_expand/src/error.rt", "ga_include/src/error.rt",
+    "ga_jobs/src/fault.rt", "ga_lint/src/warning.rt", "ga_prompt/src/answer.rt", "ga_prompt/src/refusal.rt", "ga_transcript/src/error.rt",
 ]  # fmt: skip
 SHOWN = {"carry": "C 1", "turn": "moved", "place": "at fetch", "step": "steps", "slot": "slot2"}
 
@@ -72,7 +72,7 @@ def names_of_pages():
     """Returns the names that the pages have in their tables of faults, warnings, needs, stops, outcomes and the carry."""
     names = set()
     headings = [
-        "Faults of source text", "Faults of layout", "Faults of larger source text", WARNINGS, "Routes", "Trees", "Plans", "Sessions",
+        "Faults of source text", "Faults of layout", "Faults of larger source text", "Faults of included files", WARNINGS, "Routes", "Trees", "Plans", "Sessions",
         "Replay texts",
     ]  # fmt: skip
     for heading in headings:
@@ -114,9 +114,14 @@ def examples(text):
         goes_on = bool(command) and line.endswith(("|", "\\"))
 
 
+def joined(printed):
+    """A text, whose lines that begin with a blank are joined to the one before, as a long line of a text is."""
+    return re.sub("\n(?= )", "", printed)
+
+
 def key(args, data, printed):
-    """An example, whose lines that begin with a blank are joined to the one before, as a long line of a text is."""
-    return tuple(args), data, re.sub("\n(?= )", "", printed)
+    """What makes two examples the same."""
+    return tuple(args), data, joined(printed)
 
 
 def key_of_case(case):
@@ -159,7 +164,7 @@ def faults_of_text(program, name, text, recorded, shown):
     for command, printed in examples(text):
         has_name.add(re.search(rf"\b{SHOWN.get(name, name)}\b", printed) is not None)
         if "my.source" in command:
-            if run_beside_source(program, command) != printed:
+            if joined(run_beside_source(program, command)) != joined(printed):
                 wrong.append(f"prints something else: {command}")
             continue
         try:

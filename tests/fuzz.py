@@ -3,7 +3,7 @@ python3 tests/fuzz.py PROGRAM [--runs N | --seconds N] [--seed S] [--first NUMBE
 
 An input is a recorded case of tests/cases/, changed at random: words replaced by others of their kind; or cut, doubled,
 with other bytes, with lines swapped or taken from another case, with numbers at their limits. Its command line may be
-changed too, and it may be read as FILE. A third of the inputs are for `list`, `check` and `record`: their own cases, texts
+changed too, and it may be read as FILE, and then have lines that include FILES. A third of the inputs are for `list`, `check` and `record`: their own cases, texts
 of `asm` and `boot`, and sessions of `debug` and `replay` as transcripts. An answer is right if
 - tests/answers.py finds its status, its output and its text on standard error right;
 - it comes within 20 seconds, and takes at most 256 MiB of memory and 1,024 bytes for each byte of the input.
@@ -23,9 +23,11 @@ import resource
 import select
 import signal
 import sys
+import tempfile
 import time
+from contextlib import contextmanager
 
-from answers import CASES, SUBCOMMANDS, Answer, wrong
+from answers import CASES, LIMIT, SUBCOMMANDS, Answer, wrong
 from run_cases import stream
 from schedules import neighbours
 
@@ -50,6 +52,25 @@ KINDS = [kind.encode().split() for kind in (
     "000 001 002 003 008 03F 041 0A9 175", "moved waits held stopped", "regs mem ports node sides depth", "break clear until",
     "step trace", "where nodes map breaks", "P A B R S T C io steps at", "none IoRead Rom Unmapped", "written read",
 )]  # fmt: skip
+# Files that a FILE may include, in the folder where the program runs. There is also a folder, and a pipe that nobody writes.
+FILES = {
+    "library": "const ONE 1\nbody PAIR\n  dup drop\nend\n", "section": "node 710 5 !b\n", "items": ". dup drop\n  again: jump again",
+    "faulty": "node 711 frob\n\\ a note\nnode 712 jump gone\n", "nested": 'include "sub/deep"\n include "items"\t\\ twice\n',
+    "sub/deep": 'include "../section"', "itself": '. dup\ninclude "itself"\n', "malformed": " include items\n", "nothing": "",
+    "crlf": "node 713 .\r\n", "bytes": b"\xff", "half": " " * (LIMIT // 2), "long": " " * (LIMIT + 1),
+}  # fmt: skip
+HERE = "/proc/self/cwd"
+
+
+@contextmanager
+def folder_of_files():
+    with tempfile.TemporaryDirectory() as folder:
+        os.mkdir(f"{folder}/sub")
+        os.mkfifo(f"{folder}/pipe")
+        for name, text in FILES.items():
+            with open(f"{folder}/{name}", "wb") as file:
+                file.write(text if isinstance(text, bytes) else text.encode())
+        yield folder
 
 
 def as_transcript(name, data, output):
@@ -151,6 +172,16 @@ def words_of_a_kind(chance, data, other):
     return b"".join(words)
 
 
+def with_includes(chance, data):
+    """The same with some lines that include a file."""
+    lines = data.split(b"\n")
+    for _ in range(chance.choice([1, 1, 2])):
+        name = chance.choice([*FILES, "library", "section", "items", "nested", "sub", "pipe", "gone"])
+        line = f'include "{HERE}/{name}"' + chance.choice(["", "", "", "\r", " \\ a note", " x"])
+        lines.insert(chance.randint(0, len(lines)), line.encode())
+    return b"\n".join(lines)
+
+
 CHANGES = [cut, doubled, other_bytes, swapped_lines, lines_of_another, other_numbers]
 
 
@@ -204,8 +235,9 @@ def input_of(seed, number):
     args = list(args)
     # `check` of several files has an output of its own: tests/checking.py.
     has_one_file = args and args[0] in SUBCOMMANDS and args[0] != "check" and "FILE" in SUBCOMMANDS[args[0]].values
-    if has_one_file and chance.random() < 0.1:
+    if has_one_file and chance.random() < 0.2:
         args.append("/dev/stdin")
+        data = with_includes(chance, data) if chance.random() < 0.4 else data
     if args and chance.random() < 0.05:
         args[chance.randrange(len(args))] = chance.choice([*NUMBERS, *any_case(chance)[0], "", *ROUTES, "--", "é"])
     if chance.random() < 0.001:
@@ -273,7 +305,7 @@ def main():
     last = given.first + given.runs if until is None else 1 << 60
     parts = [range(given.first + worker, last, given.workers) for worker in range(given.workers)]
     print(f"fuzz: seed {given.seed}", flush=True)
-    with multiprocessing.Pool(given.workers) as pool:
+    with folder_of_files() as folder, multiprocessing.Pool(given.workers, os.chdir, [folder]) as pool:
         runs = [(os.path.abspath(given.program), given.seed, numbers, until) for numbers in parts]
         counts = pool.starmap(run_some, runs)
     passed, failed = (sum(column) for column in zip(*counts))

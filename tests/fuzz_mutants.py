@@ -12,7 +12,7 @@ import shutil
 import sys
 
 from answers import CASES, SUBCOMMANDS, Answer, wrong
-from fuzz import Runner, input_of
+from fuzz import Runner, folder_of_files, input_of
 
 INPUTS = 5000
 
@@ -151,7 +151,7 @@ def main():
     parser.add_argument("--workers", type=int, default=os.cpu_count() or 1)
     given = parser.parse_args()
     runs = [(os.path.abspath(given.program), number, given.seed) for number in range(len(MUTANTS))]
-    with multiprocessing.Pool(given.workers) as pool:
+    with folder_of_files() as folder, multiprocessing.Pool(given.workers, os.chdir, [folder]) as pool:
         found = pool.starmap(failing_input, runs, chunksize=1)
     for (name, change), at in zip(MUTANTS, found):
         if at is None:

@@ -4,6 +4,7 @@
   places    each subcommand that takes source text from FILE reports each error of it as FILE:LINE:COLUMN, and `lint` its warnings
   inputs    each subcommand with FILE names it if it isn't there, is a folder, too long, or no text
   names     FILE with any characters, shown without those that a terminal would obey
+  several   all errors of FILE, one behind the other
   others    errors without a place in source text, `check`, `record` and standard input have no name of FILE
 The last line that is printed is 'named faults: N passed, M failed', and the exit status is 0 if M is 0.
 """
@@ -78,6 +79,16 @@ def places(program, folder):
         expect(f"places: a warning {options}", came, (status, f"my.source{RUNS_OFF}", ""))
 
 
+def several(program, folder):
+    """tests/all_faults.py has more of them."""
+    errors = [f":1:10: error: BadToken: {TOKEN}\n  node 708 frob\n           ^\n",
+              ":3:8: error: UndefinedLabel: a name that is no label of its node (node 709)\n    jump gone\n         ^\n"]  # fmt: skip
+    file = write(folder, "my.source", "node 708 frob\nnode 709\n  jump gone\n")
+    for job in OF_SOURCE:
+        came = run(program, [*job.split(), file], cwd=folder)
+        expect(f"several: {job}", came, (1, "", "".join(f"my.source{it}" for it in errors)))
+
+
 def inputs(program, folder):
     os.mkdir(f"{folder}/folder")
     write(folder, "long", b" " * (LIMIT + 1))
@@ -144,7 +155,7 @@ def others(program, folder):
 
 def main():
     program = os.path.abspath(sys.argv[1])
-    for part in [places, inputs, names, others]:
+    for part in [places, several, inputs, names, others]:
         with tempfile.TemporaryDirectory() as folder:
             part(program, folder)
     print(f"named faults: {passed} passed, {len(failures)} failed")

@@ -1,8 +1,8 @@
 """Refuses each allocation of the program in turn: python3 tests/refuse_memory.py PROGRAM [CALLER]
 
 With one allocation refused a run must report `ga-bench: memory`, with status 3 and nothing on standard output, or answer
-as it does with ample memory, save that the fault of a file may be told as one of standard input is: without the file's
-name. The runs are those of recorded cases, and SESSIONS. CALLER is the program of the crate
+as it does with ample memory, save that the faults of a file may be reported as of standard input: the first one alone, without
+the file's name. The runs are those of recorded cases, SESSIONS, and those of files that have names. CALLER is the program of the crate
 ga_refused_calls: its call must answer as it does with ample memory, or be refused and leave its borrowed values as they
 were before, unless memory runs out outside the call; and at least one is refused. In a conversation at the prompt it may
 also be one line that is answered `refused Memory`; the others are then answered as if this one had no effect. The last
@@ -108,8 +108,8 @@ CALLS = [
     *[(["serve", *words], data) for words, data in RUNS],
 ]  # fmt: skip
 MOST = 10000
-# The fault of a file with a name, as compilers tell it.
-NAMED_FAULT = re.compile(rb".*:(\d+:\d+): error: (\w+): (.*?)(?: \(node (\d+)\))?\n((?:  .*\n)*)$")
+# A fault of a file with a name, as compilers show it.
+NAMED_FAULT = re.compile(rb"^.*:(\d+:\d+): error: (\w+): (.*?)(?: \(node (\d+)\))?\n((?:  .*\n)*)", re.M)
 
 
 def answer(program, words, data, **variables):
@@ -166,24 +166,45 @@ def refuse_in_talk(program, library, folder):
     return passed, wrong
 
 
+# A transcript whose head names its source, and files of which one includes others. The included lines with an error have the same
+# numbers in the whole text.
+NAMED = {
+    "x.source": b"node 000 . align 5 x: jump x\n",
+    "x.transcript": b"profile 2\nplace\nsource x.source\ngo\n> turn 1\nmoved 1\n> break 000 xx\nrefused BadAddress, the nearest label is x\n",
+    "good": b'include "sub/library"\nnode 708 A use B east\ninclude "end"\n',
+    "sub/library": b'const A 5\nbody B X\n  X b! !b\nend\n',
+    "end": b"node 709 5 !b",
+    "errors": b'include "faulty"\n',
+    "faulty": b"node 708 frob\nnode 709 jump gone\nnode 710 to 000\nnode 711 5 . .\n",
+    "missing": b'include "sub/library"\ninclude "gone"\n',
+    "malformed": b"node 708 .\ninclude gone\n",
+    "itself": b'include "itself"\n',
+}
+NAMED_RUNS = [
+    *[(job, "x.transcript") for job in ("check", "record", "debug")],
+    *[(job, "good") for job in ("asm", "expand", "lint", "list --labels", "map", "profile --json --turns 9", "debug")],
+    *[(job, "errors") for job in ("asm", "lint", "boot 708,709", "trace", "debug")],
+    *[("list", name) for name in ("missing", "malformed", "itself")],
+]
+
+
 def named_runs(folder):
-    """Runs of a transcript whose head names its source."""
-    os.mkdir(folder)
-    for name, text in [("x.source", b"node 000 . align 5 x: jump x\n"),
-                       ("x.transcript", b"profile 2\nplace\nsource x.source\ngo\n> turn 1\nmoved 1\n> break 000 xx\nrefused BadAddress, the nearest label is x\n")]:
+    """Runs of files with names of their own."""
+    os.makedirs(f"{folder}/sub")
+    for name, text in NAMED.items():
         with open(f"{folder}/{name}", "wb") as file:
             file.write(text)
-    return [([job, f"{folder}/x.transcript"], b"") for job in ("check", "record", "debug")]
+    return [([*job.split(), f"{folder}/{name}"], b"") for job, name in NAMED_RUNS]
 
 
 def rights_of_run(ample):
-    """Memory may be too short for the name of a file, too, so that its fault is told as one of standard input."""
+    """Memory may be too short for the name of a file, too, so that its fault is shown as one of standard input; or for all faults
+    of a text, so that one is."""
     code, told, fault = ample
     unnamed = [re.sub(rb"^ga-bench: .*: (input \w+\n)$", rb"ga-bench: \1", fault)]
-    if named := NAMED_FAULT.match(fault):
-        place, name, means, node, lines = named.groups()
-        kinds = [b"asm " + node] if node else [b"source", b"expand"]
-        unnamed = [b"ga-bench: %b %b %b\n%b%b\n" % (kind, place, name, lines, means) for kind in kinds]
+    for place, name, means, node, lines in NAMED_FAULT.findall(fault):
+        kinds = [b"asm " + node] if node else [b"source", b"expand", b"include"]
+        unnamed += [b"ga-bench: %b %b %b\n%b%b\n" % (kind, place, name, lines, means) for kind in kinds]
     return [ample, *[(code, told, text) for text in unnamed], (3, b"", b"ga-bench: memory\n")] if code != 3 else []
 
 

@@ -178,6 +178,12 @@ def ever(program, folder):
     expect("ever: record", run(program, ["record"], text.encode(), cwd=folder), as_text)
     expect("ever: debug -", run(program, ["debug", "-"], text.encode(), cwd=folder)[::2], (1, as_text[2]))
     expect("ever: source text", run(program, ["debug", "--place", "two.source"], b"turn 1\n", cwd=folder)[:2], (0, "moved 2\n"))
+    write(folder, "two.source", f'include "two"\n{TWO}')
+    write(folder, "two", "")
+    for job in ("check", "record", "debug"):
+        code, out, error = run(program, [job, write(folder, "file", text)], cwd=folder)
+        expect(f"ever: a source includes nothing, {job}", (code, out, "two.source:1:1" in error, "NoNode" in error), (1, "", True, True))
+    write(folder, "two.source", TWO)
     texts = [text.replace("\ngo", "\n.\ngo"), text.replace("source two", "source  two").replace("\ngo", "\n\ngo"),
              text.replace("two.source", ""), text.replace("source ", "source"), text.replace("\n", "\r\n"), text.replace("source", "Source"),
              text.replace("\ngo", "\ngo "), "profile 2\nplace\nsource two.source", "", "\n\nsource two.source\ngo\r\n", "source two.source\ngo\n"]

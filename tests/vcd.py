@@ -342,6 +342,10 @@ def save_faults(program):
         for name, fault in ((".", ".: input NotAFile"), ("none/it.gtkw", "none/it.gtkw: write")):
             answer = run(program, folder, "--save", name, "it.source")
             yield None if answer == (1, "", f"ga-bench: {fault}\n") else f"{name}: {answer}"
+        # Standard input is no file, so its save file may have any name.
+        words = [program, "trace", "--turns", "5", "--save", "-"]
+        status = subprocess.run(words, input=b"node 000 .", cwd=folder, capture_output=True, timeout=60).returncode
+        yield None if status == 0 and os.path.getsize(f"{folder}/-") else f"a save file with the name -: {status}"
         os.symlink("it.source", f"{folder}/link")
         os.link(f"{folder}/it.source", f"{folder}/twin")
         for name in ("it.source", "./it.source", "link", "twin"):
@@ -352,11 +356,16 @@ def save_faults(program):
             yield None if is_right else f"FILE as a save file, by the name {name}: {status} {errors}"
 
 
-def fault_of_memory(program):
-    """What is wrong with a waveform that is longer than the memory of its run, or None. A program with an address sanitizer needs
-    more memory and is slow, so it has no limit, and makes few turns."""
+def is_sanitized(program):
+    """Whether a program has an address sanitizer. It needs more memory, and is slow."""
     with open(program, "rb") as file:
-        has_limit = b"__asan_init" not in file.read()
+        return b"__asan_init" in file.read()
+
+
+def fault_of_memory(program):
+    """What is wrong with a waveform that is longer than the memory of its run, or None. A program with an address sanitizer has no
+    limit, and makes few turns."""
+    has_limit = not is_sanitized(program)
     limit, turns = (f"ulimit -S -v {KIB} && ", FOR_EVER_TURNS) if has_limit else ("", 300)
     command = ["bash", "-c", limit + 'exec "$0" "$@"', program, "trace", "--turns", str(turns)]
     with tempfile.TemporaryFile() as output:

@@ -1,0 +1,62 @@
+"""All faults of a source text, as FILE has them. It shares nothing with the program.
+
+`faults_of` gives them in order: the first fault of each part of the text, and in front of them that of the whole text, if no part
+has it. A part is the text up to the end of a section; the lines between the first section and this one are as if empty.
+"""
+from assembler import Fault, images_of
+from expander import expanded_text, expansion, pieces_of, written_fault
+
+MOST_FAULTS, MOST_SECTIONS = 20, 144
+
+
+def behind_definitions(pieces):
+    """How many of the tokens are those of the constants and bodies that a text begins with."""
+    at = 0
+    while at < len(pieces) and pieces[at].text in ("const", "body"):
+        if pieces[at].text == "const":
+            at += 3
+        else:
+            at = next((end for end in range(at + 1, len(pieces)) if pieces[end].text == "end"), len(pieces)) + 1
+    return at
+
+
+def starts_of(text):
+    """The lines at which a section begins: behind the definitions, those whose first token is `node`."""
+    pieces, firsts = [*pieces_of(text)], {}
+    for piece in pieces:
+        firsts.setdefault(piece.line, piece)
+    return [it.line for it in pieces[behind_definitions(pieces) :] if it.text == "node" and firsts[it.line] is it]
+
+
+def parts_of(text):
+    rows, starts = text.split("\n"), starts_of(text)
+    for first, end in [*zip(starts, [*starts[1:], len(rows) + 1])][:MOST_SECTIONS]:
+        yield "\n".join(row if line < starts[0] or first <= line else "" for line, row in enumerate(rows[: end - 1], 1))
+
+
+def first_fault(text):
+    """The first fault of a text, or None."""
+    try:
+        pieces = [*expansion(text)]
+    except Fault as fault:
+        return fault
+    plain = expanded_text(pieces)
+    try:
+        images_of(plain)
+    except Fault as fault:
+        return written_fault(fault, text, plain, pieces)
+    return None
+
+
+def faults_of(text):
+    first, found = first_fault(text), {}
+    if first is None:
+        return []
+    for part in parts_of(text):
+        fault = first_fault(part)
+        if fault:
+            found.setdefault(fault.text, fault)
+        if len(found) == MOST_FAULTS:
+            break
+    faults = [*found.values()]
+    return faults if first.text in found else [first, *faults][:MOST_FAULTS]
