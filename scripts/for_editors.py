@@ -103,6 +103,7 @@ def any_of(words):
 def added_tokens(words):
     """The kinds of tokens that only the larger language has."""
     return [
+        Token("Include", "Include", "keyword.control.import", r'include[ \t]+"[^"]+"'),
         Token("Keyword", "PreProc", "keyword.other", any_of(words.larger)),
         Token("NumberName", "Constant", "constant.language", any_of(words.directions)),
         Token("NumberName", "Constant", "constant.language", rf"{SIDE}(?:\|{SIDE})+"),

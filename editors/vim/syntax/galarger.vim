@@ -16,6 +16,7 @@ syntax match gaNumber "\v\S@1<!%(-[0-9]{1,8}|\%[01]{1,18}|'[!-~]')\S@!"
 syntax match gaNumberName "\v\S@1<!%(right|down|left|up)%(\|%(right|down|left|up))+\S@!"
 syntax match gaNumberName "\v\S@1<!%(north|east|south|west)\S@!"
 syntax match gaKeyword "\v\S@1<!%(const|body|end|use|to)\S@!"
+syntax match gaInclude "\v\S@1<!include[ \t]+\"[^\"]+\"\S@!"
 syntax match gaKeyword "\v\S@1<!%(align|data)\S@!"
 syntax match gaNode nextgroup=gaNodeName,gaBadNode,gaComment skipwhite skipempty "\v\S@1<!node\S@!"
 syntax match gaNumberName "\v\S@1<!%(right|down|left|up|rdlu|io|warm)\S@!"
@@ -34,6 +35,7 @@ highlight default link gaOpcode Statement
 highlight default link gaNumberName Constant
 highlight default link gaNode PreProc
 highlight default link gaKeyword PreProc
+highlight default link gaInclude Include
 highlight default link gaNumber Number
 highlight default link gaName Identifier
 highlight default link gaMark Delimiter
