@@ -92,15 +92,15 @@ _ga_bench() {
     NAME)
         words='BadToken NumberRange BadNode DuplicateNode DuplicateLabel ReservedLabel OpenBracket
             BadWord NoNode Empty UndefinedLabel OutOfReach UnextAlone TooLong ReservedName
-            DuplicateName OpenDefinition NoNeighbour UnknownBody TooLarge UnextRepeats
-            SplitLoop RunsOff PushesTooMany PopsTooMany UnusedLabel Unreachable
-            SeveralPorts ReturnsNowhere LeavesExtended OverMemory BadRoute NotEdge
-            NotNeighbour Repeated OtherRoot Unreached BadCommand BadAddress BadSide
-            BadCount BadValue NotHeld BadProfile NoGo Source Asm Route Tree Boot
-            EarlyReply differs read NoFile Folder NotAFile Exists NoName BadText BadCode
-            write Write memory Memory own take post check input stopped Counted IoRead Rom
-            Unmapped MultiWrite carry moved waits held stuck ring race turn place step
-            slot follower profile'
+            DuplicateName OpenDefinition NoNeighbour UnknownBody TooLarge BadInclude
+            IncludeCycle IncludeDepth IncludeCount IncludeSize UnextRepeats SplitLoop
+            RunsOff PushesTooMany PopsTooMany UnusedLabel Unreachable SeveralPorts
+            ReturnsNowhere LeavesExtended OverMemory BadRoute NotEdge NotNeighbour
+            Repeated OtherRoot Unreached BadCommand BadAddress BadSide BadCount BadValue
+            NotHeld BadProfile NoGo Source Asm Route Tree Boot EarlyReply differs read
+            NoFile Folder NotAFile Exists NoName BadText BadCode write Write memory Memory
+            own take post check input stopped Counted IoRead Rom Unmapped MultiWrite carry
+            moved waits held stuck ring race turn place step slot follower profile'
         ;;
     options) words=$options ;;
     *) return ;;

@@ -150,7 +150,8 @@ def alone(program, folder):
             error = run(program, [job, name], cwd=folder)[2]
             expect(f"alone: {job} {name}", (error.count("BadToken"), error.split("\n")[0]), (1, f"ga-bench: source {place} BadToken"))
     write(folder, FILE, "node 708 .\nnode 709 .\n")
-    for job, error in ("boot 708,709,708", "route Repeated 2"), ("run 708 1 5", "boot Unreached 709"), ("trace --nodes 7", "route BadRoute"):
+    faults = {"boot 708,709,708": "route Repeated 2", "run 708 1 5": "boot Unreached 709", "trace --nodes 7": "route BadRoute"}
+    for job, error in faults.items():
         expect(f"alone: {job}", run(program, [*job.split(), FILE], cwd=folder), (1, "", f"ga-bench: {error}\n"))
     write(folder, "words", "x y\n")
     expect("alone: dis", run(program, ["dis", "words"], cwd=folder), (1, "", "ga-bench: words 0 BadWord\n"))
@@ -213,7 +214,7 @@ def large_texts(most):
         "sections with nothing": "node 000\n" * (most // 9),
         "no section": "frob " * (most // 5),
         "long lines with errors": "".join(f"node {name} {'. ' * (most // 310)}frob\n" for name in NODES),
-        "a body that sections share": "body B\n" + " dup" * (most // 8) + "\nend\n" + "".join(f"node {name} use B frob\n" for name in NODES),
+        "a body that sections share": f"body B\n{' dup' * (most // 8)}\nend\n" + "".join(f"node {name} use B frob\n" for name in NODES),
     }
 
 

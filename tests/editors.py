@@ -48,6 +48,7 @@ SHOWN = {
     "mark": ("gaMark", "punctuation.definition"),
     "number": ("gaNumber", "constant.numeric"),
     "name": ("gaName", "variable.other"),
+    "include": ("gaInclude", "keyword.control.import"),
     "error": ("gaError", "invalid.illegal"),
     "bad node": ("gaBadNode", "invalid.illegal"),
     "head": ("gaHead", "keyword.other"),
@@ -83,6 +84,10 @@ MORE = {
         ("up|down up|io right|left|up|down |up", "name of a number,number,name of a number,error"),
         ("const A 2*(ONE-1)<<3 const B (1|2 *3", "keyword,name,number,keyword,name,number,error"),
         ("&again & &1 to: - &x", "name,error,error,label,opcode,name"),
+        ('include "a.larger"', "include,include"),
+        (' \tinclude \t"two words.larger" \\ "a"', "include,include,include,comment,comment"),
+        ('include "a', "name,error"),
+        ("include x", "name,name"),
     ],
     "named.transcript": [
         ("profile 2", "head,head"),
@@ -178,6 +183,9 @@ def opcodes_of_page():
 NAME = r"[A-Za-z_][A-Za-z0-9_]{0,15}"
 
 
+INCLUDING = re.compile(r'[ \t]*include[ \t]+"[^"]+"(?![^ \t\r])')
+
+
 def kind_in_larger(token, before):
     """What a token is that only the larger language has, or none of it."""
     if before == "node" and re.fullmatch(r"[0-7](0\d|1[0-7])(,[0-7](0\d|1[0-7]))+", token):
@@ -214,8 +222,9 @@ def of_source(lines, opcodes, is_larger=False):
     """For each line the tokens with what they are."""
     before = None
     for line in lines:
-        found = []
-        for token in re.findall(r"[^ \t\r]+", line):
+        included = INCLUDING.match(line) if is_larger else None
+        found = [(token, "include") for token in included[0].split()] if included else []
+        for token in re.findall(r"[^ \t\r]+", line[included.end() if included else 0 :]):
             if token == "\\" or found and found[-1][1] == "comment":
                 found.append((token, "comment"))
                 continue

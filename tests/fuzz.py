@@ -3,8 +3,9 @@ python3 tests/fuzz.py PROGRAM [--runs N | --seconds N] [--seed S] [--first NUMBE
 
 An input is a recorded case of tests/cases/, changed at random: words replaced by others of their kind; or cut, doubled,
 with other bytes, with lines swapped or taken from another case, with numbers at their limits. Its command line may be
-changed too, and it may be read as FILE, and then have lines that include FILES. A third of the inputs are for `list`, `check` and `record`: their own cases, texts
-of `asm` and `boot`, and sessions of `debug` and `replay` as transcripts. An answer is right if
+changed too, and it may be read as FILE, and then have lines that include some of FILES. A third of the inputs are for
+`list`, `check` and `record`: their own cases, texts of `asm` and `boot`, and sessions of `debug` and `replay` as
+transcripts. An answer is right if
 - tests/answers.py finds its status, its output and its text on standard error right;
 - it comes within 20 seconds, and takes at most 256 MiB of memory and 1,024 bytes for each byte of the input.
 A turn costs up to 144 tries, so an input asks for at most 2,000 turns in all. (It has at most 1,048,576 bytes, so at

@@ -170,7 +170,8 @@ def refuse_in_talk(program, library, folder):
 # numbers in the whole text.
 NAMED = {
     "x.source": b"node 000 . align 5 x: jump x\n",
-    "x.transcript": b"profile 2\nplace\nsource x.source\ngo\n> turn 1\nmoved 1\n> break 000 xx\nrefused BadAddress, the nearest label is x\n",
+    "x.transcript": b"profile 2\nplace\nsource x.source\ngo\n> turn 1\nmoved 1\n"
+    b"> break 000 xx\nrefused BadAddress, the nearest label is x\n",
     "good": b'include "sub/library"\nnode 708 A use B east\ninclude "end"\n',
     "sub/library": b'const A 5\nbody B X\n  X b! !b\nend\n',
     "end": b"node 709 5 !b",
