@@ -49,7 +49,7 @@ complete -c ga-bench -n __fish_use_subcommand -a record -d 'Runs the commands of
 complete -c ga-bench -n __fish_use_subcommand -a explain -d 'Explains an error, a warning, a state or a term'
 complete -c ga-bench -n __fish_use_subcommand -a help -d 'Print this message or the help of the given subcommand(s)'
 complete -c ga-bench -n '__fish_seen_subcommand_from one' -s h -l help -d 'Print help'
-complete -c ga-bench -n '__fish_seen_subcommand_from one' -F
+complete -c ga-bench -n '__fish_seen_subcommand_from one; and test (count (commandline -opc)) -ge 3' -F
 complete -c ga-bench -n '__fish_seen_subcommand_from asm' -s h -l help -d 'Print help'
 complete -c ga-bench -n '__fish_seen_subcommand_from asm' -F
 complete -c ga-bench -n '__fish_seen_subcommand_from dis' -l code -x -d 'How many words are code, from 0 to 64; the rest are data. By default all are code'
@@ -57,10 +57,10 @@ complete -c ga-bench -n '__fish_seen_subcommand_from dis' -s h -l help -d 'Print
 complete -c ga-bench -n '__fish_seen_subcommand_from dis' -F
 complete -c ga-bench -n '__fish_seen_subcommand_from boot' -s h -l help -d 'Print help'
 complete -c ga-bench -n '__fish_seen_subcommand_from boot; and test (count (commandline -opc)) = 2' -a '(__ga_bench_route)'
-complete -c ga-bench -n '__fish_seen_subcommand_from boot' -F
+complete -c ga-bench -n '__fish_seen_subcommand_from boot; and test (count (commandline -opc)) -ge 3' -F
 complete -c ga-bench -n '__fish_seen_subcommand_from run' -s h -l help -d 'Print help'
 complete -c ga-bench -n '__fish_seen_subcommand_from run; and test (count (commandline -opc)) = 2' -a '(__ga_bench_route)'
-complete -c ga-bench -n '__fish_seen_subcommand_from run' -F
+complete -c ga-bench -n '__fish_seen_subcommand_from run; and test (count (commandline -opc)) -ge 5' -F
 complete -c ga-bench -n '__fish_seen_subcommand_from debug' -l place -d 'The input is source text, even if it begins with \'profile\'; its words are placed'
 complete -c ga-bench -n '__fish_seen_subcommand_from debug' -l route -x -a '(__ga_bench_route)' -d 'The input is source text, which boots along this route, or a tree of routes'
 complete -c ga-bench -n '__fish_seen_subcommand_from debug' -s h -l help -d 'Print help'

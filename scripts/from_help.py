@@ -394,6 +394,8 @@ def fish(top, commands, names):
             place = seen
             if kind(it) == "ROUTE":
                 place += f"; and test (count (commandline -opc)) = {number + 2}"
+            elif number:
+                place += f"; and test (count (commandline -opc)) -ge {number + 2}"
             if kind(it) in kinds:
                 lines += [f"complete -c ga-bench -n '{place}' {kinds[kind(it)]}"]
     every = " ".join(it.names[0] for it in top.commands)
