@@ -1,5 +1,5 @@
 -- An answer to a text, or to what it expands to, is an answer to a file.
-use Rattle.std.proofs.Common.{◌≡◌, Bool, true, false, inl, inr, ℕ, List, Option, Some, None, Result, Ok, Err, refl, string_bytes, subst, sym}
+use Rattle.std.proofs.Common.{◌≡◌, Bool, true, false, inl, inr, ℕ, List, Some, None, Result, Ok, Err, refl, string_bytes, subst, sym}
 use Rattle.std.specs.Prelude.{if◌then◌else◌}
 use Rattle.ga_asm.specs.declared.text.TextError.{TextError}
 use Rattle.ga_expand.specs.declared.expansion.Expansion.{Expansion}

@@ -1,5 +1,5 @@
 -- The fault of an expansion is one of the text that it was made of.
-use Rattle.std.proofs.Common.{◌≡◌, ◌≢◌, inr, ℕ, List, Ok, refl, string_bytes}
+use Rattle.std.proofs.Common.{◌≢◌, inr, ℕ, List, Ok, refl, string_bytes}
 use Rattle.ga_asm.specs.Text.{IsTextFault}
 use Rattle.ga_asm.specs.declared.text.TextError.{TextError}
 use Rattle.ga_asm.specs.declared.text.TextError.TheVariants as text

@@ -2,7 +2,7 @@
 use Rattle.std.proofs.Common.{◌≡◌, ◌∙◌, ℕ, Bool, true, false, Global, List, ◌++◌, Result, Ok, Err, String, append_assoc, refl, string_bytes}
 use Rattle.std.proofs.lemmas.Bool.{eqb-true}
 use Rattle.std.specs.Fmt.{decimal}
-use Rattle.std.specs.Prelude.{◌==◌, IfOk, codes, if◌then◌else◌}
+use Rattle.std.specs.Prelude.{◌==◌, IfOk, codes}
 use Rattle.ga_transcript.specs.Compare.{View}
 use Rattle.ga_jobs.specs.declared.fault.ServeError.{ServeError}
 use Rattle.ga_jobs.specs.declared.fault.ServeError.TheVariants.{Memory, Read, Write}

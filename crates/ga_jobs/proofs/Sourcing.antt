@@ -1,5 +1,5 @@
 -- What is right of the whole text is right of the file, seen through the way back.
-use Rattle.std.proofs.Common.{◌≡◌, ◌<◌, ℕ, List, Option, Some, Result, Ok, Err, ap, inl, inr, length, option_map, refl, subst, sym}
+use Rattle.std.proofs.Common.{◌≡◌, ◌<◌, ℕ, List, Some, Result, Ok, ap, inl, inr, length, option_map, refl, subst, sym}
 use Rattle.ga_jobs.specs.declared.fault.ServeError.{ServeError}
 use Rattle.ga_jobs.specs.declared.fault.ServeError.TheVariants.{Memory, Output, Read, Shown, Write}
 use Rattle.ga_jobs.specs.declared.fault.OutputFault.TheVariants.{TooLong}

@@ -1,4 +1,4 @@
-use Rattle.std.proofs.Common.{◌≡◌, string_bytes, subst, sym}
+use Rattle.std.proofs.Common.{◌≡◌, subst, sym}
 use Rattle.ga_asm.specs.Text.{IsTextFault}
 use Rattle.ga_faults.specs.Origin.{at_origin}
 use Rattle.ga_jobs.specs.Fault.{FailsRightly}

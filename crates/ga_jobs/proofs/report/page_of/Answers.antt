@@ -1,4 +1,4 @@
-use Rattle.std.proofs.Common.{◌≡◌, option_map, subst, sym}
+use Rattle.std.proofs.Common.{option_map, subst, sym}
 use Rattle.std.specs.Borrow.{Bor}
 use Rattle.std.proofs.lemmas.Result.{IfOk-weaker}
 use Rattle.ga_report.specs.declared.close_up.CloseUp.{CloseUp}

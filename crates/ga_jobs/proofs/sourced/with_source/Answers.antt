@@ -1,5 +1,4 @@
-use Rattle.std.proofs.Common.{◌≡◌, ◌≤◌, ◌+◌, ◌==◌, ap, arith, length}
-use Rattle.std.specs.Prelude.{count_by}
+use Rattle.std.proofs.Common.{◌==◌, ap, arith, length}
 use Rattle.std.proofs.lemmas.List.Splits.{length-slice_split}
 use Rattle.std.proofs.lemmas.List.Sums.{count_by-le-length}
 use Rattle.ga_jobs.proofs.sourced.with_source.Goals as goal

@@ -1,4 +1,4 @@
-use Rattle.std.proofs.Common.{◌≡◌, ◌∙◌, inl, inr, Ok, Err, ap, refl, string_bytes, subst}
+use Rattle.std.proofs.Common.{◌≡◌, ◌∙◌, inl, inr, Ok, Err, ap, refl, subst}
 use Rattle.ga_transcript.specs.Compare.{comparison_view}
 use Rattle.ga_jobs.proofs.Reports.{named_fault}
 use Rattle.ga_jobs.specs.FileReport.{IsComparedIn, found_text}

@@ -1,4 +1,4 @@
-use Rattle.std.proofs.Common.{rules, ◌≡◌, ◌∙◌, [], inl, inr, Ok, Err, ap, ap₂, refl, string_bytes, subst}
+use Rattle.std.proofs.Common.{◌≡◌, ◌∙◌, [], inl, inr, Ok, Err, ap₂, refl, string_bytes, subst}
 use Rattle.ga_transcript.specs.Compare.{comparison_view}
 use Rattle.ga_jobs.proofs.Reports.{named_fault}
 use Rattle.ga_jobs.specs.FileReport.{IsComparedIn, found_text}

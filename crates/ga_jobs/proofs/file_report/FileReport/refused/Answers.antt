@@ -1,6 +1,5 @@
-use Rattle.std.proofs.Common.{rules, ◌≡◌, ◌∙◌, ◌++◌, ap, codes, refl, string_bytes}
+use Rattle.std.proofs.Common.{◌≡◌, ◌∙◌, ◌++◌, ap, codes, refl, string_bytes}
 use Rattle.ga_jobs.proofs.Reports.{four_pieces}
-use Rattle.ga_jobs.specs.Shown.{shown_name}
 use Rattle.ga_jobs.proofs.file_report.FileReport.refused.Goals as goal
 
 pub returns : goal.returns
