@@ -64,7 +64,7 @@ fn answers_a_file_of_the_larger_language(rt: HostRuntime) -> Result<(), Fail> {
 }
 
 #[test]
-fn reports_warnings_and_faults_at_their_places(rt: HostRuntime) -> Result<(), Fail> {
+fn denies_warnings(rt: HostRuntime) {
     let job = Job::Lint {
         deny: true,
         file: None,
@@ -72,14 +72,27 @@ fn reports_warnings_and_faults_at_their_places(rt: HostRuntime) -> Result<(), Fa
     let mut output = Vec::new(rt.alloc());
     let outcome = serve_file(&rt, &mut output, &job, b"node 708 + jump warm");
     assert!(rt; outcome == Ok(Ending::Denied) && status(&outcome) == 1);
+}
+
+#[test]
+fn reports_a_fault_at_its_place(rt: HostRuntime) -> Result<(), Fail> {
+    let job = Job::Asm { file: None };
     let fault = output_of_file(&rt, &job, b"node 800")
         .err()
         .ok_or("accepted")?;
     let lines = Lines::File("my.source");
     let shown = fault_message(rt.alloc(), &lines, &fault)?.ok_or("no place")?;
     assert!(rt; shown.starts_with("my.source:1:6: error: BadNode: no name of a node"));
-    let two = b"node 800\nnode 801";
-    let shown = faults_message(rt.alloc(), &lines, two, &fault)?.ok_or("no place")?;
+    Ok(())
+}
+
+#[test]
+fn reports_all_faults_of_a_text(rt: HostRuntime) -> Result<(), Fail> {
+    let job = Job::Asm { file: None };
+    let text = b"node 800\nnode 801";
+    let fault = output_of_file(&rt, &job, text).err().ok_or("accepted")?;
+    let lines = Lines::File("my.source");
+    let shown = faults_message(rt.alloc(), &lines, text, &fault)?.ok_or("no place")?;
     assert!(rt; shown.as_str().lines().count() == 6);
     Ok(())
 }
