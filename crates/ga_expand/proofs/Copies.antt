@@ -1,6 +1,6 @@
 -- Lists of nodes, and the copies of their sections.
-use Rattle.std.proofs.Common.{◌≡◌, ◌≢◌, ◌∙◌, ◌+◌, ◌-◌, ◌*◌, ◌<◌, ◌≤◌, ℕ, Bool, true, false, not, List, [], ◌∷◌, ◌++◌, length, map, get_or, take, drop, Option, Some, None, Result, Ok, Err, refl, sym, ap, append_assoc, arith}
-use Rattle.std.specs.Prelude.{◌==◌, ◌&&◌, IfErr, IfOk, codes, nat_lt, option_map, if◌then◌else◌}
+use Rattle.std.proofs.Common.{◌≡◌, ◌∙◌, ◌+◌, ◌-◌, ◌*◌, ◌<◌, ℕ, Bool, true, false, not, List, [], ◌∷◌, ◌++◌, length, map, get_or, take, Option, Some, None, Result, Ok, Err, refl, sym, ap, append_assoc, arith}
+use Rattle.std.specs.Prelude.{◌==◌, ◌&&◌, codes, nat_lt, option_map, if◌then◌else◌}
 use Rattle.std.specs.Borrow.{Bor}
 use Rattle.std.specs.Char.{is_digit}
 use Rattle.std.specs.List.{find, flat_map, list_all}
@@ -9,20 +9,18 @@ use Rattle.std.specs.Str.{bytes_eq}
 use Rattle.std.specs.Str.Parse.{digits_value}
 use Rattle.std.proofs.lemmas.Bool.{and_from, and_parts}
 use Rattle.std.proofs.lemmas.Bool.Decides.{nat_tests}
-use Rattle.std.proofs.lemmas.List.{drop_all, flat_map_more, length-map, map-append, take_more}
+use Rattle.std.proofs.lemmas.List.{flat_map_more, length-map, map-append, take_more}
 use Rattle.ga_word.specs.Text.{is_blank}
 use Rattle.ga_pack.specs.Model.Text.{Place}
 use Rattle.ga_place.specs.Node.{is_node_name, node_named}
-use Rattle.ga_expand.specs.declared.error.ExpandError.{ExpandError}
-use Rattle.ga_expand.specs.declared.error.ExpandErrorKind.TheVariants.{BadToken, Memory, TooLarge}
+use Rattle.ga_expand.specs.declared.error.ExpandErrorKind.TheVariants.{BadToken, TooLarge}
 use Rattle.ga_expand.specs.declared.piece.Piece as here
-use Rattle.ga_expand.specs.Error.{Fault, fault_of}
+use Rattle.ga_expand.specs.Error.{Fault}
 use Rattle.ga_expand.specs.Expanding.{Piece}
-use Rattle.ga_expand.specs.NodeLists.{NoList, Spreading, all_of, are_nodes, at_end, copied, copies, copy, further_on, is_long, list_ended, name_at, named_by, names_in, spread, spread_at, spread_from, start_spread, with_copies}
+use Rattle.ga_expand.specs.NodeLists.{NoList, Spreading, all_of, are_nodes, at_end, copied, copies, copy, further_on, is_long, list_ended, name_at, named_by, names_in, spread_at, spread_from, with_copies}
 use Rattle.ga_expand.specs.inner.Bodies.{texts_in}
 use Rattle.ga_expand.specs.inner.Piece.{piece_in}
 use Rattle.ga_expand.specs.inner.Plain.{is_token}
-use Rattle.ga_expand.proofs.Tokens.{left_at}
 
 -- ---- the names of a list
 
@@ -192,65 +190,27 @@ list_done now node list tokens done left all less =
 
 -- ---- all tokens
 
-pub none_spread : (pieces : List here.Piece) (now : Spreading) → now ≡ start_spread
-    → spread_from now (drop 0 (map piece_in pieces)) ≡ spread (Ok (map piece_in pieces))
-none_spread pieces now is = ap (λ (n : Spreading). spread_from n (map piece_in pieces)) is
-
-module _ (pieces : List here.Piece) (index : ℕ) (piece other : here.Piece)
-    (inside : index < length pieces) (at : piece ≡ get_or pieces index other)
-    (before : Spreading) (all : Result (List Piece) Fault)
-    (so_far : spread_from before (drop index (map piece_in pieces)) ≡ all) where
-  spread_here : further_on (spread_at before (piece_in piece) before.section)
-      (λ next. spread_from next (drop (index + 1) (map piece_in pieces))) ≡ all
+module _ (all : Result (List Piece) Fault) (before : Spreading) (piece : Piece)
+    (left others : List Piece) (cut : left ≡ piece ∷ others)
+    (so_far : spread_from before left ≡ all) where
+  spread_here : further_on (spread_at before piece before.section)
+      (λ next. spread_from next others) ≡ all
   unfolding spread_from
-  spread_here =
-      ap (spread_from before) (sym (left_at piece_in pieces index piece other inside at)) ∙ so_far
+  spread_here = ap (spread_from before) (sym cut) ∙ so_far
 
-  pub one_spread : (after : Spreading)
-      → spread_at before (piece_in piece) before.section ≡ Ok after
-      → spread_from after (drop (index + 1) (map piece_in pieces)) ≡ all
+  pub one_spread : (after : Spreading) → spread_at before piece before.section ≡ Ok after
+      → spread_from after others ≡ all
   one_spread after e =
-      let rest = drop (index + 1) (map piece_in pieces) in
-      ap (λ (r : Result Spreading Fault). further_on r (λ next. spread_from next rest)) (sym e)
+      ap (λ (r : Result Spreading Fault). further_on r (λ next. spread_from next others)) (sym e)
       ∙ spread_here
 
-  pub one_refused : (fault : Fault)
-      → spread_at before (piece_in piece) before.section ≡ Err fault → all ≡ Err fault
+  pub one_refused : (fault : Fault) → spread_at before piece before.section ≡ Err fault
+      → all ≡ Err fault
   one_refused fault e =
-      let rest = drop (index + 1) (map piece_in pieces) in
       sym spread_here
-      ∙ ap (λ (r : Result Spreading Fault). further_on r (λ next. spread_from next rest)) e
+      ∙ ap (λ (r : Result Spreading Fault). further_on r (λ next. spread_from next others)) e
 
-module _ {A : Type 0} (result : Result A ExpandError) (items : A → List here.Piece)
-    (pieces : List here.Piece) (index : ℕ) (now : Spreading) (all : Result (List Piece) Fault)
-    (end : length pieces ≤ index)
-    (so_far : spread_from now (drop index (map piece_in pieces)) ≡ all) where
-  at_the_end : all ≡ all_of (at_end now now.section)
-  unfolding spread_from
-  at_the_end =
-      let none : drop index (map piece_in pieces) ≡ [] =
-      drop_all index (map piece_in pieces)
-      (omega (arith, end, length-map pieces piece_in)) in
-      sym so_far ∙ ap (spread_from now) none
-
-  pub spread_ok : IfOk result (λ a. all_of (at_end now now.section) ≡ Ok (map piece_in (items a)))
-      → IfOk result (λ a. all ≡ Ok (map piece_in (items a)))
-  spread_ok h = ok_by result h
-    where
-      ok_by : (r : Result A ExpandError)
-          → IfOk r (λ a. all_of (at_end now now.section) ≡ Ok (map piece_in (items a)))
-          → IfOk r (λ a. all ≡ Ok (map piece_in (items a)))
-      ok_by (Ok a) h = at_the_end ∙ h
-      ok_by (Err error) h = tt
-
-  pub spread_err : IfErr result (λ error. error.kind ≢ Memory
-      → all_of (at_end now now.section) ≡ Err (fault_of error))
-      → IfErr result (λ error. error.kind ≢ Memory → all ≡ Err (fault_of error))
-  spread_err h = err_by result h
-    where
-      err_by : (r : Result A ExpandError)
-          → IfErr r (λ error. error.kind ≢ Memory
-          → all_of (at_end now now.section) ≡ Err (fault_of error))
-          → IfErr r (λ error. error.kind ≢ Memory → all ≡ Err (fault_of error))
-      err_by (Ok a) h = tt
-      err_by (Err error) h = λ some. at_the_end ∙ h some
+pub all_spread : (all : Result (List Piece) Fault) (now : Spreading) (left : List Piece)
+    → left ≡ [] → spread_from now left ≡ all → all ≡ all_of (at_end now now.section)
+unfolding spread_from
+all_spread all now left none so_far = sym so_far ∙ ap (spread_from now) none

@@ -9,7 +9,9 @@ mod Steps
 mod Origins
 mod Lists
 mod TokensRead
+mod Made
 mod Copies
 mod Expressions
+mod Unchanged
 mod PlainTexts
 mod WorkedExpansions

@@ -16,9 +16,9 @@ use Rattle.ga_expand.specs.Error.{Fault}
 use Rattle.ga_expand.specs.Bodies.{Arguments, Draft, Part, Reading, SharedBody, Tokens, Unfolding, begun, behind, behind_all, body_named, failed, filled, missing, unless_ended, use_of, used}
 use Rattle.ga_expand.specs.Constants.{is_among}
 use Rattle.ga_expand.specs.Expanding.{Body, Piece, Stage}
-use Rattle.ga_expand.specs.declared.piece.Piece as here
 use Rattle.ga_expand.specs.inner.Bodies.{body_in, filled_in, part_in, texts_in}
 use Rattle.ga_expand.specs.inner.Piece.{piece_in}
+use Rattle.ga_expand.specs.inner.Pieces.{part_pieces}
 use Rattle.ga_expand.proofs.Origins.{position_map}
 
 -- ---- names
@@ -205,17 +205,11 @@ begun_by now next place one parts arguments left less same none =
 
 -- ---- all tokens
 
-pub all_pieces : (old new : List here.Piece) (parts : List part.Part)
-    → new ≡ old ++ map (λ part. part.piece) parts
-    → map piece_in old ++ map (λ part. part.piece) (map part_in parts) ≡ map piece_in new
-all_pieces old new parts is =
-    ap (λ (ps : List Piece). map piece_in old ++ ps) (sym (by parts))
-    ∙ sym (ap (map piece_in) is ∙ map-append piece_in old (map (λ part. part.piece) parts))
-  where
-    by : (parts : List part.Part) → map piece_in (map (λ part. part.piece) parts)
-        ≡ map (λ part. part.piece) (map part_in parts)
-    by [] = refl
-    by (one ∷ parts) = ap (λ (ps : List Piece). piece_in one.piece ∷ ps) (by parts)
+pub all_pieces : (parts : List part.Part)
+    → map (λ part. part.piece) (map part_in parts) ≡ part_pieces parts
+all_pieces [] = refl
+all_pieces (one ∷ parts) =
+    ap (λ (ps : List Piece). piece_in one.piece ∷ ps) (all_pieces parts)
 
 -- ---- the end of a body
 

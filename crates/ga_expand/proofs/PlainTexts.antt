@@ -3,7 +3,7 @@ use Rattle.std.proofs.Common.{◌≡◌, ◌∙◌, ◌/◌, ◌%◌, ℕ, Bool,
 use Rattle.std.specs.Prelude.{◌==◌, ◌&&◌, ◌^◌, codes, nat_le, nat_lt, if◌then◌else◌}
 use Rattle.std.specs.Char.{is_digit}
 use Rattle.std.specs.List.{find, list_all, list_any}
-use Rattle.std.specs.Option.{option_map, option_or, unwrap_or}
+use Rattle.std.specs.Option.{option_map, option_map_or, option_or, unwrap_or}
 use Rattle.std.specs.Str.{bytes_eq}
 use Rattle.std.specs.Str.Parse.{digits_value}
 use Rattle.std.proofs.lemmas.Bool.{and_from, and_parts, not-true}
@@ -24,24 +24,22 @@ use Rattle.ga_pack.specs.Slots.{dest_bound, op_fits}
 use Rattle.ga_place.specs.Node.{node_named}
 use Rattle.ga_pack.specs.Model.Token as model
 use Rattle.ga_pack.specs.Model.Token.{Token, as_fixed, as_hex, as_label, as_name, as_node, as_op, fixed, is_letter, is_letter_or_digit, is_name, is_node, is_reserved, label_from, meaning_at, meaning_of, meanings, number_named}
-use Rattle.ga_expand.specs.Constants.{constant_named}
-use Rattle.ga_expand.specs.Expanding.{Body, Head, Naming, NodeName, Piece, Scope, Stage, Towards, Value, Valuing, expansion_from, further, is_ascii, is_const, is_to, item_at, label_in, onto, piece_at, pieces_of, stage_by, start, step_at, word_at, word_of, word_step}
+use Rattle.ga_expand.specs.Constants.{Constants, constant_named}
+use Rattle.ga_expand.specs.Expanding.{Body, Head, Naming, NodeName, Piece, Scope, Stage, Towards, Value, Valuing, expansion_from, further, is_ascii, is_const, is_to, item_at, label_in, number_text, onto, piece_at, pieces_of, same_or, stage_by, start, step_at, word_at, word_of, word_step}
 use Rattle.ga_expand.specs.Bodies as bodies
 use Rattle.ga_expand.specs.Bodies.{Part, Tokens, Unfolding, first, is_body, is_use, read_at, unfolded, unfolded_from}
 use Rattle.ga_expand.specs.Error.{Fault}
-use Rattle.ga_expand.specs.NodeLists.{NoList, NodeNext, Section, Spreading, in_section, is_list, spread, spread_from, with_piece}
+use Rattle.ga_expand.specs.NodeLists.{is_list, spread, spread_from}
 use Rattle.ga_expand.specs.Texts.{expanded, expansion}
 use Rattle.ga_expand.specs.Places.{direction_named}
 use Rattle.ga_expand.specs.Laws.{PlainStays}
 use Rattle.ga_expand.specs.Literal.{as_character, literal_of}
 use Rattle.ga_expand.proofs.Stages.{is_naming, naming}
+use Rattle.ga_expand.proofs.Unchanged.{SpreadsAt, as_part, item_spreads, name_spreads, pieces_in}
 use Rattle.ga_expand.specs.Sides.{as_sides}
+use Rattle.ga_expand.specs.inner.Plain.{is_plain_byte}
 
 -- ---- characters with which no form of the larger language begins
-
-abbrev is_plain_byte : ℕ → Bool
-is_plain_byte c =
-    nat_lt c 128 && not (c == 45) && not (c == 37) && not (c == 39) && not (c == 124)
 
 letter_is_plain : (c : ℕ) → is_letter_or_digit c ≡ true → is_plain_byte c ≡ true
 letter_is_plain c h = grind (arith, nat_tests)
@@ -110,6 +108,18 @@ unfolding literal_of
 no_literal c cs h =
     let p = plain_byte c (and_parts (is_plain_byte c) (list_all is_plain_byte cs) h).0 in
     rw (p.no_minus, p.no_percent, no_character c cs p.no_quote, no_sides (c ∷ cs) h) refl
+
+-- such a token is written as it is, unless it is the name of a constant
+pub plain_word : (constants : Constants) (text : List ℕ) → list_all is_plain_byte text ≡ true
+    → word_of constants text
+    ≡ Ok (option_map_or number_text (constant_named constants text) text)
+unfolding word_of literal_of
+plain_word constants [] h = refl
+plain_word constants (c ∷ cs) h = rw (no_literal c cs h) (by (constant_named constants (c ∷ cs)))
+  where
+    by : (o : Option ℕ) → same_or o (c ∷ cs) ≡ Ok (option_map_or number_text o (c ∷ cs))
+    by (Some n) = refl
+    by None = rw (plain_ascii (c ∷ cs) h) refl
 
 none_named : (text : List ℕ) → constant_named [] text ≡ None
 none_named text = by (is_name text)
@@ -546,12 +556,6 @@ first_stays (piece ∷ pieces) ts e h =
 abbrev plain_state : List Part → Stage → Unfolding
 plain_state parts stage = record first { parts = parts; reading = Tokens stage }
 
-abbrev as_part : Piece → Part
-as_part piece = record { piece = piece; parameter = None }
-
-abbrev pieces_in : List Part → List Piece
-pieces_in parts = map (λ part. part.piece) parts
-
 one_unfolds : (stage : Stage) (parts : List Part) (piece : Piece) (pieces : List Piece)
     → is_use stage piece.text ≡ false
     → unfolded_from (plain_state (parts ++ as_part piece ∷ []) (bodies.behind stage piece.text))
@@ -759,41 +763,6 @@ unfolding meaning_at
 no_list text e =
     named_by text ((length text == 3) && list_all (λ c. is_digit c 10) text
     && (nat_lt (digits_value 10 text / 100) 8 && nat_lt (digits_value 10 text % 100) 18)) refl e
-
-abbrev plain_spread : List Piece → Section → Spreading
-plain_spread done section =
-    record { done = done; left = bodies.most_unfolded; section = section }
-
--- the section of a token, behind `node` or not, and the `node` in front
-abbrev section_by : Bool → Piece → Section
-section_by true node = NodeNext node
-section_by false node = NoList
-
-abbrev in_front : Bool → Piece → List Piece
-in_front true node = node ∷ []
-in_front false node = []
-
-abbrev SpreadsAt : Bool → List Piece → Type 0
-SpreadsAt b pieces = (done : List Piece) (node : Piece)
-    → spread_from (plain_spread done (section_by b node)) pieces
-    ≡ Ok (done ++ (in_front b node ++ pieces))
-
-item_spreads : (piece : Piece) (pieces done : List Piece) (b : Bool) → SpreadsAt b pieces
-    → spread_from (if b then in_section (plain_spread done NoList) (NodeNext piece)
-    else with_piece (plain_spread done NoList) piece) pieces ≡ Ok (done ++ piece ∷ pieces)
-item_spreads piece pieces done true more = more done piece
-item_spreads piece pieces done false more =
-    more (done ++ piece ∷ []) piece ∙ ap Ok (append_assoc done (piece ∷ []) pieces)
-
-name_spreads : (node piece : Piece) (pieces done : List Piece) → is_list piece.text ≡ false
-    → SpreadsAt false pieces
-    → spread_from (plain_spread done (NodeNext node)) (piece ∷ pieces)
-    ≡ Ok (done ++ node ∷ piece ∷ pieces)
-unfolding spread_from
-name_spreads node piece pieces done none more =
-    rw none (more ((done ++ node ∷ []) ++ piece ∷ []) piece
-    ∙ ap Ok (append_assoc (done ++ node ∷ []) (piece ∷ []) pieces
-    ∙ append_assoc done (node ∷ []) (piece ∷ pieces)))
 
 pieces_spread : (stage : Stage) (pieces : List Piece)
     → all_placed stage (meanings (is_naming stage) (texts_in pieces)) ≡ true

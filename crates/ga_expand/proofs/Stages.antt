@@ -12,7 +12,7 @@ use Rattle.ga_pack.specs.declared.error_kind.SourceErrorKind.TheVariants as kind
 use Rattle.ga_pack.specs.Model.Token as model
 use Rattle.ga_pack.specs.Model.Token.{Token, as_fixed, as_hex, as_label, as_name, as_op, fixed, is_name, is_node, label_from, meaning_of, number_named, numeral, ranged}
 use Rattle.ga_expand.specs.Expanding.{Body, NodeName, Stage, Value, stage_by}
-use Rattle.ga_expand.specs.inner.Scope.{mark_stage}
+use Rattle.ga_expand.specs.inner.Role.{mark_stage}
 
 pub of_op : (text : List ℕ) (o : Op) → find (λ o. bytes_eq (name_of o) text) opcodes ≡ Some o
     → meaning_of text ≡ model.op o
@@ -179,3 +179,28 @@ naming (model.op o) = sym (op_naming (takes_dest o))
 naming model.node = refl
 naming model.comma = refl
 naming t = refl
+
+not_node : (text : List ℕ) → bytes_eq text (codes "node") ≡ false
+    → is_naming (mark_stage text) ≡ false
+not_node text e = rw e (op_naming (bytes_eq text (codes ",")))
+
+other_node : (text : List ℕ) (o : Option Op) → bytes_eq text (codes "node") ≡ false
+    → find (λ o. bytes_eq (name_of o) text) opcodes ≡ o → false ≡ is_node (meaning_of text)
+other_node text (Some o) e f = sym (ap is_node (of_op text o f))
+other_node text None e f =
+    sym (naming (meaning_of text) ∙ ap is_naming (sym (of_no_op text f)) ∙ not_node text e)
+
+node_is_node : is_node (meaning_of (codes "node")) ≡ true
+unfolding meaning_of
+node_is_node = refl
+
+-- a token is `node` by its text
+pub node_text : (text : List ℕ)
+    → bytes_eq text (codes "node") ≡ is_node (meaning_of text)
+node_text text = by (bytes_eq text (codes "node")) refl
+  where
+    by : (b : Bool) → bytes_eq text (codes "node") ≡ b → b ≡ is_node (meaning_of text)
+    by true e =
+        sym (ap (λ t. is_node (meaning_of t)) ((bytes_eq-Decides text (codes "node")).0 e)
+        ∙ node_is_node)
+    by false e = other_node text (find (λ o. bytes_eq (name_of o) text) opcodes) e refl

@@ -1,5 +1,5 @@
 -- The tokens of a text are taken one by one.
-use Rattle.std.proofs.Common.{◌≡◌, ◌≢◌, ◌∙◌, ◌+◌, ◌/◌, ◌%◌, ◌<◌, ◌≤◌, ℕ, zero, suc, Bool, true, false, not, List, [], ◌∷◌, ◌++◌, length, map, get_or, drop, refl, sym, ap, subst, append-nil, append_assoc, Ok, Err, Result, Option, Some, None, arith, lit<}
+use Rattle.std.proofs.Common.{◌≡◌, ◌≢◌, ◌∙◌, ◌/◌, ◌%◌, ◌<◌, ℕ, zero, suc, Bool, true, false, not, List, [], ◌∷◌, ◌++◌, length, map, refl, sym, ap, subst, append-nil, append_assoc, Ok, Err, Result, Option, Some, None, arith, lit<}
 use Rattle.std.specs.Prelude.{◌==◌, ◌&&◌, IfErr, IfOk, codes, nat_lt, if◌then◌else◌}
 use Rattle.std.specs.Fmt.{digit_glyph}
 use Rattle.std.specs.List.{list_all}
@@ -7,7 +7,6 @@ use Rattle.std.specs.Option.{is_some}
 use Rattle.std.specs.Str.{IsAscii, bytes_eq}
 use Rattle.std.proofs.lemmas.Bool.{and_from, and_parts}
 use Rattle.std.proofs.lemmas.Bool.Decides.{nat_tests}
-use Rattle.std.proofs.lemmas.List.{drop_all, length-map}
 use Rattle.std.proofs.lemmas.List.Folds.{list_all-append}
 use Rattle.ga_word.specs.Hex.{hex_digits}
 use Rattle.ga_word.specs.Text.{is_blank}
@@ -26,19 +25,16 @@ use Rattle.ga_expand.specs.declared.expansion.Expansion.{Expansion}
 use Rattle.ga_expand.specs.Error.{Fault, fault_of}
 use Rattle.ga_expand.specs.Constants.{Constants, constant_named, is_kept, number_of}
 use Rattle.ga_expand.specs.Expression.{value_of}
-use Rattle.ga_expand.specs.Expanding.{Body, Head, Naming, NodeName, Piece, Scope, Stage, Step, Towards, Value, Valuing, address_texts, addressed, all_at, directed, ended, expansion_from, further, in_node, is_ascii, is_const, is_to, item_at, label_in, number_step, number_text, onto, pieces_of, plain_at, same_or, silent, stage_by, start, step_at, valued, with_constant, with_stage, word_at, word_by, word_of, word_step}
+use Rattle.ga_expand.specs.Expanding.{Body, Head, Naming, NodeName, Piece, Scope, Stage, Step, Towards, Value, Valuing, address_texts, addressed, all_at, directed, ended, expansion_from, further, in_node, is_ascii, is_const, is_to, item_at, label_in, number_step, number_text, onto, plain_at, same_or, silent, stage_by, start, step_at, valued, with_constant, with_stage, word_at, word_by, word_of, word_step}
 use Rattle.ga_expand.specs.Places.{direction_named, port_named, port_towards}
 use Rattle.ga_expand.specs.Literal.{literal_of}
-use Rattle.ga_expand.specs.Bodies.{unfolded}
-use Rattle.ga_expand.specs.NodeLists.{spread}
-use Rattle.ga_expand.specs.Texts.{IsExpansion, expanded, expansion}
 use Rattle.ga_expand.specs.declared.piece.Piece as here
 use Rattle.ga_expand.specs.inner.Piece.{piece_in}
+use Rattle.ga_expand.specs.inner.Making.{Made}
 use Rattle.ga_expand.specs.inner.Plain.{is_token, is_written}
 use Rattle.ga_expand.specs.inner.Scope.{HasFailed, HasTaken, IsFresh, Progress, scope_of}
 use Rattle.ga_expand.specs.inner.Writing.{Finished}
 use Rattle.ga_expand.proofs.TokenTexts.{blank_texts}
-use Rattle.ga_expand.proofs.Tokens.{left_at}
 
 -- ---- one token more
 
@@ -306,7 +302,7 @@ sound_step scope piece (Towards name place) made is e =
 
 pub started : (all : List Piece) (expander : Expander) → scope_of expander ≡ start
     → expander.writer.text.items ≡ [] → expander.writer.origins.items ≡ []
-    → Progress all expander (drop 0 all)
+    → Progress all expander all
 started all expander at none no_origins = record {
   done = [];
   fresh = subst IsFresh (sym at) tt;
@@ -326,63 +322,60 @@ started all expander at none no_origins = record {
     nothing_done (Err fault) = refl
 
 -- what is left at a token
-module _ (pieces : List here.Piece) (index : ℕ) (piece other : here.Piece)
-    (inside : index < length pieces) (at : piece ≡ get_or pieces index other) where
-  pub taken : (before after : Expander)
-      → Progress (map piece_in pieces) before (drop index (map piece_in pieces))
-      → HasTaken before after (piece_in piece)
-      → Progress (map piece_in pieces) after (drop (index + 1) (map piece_in pieces))
+module _ (all left others : List Piece) (piece : here.Piece)
+    (cut : left ≡ piece_in piece ∷ others) where
+  pub taken : (before after : Expander) → Progress all before left
+      → HasTaken before after (piece_in piece) → Progress all after others
   unfolding expansion_from
   taken before after so_far (made, is, has) =
-      let rest = drop (index + 1) (map piece_in pieces) in
       let sound = sound_step (scope_of before) (piece_in piece) (scope_of before).stage made
       piece.token is in
       record {
         done = so_far.done ++ made.pieces;
         fresh = subst IsFresh (sym has.scope) sound.fresh;
         written = has.written so_far.done so_far.written sound.written;
-        whole = onto_onto so_far.done made.pieces (expansion_from (scope_of after) rest)
-            ∙ ap (λ (s : Scope). onto so_far.done (onto made.pieces (expansion_from s rest)))
+        whole = onto_onto so_far.done made.pieces (expansion_from (scope_of after) others)
+            ∙ ap (λ (s : Scope). onto so_far.done (onto made.pieces (expansion_from s others)))
             has.scope
             ∙ ap (λ (r : Result Step ExpandErrorKind). onto so_far.done
-            (further (piece_in piece).place r (λ next. expansion_from next rest))) (sym is)
+            (further (piece_in piece).place r (λ next. expansion_from next others))) (sym is)
             ∙ ap (λ (ps : List Piece). onto so_far.done (expansion_from (scope_of before) ps))
-            (sym (left_at piece_in pieces index piece other inside at))
+            (sym cut)
             ∙ so_far.whole;
       }
 
-  pub failed : (expander : Expander) (fault : Fault)
-      → Progress (map piece_in pieces) expander (drop index (map piece_in pieces))
-      → HasFailed expander (piece_in piece) fault
-      → expansion_from start (map piece_in pieces) ≡ Err fault
+  failed_by : (expander : Expander) (fault : Fault) → Progress all expander left
+      → HasFailed expander (piece_in piece) fault → expansion_from start all ≡ Err fault
   unfolding expansion_from
-  failed expander fault so_far (is, at_place) =
-      let rest = drop (index + 1) (map piece_in pieces) in
+  failed_by expander fault so_far (is, at_place) =
       sym so_far.whole
-      ∙ ap (λ (ps : List Piece). onto so_far.done (expansion_from (scope_of expander) ps))
-      (left_at piece_in pieces index piece other inside at)
+      ∙ ap (λ (ps : List Piece). onto so_far.done (expansion_from (scope_of expander) ps)) cut
       ∙ ap (λ (r : Result Step ExpandErrorKind). onto so_far.done
-      (further (piece_in piece).place r (λ next. expansion_from next rest))) is
+      (further (piece_in piece).place r (λ next. expansion_from next others))) is
       ∙ ap (λ (place : Place). Err (record { kind = fault.kind; place = place })) at_place
+
+  pub failed : (expander : Expander) → Progress all expander left → (error : ExpandError)
+      → (error.kind ≢ Memory → HasFailed expander (piece_in piece) (fault_of error))
+      → error.kind ≢ Memory → expansion_from start all ≡ Err (fault_of error)
+  failed expander so_far error h some = failed_by expander (fault_of error) so_far (h some)
 
 -- ---- no token is left
 
-module _ (text : List ℕ) (expander : Expander) (pieces : List here.Piece) (index : ℕ)
-    (end : length pieces ≤ index)
-    (unfolds : spread (unfolded (pieces_of text)) ≡ Ok (map piece_in pieces))
-    (so_far : Progress (map piece_in pieces) expander (drop index (map piece_in pieces))) where
-  at_end : onto so_far.done (ended (scope_of expander).stage) ≡ expansion text
-  unfolding expansion_from expansion
+module _ (all left : List Piece) (none : left ≡ []) (expander : Expander)
+    (so_far : Progress all expander left) where
+  at_end : onto so_far.done (ended (scope_of expander).stage) ≡ expansion_from start all
+  unfolding expansion_from
   at_end =
-      let none : drop index (map piece_in pieces) ≡ [] =
-      drop_all index (map piece_in pieces)
-      (omega (arith, end, length-map pieces piece_in)) in
-      ap (λ (ps : List Piece). onto so_far.done (expansion_from (scope_of expander) ps)) (sym none)
-      ∙ so_far.whole ∙ ap expanded (sym unfolds)
+      ap (λ (ps : List Piece). onto so_far.done (expansion_from (scope_of expander) ps))
+      (sym none) ∙ so_far.whole
 
-  all_taken : (made : Expansion) → ended (scope_of expander).stage ≡ Ok []
-      → Finished expander.writer made → IsExpansion text made
-  all_taken made e finished =
+  pub made_whole : (result : Result Expansion ExpandError)
+      → IfOk result (λ made. (ended (scope_of expander).stage ≡ Ok [])
+      × Finished expander.writer made)
+      → IfErr result (λ error. error.kind ≢ Memory
+      → ended (scope_of expander).stage ≡ Err (fault_of error))
+      → Made (expansion_from start all) result
+  made_whole (Ok made) (e, finished) h =
       let both = finished so_far.done so_far.written in
       record {
         pieces = so_far.done;
@@ -390,20 +383,4 @@ module _ (text : List ℕ) (expander : Expander) (pieces : List here.Piece) (ind
         tokens = both.0;
         places = both.1;
       }
-
-  left_open : (fault : Fault) → ended (scope_of expander).stage ≡ Err fault
-      → expansion text ≡ Err fault
-  left_open fault e = sym at_end ∙ ap (onto so_far.done) e
-
-  pub made_whole : (result : Result Expansion ExpandError)
-      → IfOk result (λ made. (ended (scope_of expander).stage ≡ Ok [])
-      × Finished expander.writer made) → IfOk result (λ made. IsExpansion text made)
-  made_whole (Ok made) h = all_taken made h.0 h.1
-  made_whole (Err error) h = tt
-
-  pub fault_at_end : (result : Result Expansion ExpandError)
-      → IfErr result (λ error. error.kind ≢ Memory
-      → ended (scope_of expander).stage ≡ Err (fault_of error))
-      → IfErr result (λ error. error.kind ≢ Memory → expansion text ≡ Err (fault_of error))
-  fault_at_end (Ok made) h = tt
-  fault_at_end (Err error) h = λ some. left_open (fault_of error) (h some)
+  made_whole (Err error) e h = λ some. sym at_end ∙ ap (onto so_far.done) (h some)

@@ -1,6 +1,7 @@
 -- Worked values: numbers, ports, and whole texts, each worked out by hand.
-use Rattle.std.proofs.Common.{◌≡◌, ℕ, List, [], ◌∷◌, Ok, Err, Result, Option, Some, None, refl}
+use Rattle.std.proofs.Common.{◌≡◌, ℕ, true, false, List, [], ◌∷◌, Ok, Err, Result, Option, Some, None, refl}
 use Rattle.std.specs.Prelude.{codes}
+use Rattle.std.specs.List.{list_all}
 use Rattle.ga_word.specs.Hex.{hex_digits}
 use Rattle.ga_pack.specs.Model.Text.{lexemes}
 use Rattle.ga_pack.specs.Model.Token.{is_reserved, meaning_of}
@@ -16,6 +17,7 @@ use Rattle.ga_expand.specs.NodeLists.{Spreading, list_ended, spread_from, start_
 use Rattle.ga_expand.specs.Texts.{expansion}
 use Rattle.ga_expand.specs.Literal.{literal_of}
 use Rattle.ga_expand.specs.Places.{port_named, port_towards}
+use Rattle.ga_expand.specs.inner.Making.{has_list, is_apart}
 
 -- ---- numbers
 
@@ -283,6 +285,25 @@ too_many_copies : ◌≡◌ {A = Result Spreading Fault}
     (Err (record { kind = TooLarge; place = record { line = 1; column = 6 } }))
 unfolding at
 too_many_copies = refl
+
+-- ---- texts without shared bodies, and without lists of nodes
+
+constants_only : list_all is_apart (pieces_of (codes "const A 1 node 708 A")) ≡ true
+unfolding pieces_of lexemes
+constants_only = refl
+
+one_body : list_all is_apart (pieces_of (codes "body A dup")) ≡ false
+unfolding pieces_of lexemes
+one_body = refl
+
+one_list : has_list false (pieces_of (codes "node 708,709 dup")) ≡ true
+unfolding pieces_of lexemes meaning_of
+one_list = refl
+
+-- a comma that isn't behind `node`
+other_comma : has_list false (pieces_of (codes "node 708 jump again , again")) ≡ false
+unfolding pieces_of lexemes meaning_of
+other_comma = refl
 
 -- ---- addresses of labels
 

@@ -3,6 +3,9 @@ pub mod Piece
 pub mod Plain
 pub mod Writing
 pub mod Places
+pub mod Role
 pub mod Scope
 pub mod Bodies
 pub mod NodeLists
+pub mod Pieces
+pub mod Making

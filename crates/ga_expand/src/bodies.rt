@@ -5,10 +5,10 @@ ghost use Rattle.std.specs.Str.{bytes_eq};
 ghost use Rattle.ga_expand.specs.Bodies as model;
 ghost use Rattle.ga_expand.specs.Expanding.{Body};
 ghost use Rattle.ga_expand.specs.inner.Bodies.{filled_in, part_in};
-ghost use Rattle.ga_expand.specs.inner.Scope.{stage_of};
+ghost use Rattle.ga_expand.specs.inner.Role.{role_stage};
 
-use crate::expander::{Stage, stage_behind};
 use crate::piece::Piece;
+use crate::role::{Role, role_behind};
 use std::alloc::AllocError;
 
 /// A token of a body or of the text. In a body it may be the name of a parameter, which has a
@@ -39,12 +39,12 @@ pub(crate) fn body_named<'b, 'a>(
 }
 
 /// What is behind a token, by what it is for.
-pub(crate) fn behind(stage: Stage, text: &[u8]) -> Stage
-    ensures { stage_of result ≡ model.behind (stage_of stage) text.now }
+pub(crate) fn behind(role: Role, text: &[u8]) -> Role
+    ensures { role_stage result ≡ model.behind (role_stage role) text.now }
 {
-    match stage {
-        Stage::NodeName => Stage::Body,
-        _ => stage_behind(text),
+    match role {
+        Role::NodeName => Role::Item,
+        _ => role_behind(text),
     }
 }
 
@@ -63,17 +63,17 @@ pub(crate) fn push_filled<'a>(
     parts: &mut Vec<Part<'a>>,
     body: &[Part<'a>],
     arguments: &[Part<'a>],
-) -> Result<Stage, AllocError>
+) -> Result<Role, AllocError>
     ensures parts { OnOk result (parts.new.items ≡ parts.old.items
         ++ map (filled_in arguments.now) body.now) }
-    ensures stage { IfOk result (λ stage. stage_of stage ≡ model.behind_all Body
+    ensures role { IfOk result (λ role. role_stage role ≡ model.behind_all Body
         (map part_in (map (filled_in arguments.now) body.now))) }
 {
-    let mut stage = Stage::Body;
+    let mut role = Role::Item;
     for part in body {
         let part = filled(arguments, *part);
-        stage = behind(stage, part.piece.text);
+        role = behind(role, part.piece.text);
         parts.push(part)?;
     }
-    Ok(stage)
+    Ok(role)
 }

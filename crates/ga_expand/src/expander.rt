@@ -7,13 +7,12 @@ ghost use Rattle.ga_expand.specs.Error.{fault_of};
 ghost use Rattle.ga_expand.specs.Expanding as model;
 ghost use Rattle.ga_expand.specs.Expression.{value_of};
 ghost use Rattle.ga_expand.specs.Places.{direction_named, port_named};
-ghost use Rattle.ga_pack.specs.Model.Token as plain;
 ghost use Rattle.ga_pack.specs.Model.Token.{meaning_of};
 ghost use Rattle.ga_place.specs.Node.{node_named};
 ghost use Rattle.ga_expand.specs.declared.error.ExpandErrorKind.TheVariants.{Memory};
 ghost use Rattle.ga_expand.specs.inner.Constants.{constants_in};
 ghost use Rattle.ga_expand.specs.inner.Piece.{piece_here, piece_in};
-ghost use Rattle.ga_expand.specs.inner.Scope.{HasFailed, HasTaken, HasWritten, IsFresh, Took, mark_stage, scope_of, stage_of};
+ghost use Rattle.ga_expand.specs.inner.Scope.{HasFailed, HasTaken, HasWritten, IsFresh, Took, scope_of, stage_of};
 ghost use Rattle.ga_expand.specs.inner.Writing.{Finished};
 
 use crate::constants::{Constants, is_kept, is_name, is_reserved, name_in};
@@ -21,11 +20,12 @@ use crate::error::{ExpandError, ExpandErrorKind};
 use crate::expansion::Expansion;
 use crate::piece::Piece;
 use crate::places::{Direction, port_named, port_towards};
+use crate::role::{Role, role_behind};
 use crate::spelling::{Spelling, spell};
 use crate::writing::Writer;
 use ga_place::Node;
 use ga_source::{Name, Place};
-use ga_word::{Op, Word18};
+use ga_word::Word18;
 use std::alloc::Global;
 
 /// What the next token is for.
@@ -289,32 +289,13 @@ fn label_in(text: &[u8]) -> Option<&[u8]>
 }
 
 /// What is behind a token of the plain language.
-pub(crate) fn stage_behind(text: &[u8]) -> Stage
+fn stage_behind(text: &[u8]) -> Stage
     ensures { stage_of result ≡ model.stage_by (meaning_of text.now) }
 {
-    match Op::from_bytes(text) {
-        Some(op) => behind_op(op),
-        None => behind_mark(text),
-    }
-}
-
-fn behind_op(op: Op) -> Stage
-    ensures { stage_of result ≡ model.stage_by (plain.op op) }
-{
-    if op.takes_dest() {
-        Stage::Value
-    } else {
-        Stage::Body
-    }
-}
-
-fn behind_mark(text: &[u8]) -> Stage
-    ensures { stage_of result ≡ mark_stage text.now }
-{
-    match text {
-        b"node" => Stage::NodeName,
-        b"," => Stage::Value,
-        _ => Stage::Body,
+    match role_behind(text) {
+        Role::Item => Stage::Body,
+        Role::NodeName => Stage::NodeName,
+        Role::Value => Stage::Value,
     }
 }
 

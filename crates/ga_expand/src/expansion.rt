@@ -8,8 +8,8 @@ ghost use Rattle.ga_expand.specs.Laws.{PlainStays};
 ghost use Rattle.ga_expand.specs.declared.error.ExpandErrorKind.TheVariants.{Memory};
 
 use crate::error::ExpandError;
-use crate::expander::Expander;
-use crate::node_lists::sections;
+use crate::making::expand_pieces;
+use crate::pieces::Pieces;
 use ga_source::{Place, Token, tokens};
 use std::alloc::{AllocError, Global};
 
@@ -67,10 +67,6 @@ pub fn expand(alloc: Global, source: &str) -> Result<Expansion, ExpandError>
     // a text of the plain language stays as it is
     ensures plain { PlainStays source.now }
 {
-    let pieces = sections(alloc, source)?;
-    let mut expander = Expander::new(alloc);
-    for piece in &pieces {
-        expander.take(*piece)?;
-    }
-    expander.finish()
+    let tokens = tokens(alloc, source)?;
+    expand_pieces(alloc, Pieces::of_text(source, &tokens))
 }

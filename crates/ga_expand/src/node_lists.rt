@@ -1,22 +1,22 @@
 //! Sections with a list of nodes, and the sections that they stand for.
-ghost use Rattle.std.specs.Prelude.{◌≡◌, ◌≢◌, ◌∷◌, ◌++◌, ◌-◌, ◌*◌, ℕ, Err, IfErr, IfOk, None, Ok, OnOk, Some, length, map, nat_lt, option_map, true, if◌then◌else◌};
+ghost use Rattle.std.specs.Prelude.{◌≡◌, ◌≢◌, ◌∷◌, ◌++◌, ◌-◌, ◌*◌, ℕ, Err, IfErr, IfOk, None, Ok, OnOk, Some, false, length, map, nat_lt, option_map, true, if◌then◌else◌};
 ghost use Rattle.std.specs.List.{find, flat_map};
-ghost use Rattle.std.specs.Option.{is_some};
+ghost use Rattle.std.specs.Option.{is_some, option_map_or};
 ghost use Rattle.ga_place.specs.Node.{node_named};
-ghost use Rattle.ga_expand.specs.Bodies.{unfolded};
-ghost use Rattle.ga_expand.specs.Expanding.{pieces_of};
 ghost use Rattle.ga_expand.specs.NodeLists as model;
 ghost use Rattle.ga_expand.specs.Error.{fault_of};
 ghost use Rattle.ga_expand.specs.declared.error.ExpandErrorKind.TheVariants.{Memory};
 ghost use Rattle.ga_expand.specs.inner.Bodies.{texts_in};
+ghost use Rattle.ga_expand.specs.inner.Making.{has_list};
 ghost use Rattle.ga_expand.specs.inner.NodeLists.{Spread, spreading_of};
 ghost use Rattle.ga_expand.specs.inner.Piece.{piece_in};
+ghost use Rattle.ga_expand.specs.inner.Pieces.{left_in};
 
 use crate::error::{ExpandError, ExpandErrorKind};
-use crate::expander::{Stage, error_at, stage_behind};
+use crate::expander::error_at;
 use crate::piece::Piece;
+use crate::pieces::Pieces;
 use crate::unfolder::{LONGEST, MOST_UNFOLDED};
-use crate::unfolding::unfold;
 use ga_place::Node;
 use std::alloc::{AllocError, Global};
 
@@ -43,30 +43,50 @@ pub(crate) struct Spreader<'a> {
     tokens: Vec<Piece<'a>>,
 }
 
-/// The tokens of a text, with those of a shared body in place of each `use`, and a section for each
-/// node of a list.
-pub(crate) fn sections(alloc: Global, source: &str) -> Result<Vec<Piece<'_>>, ExpandError>
-    ensures ok { IfOk result (λ pieces. model.spread (unfolded (pieces_of source.now))
-        ≡ Ok (map piece_in pieces.items)) }
+/// Tokens with a section for each node of a list, or `None` if these are the same ones.
+pub(crate) fn spread<'a>(
+    alloc: Global,
+    pieces: Pieces<'_, 'a>,
+) -> Result<Option<Vec<Piece<'a>>>, ExpandError>
+    ensures ok { IfOk result (λ made. model.spread (Ok (left_in pieces.entry))
+        ≡ Ok (option_map_or (λ all. map piece_in all.items) made (left_in pieces.entry))) }
     ensures err { IfErr result (λ error. error.kind ≢ Memory
-        → model.spread (unfolded (pieces_of source.now)) ≡ Err (fault_of error)) }
+        → model.spread (Ok (left_in pieces.entry)) ≡ Err (fault_of error)) }
 {
-    let pieces = unfold(alloc, source)?;
-    spread(alloc, &pieces)
+    if !has_list(pieces) {
+        return Ok(None);
+    }
+    let mut left = pieces;
+    let mut spreader = Spreader::new(alloc);
+    while let Some((piece, others)) = left.split_first() {
+        left = others;
+        spreader.take(piece)?;
+    }
+    Ok(Some(spreader.finish()?))
 }
 
-/// Tokens with a section for each node of a list.
-fn spread<'a>(alloc: Global, pieces: &[Piece<'a>]) -> Result<Vec<Piece<'a>>, ExpandError>
-    ensures ok { IfOk result (λ all. model.spread (Ok (map piece_in pieces.now))
-        ≡ Ok (map piece_in all.items)) }
-    ensures err { IfErr result (λ error. error.kind ≢ Memory
-        → model.spread (Ok (map piece_in pieces.now)) ≡ Err (fault_of error)) }
+/// Whether any token behind `node` is a list of nodes.
+fn has_list(pieces: Pieces<'_, '_>) -> bool
+    ensures { result ≡ has_list false (left_in pieces.entry) }
 {
-    let mut spreader = Spreader::new(alloc);
-    for piece in pieces {
-        spreader.take(*piece)?;
+    let mut left = pieces;
+    let mut behind = false;
+    while let Some((piece, others)) = left.split_first() {
+        left = others;
+        if behind && is_list(piece.text) {
+            return true;
+        }
+        behind = is_node(piece.text);
     }
-    spreader.finish()
+    false
+}
+
+/// Whether a token is `node`.
+#[tactic(auto, using(crate::proofs::Stages::node_text))]
+fn is_node(text: &[u8]) -> bool
+    ensures { result ≡ model.begins_section text.now }
+{
+    text == b"node".as_slice()
 }
 
 impl<'a> Spreader<'a> {
@@ -100,7 +120,7 @@ impl<'a> Spreader<'a> {
         ensures { Spread self.new (model.spread_at (spreading_of self.old)
             (piece_in piece.entry) model.NoList) result }
     {
-        if begins_section(piece.text) {
+        if is_node(piece.text) {
             self.section = Section::NodeNext(piece);
             return Ok(());
         }
@@ -135,7 +155,7 @@ impl<'a> Spreader<'a> {
             (piece_in piece.entry) (model.InList (piece_in node.entry) (piece_in list.entry)
             (map piece_in self.old.tokens.items))) result }
     {
-        if begins_section(piece.text) {
+        if is_node(piece.text) {
             self.end_list(node, list)?;
             self.section = Section::NodeNext(piece);
             return Ok(());
@@ -183,13 +203,6 @@ impl<'a> Spreader<'a> {
         }
         Ok(spreader.done)
     }
-}
-
-/// Whether a token is `node`.
-fn begins_section(text: &[u8]) -> bool
-    ensures { result ≡ model.begins_section text.now }
-{
-    matches!(stage_behind(text), Stage::NodeName)
 }
 
 /// Whether a token behind `node` has a comma.

@@ -8,16 +8,20 @@ ghost use Rattle.ga_expand.specs.Constants.{is_among};
 ghost use Rattle.ga_expand.specs.Error.{fault_of};
 ghost use Rattle.ga_expand.specs.declared.error.ExpandErrorKind.TheVariants.{Memory};
 ghost use Rattle.ga_expand.specs.inner.Bodies.{Read, draft_in, part_in, reading_in, state_of};
+ghost use Rattle.ga_expand.specs.inner.Making.{unfolded_in};
 ghost use Rattle.ga_expand.specs.inner.Piece.{piece_in};
-ghost use Rattle.ga_expand.specs.inner.Scope.{stage_of};
+ghost use Rattle.ga_expand.specs.inner.Pieces.{left_in};
+ghost use Rattle.ga_expand.specs.inner.Role.{role_stage};
 
 use crate::bodies::{Part, SharedBody, behind, body_named, push_filled};
 use crate::constants::{is_kept, is_name};
 use crate::error::{ExpandError, ExpandErrorKind};
-use crate::expander::{Stage, error_at};
+use crate::expander::error_at;
 use crate::piece::Piece;
+use crate::pieces::Pieces;
+use crate::role::Role;
 use ga_source::Place;
-use std::alloc::{AllocError, Global};
+use std::alloc::Global;
 use std::mem;
 
 /// The most bytes of a token of a body, of an argument, and of a token that is copied.
@@ -45,7 +49,7 @@ pub(crate) enum Reading {
     /// A parameter of the body whose `body` is on this line, or the first token of the body.
     Parameters(usize),
     /// A token of a body or of the text, which is for this in the plain language.
-    Tokens(Stage),
+    Tokens(Role),
     /// The name of a body, behind the `use` at this place.
     UseName(Place),
     /// An argument of the `use` at this place, with as many more behind it.
@@ -71,6 +75,22 @@ pub(crate) struct Unfolder<'a> {
     used: Vec<Part<'a>>,
     arguments: Vec<Part<'a>>,
     reading: Reading,
+}
+
+/// The tokens of a text without its bodies and its `use`s: those that define its constants, and
+/// those behind them.
+#[derive(Drop)]
+pub(crate) struct Unfolded<'a> {
+    definitions: Vec<Piece<'a>>,
+    parts: Vec<Part<'a>>,
+}
+
+impl<'a> Unfolded<'a> {
+    pub(crate) fn pieces(&self) -> Pieces<'_, 'a>
+        ensures { left_in result ≡ unfolded_in self.now }
+    {
+        Pieces::made(&self.definitions, &self.parts)
+    }
 }
 
 impl<'a> Unfolder<'a> {
@@ -123,7 +143,7 @@ impl<'a> Unfolder<'a> {
             Reading::ConstantValue => self.keep(piece, Reading::Definitions),
             Reading::BodyName(start) => self.take_name(piece, start),
             Reading::Parameters(line) => self.take_parameter(piece, line),
-            Reading::Tokens(stage) => self.take_token(piece, stage),
+            Reading::Tokens(role) => self.take_token(piece, role),
             Reading::UseName(start) => self.take_use(piece, start),
             Reading::Arguments(start, more) => self.take_argument(piece, start, more),
         }
@@ -142,7 +162,7 @@ impl<'a> Unfolder<'a> {
             self.reading = Reading::BodyName(piece.place);
             return Ok(());
         }
-        self.push_token(piece, Stage::Body)
+        self.push_token(piece, Role::Item)
     }
 
     /// A token of a constant's definition.
@@ -212,7 +232,7 @@ impl<'a> Unfolder<'a> {
             (model.Parameters line)) result }
     {
         if piece.place.line != line {
-            return self.take_token(piece, Stage::Body);
+            return self.take_token(piece, Role::Item);
         }
         let taken = self.is_parameter(piece.text);
         if let Some(kind) = name_error(taken, piece.text) {
@@ -223,14 +243,15 @@ impl<'a> Unfolder<'a> {
     }
 
     /// A token of a body or of the text, or the end of a body.
-    fn take_token(&mut self, piece: Piece<'a>, stage: Stage) -> Result<(), ExpandError>
-        ensures { Read self.new (Ok (model.token_or_end (state_of self.old) (stage_of stage)
+    #[inline(always)]
+    fn take_token(&mut self, piece: Piece<'a>, role: Role) -> Result<(), ExpandError>
+        ensures { Read self.new (Ok (model.token_or_end (state_of self.old) (role_stage role)
             (piece_in piece.entry) (model.ends (state_of self.old).draft
             piece.entry.text.now))) result }
     {
         match self.ending(piece.text) {
             Some(draft) => self.define(draft),
-            None => self.push_token(piece, stage),
+            None => self.push_token(piece, role),
         }
     }
 
@@ -264,21 +285,23 @@ impl<'a> Unfolder<'a> {
     }
 
     /// A token of a body or of the text.
-    fn push_token(&mut self, piece: Piece<'a>, stage: Stage) -> Result<(), ExpandError>
-        ensures { Read self.new (Ok (model.with_token (state_of self.old) (stage_of stage)
+    #[inline(always)]
+    fn push_token(&mut self, piece: Piece<'a>, role: Role) -> Result<(), ExpandError>
+        ensures { Read self.new (Ok (model.with_token (state_of self.old) (role_stage role)
             (piece_in piece.entry))) result }
     {
-        if is_use(&stage, piece.text) {
+        if is_use(role, piece.text) {
             self.reading = Reading::UseName(piece.place);
             return Ok(());
         }
-        self.reading = Reading::Tokens(behind(stage, piece.text));
+        self.reading = Reading::Tokens(behind(role, piece.text));
         let part = self.part_at(piece);
         self.parts.push(part)?;
         Ok(())
     }
 
     /// A token, and the parameter that it names.
+    #[inline(always)]
     fn part_at(&self, piece: Piece<'a>) -> Part<'a>
         ensures { part_in result ≡ model.part_at (state_of self.now) (piece_in piece.entry) }
     {
@@ -349,15 +372,15 @@ impl<'a> Unfolder<'a> {
             self.reading = Reading::Arguments(start, missing - 1);
             return Ok(());
         }
-        let stage = push_filled(&mut self.parts, &self.used, &self.arguments)?;
-        self.reading = Reading::Tokens(stage);
+        let role = push_filled(&mut self.parts, &self.used, &self.arguments)?;
+        self.reading = Reading::Tokens(role);
         Ok(())
     }
 
     /// The tokens, at the end of the text.
-    pub(crate) fn finish(self) -> Result<Vec<Piece<'a>>, ExpandError>
-        ensures ok { IfOk result (λ pieces. model.whole (state_of self.entry)
-            ≡ Ok (map piece_in pieces.items)) }
+    pub(crate) fn finish(self) -> Result<Unfolded<'a>, ExpandError>
+        ensures ok { IfOk result (λ unfolded. model.whole (state_of self.entry)
+            ≡ Ok (unfolded_in unfolded)) }
         ensures err { IfErr result (λ error. error.kind ≢ Memory
             → model.whole (state_of self.entry) ≡ Err (fault_of error)) }
     {
@@ -365,9 +388,10 @@ impl<'a> Unfolder<'a> {
             return Err(error_at(ExpandErrorKind::OpenDefinition, start));
         }
         let unfolder = self;
-        let mut pieces = unfolder.definitions;
-        push_pieces(&mut pieces, &unfolder.parts)?;
-        Ok(pieces)
+        Ok(Unfolded {
+            definitions: unfolder.definitions,
+            parts: unfolder.parts,
+        })
     }
 
     /// The place of a `body` or a `use` without its end.
@@ -385,17 +409,6 @@ impl<'a> Unfolder<'a> {
             _ => None,
         }
     }
-}
-
-/// Adds the tokens of a text.
-fn push_pieces<'a>(pieces: &mut Vec<Piece<'a>>, parts: &[Part<'a>]) -> Result<(), AllocError>
-    ensures { OnOk result (pieces.new.items
-        ≡ pieces.old.items ++ map (λ part. part.piece) parts.now) }
-{
-    for part in parts {
-        pieces.push(part.piece)?;
-    }
-    Ok(())
 }
 
 /// What is wrong with a name that is defined, if it is taken or not.
@@ -428,11 +441,11 @@ fn index_of(names: &[&[u8]], text: &[u8]) -> Option<usize>
 }
 
 /// Whether a token is the word `use`.
-fn is_use(stage: &Stage, text: &[u8]) -> bool
-    ensures { result ≡ model.is_use (stage_of stage.now) text.now }
+fn is_use(role: Role, text: &[u8]) -> bool
+    ensures { result ≡ model.is_use (role_stage role) text.now }
 {
-    match stage {
-        Stage::Body => text == b"use".as_slice(),
+    match role {
+        Role::Item => text == b"use".as_slice(),
         _ => false,
     }
 }

@@ -1,44 +1,51 @@
-//! The tokens of a text, as they are expanded.
-ghost use Rattle.std.specs.Prelude.{◌≡◌, ◌≢◌, ◌≤◌, Err, IfErr, IfOk, Ok, length, map, slice_range, true};
+//! Tokens with those of a shared body in place of each `use`.
+ghost use Rattle.std.specs.Prelude.{◌≡◌, ◌≢◌, Err, IfErr, IfOk, Ok};
+ghost use Rattle.std.specs.List.{list_all};
+ghost use Rattle.std.specs.Option.{option_map_or};
 ghost use Rattle.ga_expand.specs.Bodies.{unfolded};
 ghost use Rattle.ga_expand.specs.Error.{fault_of};
-ghost use Rattle.ga_expand.specs.Expanding.{pieces_of};
 ghost use Rattle.ga_expand.specs.declared.error.ExpandErrorKind.TheVariants.{Memory};
-ghost use Rattle.ga_expand.specs.inner.Piece.{piece_in, token_piece};
-ghost use Rattle.ga_expand.specs.inner.Plain.{is_token};
+ghost use Rattle.ga_expand.specs.inner.Making.{is_apart, unfolded_in};
+ghost use Rattle.ga_expand.specs.inner.Pieces.{left_in};
 
 use crate::error::ExpandError;
-use crate::piece::Piece;
-use crate::unfolder::Unfolder;
-use ga_source::{Place, Token, tokens};
+use crate::pieces::Pieces;
+use crate::unfolder::{Unfolded, Unfolder};
 use std::alloc::Global;
 
-/// The tokens of a text, with those of a shared body in place of each `use`.
-pub(crate) fn unfold(alloc: Global, source: &str) -> Result<Vec<Piece<'_>>, ExpandError>
-    ensures ok { IfOk result (λ pieces. unfolded (pieces_of source.now)
-        ≡ Ok (map piece_in pieces.items)) }
+/// The tokens of a text, with those of a shared body in place of each `use`; or `None` if these are
+/// the same ones.
+pub(crate) fn unfold<'a>(
+    alloc: Global,
+    pieces: Pieces<'_, 'a>,
+) -> Result<Option<Unfolded<'a>>, ExpandError>
+    ensures ok { IfOk result (λ made. unfolded (left_in pieces.entry)
+        ≡ Ok (option_map_or unfolded_in made (left_in pieces.entry))) }
     ensures err { IfErr result (λ error. error.kind ≢ Memory
-        → unfolded (pieces_of source.now) ≡ Err (fault_of error)) }
+        → unfolded (left_in pieces.entry) ≡ Err (fault_of error)) }
 {
-    let tokens = tokens(alloc, source)?;
-    let mut unfolder = Unfolder::new(alloc);
-    for token in &tokens {
-        unfolder.take(piece_at(source, *token))?;
+    if are_apart(pieces) {
+        return Ok(None);
     }
-    unfolder.finish()
+    let mut left = pieces;
+    let mut unfolder = Unfolder::new(alloc);
+    while let Some((piece, others)) = left.split_first() {
+        left = others;
+        unfolder.take(piece)?;
+    }
+    Ok(Some(unfolder.finish()?))
 }
 
-/// A token of a text.
-fn piece_at(source: &str, token: Token) -> Piece<'_>
-    requires inside { (token.start ≤ token.end) × (token.end ≤ length source.now) }
-    requires token { is_token (slice_range source.now token.start token.end) ≡ true }
-    ensures { piece_in result ≡ token_piece source.now token }
+/// Whether no token is `use` or `body`.
+fn are_apart(pieces: Pieces<'_, '_>) -> bool
+    ensures { result ≡ list_all is_apart (left_in pieces.entry) }
 {
-    Piece {
-        text: &source.as_bytes()[token.start..token.end],
-        place: Place {
-            line: token.line,
-            column: token.column,
-        },
+    let mut left = pieces;
+    while let Some((piece, others)) = left.split_first() {
+        left = others;
+        if piece.text == b"use".as_slice() || piece.text == b"body".as_slice() {
+            return false;
+        }
     }
+    true
 }

@@ -14,7 +14,7 @@ use Rattle.ga_expand.specs.declared.unfolder.Unfolder.{Unfolder}
 use Rattle.ga_expand.specs.Bodies.{Arguments, BodyName, ConstantName, ConstantValue, Definitions, Draft, Parameters, Part, Reading, SharedBody, Tokens, Unfolding, UseName}
 use Rattle.ga_expand.specs.Error.{Fault, fault_of}
 use Rattle.ga_expand.specs.inner.Piece.{piece_in}
-use Rattle.ga_expand.specs.inner.Scope.{stage_of}
+use Rattle.ga_expand.specs.inner.Role.{role_stage}
 
 -- the names of constants or of parameters
 abbrev pub texts_in : List (Bor (List ℕ)) → List (List ℕ)
@@ -44,7 +44,7 @@ reading_in parts arguments at.ConstantName = ConstantName
 reading_in parts arguments at.ConstantValue = ConstantValue
 reading_in parts arguments (at.BodyName place) = BodyName (place_of place)
 reading_in parts arguments (at.Parameters line) = Parameters line
-reading_in parts arguments (at.Tokens stage) = Tokens (stage_of stage)
+reading_in parts arguments (at.Tokens role) = Tokens (role_stage role)
 reading_in parts arguments (at.UseName place) = UseName (place_of place)
 reading_in parts arguments (at.Arguments place more) =
     Arguments (place_of place) more (map part_in parts) (map part_in arguments)

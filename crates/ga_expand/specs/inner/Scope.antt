@@ -1,6 +1,5 @@
 -- How far the code has read a text.
-use Rattle.std.specs.Prelude.{◌≡◌, ◌≢◌, ℕ, true, List, ◌++◌, Result, Ok, Err, None, codes, if◌then◌else◌}
-use Rattle.std.specs.Str.{bytes_eq}
+use Rattle.std.specs.Prelude.{◌≡◌, ◌≢◌, ℕ, true, List, ◌++◌, Result, Ok, Err, None}
 use Rattle.std.specs.List.{list_all}
 use Rattle.ga_source.specs.Token.{place_of}
 use Rattle.ga_expand.specs.declared.error.ExpandErrorKind.{ExpandErrorKind}
@@ -30,12 +29,6 @@ scope_of expander = record {
   node = expander.node;
   stage = stage_of expander.stage;
 }
-
--- what is behind a token that is no opcode, by its text
-abbrev pub mark_stage : List ℕ → Stage
-mark_stage text =
-    if bytes_eq text (codes "node") then NodeName
-    else if bytes_eq text (codes ",") then Value else Body
 
 -- what a token expands to is written
 abbrev pub HasWritten : Expander → Expander → Piece → Type 0

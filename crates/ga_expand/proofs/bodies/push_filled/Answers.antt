@@ -1,4 +1,4 @@
-use Rattle.ga_expand.specs.inner.Scope.{stage_of}
+use Rattle.ga_expand.specs.inner.Role.{role_stage}
 use Rattle.ga_expand.proofs.Lists.{parts_more, stage_more}
 use Rattle.ga_expand.proofs.bodies.push_filled.Goals as goal
 
@@ -12,7 +12,7 @@ loop-part-preserved c =
       parts = parts_more arguments body c.loop-part.part-index one new c.loop-part-test.true
           c.part-item.is c.filled-part.ensures c.args.parts.now.items c.loop-part.parts.items
           c.push.new.self.items c.loop-part.invariant.parts c.in_ok-push.ensures.items;
-      stage = stage_more arguments body c.loop-part.part-index one new c.loop-part-test.true
-          c.part-item.is c.filled-part.ensures (stage_of c.loop-part.stage)
-          (stage_of c.behind-stage.result) c.loop-part.invariant.stage c.behind-stage.ensures;
+      role = stage_more arguments body c.loop-part.part-index one new c.loop-part-test.true
+          c.part-item.is c.filled-part.ensures (role_stage c.loop-part.role)
+          (role_stage c.behind-role.result) c.loop-part.invariant.role c.behind-role.ensures;
     }

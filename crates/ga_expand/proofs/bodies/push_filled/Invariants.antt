@@ -2,13 +2,13 @@ use Rattle.std.proofs.Common.{◌≡◌, ◌++◌, map, take}
 use Rattle.ga_expand.specs.Bodies.{behind_all}
 use Rattle.ga_expand.specs.Expanding.{Body}
 use Rattle.ga_expand.specs.inner.Bodies.{filled_in, part_in}
-use Rattle.ga_expand.specs.inner.Scope.{stage_of}
+use Rattle.ga_expand.specs.inner.Role.{role_stage}
 use Rattle.ga_expand.proofs.bodies.push_filled.Given as goal
 
 abbrev pub invariant-loop-part : goal.invariant-loop-part
 invariant-loop-part l = record {
   parts : l.parts.items
       ≡ l.initial.parts.items ++ map (filled_in l.arguments) (take l.part-index l.body);
-  stage : stage_of l.stage
+  role : role_stage l.role
       ≡ behind_all Body (map part_in (map (filled_in l.arguments) (take l.part-index l.body)));
 }

@@ -1,63 +1,35 @@
-use Rattle.std.proofs.Common.{◌≡◌, ◌≢◌, ◌∙◌, Err, Ok, ap, map, rules, sym}
-use Rattle.ga_expand.specs.declared.error.ExpandErrorKind.TheVariants.{Memory}
-use Rattle.ga_expand.specs.Bodies.{unfolded}
-use Rattle.ga_expand.specs.Error.{fault_of}
-use Rattle.ga_expand.specs.NodeLists.{spread}
+use Rattle.std.proofs.Common.{◌≡◌, ◌∙◌, ap, map, subst, sym}
+use Rattle.std.specs.Prelude.{All}
 use Rattle.ga_expand.specs.Expanding.{pieces_of}
-use Rattle.ga_expand.specs.Texts.{expansion}
-use Rattle.ga_expand.specs.inner.Piece.{piece_in}
-use Rattle.ga_expand.proofs.Steps.{failed, fault_at_end, made_whole, started, taken}
-use Rattle.ga_expand.proofs.TokensRead.{not_expanded, not_spread}
+use Rattle.ga_expand.specs.inner.Piece.{token_piece}
+use Rattle.ga_expand.specs.inner.Pieces.{left_in}
+use Rattle.ga_expand.specs.inner.Plain.{IsTokenOf}
+use Rattle.ga_expand.proofs.Made.{expansion_failed, expansion_made}
+use Rattle.ga_expand.proofs.Tokens.{pieces_are, tokens_of_text}
 use Rattle.ga_expand.proofs.expansion.expand.Goals as goal
 
-pub returns-in_err-pieces-clause-fault : goal.returns-in_err-pieces-clause-fault
-returns-in_err-pieces-clause-fault c =
-    let fault : c.in_err-pieces.field-0.0.kind ≢ Memory
-    → expansion c.args.source.now ≡ Err (fault_of c.in_err-pieces.field-0.0) =
-    λ some. not_spread c.args.source.now (fault_of c.in_err-pieces.field-0.0)
-    (c.in_err-pieces.ensures.err some) in
-    search (rules, fault)
-
-pub loop-piece-init : goal.loop-piece-init
-loop-piece-init c =
-    started (map piece_in c.deref-piece-items.result.now) c.new-expander.result
-    c.new-expander.ensures.scope c.new-expander.ensures.text c.new-expander.ensures.origins
-
-pub loop-piece-preserved : goal.loop-piece-preserved
-loop-piece-preserved c =
-    taken c.deref-piece-items.result.now c.loop-piece.piece-index c.piece-item.result
-    c.piece-item.result c.loop-piece-test.true c.piece-item.is c.loop-piece.expander
-    c.take.new.self c.loop-piece.invariant c.in_ok-take.ensures.ok
-
-pub returns-in_err-take-clause-fault : goal.returns-in_err-take-clause-fault
-returns-in_err-take-clause-fault c =
-    let pieces = c.deref-piece-items.result.now in
-    let same : pieces ≡ c.in_ok-pieces.pieces.items = search rules in
-    let unfolds : spread (unfolded (pieces_of c.args.source.now)) ≡ Ok (map piece_in pieces) =
-    c.in_ok-pieces.ensures.ok ∙ ap (λ xs. Ok (map piece_in xs)) (sym same) in
-    let fault : c.in_err-take.field-0.0.kind ≢ Memory
-    → expansion c.args.source.now ≡ Err (fault_of c.in_err-take.field-0.0) =
-    λ some. not_expanded c.args.source.now (map piece_in pieces)
-    (fault_of c.in_err-take.field-0.0) unfolds
-    (failed pieces c.loop-piece.piece-index c.piece-item.result c.piece-item.result
-    c.loop-piece-test.true c.piece-item.is c.loop-piece.expander
-    (fault_of c.in_err-take.field-0.0) c.loop-piece.invariant (c.in_err-take.ensures.err some)) in
-    search (rules, fault)
+pub of_text-requires : goal.of_text-requires
+of_text-requires c =
+    subst (All (IsTokenOf c.args.source.now)) (sym c.deref.ensures.value)
+    (tokens_of_text c.args.source.now c.in_ok-tokens.tokens.items c.in_ok-tokens.ensures.inside
+    c.in_ok-tokens.ensures.slices)
 
 pub returns-clause-expansion : goal.returns-clause-expansion
 returns-clause-expansion c =
-    let pieces = c.deref-piece-items.result.now in
-    let same : pieces ≡ c.in_ok-pieces.pieces.items = search rules in
-    let unfolds : spread (unfolded (pieces_of c.args.source.now)) ≡ Ok (map piece_in pieces) =
-    c.in_ok-pieces.ensures.ok ∙ ap (λ xs. Ok (map piece_in xs)) (sym same) in
-    made_whole c.args.source.now c.loop-piece.expander pieces c.loop-piece.piece-index
-    c.loop-piece-test.false unfolds c.loop-piece.invariant c.finish.result c.finish.ensures.ok
+    let text = c.args.source.now in
+    let are : left_in c.of_text.result ≡ pieces_of text =
+    c.of_text.ensures ∙ ap (map (token_piece text)) c.deref.ensures.value
+    ∙ pieces_are text c.in_ok-tokens.tokens.items c.in_ok-tokens.ensures.tokens
+    c.in_ok-tokens.ensures.slices in
+    expansion_made text (left_in c.of_text.result) are c.expand_pieces.result
+    c.expand_pieces.ensures
 
 pub returns-clause-fault : goal.returns-clause-fault
 returns-clause-fault c =
-    let pieces = c.deref-piece-items.result.now in
-    let same : pieces ≡ c.in_ok-pieces.pieces.items = search rules in
-    let unfolds : spread (unfolded (pieces_of c.args.source.now)) ≡ Ok (map piece_in pieces) =
-    c.in_ok-pieces.ensures.ok ∙ ap (λ xs. Ok (map piece_in xs)) (sym same) in
-    fault_at_end c.args.source.now c.loop-piece.expander pieces c.loop-piece.piece-index
-    c.loop-piece-test.false unfolds c.loop-piece.invariant c.finish.result c.finish.ensures.err
+    let text = c.args.source.now in
+    let are : left_in c.of_text.result ≡ pieces_of text =
+    c.of_text.ensures ∙ ap (map (token_piece text)) c.deref.ensures.value
+    ∙ pieces_are text c.in_ok-tokens.tokens.items c.in_ok-tokens.ensures.tokens
+    c.in_ok-tokens.ensures.slices in
+    expansion_failed text (left_in c.of_text.result) are c.expand_pieces.result
+    c.expand_pieces.ensures

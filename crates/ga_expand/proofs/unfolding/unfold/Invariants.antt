@@ -1,12 +1,12 @@
-use Rattle.std.proofs.Common.{◌≡◌, drop, map}
+use Rattle.std.proofs.Common.{◌≡◌, length}
 use Rattle.ga_expand.specs.Bodies.{unfolded, unfolded_from}
-use Rattle.ga_expand.specs.Expanding.{pieces_of}
 use Rattle.ga_expand.specs.inner.Bodies.{state_of}
-use Rattle.ga_expand.specs.inner.Piece.{token_piece}
+use Rattle.ga_expand.specs.inner.Pieces.{left_in}
 use Rattle.ga_expand.proofs.unfolding.unfold.Given as goal
 
-abbrev pub invariant-loop-token : goal.invariant-loop-token
-invariant-loop-token l =
-    unfolded_from (state_of l.unfolder)
-    (drop l.token-index (map (token_piece l.source) l.token-items))
-    ≡ unfolded (pieces_of l.source)
+abbrev pub invariant-loop-piece : goal.invariant-loop-piece
+invariant-loop-piece l =
+    unfolded_from (state_of l.unfolder) (left_in l.left) ≡ unfolded (left_in l.pieces)
+
+abbrev pub decreases-loop-piece : goal.decreases-loop-piece
+decreases-loop-piece l = length (left_in l.left)

@@ -14,6 +14,4 @@ returns-clause-ok c =
     let pieces = map piece_in old ++ map (λ part. part.piece) (map part_in parts) in
     ap (λ o. unless_open o pieces)
     (sym (ap (option_map place_of) (sym c.in_default.is) ∙ c.left_open.ensures))
-    ∙ ap Ok (all_pieces old c.push_pieces.new.pieces.items parts
-    (c.in_ok-push_pieces.ensures
-    ∙ ap (λ ps. old ++ map (λ part. part.piece) ps) c.deref.ensures.value))
+    ∙ ap (λ ps. Ok (map piece_in old ++ ps)) (all_pieces parts)

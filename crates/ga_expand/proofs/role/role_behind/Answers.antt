@@ -1,7 +1,7 @@
 use Rattle.std.proofs.Common.{◌∙◌, ap, sym}
 use Rattle.ga_expand.specs.Expanding.{stage_by}
 use Rattle.ga_expand.proofs.Stages.{of_no_op, of_op}
-use Rattle.ga_expand.proofs.expander.stage_behind.Goals as goal
+use Rattle.ga_expand.proofs.role.role_behind.Goals as goal
 
 pub returns-in-Some : goal.returns-in-Some
 returns-in-Some c =

@@ -1,0 +1,17 @@
+-- What tokens of the plain language are for, as the code has it.
+use Rattle.std.specs.Prelude.{ℕ, List, codes, if◌then◌else◌}
+use Rattle.std.specs.Str.{bytes_eq}
+use Rattle.ga_expand.specs.declared.role.Role as here
+use Rattle.ga_expand.specs.declared.role.Role.TheVariants as at
+use Rattle.ga_expand.specs.Expanding.{Body, NodeName, Stage, Value}
+
+abbrev pub role_stage : here.Role → Stage
+role_stage at.Item = Body
+role_stage at.NodeName = NodeName
+role_stage at.Value = Value
+
+-- what is behind a token that is no opcode, by its text
+abbrev pub mark_stage : List ℕ → Stage
+mark_stage text =
+    if bytes_eq text (codes "node") then NodeName
+    else if bytes_eq text (codes ",") then Value else Body
