@@ -11,7 +11,7 @@ use Rattle.ga_debug.specs.declared.error.DebugError.{DebugError}
 use Rattle.ga_debug.specs.declared.error.DebugError.TheVariants.{BadAddress, BadValue}
 use Rattle.ga_debug.specs.Command.{Words, words_of}
 use Rattle.ga_debug.specs.Label.{label_in}
-use Rattle.ga_debug.specs.Nearest.{Found, nearer, nothing_near}
+use Rattle.ga_nearest.specs.Nearest.{Found, nearer, nothing_near}
 use Rattle.ga_debug.specs.Pieces.{pieces}
 use Rattle.ga_debug.specs.Values.{plain_what, side_named}
 use Rattle.ga_debug.specs.Word.{address_of}

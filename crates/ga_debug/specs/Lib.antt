@@ -11,7 +11,6 @@ pub mod Expect
 pub mod Sides
 pub mod Breaks
 pub mod Commands
-pub mod Nearest
 pub mod Hint
 pub mod Session
 pub mod Profile

@@ -7,11 +7,11 @@ ghost use Rattle.ga_debug.specs.Hint.{behind_at, behind_equals, hint_of, label_m
 use crate::beginning::Program;
 use crate::error::DebugError;
 use crate::label::label_in;
-use crate::nearest::Nearest;
 use crate::pieces::Pieces;
 use crate::values::{plain_what, side_named};
 use crate::word::address_of;
 use ga_asm::Images;
+use ga_nearest::Nearest;
 use ga_place::Node;
 use indexmap::IndexMap;
 use std::alloc::{AllocError, Global};

@@ -15,7 +15,6 @@ mod hint;
 mod label;
 pub mod laws;
 mod mem;
-mod nearest;
 mod pieces;
 mod profile;
 mod replay_error;
@@ -32,7 +31,6 @@ pub use beginning::{Loaded, Program, begin, booted_tree, head_source, load, plac
 pub use command::names_command;
 pub use error::DebugError;
 pub use help::HELP;
-pub use nearest::Nearest;
 pub use pieces::Pieces;
 pub use replay_error::ReplayError;
 pub use replaying::replay;

@@ -1,6 +1,6 @@
 //! Results of sessions and replay texts that the program doesn't show.
 use ga_chip::Chip;
-use ga_debug::{Nearest, ReplayError, Session, begin, replay};
+use ga_debug::{ReplayError, Session, begin, replay};
 use ga_path::{BootError, RouteError, TreeError};
 use ga_test_values::node;
 use std::alloc::Global;
@@ -13,16 +13,6 @@ fn sessions_begin(rt: HostRuntime) -> Result<(), Fail> {
     let (mut session, line) = begin(rt.alloc(), "profile 2\nroute 708,709\nnode 709 .\ngo")?;
     assert!(rt; line == 4);
     assert!(rt; session.command(rt.alloc(), "try 708 r")?.as_str() == "moved");
-    Ok(())
-}
-
-#[test]
-fn finds_the_nearest_name(rt: HostRuntime) -> Result<(), Fail> {
-    let mut nearest = Nearest::to("totl");
-    nearest.offer(rt.alloc(), "main")?;
-    assert!(rt; nearest.name().is_none());
-    nearest.offer(rt.alloc(), "total")?;
-    assert!(rt; nearest.name() == Some("total"));
     Ok(())
 }
 

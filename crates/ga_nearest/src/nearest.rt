@@ -17,7 +17,7 @@ pub struct Nearest<'a> {
 
 impl<'a> Model for Nearest<'a> {
     ghost use Rattle.std.specs.Prelude.{⊤, option_map};
-    ghost use Rattle.ga_debug.specs.Nearest.{Found};
+    ghost use Rattle.ga_nearest.specs.Nearest.{Found};
 
     ghost Value = { Found };
 
@@ -32,7 +32,7 @@ impl<'a> Model for Nearest<'a> {
 
 impl<'a> Nearest<'a> {
     ghost use Rattle.std.specs.Prelude.{◌≡◌, IfOk, OnErr, OnOk, option_map};
-    ghost use Rattle.ga_debug.specs.Nearest.{nearer, nothing_near};
+    ghost use Rattle.ga_nearest.specs.Nearest.{nearer, nothing_near};
 
     /// No name was offered yet.
     pub fn to(word: &'a str) -> Self
