@@ -24,12 +24,13 @@ use crate::saved_files::{SavedFiles, put};
 use crate::transcripts::{check_status, rewrite_status, serve_transcript, sourced};
 use clap::error::ErrorKind::{ArgumentConflict, InvalidValue};
 use ga_command_line::{LineError, job, refusal};
-use ga_jobs::lint::warnings;
+use ga_jobs::lint::{form_of, warnings};
 use ga_jobs::trace::save_text;
 use ga_jobs::{
     Ending, InputFault, Job, Lines, Loading, Output, ServeError, Writes, open_file, output_of,
     output_of_file, serve, serve_file, session_source, status, write_output,
 };
+use ga_messages::Form;
 use ga_profile::WindowStart;
 use ga_prompt::Conversation;
 use std::alloc::Global;
@@ -72,11 +73,14 @@ fn job_status<
     }
 }
 
-/// Whether a job has an output that `serve` doesn't write: a save file, or JSON.
+/// Whether a job has more to write than `serve` does: a save file, the numbers of a profile, or its
+/// errors as JSON.
 fn writes_more(job: &Job) -> bool {
     matches!(
         job,
-        Job::Trace { save: Some(_), .. } | Job::Profile { json: true, .. }
+        Job::Trace { save: Some(_), .. }
+            | Job::Profile { json: true, .. }
+            | Job::Lint { json: true, .. }
     )
 }
 
@@ -108,7 +112,7 @@ fn named_status<Rt: AllocGlobal + Print + Eprint + Threads + Clock + Sync + File
     }
     let text = match file_text(rt, reader, name, job) {
         Ok(text) => text,
-        Err(refused) => return refused_status(rt, name, refused),
+        Err(refused) => return refused_status(rt, name, form_for(job), refused),
     };
     match job {
         Job::Trace {
@@ -154,19 +158,35 @@ fn transcript_status<Rt: AllocGlobal + Print + Eprint + Threads + Clock + Sync +
 
 /// Reports why the file with a name, or standard input for `-`, has no text. Answers the exit
 /// status.
-fn refused_status<Rt: AllocGlobal + Eprint>(rt: &Rt, name: &str, refused: NamedFault) -> u8
+fn refused_status<Rt: AllocGlobal + Print + Eprint>(
+    rt: &Rt,
+    name: &str,
+    form: Form,
+    refused: NamedFault,
+) -> u8
     ensures { HasStatus result }
 {
     let outcome = Err(refused.fault);
     match name {
         "-" => reported(rt, &outcome),
-        _ => reported_in(rt, &Lines::File(refused.name.as_str()), &[], &outcome),
+        _ => {
+            let lines = Lines::File(refused.name.as_str());
+            reported_in(rt, &lines, form, &[], &outcome)
+        }
+    }
+}
+
+/// The form of a job's errors.
+fn form_for(job: &Job) -> Form {
+    match job {
+        Job::Lint { json, .. } => form_of(*json),
+        _ => Form::Text,
     }
 }
 
 /// Reports the fault of a job's outcome, if it has one: that of its file as compilers do. Answers
 /// the exit status.
-fn reported_of<Rt: AllocGlobal + Eprint>(
+fn reported_of<Rt: AllocGlobal + Print + Eprint>(
     rt: &Rt,
     job: &Job,
     text: &FileText<'_>,
@@ -174,13 +194,14 @@ fn reported_of<Rt: AllocGlobal + Eprint>(
 ) -> u8
     ensures { result ≡ status_of outcome.now }
 {
-    match job.file() {
-        None => reported(rt, outcome),
-        Some(_) => reported_in(rt, &text.lines(), text.bytes(), outcome),
+    match (job.file(), form_for(job)) {
+        (None, Form::Text) => reported(rt, outcome),
+        (_, form) => reported_in(rt, &text.lines(), form, text.bytes(), outcome),
     }
 }
 
-/// Serves a job for the text of a file. `lint` reads text of the larger language itself.
+/// Serves a job for the text of a file. `lint` reads text of the larger language itself, and `list`
+/// has the warnings of `lint` below its listing.
 fn served<Rt: AllocGlobal + Threads + Clock + Sync, W: Write>(
     rt: &Rt,
     writer: &mut W,
@@ -188,8 +209,8 @@ fn served<Rt: AllocGlobal + Threads + Clock + Sync, W: Write>(
     job: &Job,
 ) -> Result<Ending, ServeError> {
     match job {
-        Job::Lint { deny, .. } => {
-            let told = warnings(rt.alloc(), &text.lines(), text.bytes())?;
+        Job::Lint { deny, json, .. } => {
+            let told = warnings(rt.alloc(), &text.lines(), form_of(*json), text.bytes())?;
             write_output(writer, told.as_bytes(), &mut Writes::default())?;
             Ok(if *deny && !told.is_empty() {
                 Ending::Denied
@@ -197,8 +218,29 @@ fn served<Rt: AllocGlobal + Threads + Clock + Sync, W: Write>(
                 Ending::Done
             })
         }
+        Job::List { labels: false, .. } => list_with_warnings(rt, writer, text, job),
         _ => serve_file(rt, writer, job, text.bytes()),
     }
+}
+
+/// Writes the listing of a text, and the warnings about it, if there are any, below an empty line.
+fn list_with_warnings<Rt: AllocGlobal + Threads + Clock + Sync, W: Write>(
+    rt: &Rt,
+    writer: &mut W,
+    text: &FileText<'_>,
+    job: &Job,
+) -> Result<Ending, ServeError> {
+    let alloc = rt.alloc();
+    let listing = output_of_file(rt, job, text.bytes())?;
+    let told = warnings(alloc, &text.lines(), Form::Text, text.bytes())?;
+    let below = if told.is_empty() {
+        told
+    } else {
+        format!(in alloc; "\n{told}")?
+    };
+    let ending = listing.write(alloc, writer, job)?;
+    write_output(writer, below.as_bytes(), &mut Writes::default())?;
+    Ok(ending)
 }
 
 /// Writes the numbers of a profile as JSON. Answers the exit status.
@@ -279,7 +321,7 @@ fn talk_status<Rt: AllocGlobal + Print + Eprint + Files, R: Read + IsTerminal>(
         Err(refused) if refused.fault == ServeError::Input(InputFault::NoFile) => {
             return refuse_missing(rt, name);
         }
-        Err(refused) => return refused_status(rt, name, refused),
+        Err(refused) => return refused_status(rt, name, Form::Text, refused),
     };
     let outcome = match talk_about(rt, reader, loading, name, text.bytes()) {
         Ok(()) => Ok(Ending::Done),
@@ -287,7 +329,7 @@ fn talk_status<Rt: AllocGlobal + Print + Eprint + Files, R: Read + IsTerminal>(
     };
     match name {
         "-" => reported(rt, &outcome),
-        _ => reported_in(rt, &text.lines(), text.bytes(), &outcome),
+        _ => reported_in(rt, &text.lines(), Form::Text, text.bytes(), &outcome),
     }
 }
 

@@ -5,7 +5,9 @@ ghost use Rattle.ga_bench.specs.Status.{IsStatusOf};
 
 use clap::error::ErrorKind::InvalidValue;
 use ga_command_line::{LineError, refusal};
-use ga_jobs::{Ending, Lines, ServeError, ShownText, faults_message, status};
+use ga_jobs::{Ending, Lines, ServeError, Writes, faults_message, status, write_output};
+use ga_messages::{Form, ShownText};
+use std::io;
 use std::io::Write;
 
 /// Reports the fault of an outcome, if it has one. Answers the exit status.
@@ -13,46 +15,71 @@ pub fn reported<Rt: Eprint>(rt: &Rt, outcome: &Result<Ending, ServeError>) -> u8
     ensures { result ≡ status_of outcome.now }
 {
     if let Err(fault) = outcome {
-        // If this can't be written either, the status still reports it.
-        let _ = eprintln!(rt; "ga-bench: {fault}");
+        report_alone(rt, fault);
     }
     status(outcome)
 }
 
 /// Reports the fault of an outcome for bytes whose lines were written there, if it has one. Answers
 /// the exit status.
-pub fn reported_in<Rt: AllocGlobal + Eprint>(
+pub fn reported_in<Rt: AllocGlobal + Print + Eprint>(
     rt: &Rt,
     lines: &Lines<'_>,
+    form: Form,
     input: &[u8],
     outcome: &Result<Ending, ServeError>,
 ) -> u8
     ensures { result ≡ status_of outcome.now }
 {
     if let Err(fault) = outcome {
-        report_in(rt, lines, input, fault);
+        report_in(rt, lines, form, input, fault);
     }
     status(outcome)
 }
 
-/// Reports the fault of bytes whose lines were written there: as compilers do, with all faults of
-/// the text, if it has a place in source text. Without memory for that it is reported as one of
-/// standard input.
-fn report_in<Rt: AllocGlobal + Eprint>(
+/// Reports the fault of bytes whose lines were written there: with all faults of the text, if it
+/// has a place in source text, as compilers do on standard error, or as JSON on standard output.
+/// Without memory for that it is reported as one of standard input.
+fn report_in<Rt: AllocGlobal + Print + Eprint>(
     rt: &Rt,
     lines: &Lines<'_>,
+    form: Form,
     input: &[u8],
     fault: &ServeError,
 ) {
-    match (faults_message(rt.alloc(), lines, input, fault), fault) {
-        (Ok(Some(text)), _) => {
+    match (faults_message(rt.alloc(), lines, form, input, fault), fault) {
+        (Ok(Some(text)), _) => print_in(rt, form, text.as_str()),
+        (_, ServeError::Input(_)) if lines.name() != "-" => {
+            report_on_file(rt, lines.name(), fault);
+        }
+        _ => report_alone(rt, fault),
+    }
+}
+
+/// Writes messages where those of a form go. If they can't be written to standard output, that is
+/// reported.
+fn print_in<Rt: Print + Eprint>(rt: &Rt, form: Form, text: &str) {
+    match form {
+        Form::Text => {
             let _ = eprint!(rt; "{text}");
         }
-        (_, ServeError::Input(_)) => report_on_file(rt, lines.name(), fault),
-        _ => {
-            let _ = eprintln!(rt; "ga-bench: {fault}");
+        Form::Json => {
+            let written = write_output(
+                &mut io::writer(rt),
+                text.as_bytes(),
+                &mut Writes::default(),
+            );
+            if let Err(fault) = written {
+                report_alone(rt, &fault);
+            }
         }
     }
+}
+
+/// Reports a fault by itself.
+fn report_alone<Rt: Eprint>(rt: &Rt, fault: &ServeError) {
+    // If this can't be written either, the status still reports it.
+    let _ = eprintln!(rt; "ga-bench: {fault}");
 }
 
 /// Reports the fault of the file with a name, behind the name.

@@ -7,9 +7,10 @@ use crate::saved_files::put;
 use ga_include::source_path;
 use ga_jobs::record::replacement;
 use ga_jobs::{
-    Ending, FileReport, Job, Reads, ServeError, ShownText, Sourced, Writes, fault_in_source,
-    read_input, serve_file, source_named, status, write_output,
+    Ending, FileReport, Job, Reads, ServeError, Sourced, Writes, fault_in_source, read_input,
+    serve_file, source_named, status, write_output,
 };
+use ga_messages::ShownText;
 use std::io::{Read, Write};
 use std::rt::Files;
 use std::thread::Threads;

@@ -8,7 +8,7 @@ use Rattle.ga_command_line.specs.Debug.{debug_command}
 use Rattle.ga_command_line.specs.Dis.{code_command, dis_command}
 use Rattle.ga_command_line.specs.Explain.{explain_command}
 use Rattle.ga_command_line.specs.File.{file_command, files_command, writing_command}
-use Rattle.ga_command_line.specs.LintLine.{lint_command}
+use Rattle.ga_command_line.specs.LintLine.{deny_command, flags_command, lint_command}
 use Rattle.ga_command_line.specs.List as list
 use Rattle.ga_command_line.specs.Loading as loading
 use Rattle.ga_command_line.specs.MapLine.{map_command}
@@ -25,7 +25,7 @@ unfoldable pub whole_command : App
 unfolding bench_command linked bare_command tries_command one_command code_command dis_command
     boot_command routed_command shared_command timed_command run_command loading.placed_command
     loading.loading_command debug_command turns_command list.labels_command list.counts_command
-    list.list_command lint_command race.witness_command race.race_command map_command from_command
-    json_command profile_command trace.nodes_command trace.save_command trace.trace_command
-    report_command file_command files_command writing_command explain_command
+    list.list_command deny_command flags_command lint_command race.witness_command race.race_command
+    map_command from_command json_command profile_command trace.nodes_command trace.save_command
+    trace.trace_command report_command file_command files_command writing_command explain_command
 whole_command = bench_command

@@ -34,9 +34,9 @@ asm_line : (file : String Global) → string_bytes file ≡ codes "ring"
 unfolding whole_command clap_on_literals
 asm_line file is = (refl, (refl, ap Some is), tt)
 
-lint_line : IsRight (codes "ga-bench" ∷ codes "lint" ∷ codes "--deny" ∷ []) (Lint true None)
+lint_line : IsRight (codes "ga-bench" ∷ codes "lint" ∷ codes "--deny" ∷ []) (Lint true false None)
 unfolding whole_command clap_on_literals
-lint_line = (refl, (refl, (refl, refl)), tt)
+lint_line = (refl, (refl, (refl, refl, refl)), tt)
 
 check_line : (files : Vec (String Global) Global)
     → map string_bytes files.items ≡ codes "ring" ∷ codes "sum" ∷ []

@@ -79,7 +79,7 @@ job_name (Talk loading file) = codes "debug"
 job_name (Replay file) = codes "replay"
 job_name (job.Expand file) = codes "expand"
 job_name (job.List labels file) = codes "list"
-job_name (job.Lint deny file) = codes "lint"
+job_name (job.Lint deny json file) = codes "lint"
 job_name (job.Race loading turns witness file) = codes "race"
 job_name (job.Map loading turns file) = codes "map"
 job_name (job.Profile loading start json turns file) = codes "profile"
@@ -112,8 +112,9 @@ HasArguments rows (job.List labels file) =
     (is_set (codes "COUNTS") rows ≡ false) × (labels ≡ is_set (codes "LABELS") rows)
     × IsLoadingAt rows Any × IsNumberIfAt (codes "N") rows None
     × IsFileAt rows (option_map string_bytes file)
-HasArguments rows (job.Lint deny file) =
-    (deny ≡ is_set (codes "DENY") rows) × IsFileAt rows (option_map string_bytes file)
+HasArguments rows (job.Lint deny json file) =
+    (deny ≡ is_set (codes "DENY") rows) × (json ≡ is_set (codes "JSON") rows)
+    × IsFileAt rows (option_map string_bytes file)
 HasArguments rows (job.Counts loading turns file) =
     (is_set (codes "COUNTS") rows ≡ true) × (is_set (codes "LABELS") rows ≡ false)
     × IsLoadingAt rows loading × IsNumberIfAt (codes "N") rows turns

@@ -20,7 +20,8 @@ const HELP: &str = "\
 Reads source text from FILE, or from standard input if FILE is left out or is -. Writes for each node
 the line that asm writes, and then a line for each word: its address, the word, whether it is code, a
 follower or data, the line of the text in which it begins, and its instructions, with labels for
-destinations. Each label has a line of its own before its word, or behind the last word.
+destinations. Each label has a line of its own before its word, or behind the last word. For FILE the
+warnings of lint follow, but not with --labels.
 
 With --counts it makes a run: until no node moves but those that spin, or N turns. Each line begins with how
 often its word was fetched, and how often the opcode in each slot ran if that differs; the lines where a node

@@ -71,8 +71,8 @@ Fixed, with the text on standard input (- means the same as no name):
 
 const NOT_A_FILE: &str = "\
 NotAFile: 'save!' at the prompt and 'record --write' replace only regular files,
-an include reads only those, and this name is that of a pipe or a device. 'save!'
-also reports it for a folder, and for a link that leads to no file.
+an include reads only those, and this name is that of a pipe or a device.
+'save!' also reports it for a folder, and for a link that leads to no file.
 
   $ echo 'save! .' | ga-bench debug my.source
   refused NotAFile

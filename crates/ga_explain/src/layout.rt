@@ -35,7 +35,8 @@ pub fn topics() -> [Topic; 4]
 
 const UNDEFINED_LABEL: &str = "\
 UndefinedLabel: a name that is no label of its node. Names are case-sensitive,
-and a node doesn't see the labels of others.
+and a node doesn't see the labels of others. For a FILE the error names the
+label or constant that may be meant, if one is near.
 
   $ echo 'node 709 jump lop loop: dup' | ga-bench asm
   ga-bench: asm 709 1:15 UndefinedLabel
@@ -95,7 +96,8 @@ be saved more than 1,048,576.
   $ printf '%1048577s' '' | ga-bench one 0
   ga-bench: input TooLong
 
-Fixed: a node has 64 words, so split a longer program over several nodes.
+Fixed: a node has 64 words, so split a longer program over several nodes. For a
+FILE the error reports how many words the node needs.
 
   $ printf '2C9B2 %.0s' $(seq 64) | ga-bench one 0
   node 000 P 000 A 00000 B 15D R 00000 S 00000 T 00000 C 0 io 00000 at fetch

@@ -62,7 +62,8 @@ pub fn topics() -> [Topic; 10]
 const BAD_TOKEN: &str = "\
 BadToken: a token that the language doesn't have, or one that isn't allowed
 there. The line and the column are those of the token, or of the text's end if
-something is missing. Tokens end at blanks.
+something is missing. Tokens end at blanks. If the text is that of a FILE, the
+error names the word or name that may be meant, if one is near.
 
   $ echo 'node 709 0x15' | ga-bench asm
   ga-bench: source 1:10 BadToken

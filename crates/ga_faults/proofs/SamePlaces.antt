@@ -9,8 +9,8 @@ use Rattle.std.proofs.lemmas.List.Elements.{All-cons, All-nil, filter-append}
 use Rattle.std.proofs.lemmas.List.Splits.{slice_split_at, slice_split_none}
 use Rattle.ga_pack.specs.Model.Text.{Lexeme, Run, lexemes, lexemes_from, line_lexemes, lines_of, place_behind}
 use Rattle.ga_expand.specs.Expanding.{Piece, piece_at, pieces_of}
-use Rattle.ga_faults.specs.Laws.{PartsKeepPlaces, is_before}
-use Rattle.ga_faults.specs.Sections.{is_kept, kept_line, kept_lines, up_to}
+use Rattle.ga_faults.specs.Laws.{PartsKeepPlaces}
+use Rattle.ga_faults.specs.Sections.{is_before, is_kept, kept_line, kept_lines, up_to}
 use Rattle.ga_faults.proofs.Once.{all_take}
 
 -- ---- the lines of a part

@@ -1,13 +1,9 @@
 -- A law of the definitions.
-use Rattle.std.specs.Prelude.{◌≡◌, ◌&&◌, ℕ, Bool, true, List, Option, Some, None, filter, nat_lt}
+use Rattle.std.specs.Prelude.{◌≡◌, ◌&&◌, ℕ, Bool, List, filter}
 use Rattle.ga_pack.specs.Model.Text.{lines_of}
 use Rattle.ga_expand.specs.Expanding.{Piece, pieces_of}
-use Rattle.ga_faults.specs.Sections.{is_kept, part_in}
+use Rattle.ga_faults.specs.Sections.{is_before, is_kept, part_in}
 use Rattle.ga_faults.specs.declared.sections.Section.{Section}
-
-abbrev pub is_before : Option ℕ → ℕ → Bool
-is_before None line = true
-is_before (Some next) line = nat_lt line next
 
 -- A token of a text that its part of a section has: it is before the section's end, and not between
 -- the head and the section.

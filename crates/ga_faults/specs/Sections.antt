@@ -1,6 +1,6 @@
 -- The sections of a text, and the parts of the text that have one of them.
-use Rattle.std.specs.Prelude.{◌&&◌, ◌||◌, ◌+◌, ◌-◌, ℕ, Bool, false, List, [], ◌∷◌, ◌++◌, codes, map, nat_le, nat_lt, slice_get, take, unwrap_or, Option, Some, None, if◌then◌else◌}
-use Rattle.std.specs.List.{join_with_byte}
+use Rattle.std.specs.Prelude.{◌&&◌, ◌||◌, ◌+◌, ◌-◌, ℕ, Bool, false, true, List, [], ◌∷◌, ◌++◌, codes, map, nat_le, nat_lt, slice_get, take, unwrap_or, Option, Some, None, if◌then◌else◌}
+use Rattle.std.specs.List.{find, join_with_byte}
 use Rattle.std.specs.Str.{bytes_eq}
 use Rattle.ga_pack.specs.Model.Text.{lines_of}
 use Rattle.ga_expand.specs.Expanding.{Piece, pieces_of}
@@ -53,6 +53,11 @@ sections_at [] = []
 sections_at (first ∷ starts) =
     record { first = first; next = slice_get starts 0 } ∷ sections_at starts
 
+-- whether a line is before the one with which the next section begins
+abbrev pub is_before : Option ℕ → ℕ → Bool
+is_before None line = true
+is_before (Some next) line = nat_lt line next
+
 -- ---- parts
 
 -- the lines before the one at which the next section begins
@@ -90,3 +95,19 @@ parts_of text =
     let starts = section_starts text in
     map (part_in (lines_of text) (unwrap_or (slice_get starts 0) 0))
     (take most_sections (sections_at starts))
+
+-- whether a section has a line
+abbrev pub has_line : ℕ → Section → Bool
+has_line line section = nat_le section.first line && is_before section.next line
+
+-- the part of a section, or the text if there is none
+abbrev pub part_or_text : List ℕ → ℕ → Option Section → List ℕ
+part_or_text text head (Some section) = part_in (lines_of text) head section
+part_or_text text head None = text
+
+-- the part of the section of a text that has a line, or the text if none has it
+unfoldable pub part_at : List ℕ → ℕ → List ℕ
+part_at text line =
+    let starts = section_starts text in
+    part_or_text text (unwrap_or (slice_get starts 0) 0)
+    (find (has_line line) (sections_at starts))

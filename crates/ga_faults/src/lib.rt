@@ -14,3 +14,4 @@ pub use fault::Fault;
 pub use first::first_fault;
 pub use listing::faults;
 pub use origins::{at_origin, origin};
+pub use parts::part_at;

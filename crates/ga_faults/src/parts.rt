@@ -1,10 +1,32 @@
 //! The part of a text that has one of its sections.
-ghost use Rattle.std.specs.Prelude.{◌≡◌, IfOk, map, string_bytes};
+ghost use Rattle.std.specs.Prelude.{◌≡◌, IfOk, find, map, option_map, string_bytes};
 ghost use Rattle.ga_pack.specs.Model.Text.{lines_of};
-ghost use Rattle.ga_faults.specs.Sections.{part_in};
+ghost use Rattle.ga_faults.specs.Sections.{has_line, part_at, part_in};
 
-use crate::sections::Section;
+use crate::sections::{Section, section_starts, sections_at};
 use std::alloc::{AllocError, Global};
+
+/// The part of the section of a text that has a line, from 1, or the text itself if none has it.
+/// Fails only when out of memory. (The rules are this project's own: profile.)
+#[tactic(auto, unfolding(crate::specs::Sections::part_at))]
+pub fn part_at(alloc: Global, text: &str, line: usize) -> Result<String, AllocError>
+    ensures { IfOk result (λ part. string_bytes part ≡ part_at text.now line) }
+{
+    let starts = section_starts(alloc, text)?;
+    let head = starts.first().copied().unwrap_or(0);
+    let sections = sections_at(alloc, &starts)?;
+    match section_with(&sections, line) {
+        Some(section) => part_text(alloc, &lines_of(alloc, text)?, head, *section),
+        None => String::from_str(alloc, text),
+    }
+}
+
+/// The first of some sections that has a line.
+fn section_with(sections: &[Section], line: usize) -> Option<&Section>
+    ensures { option_map (λ section. section.now) result ≡ find (has_line line) sections.now }
+{
+    sections.iter().find(|section| section.has_line(line))
+}
 
 /// The lines of a text, without the LF between them.
 pub(crate) fn lines_of(alloc: Global, text: &str) -> Result<Vec<&str>, AllocError>

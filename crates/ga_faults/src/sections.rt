@@ -1,6 +1,6 @@
 //! The sections of a text.
 ghost use Rattle.std.specs.Prelude.{◌≡◌, ◌≤◌, ◌++◌, IfOk, OnOk, length, slice_range};
-ghost use Rattle.ga_faults.specs.Sections.{begins_section, if_begun, kept_line, section_starts, sections_at, up_to};
+ghost use Rattle.ga_faults.specs.Sections.{begins_section, has_line, if_begun, kept_line, section_starts, sections_at, up_to};
 
 use crate::reading::Reading;
 use ga_source::{Token, tokens};
@@ -24,6 +24,17 @@ impl Section {
             Some(next) => &lines[..next.saturating_sub(1).min(lines.len())],
             None => lines,
         }
+    }
+
+    /// Whether it has a line.
+    pub(crate) fn has_line(self, line: usize) -> bool
+        ensures { result ≡ has_line line self }
+    {
+        self.first <= line
+            && match self.next {
+                Some(next) => line < next,
+                None => true,
+            }
     }
 
     /// What the part of this section has for a line. The first section begins at the line `head`.

@@ -1,6 +1,6 @@
-mod NthItem
 mod Listed
 mod Linted
+mod FaultMessages
 mod Dealing
 mod Faults
 pub mod OneOutput

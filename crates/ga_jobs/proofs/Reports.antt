@@ -8,7 +8,7 @@ use Rattle.ga_jobs.specs.declared.fault.ServeError.{ServeError}
 use Rattle.ga_jobs.specs.declared.fault.ServeError.TheVariants.{Memory, Read, Write}
 use Rattle.ga_jobs.specs.Fault.{FailsRightly}
 use Rattle.ga_jobs.specs.FileReport.{found_text}
-use Rattle.ga_jobs.specs.Shown.{shown_lines}
+use Rattle.ga_messages.specs.Shown.{shown_lines}
 
 pub four_pieces : (a b c d : List ℕ) → a ++ (b ++ (c ++ d)) ≡ a ++ b ++ c ++ d
 four_pieces a b c d = simp append_assoc

@@ -1,5 +1,5 @@
 -- What the jobs write for inputs that were worked out by hand.
-use Rattle.std.proofs.Common.{◌≡◌, ℕ, true, false, List, [], ◌∷◌, ◌++◌, map, Some, None, Ok, Err, refl}
+use Rattle.std.proofs.Common.{◌≡◌, ℕ, true, false, List, [], ◌∷◌, ◌++◌, Some, None, Ok, Err, refl}
 use Rattle.std.specs.Prelude.{codes}
 use Rattle.std.specs.Fmt.{digits}
 use Rattle.std.specs.Str.{chars, is_utf8}
@@ -31,7 +31,7 @@ use Rattle.ga_jobs.specs.declared.fault.InputFault.TheVariants.{BadText}
 use Rattle.ga_jobs.specs.declared.fault.WordsFault.TheVariants as words
 use Rattle.ga_jobs.specs.Boot.{part_text, text_by}
 use Rattle.ga_jobs.specs.Meaning.{profile_meaning}
-use Rattle.ga_jobs.specs.Shown.{numbered_line, shown_char}
+use Rattle.ga_messages.specs.Shown.{numbered_line}
 use Rattle.ga_jobs.specs.TranscriptFault.{end_column, is_source_end}
 use Rattle.ga_jobs.specs.Dis.{dis_output, dis_text}
 use Rattle.ga_jobs.specs.One.{one_output, one_text}
@@ -139,12 +139,6 @@ unfolding command_in command_first happened tried after asks need_of reset_chip 
 replies_to_three = refl
 
 -- ---- what is shown of a text
-
--- a control character other than the tab is a blank, and so is one that isn't drawn
-shown_alike : map shown_char
-    (27 ∷ 9 ∷ 0x7F ∷ 0x200A ∷ 0x200B ∷ 0x200F ∷ 0x2010 ∷ 0x202E ∷ 0x202F ∷ 0x2066 ∷ 0x206A ∷ [])
-    ≡ 32 ∷ 9 ∷ 32 ∷ 0x200A ∷ 32 ∷ 32 ∷ 0x2010 ∷ 32 ∷ 0x202F ∷ 32 ∷ 0x206A ∷ []
-shown_alike = refl
 
 -- `go` is the fourth line, and the source lines end there
 cut_off : List ℕ

@@ -33,7 +33,7 @@ HasOneOutput (Race loading turns witness file) input = Unit {0}
 HasOneOutput (Talk loading file) input = Unit {0}
 -- the lines of an expansion are free, and warnings are those about one
 HasOneOutput (Expand file) input = Unit {0}
-HasOneOutput (Lint deny file) input = Unit {0}
+HasOneOutput (Lint deny json file) input = Unit {0}
 HasOneOutput (Map loading turns file) input = Unit {0}
 HasOneOutput (Profile loading start json turns file) input = Unit {0}
 HasOneOutput (Trace loading turns nodes save file) input = Unit {0}

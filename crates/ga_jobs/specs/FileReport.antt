@@ -4,7 +4,7 @@ use Rattle.std.specs.Fmt.{decimal}
 use Rattle.ga_transcript.specs.Compare.{IsCompared, View}
 use Rattle.ga_jobs.specs.declared.fault.ServeError.{ServeError}
 use Rattle.ga_jobs.specs.declared.file_report.FileReport.{FileReport}
-use Rattle.ga_jobs.specs.Shown.{shown_lines, shown_name}
+use Rattle.ga_messages.specs.Shown.{shown_lines, shown_name}
 use Rattle.ga_jobs.specs.Sourced.{SourcedView, report_in_file}
 use Rattle.ga_jobs.specs.Text.{IsInText}
 use Rattle.ga_jobs.specs.TranscriptFault.{shown_transcript_fault}

@@ -13,7 +13,7 @@ use Rattle.ga_jobs.specs.Debug.{IsDebugOutput}
 use Rattle.ga_jobs.specs.Dis.{dis_output}
 use Rattle.ga_jobs.specs.ExpandJob.{IsExpandOutput}
 use Rattle.ga_jobs.specs.Lines.{origins_in}
-use Rattle.ga_jobs.specs.LintJob.{IsLintOutput, file_name}
+use Rattle.ga_jobs.specs.LintJob.{IsLintOutput, file_name, form_of}
 use Rattle.ga_jobs.specs.Listing.{IsListOutput}
 use Rattle.ga_jobs.specs.MapJob.{IsMapOutput}
 use Rattle.ga_jobs.specs.One.{one_output}
@@ -26,7 +26,6 @@ use Rattle.ga_jobs.specs.Session.{IsSessionOutput}
 use Rattle.ga_jobs.specs.TraceJob.{IsTraceOutput}
 use Rattle.ga_jobs.specs.Transcript.{IsCheckOutput, IsRecordOutput}
 pub mod Fault
-pub mod Shown
 pub mod Meaning
 pub mod TextFault
 pub mod TranscriptFault
@@ -78,8 +77,9 @@ IsJobOutput (job.Talk loading file) input answer = IsSessionOutput loading input
 IsJobOutput (job.Replay file) input answer = IsReplayOutput input answer
 IsJobOutput (job.Expand file) input answer = IsExpandOutput input answer
 IsJobOutput (job.List labels file) input answer = IsListOutput labels input answer
-IsJobOutput (job.Lint deny file) input answer =
-    IsLintOutput (origins_in (file_name (option_map string_bytes file))) input answer
+IsJobOutput (job.Lint deny json file) input answer =
+    IsLintOutput (origins_in (file_name (option_map string_bytes file))) (form_of json) input
+    answer
 IsJobOutput (job.Check files) input answer = IsCheckOutput input answer
 IsJobOutput (job.Record file) input answer = IsRecordOutput input answer
 IsJobOutput (job.Rewrite files) input answer = IsRecordOutput input answer
@@ -128,7 +128,7 @@ file_of (job.Run route workers turns file) = given_file file
 file_of (job.Replay file) = given_file file
 file_of (job.Expand file) = given_file file
 file_of (job.List labels file) = given_file file
-file_of (job.Lint deny file) = given_file file
+file_of (job.Lint deny json file) = given_file file
 file_of (job.Check files) = only_file files.items
 file_of (job.Record file) = given_file file
 file_of (job.Race loading turns witness file) = given_file file

@@ -4,7 +4,7 @@ use Rattle.std.specs.List.{starts_with}
 use Rattle.ga_debug.specs.declared.replay_error.ReplayError.{ReplayError}
 use Rattle.ga_debug.specs.declared.replay_error.ReplayError.TheVariants as replay
 use Rattle.ga_explain.specs.Output.{meaning_of}
-use Rattle.ga_jobs.specs.Shown.{whole_line}
+use Rattle.ga_messages.specs.Shown.{whole_line}
 
 -- of a first line that isn't the one of the profile; the bytes of U+FEFF in front of it, or a CR at
 -- its end, can't be seen where it is shown

@@ -29,7 +29,7 @@ in_pieces (output.Waveform made) = true
 abbrev pub ending_of : Job → List ℕ → Ending
 ending_of (job.Race loading turns witness file) text =
     if starts_with nat_eq text (codes "no race") then ending.Done else ending.Race
-ending_of (job.Lint true file) text = if is_empty text then ending.Done else ending.Denied
+ending_of (job.Lint true json file) text = if is_empty text then ending.Done else ending.Denied
 ending_of job text = ending.Done
 
 -- a prefix of a text was appended to a writer's bytes, old and new, and nothing else

@@ -8,7 +8,7 @@ use Rattle.ga_jobs.specs.declared.fault.TextFault.{TextFault}
 use Rattle.ga_jobs.specs.declared.fault.TextFault.TheVariants.{Asm, AsmOf, Source, SourceOf}
 use Rattle.ga_jobs.specs.declared.race.Loading.{Loading}
 use Rattle.ga_jobs.specs.Race.{is_head}
-use Rattle.ga_jobs.specs.Shown.{whole_line}
+use Rattle.ga_messages.specs.Shown.{whole_line}
 
 -- the name in a line: `source`, a space, and a name that isn't empty
 abbrev pub name_in_line : List ℕ → Option (List ℕ)

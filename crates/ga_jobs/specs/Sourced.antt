@@ -15,7 +15,7 @@ use Rattle.ga_jobs.specs.declared.fault.InputFault.TheVariants.{TooLong}
 use Rattle.ga_jobs.specs.declared.fault.TextFault.{TextFault}
 use Rattle.ga_jobs.specs.declared.fault.TextFault.TheVariants.{Differs, EarlyReply}
 use Rattle.ga_jobs.specs.Session.{ended_lines}
-use Rattle.ga_jobs.specs.Shown.{whole_line}
+use Rattle.ga_messages.specs.Shown.{whole_line}
 use Rattle.ga_jobs.specs.SourceName.{fault_in_source}
 use Rattle.ga_jobs.specs.Text.{IsInText, text_in}
 use Rattle.ga_jobs.specs.TextFault.{shown_fault}

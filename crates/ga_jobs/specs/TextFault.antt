@@ -13,7 +13,7 @@ use Rattle.ga_jobs.specs.declared.fault.ServeError.{ServeError}
 use Rattle.ga_jobs.specs.declared.fault.ServeError.TheVariants.{Shown, Memory}
 use Rattle.ga_jobs.specs.declared.fault.TextFault.TheVariants.{Source, Asm, Expand, Include}
 use Rattle.ga_jobs.specs.Fault.{refusal_name}
-use Rattle.ga_jobs.specs.Shown.{shown_text}
+use Rattle.ga_messages.specs.Shown.{shown_text}
 
 -- the fault of a source text, or of its program, with the line of its place, a caret and what it
 -- means

@@ -14,7 +14,7 @@ use Rattle.ga_jobs.specs.declared.fault.ServeError.TheVariants.{Output, Shown, M
 use Rattle.ga_jobs.specs.declared.fault.OutputFault.TheVariants.{TooLong}
 use Rattle.ga_jobs.specs.declared.fault.TextFault.TheVariants.{Replay, EarlyReply, Differs}
 use Rattle.ga_jobs.specs.Meaning.{head_meaning}
-use Rattle.ga_jobs.specs.Shown.{numbered_line, shown_lines, shown_text, whole_line}
+use Rattle.ga_messages.specs.Shown.{numbered_line, shown_lines, shown_text, whole_line}
 use Rattle.ga_jobs.specs.TextFault.{shown_fault}
 
 -- the number of a source line in the whole text, which has two lines before it; a number that is

@@ -7,12 +7,12 @@ ghost use Rattle.ga_jobs.specs.declared.fault.RouteFault.TheVariants.{BadRoute};
 ghost use Rattle.ga_jobs.specs.declared.fault.ServeError.TheVariants.{Boot, Memory, Plan, Route, Words};
 ghost use Rattle.ga_jobs.specs.declared.fault.WordsFault.TheVariants.{BadWord};
 
-use crate::shown::ShownText;
 use ga_asm::{AsmError, TextError};
 use ga_debug::ReplayError;
 use ga_expand::ExpandError;
 use ga_group::PlanError;
 use ga_include::IncludeFaultKind;
+use ga_messages::ShownText;
 use ga_path::{BootError, NamesError, RouteError, TreeError};
 use ga_place::Node;
 use ga_source::SourceError;

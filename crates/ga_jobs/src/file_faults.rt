@@ -1,34 +1,37 @@
 //! All faults of a source text, as compilers write them.
-ghost use Rattle.std.specs.Prelude.{◌≡◌, ◌++◌, IfOk, OnOk, option_map, string_bytes};
-ghost use Rattle.ga_jobs.specs.FileFaults.{AreFaultsIn, AreFaultsTold, fault_lines, faults_text, is_of_text, shown_of, source_in, text_in};
+ghost use Rattle.std.specs.Prelude.{◌≡◌, IfOk, option_map, string_bytes};
+ghost use Rattle.ga_jobs.specs.FileFaults.{AreFaultMessages, AreFaultsIn, AreFaultsTold, IsFaultMessage, IsHintText, is_of_text, shown_of, source_in, text_in};
 ghost use Rattle.ga_jobs.specs.Lines.{origins_of};
 
 use crate::fault::{ServeError, TextFault};
 use crate::larger::is_session;
 use crate::lines::Lines;
-use crate::message::fault_message;
+use crate::message::{fault_message, message_with};
 use crate::text_fault::{shown_expand_fault, shown_fault};
 use ga_asm::TextError;
 use ga_faults::{Fault, faults};
+use ga_hints::hint;
+use ga_messages::Form;
 use std::alloc::{AllocError, Global};
 use std::str;
 
-/// What is reported of an input that was refused with a fault, as [`fault_message`] writes it: if
-/// the fault is one of source text, all faults of the text, at most 20; or else the fault alone.
-/// Fails only when out of memory. (Profile.)
+/// What is reported of an input that was refused with a fault, in a form: if the fault is one of
+/// source text, all faults of the text, at most 20, each with what may help; or else the fault
+/// alone, as [`fault_message`] writes it. Fails only when out of memory. (Profile.)
 #[tactic(auto, unfolding(crate::specs::FileFaults::AreFaultsTold))]
 pub fn faults_message(
     alloc: Global,
     lines: &Lines<'_>,
+    form: Form,
     input: &[u8],
     fault: &ServeError,
 ) -> Result<Option<String>, AllocError>
-    ensures { IfOk result (λ told. AreFaultsTold (origins_of lines.now) input.now fault.now
+    ensures { IfOk result (λ told. AreFaultsTold (origins_of lines.now) form input.now fault.now
         (option_map string_bytes told)) }
 {
     match source_in(input, fault) {
-        Some(text) => Ok(Some(faults_text(alloc, lines, text)?)),
-        None => fault_message(alloc, lines, fault),
+        Some(text) => Ok(Some(faults_text(alloc, lines, form, text)?)),
+        None => fault_message(alloc, lines, form, fault),
     }
 }
 
@@ -69,47 +72,66 @@ fn is_of_text(fault: &ServeError) -> bool
 
 /// The messages of all faults of a text.
 #[tactic(auto, unfolding(crate::specs::FileFaults::AreFaultsIn))]
-fn faults_text(alloc: Global, lines: &Lines<'_>, text: &str) -> Result<String, AllocError>
-    ensures { IfOk result (λ told. AreFaultsIn (origins_of lines.now) text.now
+fn faults_text(
+    alloc: Global,
+    lines: &Lines<'_>,
+    form: Form,
+    text: &str,
+) -> Result<String, AllocError>
+    ensures { IfOk result (λ told. AreFaultsIn (origins_of lines.now) form text.now
         (string_bytes told)) }
 {
     let found = faults(alloc, text)?;
-    messages(alloc, lines, text, &found)
+    messages(alloc, lines, form, text, &found)
 }
 
-/// The messages of faults.
+/// The messages of faults, one behind the other.
 fn messages(
     alloc: Global,
     lines: &Lines<'_>,
+    form: Form,
     text: &str,
     found: &[Fault],
 ) -> Result<String, AllocError>
-    ensures { IfOk result (λ told. string_bytes told
-        ≡ faults_text (origins_of lines.now) text.now found.now) }
+    ensures { IfOk result (λ told.
+        AreFaultMessages (origins_of lines.now) form text.now found.now (string_bytes told)) }
 {
     let mut told = String::new(alloc);
     for fault in found {
-        push_fault(&mut told, alloc, lines, text, *fault)?;
+        let message = message_of(alloc, lines, form, text, fault)?;
+        told.push_str(message.as_str())?;
     }
     Ok(told)
 }
 
-/// Adds the message of a fault.
-#[tactic(auto, unfolding(crate::specs::FileFaults::fault_lines))]
-fn push_fault(
-    told: &mut String,
+/// The message of a fault, with what may help.
+#[tactic(auto, unfolding(crate::specs::FileFaults::IsFaultMessage))]
+fn message_of(
     alloc: Global,
     lines: &Lines<'_>,
+    form: Form,
     text: &str,
-    fault: Fault,
-) -> Result<(), AllocError>
-    ensures { OnOk result (string_bytes told.new ≡ string_bytes told.old
-        ++ fault_lines (origins_of lines.now) text.now fault) }
+    fault: &Fault,
+) -> Result<String, AllocError>
+    ensures { IfOk result (λ message. IsFaultMessage (origins_of lines.now) form text.now fault.now
+        (string_bytes message)) }
 {
-    let shown = shown(alloc, text, fault)?;
-    match fault_message(alloc, lines, &shown)? {
-        Some(message) => told.push_str(message.as_str()),
-        None => Ok(()),
+    let hint = hint_of(alloc, text, *fault)?;
+    let shown = shown(alloc, text, *fault)?;
+    match message_with(alloc, lines, form, hint, &shown)? {
+        Some(message) => Ok(message),
+        None => Ok(String::new(alloc)),
+    }
+}
+
+/// What may help with a fault, if anything is known.
+#[tactic(auto, unfolding(crate::specs::FileFaults::IsHintText))]
+fn hint_of(alloc: Global, text: &str, fault: Fault) -> Result<Option<String>, AllocError>
+    ensures { IfOk result (λ hint. IsHintText text.now fault (option_map string_bytes hint)) }
+{
+    match hint(alloc, text, fault)? {
+        Some(hint) => Ok(Some(hint.to_string(alloc)?)),
+        None => Ok(None),
     }
 }
 

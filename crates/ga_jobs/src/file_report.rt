@@ -3,13 +3,13 @@ ghost use Rattle.std.specs.Prelude.{◌≡◌, IfOk, string_bytes};
 ghost use Rattle.ga_transcript.specs.Compare.{comparison_view};
 ghost use Rattle.ga_jobs.specs.Fault.{Answers};
 ghost use Rattle.ga_jobs.specs.FileReport.{IsComparedIn, IsFileReport, IsRefused, IsSourcedReport, found_text};
-ghost use Rattle.ga_jobs.specs.Shown.{shown_name};
+ghost use Rattle.ga_messages.specs.Shown.{shown_name};
 
 use crate::fault::ServeError;
-use crate::shown::{shown_lines, shown_name};
 use crate::sourced::Sourced;
 use crate::text::input_text;
 use crate::transcript_fault::shown_transcript_fault;
+use ga_messages::{shown_lines, shown_name};
 use ga_transcript::{Comparison, compare};
 use std::alloc::{AllocError, Global};
 

@@ -39,7 +39,6 @@ pub mod replay;
 pub mod report;
 pub mod run;
 mod session;
-mod shown;
 mod source;
 mod source_name;
 mod sourced;
@@ -67,7 +66,6 @@ pub use crate::outputs::{Output, output_of};
 pub use crate::race::Loading;
 pub use crate::reading::read_input;
 pub use crate::reads::{Reads, tried_again};
-pub use crate::shown::{ShownText, shown_char};
 pub use crate::source_name::{fault_in_source, session_source, source_named};
 pub use crate::sourced::Sourced;
 pub use crate::text_fault::shown_include_fault;
@@ -128,9 +126,11 @@ pub enum Job {
         labels: bool,
         file: Option<String>,
     },
-    /// The warnings about a source text. If they are denied, one is a fault of the text.
+    /// The warnings about a source text, as JSON or as compilers write them. If they are denied,
+    /// one is a fault of the text.
     Lint {
         deny: bool,
+        json: bool,
         file: Option<String>,
     },
     /// How many commands a transcript has, if each has the expected reply. As a job it has one
@@ -298,7 +298,7 @@ fn output(alloc: Global, job: &Job, input: &[u8]) -> Option<Result<String, Serve
         Job::Replay { .. } => Some(replay::output(alloc, input)),
         Job::Expand { .. } => Some(expand::output(alloc, input)),
         Job::List { labels, .. } => Some(list::output(alloc, *labels, input)),
-        Job::Lint { file, .. } => Some(lint::output(alloc, file, input)),
+        Job::Lint { json, file, .. } => Some(lint::output(alloc, *json, file, input)),
         Job::Check { .. } => Some(check::output(alloc, input)),
         Job::Record { .. } | Job::Rewrite { .. } => Some(record::output(alloc, input)),
         Job::Race {

@@ -1,9 +1,9 @@
 ghost use Rattle.std.specs.Prelude.{◌≡◌, ◌==◌, ◌-◌, IfOk, length, slice_index};
 ghost use Rattle.ga_jobs.specs.Meaning.{head_meaning, profile_meaning};
 
-use crate::shown::whole_line;
 use ga_debug::ReplayError;
 use ga_explain::meaning;
+use ga_messages::whole_line;
 use std::alloc::{AllocError, Global};
 
 /// What a fault of the head of a transcript, which is this text, means, in one line. Fails only

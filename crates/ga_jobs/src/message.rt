@@ -1,128 +1,45 @@
-//! Messages about places in a file, as compilers write them.
-ghost use Rattle.std.specs.Prelude.{◌≡◌, ◌++◌, IfOk, None, OnOk, Some, codes, option_map, string_bytes};
-ghost use Rattle.std.specs.Fmt.{decimal};
+//! Messages about the faults of source text.
+ghost use Rattle.std.specs.Prelude.{◌≡◌, IfOk, None, Some, option_map, string_bytes};
+ghost use Rattle.ga_messages.specs.Message.{report_in};
+ghost use Rattle.ga_messages.specs.declared.message.Level.TheVariants.{Error};
 ghost use Rattle.ga_pack.specs.Model.LayoutFault.{asm_kind_name};
 ghost use Rattle.ga_pack.specs.Model.Token.{source_kind_name};
-ghost use Rattle.ga_jobs.specs.Message.{fault_message, fault_text, kind_text, level_name, lines_text, node_remark, text_at};
 ghost use Rattle.ga_jobs.specs.Lines.{origins_of};
-ghost use Rattle.ga_jobs.specs.declared.message.Level.TheVariants.{Error};
-ghost use Rattle.ga_jobs.specs.inner.Message.{message_text};
+ghost use Rattle.ga_jobs.specs.Message.{fault_message, report_at, report_of, told};
 
 use crate::fault::{ServeError, TextFault};
 use crate::lines::Lines;
-use crate::shown::{ShownText, numbered_line, shown_name};
 use ga_asm::AsmError;
+use ga_messages::{Form, Level, Message, ShownText, push_message};
 use ga_place::Node;
 use ga_source::{Place, SourceError};
 use std::alloc::{AllocError, Global};
-use std::fmt::Write;
 
-/// How grave what a message reports is.
-#[derive(Clone, Copy, Debug, PartialEq, Eq)]
-pub(crate) enum Level {
-    Error,
-    Warning,
-}
-
-impl Level {
-    /// `error` or `warning`.
-    fn name(self) -> &'static str
-        ensures { result.now ≡ level_name self }
-    {
-        match self {
-            Level::Error => "error",
-            Level::Warning => "warning",
-        }
-    }
-}
-
-/// What is reported about a place in a file.
-#[derive(Clone, Copy)]
-pub(crate) struct Message<'a> {
-    /// The file's name.
-    pub file: &'a str,
-    /// Where in the file.
-    pub place: Place,
-    pub level: Level,
-    pub kind: &'a str,
-    /// The node whose program has the fault, if it is one of a program.
-    pub node: Option<Node>,
-    /// The line of the place, a caret, and what the kind means.
-    pub shown: &'a ShownText,
-}
-
-/// Adds a message: a line with the place, the kind and its meaning, and then the line of the place
-/// and a caret. Fails only when out of memory.
-#[tactic(auto, unfolding(crate::specs::Message::text_at, crate::specs::Message::place_text))]
-pub(crate) fn push_message(
-    text: &mut String,
-    alloc: Global,
-    message: &Message<'_>,
-) -> Result<(), AllocError>
-    ensures { OnOk result (string_bytes text.new
-        ≡ string_bytes text.old ++ message_text message.now) }
-{
-    let shown = message.shown.as_str();
-    let file = shown_name(alloc, message.file)?;
-    push_place(text, file.as_str(), message.place)?;
-    push_kind(text, message.level, message.kind, numbered_line(shown, 3))?;
-    push_node(text, message.node)?;
-    push_lines(text, shown)
-}
-
-/// Adds where a message is: the file's name, as it is shown, and the place in it.
-fn push_place(text: &mut String, file: &str, place: Place) -> Result<(), AllocError>
-    ensures { OnOk result (string_bytes text.new ≡ string_bytes text.old
-        ++ (file.now ++ codes ":" ++ decimal place.line ++ codes ":" ++ decimal place.column
-        ++ codes ": ")) }
-{
-    let Place { line, column } = place;
-    write!(text, "{file}:{line}:{column}: ")
-}
-
-/// Adds how grave it is, its kind, and what that means.
-#[tactic(auto, unfolding(crate::specs::Message::kind_text))]
-fn push_kind(text: &mut String, level: Level, kind: &str, meaning: &str) -> Result<(), AllocError>
-    ensures { OnOk result (string_bytes text.new ≡ string_bytes text.old
-        ++ kind_text level kind.now meaning.now) }
-{
-    let level = level.name();
-    write!(text, "{level}: {kind}: {meaning}")
-}
-
-/// Adds the line of a place, and a caret.
-#[tactic(auto, unfolding(crate::specs::Message::lines_text))]
-fn push_lines(text: &mut String, shown: &str) -> Result<(), AllocError>
-    ensures { OnOk result (string_bytes text.new ≡ string_bytes text.old
-        ++ lines_text shown.now) }
-{
-    let first = numbered_line(shown, 1);
-    let caret = numbered_line(shown, 2);
-    write!(text, "\n{first}\n{caret}\n")
-}
-
-/// Adds which node has the fault, if it is known.
-fn push_node(text: &mut String, node: Option<Node>) -> Result<(), AllocError>
-    ensures { OnOk result (string_bytes text.new
-        ≡ string_bytes text.old ++ node_remark node) }
-{
-    if let Some(node) = node {
-        write!(text, " (node {node})")?;
-    }
-    Ok(())
-}
-
-/// The fault of a text as compilers write it, in lines that each end with LF, at the place where
-/// its line was written; or `None` if it has no place in source text. A fault of a source that the
-/// text names has that one's name. Fails only when out of memory. (The form is this project's own:
-/// profile.)
+/// The message of a fault in a form, at the place where its line was written; or `None` if it has
+/// no place in source text. A fault of a source that the text names has that one's name. Fails only
+/// when out of memory. (The forms are this project's own: profile.)
 pub fn fault_message(
     alloc: Global,
     lines: &Lines<'_>,
+    form: Form,
     fault: &ServeError,
 ) -> Result<Option<String>, AllocError>
     ensures { IfOk result (λ text. option_map string_bytes text
-        ≡ fault_message (origins_of lines.now) fault.now) }
+        ≡ fault_message (origins_of lines.now) form fault.now) }
+{
+    message_with(alloc, lines, form, None, fault)
+}
+
+/// The same with what may help, if anything is known.
+pub(crate) fn message_with(
+    alloc: Global,
+    lines: &Lines<'_>,
+    form: Form,
+    hint: Option<String>,
+    fault: &ServeError,
+) -> Result<Option<String>, AllocError>
+    ensures { IfOk result (λ text. option_map string_bytes text
+        ≡ told (origins_of lines.now) form (option_map string_bytes hint) fault.now) }
 {
     let ServeError::Shown { fault, shown } = fault else {
         return Ok(None);
@@ -130,7 +47,7 @@ pub fn fault_message(
     match message_of(lines, fault, shown) {
         Some(message) => {
             let mut text = String::new(alloc);
-            push_message(&mut text, alloc, &message)?;
+            push_message(&mut text, alloc, form, &Message { hint, ..message })?;
             Ok(Some(text))
         }
         None => Ok(None),
@@ -143,8 +60,8 @@ fn message_of<'a>(
     fault: &'a TextFault,
     shown: &'a ShownText,
 ) -> Option<Message<'a>>
-    ensures { option_map message_text result
-        ≡ fault_text (origins_of lines.now) fault.now shown.now }
+    ensures { option_map report_in result
+        ≡ report_of (origins_of lines.now) fault.now shown.now }
 {
     match fault {
         TextFault::Source(error) => {
@@ -188,7 +105,7 @@ fn source_message<'a>(
     error: SourceError,
     shown: &'a ShownText,
 ) -> Message<'a>
-    ensures { message_text result ≡ text_at (record { name = file.now; line = line })
+    ensures { report_in result ≡ report_at (record { name = file.now; line = line })
         error.column Error (source_kind_name error.kind) None shown.now }
 {
     let place = Place {
@@ -200,7 +117,7 @@ fn source_message<'a>(
 
 /// The message of a fault of a program, which is in this line of a file.
 fn asm_message<'a>(file: &'a str, line: usize, error: AsmError, shown: &'a ShownText) -> Message<'a>
-    ensures { message_text result ≡ text_at (record { name = file.now; line = line })
+    ensures { report_in result ≡ report_at (record { name = file.now; line = line })
         error.column Error (asm_kind_name error.kind) (Some error.node) shown.now }
 {
     let place = Place {
@@ -218,7 +135,7 @@ fn error_message<'a>(
     node: Option<Node>,
     shown: &'a ShownText,
 ) -> Message<'a>
-    ensures { message_text result ≡ text_at (record { name = file.now; line = place.line })
+    ensures { report_in result ≡ report_at (record { name = file.now; line = place.line })
         place.column Error kind.now node shown.now }
 {
     Message {
@@ -227,6 +144,7 @@ fn error_message<'a>(
         level: Level::Error,
         kind,
         node,
+        hint: None,
         shown,
     }
 }

@@ -1,11 +1,11 @@
 //! The name of a source in the head of a transcript, and the faults of that source.
 ghost use Rattle.std.specs.Prelude.{◌≡◌, IfOk, option_map};
-ghost use Rattle.ga_jobs.specs.Shown.{shown_name};
+ghost use Rattle.ga_messages.specs.Shown.{shown_name};
 ghost use Rattle.ga_jobs.specs.SourceName.{fault_in_source, name_in_line, session_source, session_source_in, source_named, source_named_in, text_fault_in_source};
 
 use crate::fault::{ServeError, TextFault};
 use crate::race::{Loading, is_head};
-use crate::shown::{ShownText, whole_line};
+use ga_messages::{ShownText, whole_line};
 use std::alloc::{AllocError, Global};
 use std::str;
 

@@ -2,10 +2,10 @@ ghost use Rattle.std.specs.Prelude.{◌≡◌, IfOk};
 ghost use Rattle.ga_jobs.specs.TextFault.{shown_expand_fault, shown_fault, shown_include_fault};
 
 use crate::fault::{IncludeFault, ServeError, TextFault};
-use crate::shown::ShownText;
 use ga_asm::TextError;
 use ga_expand::{ExpandError, ExpandErrorKind};
 use ga_explain::meaning;
+use ga_messages::ShownText;
 use std::alloc::{AllocError, Global};
 
 /// The fault of a text, with the lines that are shown at its place. Fails only when out of memory.

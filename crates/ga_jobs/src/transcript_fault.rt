@@ -5,11 +5,11 @@ ghost use Rattle.ga_jobs.specs.TranscriptFault.{shown_head_fault, shown_transcri
 
 use crate::fault::{OutputFault, ServeError, TextFault};
 use crate::meaning::head_meaning;
-use crate::shown::{ShownText, numbered_line, whole_line};
 use crate::text_fault::shown_fault;
 use ga_asm::{AsmError, TextError};
 use ga_debug::ReplayError;
 use ga_explain::meaning;
+use ga_messages::{ShownText, numbered_line, whole_line};
 use ga_source::SourceError;
 use ga_transcript::TranscriptError;
 use std::alloc::{AllocError, Global};

@@ -1,7 +1,7 @@
 ghost use Rattle.std.specs.Prelude.{◌≡◌, ℕ, IfOk, List, Some, bytes_eq, string_bytes};
 ghost use Rattle.std.proofs.Common.{rules};
 ghost use Rattle.std.specs.Cmp.Rules.{comparing};
-ghost use Rattle.ga_jobs.specs.Shown.{is_undrawn, left_out, numbered_line, line_under, shown_char, shown_line, shown_lines, shown_name, shown_text, whole_line};
+ghost use Rattle.ga_messages.specs.Shown.{is_undrawn, left_out, numbered_line, line_under, shown_char, shown_line, shown_lines, shown_name, shown_text, whole_line};
 
 use std::alloc::{AllocError, Global};
 use std::fmt;
@@ -50,7 +50,7 @@ impl ShownText {
     }
 
     /// The text.
-    pub(crate) fn as_str(&self) -> &str
+    pub fn as_str(&self) -> &str
         ensures { result.now ≡ self.now }
     {
         self.text.as_str()

@@ -1,6 +1,7 @@
 //! The command whose name is nearest to a word.
 use crate::own::Own;
-use ga_debug::{HELP, Nearest};
+use ga_debug::HELP;
+use ga_nearest::Nearest;
 use std::alloc::{AllocError, Global};
 
 /// What names the command that is nearest to the first word of a line, if one is near.

@@ -2,7 +2,7 @@
 ghost use Rattle.std.specs.Prelude.{◌≡◌, ◌++◌, ◌∷◌, [], ℕ, List, IfErr, drop, length, map};
 ghost use Rattle.std.specs.Str.{chars, encode_utf8_all};
 ghost use Rattle.ga_debug.specs.Pieces.{pieces};
-ghost use Rattle.ga_jobs.specs.Shown.{is_undrawn, shown_char};
+ghost use Rattle.ga_messages.specs.Shown.{shown_char};
 ghost use Rattle.ga_transcript.specs.Line.{as_reply};
 ghost use Rattle.ga_transcript.specs.Reply.{reply_lines};
 ghost use Rattle.ga_prompt.specs.Conversation.{WriteFails};
@@ -10,6 +10,7 @@ ghost use Rattle.ga_prompt.specs.Talk.{WritesSo, commands_in, ended, undone_line
 
 use ga_debug::Pieces;
 use ga_jobs::{ServeError, Writes, write_output};
+use ga_messages::shown_char;
 use ga_transcript::{is_read_as_reply, lines_in};
 use std::io::Write;
 
@@ -173,22 +174,4 @@ fn write_shown<W: Write>(writer: &mut W, text: &str, writes: &mut Writes) -> Res
         }
     }
     Ok(())
-}
-
-/// A character as it is shown: as a blank if a terminal would obey it, or draw nothing.
-fn shown_char(c: char) -> char
-    ensures { result ≡ shown_char c }
-{
-    if (c.is_control() && c != '\t') || is_undrawn(c) {
-        ' '
-    } else {
-        c
-    }
-}
-
-/// Whether a character has no width, or sets the direction of writing.
-fn is_undrawn(c: char) -> bool
-    ensures { result ≡ is_undrawn c }
-{
-    matches!(c, '\u{200B}'..='\u{200F}' | '\u{202A}'..='\u{202E}' | '\u{2066}'..='\u{2069}')
 }

@@ -4,12 +4,13 @@ ghost use Rattle.ga_jobs.specs.Answering.{IsOutput};
 
 use crate::streams::{FIVE_TRIES, LARGER, LARGER_IMAGES, LINE, WORDS, run_of};
 use ga_include::{SourceFile, expand_includes};
-use ga_jobs::lint::warnings;
+use ga_jobs::lint::{form_of, warnings};
 use ga_jobs::{
     Ending, IncludeFault, IncludeRefusal, InputFault, Job, Lines, Loading, ServeError, answer,
     answer_alone, fault_message, faults_message, open_file, output_of_file, serve, serve_file,
     shown_include_fault, status,
 };
+use ga_messages::Form;
 use std::test::Fail;
 use std::thread::Threads;
 use std::time::Clock;
@@ -67,6 +68,7 @@ fn answers_a_file_of_the_larger_language(rt: HostRuntime) -> Result<(), Fail> {
 fn denies_warnings(rt: HostRuntime) {
     let job = Job::Lint {
         deny: true,
+        json: false,
         file: None,
     };
     let mut output = Vec::new(rt.alloc());
@@ -81,7 +83,7 @@ fn reports_a_fault_at_its_place(rt: HostRuntime) -> Result<(), Fail> {
         .err()
         .ok_or("accepted")?;
     let lines = Lines::File("my.source");
-    let shown = fault_message(rt.alloc(), &lines, &fault)?.ok_or("no place")?;
+    let shown = fault_message(rt.alloc(), &lines, Form::Text, &fault)?.ok_or("no place")?;
     assert!(rt; shown.starts_with("my.source:1:6: error: BadNode: no name of a node"));
     Ok(())
 }
@@ -92,7 +94,7 @@ fn reports_all_faults_of_a_text(rt: HostRuntime) -> Result<(), Fail> {
     let text = b"node 800\nnode 801";
     let fault = output_of_file(&rt, &job, text).err().ok_or("accepted")?;
     let lines = Lines::File("my.source");
-    let shown = faults_message(rt.alloc(), &lines, text, &fault)?.ok_or("no place")?;
+    let shown = faults_message(rt.alloc(), &lines, Form::Text, text, &fault)?.ok_or("no place")?;
     assert!(rt; shown.as_str().lines().count() == 6);
     Ok(())
 }
@@ -112,7 +114,7 @@ fn reports_in_the_file_where_a_line_was_written(rt: HostRuntime) -> Result<(), F
     let made = expand_includes(alloc, &files).map_err(|_| "refused")?;
     let lines = Lines::Files(&files, &made);
     assert!(rt; lines.name() == "all");
-    let shown = warnings(alloc, &lines, made.text.as_bytes())?;
+    let shown = warnings(alloc, &lines, form_of(false), made.text.as_bytes())?;
     assert!(rt; shown.starts_with("low:2:1: warning: "));
     Ok(())
 }
@@ -125,7 +127,8 @@ fn reports_a_line_that_includes_no_file(rt: HostRuntime) -> Result<(), Fail> {
         refusal: IncludeRefusal::File(InputFault::NoFile),
     };
     let fault = shown_include_fault(rt.alloc(), " include \"x\"", refused)?;
-    let shown = fault_message(rt.alloc(), &Lines::File("all"), &fault)?.ok_or("no place")?;
+    let lines = Lines::File("all");
+    let shown = fault_message(rt.alloc(), &lines, Form::Text, &fault)?.ok_or("no place")?;
     assert!(rt; shown.starts_with("all:1:2: error: NoFile: no file has this name\n"));
     Ok(())
 }

@@ -11,9 +11,15 @@ mod faults;
 #[cfg(test)]
 mod frames;
 #[cfg(test)]
+mod hints;
+#[cfg(test)]
 mod including;
 #[cfg(test)]
 mod linting;
+#[cfg(test)]
+mod messages;
+#[cfg(test)]
+mod names;
 #[cfg(test)]
 mod packing;
 #[cfg(test)]

@@ -4,7 +4,7 @@ use Rattle.std.specs.Prelude.{◌==◌}
 use Rattle.ga_transcript.specs.Compare.{comparison_view}
 use Rattle.ga_jobs.proofs.Reports.{four_pieces, if_text, not_zero, other_text, same_text, seven_pieces}
 use Rattle.ga_jobs.specs.FileReport.{found_text}
-use Rattle.ga_jobs.specs.Shown.{shown_lines}
+use Rattle.ga_messages.specs.Shown.{shown_lines}
 use Rattle.ga_jobs.proofs.file_report.found_text.Goals as goal
 
 pub returns-then-differences-eq0 : goal.returns-then-differences-eq0

@@ -34,7 +34,7 @@ returns c =
       c.in_ok-at_origin-in-Err.ensures,
       c.in_ok-text.ensures.text,
     ) in
-    subst (FailsRightly (IsLintOutput origins input)) (sym shown)
-    (lint_fails origins input made c.in_ok-text.ensures.made error
+    subst (FailsRightly (IsLintOutput origins c.args.form input)) (sym shown)
+    (lint_fails origins c.args.form input made c.in_ok-text.ensures.made error
     (λ some. subst (λ text. IsTextFault text error) c.as_str.ensures.value
     (c.in-Err.ensures.fault some)))

@@ -7,6 +7,6 @@ use Rattle.ga_jobs.proofs.lint.warnings_text.Given as goal
 -- what is written, and the messages of the warnings that are left
 abbrev pub invariant-loop-warning : goal.invariant-loop-warning
 invariant-loop-warning l =
-    let message = warning_text (origins_of l.lines) l.text l.made in
+    let message = warning_text (origins_of l.lines) l.form l.text l.made in
     string_bytes l.shown ++ flat_map message (drop l.warning-index l.warnings)
     ≡ flat_map message l.warnings

@@ -1,8 +1,8 @@
 use Rattle.std.proofs.Common.{◌∙◌, [], ap, get_or}
 use Rattle.std.specs.Str.Lines.{lines}
 use Rattle.std.proofs.lemmas.Iterator.Splits.{YieldsList-from_lines}
-use Rattle.ga_jobs.proofs.NthItem.{nth_none, nth_some}
-use Rattle.ga_jobs.proofs.shown.numbered_line.Goals as goal
+use Rattle.ga_messages.proofs.NthItem.{nth_none, nth_some}
+use Rattle.ga_messages.proofs.shown.numbered_line.Goals as goal
 
 pub returns-in-Some : goal.returns-in-Some
 returns-in-Some c =

@@ -1,8 +1,8 @@
 use Rattle.std.proofs.Common.{◌∙◌, ◌==◌, [], ap, get_or, lit<}
 use Rattle.std.specs.List.{slice_split}
 use Rattle.std.proofs.lemmas.Iterator.Splits.{YieldsList-from_str_split}
-use Rattle.ga_jobs.proofs.NthItem.{nth_none, nth_some}
-use Rattle.ga_jobs.proofs.shown.whole_line.Goals as goal
+use Rattle.ga_messages.proofs.NthItem.{nth_none, nth_some}
+use Rattle.ga_messages.proofs.shown.whole_line.Goals as goal
 
 pub returns-in-Some : goal.returns-in-Some
 returns-in-Some c =

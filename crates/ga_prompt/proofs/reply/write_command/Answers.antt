@@ -1,7 +1,7 @@
 use Rattle.std.proofs.Common.{◌++◌, ◌∷◌, [], Err, codes, encode_utf8_all}
 use Rattle.std.specs.Prelude.{map}
 use Rattle.std.specs.Str.{chars}
-use Rattle.ga_jobs.specs.Shown.{shown_char}
+use Rattle.ga_messages.specs.Shown.{shown_char}
 use Rattle.ga_prompt.specs.Talk.{undone_line}
 use Rattle.ga_prompt.proofs.Written.{wrote_part, wrote_then}
 use Rattle.std.proofs.KnownBytes.{Appends-trans}

@@ -7,7 +7,7 @@ use Rattle.std.specs.Str.Iter.{chars_rest}
 use Rattle.std.proofs.KnownBytes.{Appends-trans}
 use Rattle.std.proofs.StrCases.{chars_of_empty}
 use Rattle.std.proofs.lemmas.Str.{IsUtf8-past_char, chars_past_char}
-use Rattle.ga_jobs.specs.Shown.{shown_char}
+use Rattle.ga_messages.specs.Shown.{shown_char}
 use Rattle.ga_prompt.specs.Talk.{WritesSo}
 use Rattle.ga_prompt.proofs.Written.{wrote_part, wrote_then}
 use Rattle.ga_prompt.proofs.reply.write_shown.Goals as goal

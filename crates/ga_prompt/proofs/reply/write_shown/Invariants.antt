@@ -2,7 +2,7 @@ use Rattle.std.proofs.Common.{◌≡◌, ◌++◌, ℕ, IsUtf8, List, chars, enc
 use Rattle.std.specs.Prelude.{map}
 use Rattle.std.specs.Io.KnownBytes.{Appends}
 use Rattle.std.specs.Str.Iter.{chars_rest}
-use Rattle.ga_jobs.specs.Shown.{shown_char}
+use Rattle.ga_messages.specs.Shown.{shown_char}
 use Rattle.ga_prompt.proofs.reply.write_shown.Given as goal
 
 -- what was written, and the characters that are left

@@ -2,7 +2,7 @@ use Rattle.std.proofs.Common.{◌≡◌, ◌∙◌, inl, inr, Ok, Err, ap, refl,
 use Rattle.ga_transcript.specs.Compare.{comparison_view}
 use Rattle.ga_jobs.proofs.Reports.{named_fault}
 use Rattle.ga_jobs.specs.FileReport.{IsComparedIn, found_text}
-use Rattle.ga_jobs.specs.Shown.{shown_name}
+use Rattle.ga_messages.specs.Shown.{shown_name}
 use Rattle.ga_jobs.proofs.file_report.FileReport.new.Goals as goal
 
 pub returns-in-Ok : goal.returns-in-Ok

@@ -1,6 +1,6 @@
 use Rattle.std.proofs.Common.{append_assoc}
-use Rattle.ga_jobs.specs.Shown.{shown_text}
-use Rattle.ga_jobs.proofs.shown.ShownText.new.Goals as goal
+use Rattle.ga_messages.specs.Shown.{shown_text}
+use Rattle.ga_messages.proofs.shown.ShownText.new.Goals as goal
 
 pub returns-in_ok-text-in-None : goal.returns-in_ok-text-in-None
 unfolding shown_text

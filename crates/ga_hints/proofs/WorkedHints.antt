@@ -1,0 +1,44 @@
+-- Names that may be meant and hints, each worked out by hand.
+use Rattle.std.proofs.Common.{◌≡◌, [], ◌∷◌, Some, None, refl}
+use Rattle.std.specs.Prelude.{codes}
+use Rattle.std.specs.Fmt.{digits}
+use Rattle.ga_pack.specs.Model.Text.{lexemes, texts_of}
+use Rattle.ga_hints.specs.Hints.{label_in}
+use Rattle.ga_hints.specs.Names.{bodies_in, constants_in, names_from, nearest_of, word_at}
+use Rattle.ga_hints.specs.Size.{size_text}
+
+-- the names of a text
+constants :
+    constants_in (texts_of (codes "const SIZE 5\nbody SEND PORT\nend\nconst LAST 7\nnode 1"))
+    ≡ codes "SIZE" ∷ codes "LAST" ∷ []
+unfolding names_from texts_of lexemes
+constants = refl
+
+bodies : bodies_in (texts_of (codes "const SIZE 5\nbody SEND PORT\nend\nconst LAST 7\nnode 1"))
+    ≡ codes "SEND" ∷ []
+unfolding names_from texts_of lexemes
+bodies = refl
+
+-- the token at a place, which a token begins at
+at_place : word_at (codes "node 1\n  5 SIZW") (record { line = 2; column = 5 })
+    ≡ Some (codes "SIZW")
+unfolding texts_of lexemes
+at_place = refl
+
+inside_token : word_at (codes "node 1\n  5 SIZW") (record { line = 2; column = 6 }) ≡ None
+unfolding texts_of lexemes
+inside_token = refl
+
+-- `&` isn't part of the name
+label_of_address : label_in (codes "&loop") ≡ codes "loop"
+label_of_address = refl
+
+-- a word that is a name isn't meant as another one
+not_another : nearest_of (codes "drop") (codes "dro" ∷ codes "drop" ∷ []) ≡ None
+not_another = refl
+
+-- how a size is written
+written : size_text (record { code = 37; «data» = 34 })
+    ≡ codes "it needs 71 words: 37 code, 34 data; 7 over"
+unfolding digits
+written = refl

@@ -1,0 +1,9 @@
+use Rattle.std.proofs.Common.{◌≡◌, fold, take}
+use Rattle.ga_nearest.specs.Nearest.{nearer, nothing_near}
+use Rattle.ga_hints.proofs.names.nearest_of.Given as goal
+
+-- the nearest of the names so far
+abbrev pub invariant-loop-name : goal.invariant-loop-name
+invariant-loop-name l =
+    l.nearest ≡ fold (λ found name. nearer found name.now) (nothing_near l.word)
+    (take l.name-index l.names)

@@ -1,0 +1,19 @@
+use Rattle.std.proofs.Common.{◌≡◌, ◌∙◌, ap, map, sym, take}
+use Rattle.std.specs.Prelude.{unwrap_or}
+use Rattle.std.proofs.lemmas.List.{take-map}
+use Rattle.ga_pack.specs.Model.Text.{lexemes, texts_of}
+use Rattle.ga_source.specs.Token.{token_of}
+use Rattle.ga_hints.proofs.Lists.{index_found, now}
+use Rattle.ga_hints.proofs.names.words_before.Goals as goal
+
+pub returns : goal.returns
+returns c =
+    let text = c.args.text.now in
+    let tokens : c.deref.result.now ≡ map token_of (lexemes text) =
+    c.deref.ensures.value ∙ c.in_ok-tokens.ensures.tokens in
+    let index = index_found text c.deref.result.now c.args.place c.index_at.result tokens
+    c.index_at.ensures in
+    ap (map now) c.truncate.ensures.items
+    ∙ sym (take-map now c.unwrap_or.result c.in_ok-words.words.items)
+    ∙ ap (take c.unwrap_or.result) c.in_ok-words.ensures
+    ∙ ap (λ n. take n (texts_of text)) (c.unwrap_or.ensures ∙ ap (λ i. unwrap_or i 0) index)

@@ -1,0 +1,5 @@
+pub mod Names
+pub mod Size
+pub mod Hints
+pub mod Laws
+pub mod inner

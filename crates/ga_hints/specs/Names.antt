@@ -1,0 +1,86 @@
+-- The names that a token of a text may be meant as.
+use Rattle.std.specs.Prelude.{ℕ, ◌-◌, ◌||◌, Bool, false, List, [], ◌∷◌, ◌++◌, codes, fold, length, map, slice_get, take, unwrap_or, Option, Some, None, if◌then◌else◌}
+use Rattle.std.specs.List.{position}
+use Rattle.std.specs.Option.{option_and_then}
+use Rattle.std.specs.Str.{bytes_eq}
+use Rattle.ga_word.specs.Op.{name_of, opcodes}
+use Rattle.ga_pack.specs.Model.Layout.{names_in}
+use Rattle.ga_pack.specs.Model.Source.{Item}
+use Rattle.ga_pack.specs.Model.Text.{Place, lexemes, texts_of}
+use Rattle.ga_pack.specs.declared.error_kind.SourceErrorKind.{SourceErrorKind}
+use Rattle.ga_pack.specs.declared.error_kind.SourceErrorKind.TheVariants as source_kind
+use Rattle.ga_expand.specs.Constants.{is_among}
+use Rattle.ga_expand.specs.Texts.{is_at}
+use Rattle.ga_expand.specs.declared.error.ExpandErrorKind.{ExpandErrorKind}
+use Rattle.ga_expand.specs.declared.error.ExpandErrorKind.TheVariants as expand_kind
+use Rattle.ga_nearest.specs.Nearest.{nearer, nothing_near}
+
+-- the text of the first token of a text that is at a place
+abbrev pub word_at : List ℕ → Place → Option (List ℕ)
+word_at text place =
+    option_and_then (slice_get (texts_of text)) (position (is_at place) (lexemes text))
+
+-- the tokens of a text in front of the first one that is at a place
+abbrev pub words_before : List ℕ → Place → List (List ℕ)
+words_before text place =
+    take (unwrap_or (position (is_at place) (lexemes text)) 0) (texts_of text)
+
+-- the words besides opcodes that may begin an item or a section: those of the language, the
+-- directions, and the ports and the other numbers that have a name
+abbrev pub item_words : List (List ℕ)
+item_words =
+    codes "node" ∷ codes "align" ∷ codes "data" ∷ codes "use" ∷ codes "to" ∷ codes "north"
+    ∷ codes "east" ∷ codes "south" ∷ codes "west" ∷ codes "right" ∷ codes "down" ∷ codes "left"
+    ∷ codes "up" ∷ codes "io" ∷ codes "rdlu" ∷ codes "warm" ∷ []
+
+-- What is directly behind each token that is a word. The first of these tokens is behind one or
+-- not.
+unfoldable pub names_from : List ℕ → Bool → List (List ℕ) → List (List ℕ)
+names_from word behind [] = []
+names_from word behind (token ∷ tokens) =
+    (if behind then token ∷ [] else []) ++ names_from word (bytes_eq token word) tokens
+
+-- the constants and the bodies of a text with these tokens
+abbrev pub constants_in : List (List ℕ) → List (List ℕ)
+constants_in tokens = names_from (codes "const") false tokens
+
+abbrev pub bodies_in : List (List ℕ) → List (List ℕ)
+bodies_in tokens = names_from (codes "body") false tokens
+
+-- ---- the names that may be meant at a fault of a text with these tokens
+
+-- a token of the expansion that means nothing
+unfoldable pub names_for_source : SourceErrorKind → List (List ℕ) → List (List ℕ)
+names_for_source source_kind.BadToken tokens =
+    map name_of opcodes ++ item_words ++ constants_in tokens ++ bodies_in tokens
+names_for_source kind tokens = []
+
+-- behind a token the name of a constant or a body is defined
+abbrev pub defines : Option (List ℕ) → Bool
+defines (Some token) = bytes_eq token (codes "const") || bytes_eq token (codes "body")
+defines None = false
+
+abbrev pub last_of : List (List ℕ) → Option (List ℕ)
+last_of tokens = slice_get tokens (length tokens - 1)
+
+-- A value that is none, or a body that isn't defined, behind these tokens. A name that is defined
+-- there isn't meant as another one.
+abbrev pub names_for_expand : ExpandErrorKind → List (List ℕ) → List (List ℕ)
+names_for_expand expand_kind.BadToken before =
+    if defines (last_of before) then [] else constants_in before
+names_for_expand expand_kind.UnknownBody before = bodies_in before
+names_for_expand kind before = []
+
+-- A label that isn't defined, by the items of its node; or the address of one, which no constant
+-- is.
+abbrev pub names_for_label : Bool → List Item → List (List ℕ) → List (List ℕ)
+names_for_label is_address items tokens =
+    names_in items ++ (if is_address then [] else constants_in tokens)
+
+-- ---- the nearest name
+
+-- The first of the names that are nearest to a word, if one is near. A word that is one of the
+-- names isn't meant as another one.
+abbrev pub nearest_of : List ℕ → List (List ℕ) → Option (List ℕ)
+nearest_of word names =
+    if is_among names word then None else (fold nearer (nothing_near word) names).name

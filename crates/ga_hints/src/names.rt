@@ -1,0 +1,271 @@
+//! The names that a token of a text may be meant as.
+ghost use Rattle.std.specs.Prelude.{◌≡◌, ◌==◌, ◌&&◌, ◌≤◌, ◌++◌, ◌∷◌, [], if◌then◌else◌, IfOk, OnOk, map, length, slice_get, slice_range, IsUtf8, option_map, false};
+ghost use Rattle.std.specs.List.{list_any, position};
+ghost use Rattle.std.specs.Str.{bytes_eq};
+ghost use Rattle.ga_word.specs.Op.{name_of, opcodes};
+ghost use Rattle.ga_pack.specs.Model.Text.{texts_of};
+ghost use Rattle.ga_source.specs.Token.{place_of};
+ghost use Rattle.ga_expand.specs.Constants.{is_among};
+ghost use Rattle.ga_hints.specs.Names.{constants_in, defines, item_words, last_of, names_for_expand, names_for_source, names_from, nearest_of, word_at, words_before};
+
+use ga_expand::ExpandErrorKind;
+use ga_nearest::Nearest;
+use ga_source::{Name, Place, SourceErrorKind, Token, tokens};
+use ga_word::Op;
+use std::alloc::{AllocError, Global};
+use std::str;
+
+/// What the tokens of a text are written as, in order.
+fn words_of(alloc: Global, text: &str) -> Result<Vec<&str>, AllocError>
+    ensures { IfOk result (λ words. map (λ word. word.now) words.items ≡ texts_of text.now) }
+{
+    let tokens = tokens(alloc, text)?;
+    let mut words = Vec::with_capacity(alloc, tokens.len())?;
+    for token in &tokens {
+        words.push(token_text(text, *token))?;
+    }
+    Ok(words)
+}
+
+/// What a token of a text is written as.
+fn token_text(text: &str, token: Token) -> &str
+    requires inside { (token.start ≤ token.end) × (token.end ≤ length text.now) }
+    requires whole { IsUtf8 (slice_range text.now token.start token.end) }
+    ensures { result.now ≡ slice_range text.now token.start token.end }
+{
+    match str::from_utf8(&text.as_bytes()[token.start..token.end]) {
+        Ok(text) => text,
+        Err(_) => "",
+    }
+}
+
+/// The text of the first token at a place.
+pub(crate) fn word_at(alloc: Global, text: &str, place: Place) -> Result<Option<&str>, AllocError>
+    ensures { IfOk result (λ word. option_map (λ word. word.now) word
+        ≡ word_at text.now (place_of place)) }
+{
+    let tokens = tokens(alloc, text)?;
+    match index_at(&tokens, place) {
+        Some(index) => Ok(word_with(&words_of(alloc, text)?, index)),
+        None => Ok(None),
+    }
+}
+
+/// The index of the first token at a place.
+fn index_at(tokens: &[Token], place: Place) -> Option<usize>
+    ensures { result ≡ position (λ token. (token.line == place.line)
+        && (token.column == place.column)) tokens.now }
+{
+    tokens.iter().position(|token| token.line == place.line && token.column == place.column)
+}
+
+/// The word with an index.
+fn word_with<'a>(words: &[&'a str], index: usize) -> Option<&'a str>
+    ensures { option_map (λ word. word.now) result
+        ≡ slice_get (map (λ word. word.now) words.now) index }
+{
+    words.get(index).copied()
+}
+
+/// Adds the names of the 32 opcodes, in the order of their codes.
+fn push_opcodes(names: &mut Vec<&str>) -> Result<(), AllocError>
+    ensures { OnOk result (map (λ name. name.now) names.new.items
+        ≡ map (λ name. name.now) names.old.items ++ map name_of opcodes) }
+{
+    for code in 0..32 {
+        if let Some(op) = Op::from_code(code) {
+            names.push(op.name())?;
+        }
+    }
+    Ok(())
+}
+
+/// Adds the other words that may begin an item or a section.
+fn push_item_words(names: &mut Vec<&str>) -> Result<(), AllocError>
+    ensures { OnOk result (map (λ name. name.now) names.new.items
+        ≡ map (λ name. name.now) names.old.items ++ item_words) }
+{
+    names.extend_from_slice(&[
+        "node", "align", "data", "use", "to", "north", "east", "south", "west", "right", "down",
+        "left", "up", "io", "rdlu", "warm",
+    ])?;
+    Ok(())
+}
+
+/// Adds what is directly behind each token that is a keyword.
+fn push_names_behind<'a>(
+    names: &mut Vec<&'a str>,
+    tokens: &[&'a str],
+    keyword: &str,
+) -> Result<(), AllocError>
+    ensures { OnOk result (map (λ name. name.now) names.new.items
+        ≡ map (λ name. name.now) names.old.items
+        ++ names_from keyword.now false (map (λ token. token.now) tokens.now)) }
+{
+    let mut is_behind = false;
+    for token in tokens {
+        push_if(names, is_behind, *token)?;
+        is_behind = *token == keyword;
+    }
+    Ok(())
+}
+
+/// Adds a token, if it is a name.
+fn push_if<'a>(names: &mut Vec<&'a str>, is_name: bool, token: &'a str) -> Result<(), AllocError>
+    ensures { OnOk result (map (λ name. name.now) names.new.items
+        ≡ map (λ name. name.now) names.old.items
+        ++ (if is_name then token.now ∷ [] else [])) }
+{
+    if is_name {
+        names.push(token)?;
+    }
+    Ok(())
+}
+
+/// The names that the token at a fault of a text's expansion may be meant as.
+#[tactic(auto, unfolding(crate::specs::Names::names_for_source))]
+pub(crate) fn names_for_source(
+    alloc: Global,
+    text: &str,
+    kind: SourceErrorKind,
+) -> Result<Vec<&str>, AllocError>
+    ensures { IfOk result (λ names. map (λ name. name.now) names.items
+        ≡ names_for_source kind (texts_of text.now)) }
+{
+    let mut names = Vec::new(alloc);
+    if kind == SourceErrorKind::BadToken {
+        let words = words_of(alloc, text)?;
+        push_opcodes(&mut names)?;
+        push_item_words(&mut names)?;
+        push_names_behind(&mut names, &words, "const")?;
+        push_names_behind(&mut names, &words, "body")?;
+    }
+    Ok(names)
+}
+
+/// The names that the token at a fault of a text's definitions may be meant as.
+pub(crate) fn names_for_expand(
+    alloc: Global,
+    text: &str,
+    place: Place,
+    kind: ExpandErrorKind,
+) -> Result<Vec<&str>, AllocError>
+    ensures { IfOk result (λ names. map (λ name. name.now) names.items
+        ≡ names_for_expand kind (words_before text.now (place_of place))) }
+{
+    let before = words_before(alloc, text, place)?;
+    names_among(alloc, &before, kind)
+}
+
+/// Those of a text with these tokens in front of the fault.
+fn names_among<'a>(
+    alloc: Global,
+    before: &[&'a str],
+    kind: ExpandErrorKind,
+) -> Result<Vec<&'a str>, AllocError>
+    ensures { IfOk result (λ names. map (λ name. name.now) names.items
+        ≡ names_for_expand kind (map (λ word. word.now) before.now)) }
+{
+    match kind {
+        ExpandErrorKind::BadToken if !defines(before) => names_behind(alloc, before, "const"),
+        ExpandErrorKind::UnknownBody => names_behind(alloc, before, "body"),
+        _ => Ok(Vec::new(alloc)),
+    }
+}
+
+/// Whether the name of a constant or a body is defined behind these tokens.
+fn defines(before: &[&str]) -> bool
+    ensures { result ≡ defines (last_of (map (λ word. word.now) before.now)) }
+{
+    match word_with(before, before.len().saturating_sub(1)) {
+        Some(word) => word == "const" || word == "body",
+        None => false,
+    }
+}
+
+/// The tokens of a text in front of the first one at a place.
+fn words_before(alloc: Global, text: &str, place: Place) -> Result<Vec<&str>, AllocError>
+    ensures { IfOk result (λ words. map (λ word. word.now) words.items
+        ≡ words_before text.now (place_of place)) }
+{
+    let tokens = tokens(alloc, text)?;
+    let mut words = words_of(alloc, text)?;
+    words.truncate(index_at(&tokens, place).unwrap_or(0));
+    Ok(words)
+}
+
+/// What is directly behind each token that is a keyword.
+fn names_behind<'a>(
+    alloc: Global,
+    tokens: &[&'a str],
+    keyword: &str,
+) -> Result<Vec<&'a str>, AllocError>
+    ensures { IfOk result (λ names. map (λ name. name.now) names.items
+        ≡ names_from keyword.now false (map (λ token. token.now) tokens.now)) }
+{
+    let mut names = Vec::new(alloc);
+    push_names_behind(&mut names, tokens, keyword)?;
+    Ok(names)
+}
+
+/// The names that a label of a node with these labels, or its address, may be meant as.
+pub(crate) fn names_for_label<'a>(
+    alloc: Global,
+    text: &'a str,
+    is_address: bool,
+    labels: &'a [Name],
+) -> Result<Vec<&'a str>, AllocError>
+    ensures { IfOk result (λ names. map (λ name. name.now) names.items
+        ≡ map (λ label. label.bytes) labels.now
+        ++ (if is_address then [] else constants_in (texts_of text.now))) }
+{
+    let mut names = label_names(alloc, labels)?;
+    if !is_address {
+        push_names_behind(&mut names, &words_of(alloc, text)?, "const")?;
+    }
+    Ok(names)
+}
+
+/// The names of labels.
+fn label_names(alloc: Global, labels: &[Name]) -> Result<Vec<&str>, AllocError>
+    ensures { IfOk result (λ names. map (λ name. name.now) names.items
+        ≡ map (λ label. label.bytes) labels.now) }
+{
+    let mut names = Vec::new(alloc);
+    for label in labels {
+        names.push(label.as_str())?;
+    }
+    Ok(names)
+}
+
+/// The name that is nearest to a word, if one is near, and the word isn't a name itself.
+pub(crate) fn nearest_of<'a>(
+    alloc: Global,
+    word: &'a str,
+    names: &[&'a str],
+) -> Result<Option<&'a str>, AllocError>
+    ensures { IfOk result (λ name. option_map (λ name. name.now) name
+        ≡ nearest_of word.now (map (λ name. name.now) names.now)) }
+{
+    if is_among(names, word) {
+        return Ok(None);
+    }
+    let mut nearest = Nearest::to(word);
+    for name in names {
+        nearest.offer(alloc, *name)?;
+    }
+    Ok(nearest.name())
+}
+
+/// Whether a word is one of some names.
+fn is_among(names: &[&str], word: &str) -> bool
+    ensures { result ≡ is_among (map (λ name. name.now) names.now) word.now }
+{
+    is_any(names, word)
+}
+
+fn is_any(names: &[&str], word: &str) -> bool
+    ensures { result ≡ list_any (λ name. bytes_eq word.now name.now) names.now }
+{
+    names.iter().any(|name| word == *name)
+}

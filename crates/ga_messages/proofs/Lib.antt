@@ -1,0 +1,3 @@
+mod NthItem
+mod Plain
+mod WorkedMessages

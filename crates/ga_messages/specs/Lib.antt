@@ -1,0 +1,4 @@
+pub mod Shown
+pub mod Report
+pub mod Json
+pub mod Message
