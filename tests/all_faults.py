@@ -107,7 +107,7 @@ def messages(text):
 
 def places(error):
     """The place and the name of each message, and the node."""
-    return [" ".join(it).rstrip() for it in re.findall(rf"^{FILE}:(\d+:\d+): error: (\w+): .*?(?:\(node (\d+)\))?$", error, re.M)]
+    return [" ".join(it).rstrip() for it in re.findall(rf"^{FILE}:(\d+:\d+): error: (\w+): .*?(?:\(node (\d+)\))?(?:; .*)?$", error, re.M)]
 
 
 def worked(program, folder):
@@ -177,8 +177,9 @@ def random_texts(program, folder):
 
 
 def heads(error):
-    """The first line of each message on standard error. The line that is shown behind it is of the whole text."""
-    return re.findall(r"^\S.*\n", error, re.M)
+    """The first line of each message on standard error, without what may help. That is by the names of the whole text, and so is
+    the line that is shown."""
+    return re.findall(r"^(\S.*?)(?:; the nearest name is .*|; it needs .*)?\n", error, re.M)
 
 
 def parts(program, folder):

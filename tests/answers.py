@@ -2,8 +2,8 @@
 is a function here, under `@subcommand`. The other tests use the recorded cases of each of SUBCOMMANDS.
 
 A text has one meaning or one first fault, and so have a command line and a command. This file computes them after
-docs/FORMATS.md, with tests/assembler.py, expander.py, including.py, text_faults.py, linter.py, outputs.py and sessions.py, which share
-nothing with the program.
+docs/FORMATS.md, with tests/assembler.py, expander.py, including.py, text_faults.py, hints.py, linter.py, outputs.py and
+sessions.py, which share nothing with the program.
 So all refusals are compared to the byte, and all outputs of `asm`, `expand`, `list`, `lint`, `dis` and `boot`. These files have no chip: the
 output of a run must have its form, and must agree with other runs of the program.
 
@@ -35,6 +35,7 @@ from collections import namedtuple
 from assembler import Fault, images_of
 from counts import counted_list, is_listing_of
 from expander import expanded_text, expansion, written_fault, written_pieces
+from hints import hint_of
 from including import MEANS, IncludeFault, has_includes, included, whole
 from linter import warnings_of
 from operands import COMMANDS, IN_REPLAYS, command_of
@@ -67,6 +68,8 @@ SOURCELESS = {"one", "dis", "replay", "explain", *NAMELESS}
 PLACED = re.compile(r"(?:source|expand|asm (\d+)) (\d+:\d+) (\w+)")
 # The status, the output, and the text on standard error; no status if no answer came in time.
 Answer = namedtuple("Answer", "status output error")
+# What is reported about a place of a file, whose name is as it was given. `shown` is the line, and a caret.
+Report = namedtuple("Report", "file line column level name meaning node hint shown")
 
 
 def recorded_cases():
@@ -157,6 +160,14 @@ class Job:
         given = self.kind.values[-1:] == ["FILE"] and len(self.values) == len(self.kind.values)
         return given and self.values[-1] != "-"
 
+    def lists_file(self):
+        """Whether it writes the listing of FILE."""
+        return self.name == "list" and self.has_file() and not self.options
+
+    def writes_json(self):
+        """Whether it reports each warning and each fault of source text as JSON."""
+        return self.name == "lint" and "json" in self.options
+
     def named(self):
         """FILE as faults show it, or None."""
         return shown_name(self.values[-1]) if self.has_file() and self.name not in NAMELESS else None
@@ -172,9 +183,9 @@ class Job:
             raise ValueError("a word that names no file")
 
     def origin(self, line):
-        """The name and the line of the file where a line of the text was written. The name is as it is shown."""
+        """The name and the line of the file where a line of the text was written."""
         it = self.lines[line - 1] if self.lines else None
-        return (shown_name(it.file), it.number) if it else ("-" if self.named() is None else self.named(), line)
+        return (it.file, it.number) if it else (self.values[-1] if self.has_file() else "-", line)
 
     def input_of(self, data):
         """The text that is read, if standard input has this data: FILE with the files that it includes."""
@@ -252,30 +263,63 @@ def shown_text(text, line, column):
     return shown + ("  " + re.sub("[^\t]", " ", row[begin : column - 1]) + "^\n" if column else "")
 
 
-def message(origin, fault, text):
-    """What is reported of a fault at a place of source text, if `origin` gives the name and the line where a line was written."""
+def report_text(it):
+    """A report as compilers write it."""
+    remark = f" (node {it.node})" if it.node else ""
+    hint = f"; {it.hint}" if it.hint else ""
+    place = f"{shown_name(it.file)}:{it.line}:{it.column}"
+    return f"{place}: {it.level}: {it.name}: {it.meaning}{remark}{hint}\n{it.shown}"
+
+
+def report_json(it):
+    """A report as one object of JSON, on a line."""
+    values = {name: value for name, value in it._asdict().items() if name != "shown"}
+    return json.dumps(values, ensure_ascii=False, sort_keys=True, separators=(",", ":")) + "\n"
+
+
+def fault_report(origin, fault, text):
+    """What is reported of a fault at a place of source text, if `origin` gives the name and the line where a line was written. Of
+    a session's source nothing more is known."""
     node, _, name = PLACED.fullmatch(fault.text).groups()
-    file, line = origin(fault.place[0])
-    remark = f" (node {node})" if node else ""
-    return f"{file}:{line}:{fault.place[1]}: error: {name}: {meaning_of(name, text)}{remark}\n{shown_text(text, *fault.place)}"
+    (file, line), column = origin(fault.place[0]), fault.place[1]
+    hint = None if text.startswith("profile") else hint_of(text, fault)
+    return Report(file, line, column, "error", name, meaning_of(name, text), node, hint, shown_text(text, *fault.place))
+
+
+def message(origin, fault, text):
+    return report_text(fault_report(origin, fault, text))
+
+
+def include_report(fault):
+    """What is reported of an include line that is refused."""
+    shown = shown_text(fault.text, fault.line, fault.column)
+    return Report(fault.file, fault.line, fault.column, "error", fault.kind, MEANS[fault.kind], None, None, shown)
 
 
 def include_message(fault):
-    """What is reported of an include line that is refused."""
-    place = f"{shown_name(fault.file)}:{fault.line}:{fault.column}"
-    return f"{place}: error: {fault.kind}: {MEANS[fault.kind]}\n{shown_text(fault.text, fault.line, fault.column)}"
+    return report_text(include_report(fault))
 
 
-def reported(job, fault, text):
-    """The expected standard error: the fault, and behind it what some subcommands show of the text. Of source text in FILE all faults
-    are reported."""
+def refused_with(job, reports):
+    """The answer of a job that these reports refuse."""
+    return Answer(1, text_of_reports(job, reports), "") if job.writes_json() else Answer(1, "", text_of_reports(job, reports))
+
+
+def text_of_reports(job, reports):
+    return "".join(map(report_json if job.writes_json() else report_text, reports))
+
+
+def refused(job, fault, text):
+    """The expected answer of a job with a fault: the fault, and behind it what some subcommands show of the text. Of source text in
+    FILE, and as JSON, all faults are reported."""
     placed, shown = PLACED.fullmatch(fault.text), fault.behind
-    if placed and fault.place and job.named() is not None:
-        return "".join(message(job.origin, it, text) for it in ([fault] if text.startswith("profile") else faults_of(text)))
+    if placed and fault.place and (job.named() is not None or job.writes_json()):
+        faults = [fault] if text.startswith("profile") else faults_of(text)
+        return refused_with(job, [fault_report(job.origin, it, text) for it in faults])
     if fault.place and job.name in SHOWING:
         shown = shown_text(text if fault.shows is None else fault.shows, *fault.place) + meaning_of(fault.text.split()[-1], text) + "\n"
     name = f"{job.named()}: " if job.named() is not None and fault.text.startswith("input ") else ""
-    return f"ga-bench: {name}{fault.text}\n{shown}"
+    return Answer(1, "", f"ga-bench: {name}{fault.text}\n{shown}")
 
 
 # The expected output of each subcommand for a text, or its Fault. What a chip does is taken from other runs: `ask` gives
@@ -310,9 +354,13 @@ def list_(ask, job, text, answer):
     return labels_output(images) if job.options else list_output(images)
 
 
-@subcommand("FILE", deny=None)
+@subcommand("FILE", deny=None, json=None)
 def lint(ask, job, text, answer):
-    """The warnings about the expansion, at the places where their tokens were written."""
+    return text_of_reports(job, warning_reports(job, text))
+
+
+def warning_reports(job, text):
+    """What is reported of the warnings about the expansion, at the places where their tokens were written."""
     pieces = [*expansion(text)]
     plain = expanded_text(pieces)
     try:
@@ -320,13 +368,13 @@ def lint(ask, job, text, answer):
     except Fault as fault:
         raise written_fault(fault, text, plain, pieces) from None
     written = written_pieces(plain, pieces)
-    return "".join(warning_text(job, text, kind, written[token.line, token.column]) for kind, token in found)
+    return [warning_report(job, text, kind, written[token.line, token.column]) for kind, token in found]
 
 
-def warning_text(job, text, kind, at):
+def warning_report(job, text, kind, at):
     meaning = MEANINGS.get(kind, "no recorded case shows what this means")
     file, line = job.origin(at.line)
-    return f"{file}:{line}:{at.column}: warning: {kind}: {meaning}\n{shown_text(text, at.line, at.column)}"
+    return Report(file, line, at.column, "warning", kind, meaning, None, None, shown_text(text, at.line, at.column))
 
 
 @subcommand("FILE", code=range(65))
@@ -706,7 +754,14 @@ def transcript_of(output):
 
 
 def output_of(ask, job, text, answer):
-    """The expected output. The text of a FILE with a fault of source text, and no session, is read in the larger language."""
+    """The expected output. Behind the listing of a FILE are an empty line and the warnings about it, if there are any."""
+    output = output_of_text(ask, job, text, answer)
+    warnings = text_of_reports(job, warning_reports(job, text)) if job.lists_file() else ""
+    return f"{output}\n{warnings}" if warnings else output
+
+
+def output_of_text(ask, job, text, answer):
+    """The same without warnings. The text of a FILE with a fault of source text, and no session, is read in the larger language."""
     try:
         return job.kind.answer(ask, job, text, answer)
     except Fault as fault:
@@ -740,9 +795,9 @@ def judge(ask, args, data, answer):
         output = output_of(ask, job, text, answer)
         wanted = Answer(status_of(job, output), output, "")
     except IncludeFault as fault:
-        wanted = Answer(1, "", include_message(fault))
+        wanted = refused_with(job, [include_report(fault)])
     except Fault as fault:
-        wanted = Answer(1, "", reported(job, fault, text))
+        wanted = refused(job, fault, text)
     if answer != wanted:
         raise Wrong(f"expected {shortened(wanted)}")
 

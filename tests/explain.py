@@ -32,8 +32,6 @@ ROOT = os.path.dirname(os.path.dirname(os.path.abspath(__file__)))
 CASES = f"{ROOT}/tests/cases/explain.jsonl"
 SECONDS = 60
 LINES, COLUMNS = 24, 80
-# The text of NotAFile has one line that is longer.
-WIDE = {"NotAFile": 82}
 
 WARNINGS = "`lint`: warnings"
 TERMS = {"stuck", "ring", "race", "turn", "place", "step", "slot", "follower", "profile"}
@@ -157,7 +155,7 @@ def run_beside_source(program, command):
 
 def faults_of_text(program, name, text, recorded, shown):
     """Returns the faults of a text. Its examples are added to those that are shown."""
-    wrong = [line for line in text.split("\n") if len(line) > WIDE.get(name, COLUMNS)]
+    wrong = [line for line in text.split("\n") if len(line) > COLUMNS]
     if name != "BadToken" and text.count("\n") > LINES:
         wrong.append(f"more than {LINES} lines")
     if not text.startswith(f"{name}: "):

@@ -2,8 +2,8 @@
 python3 tests/fuzz.py PROGRAM [--runs N | --seconds N] [--seed S] [--first NUMBER] [--workers N]
 
 An input is a recorded case of tests/cases/, changed at random: words replaced by others of their kind; or cut, doubled,
-with other bytes, with lines swapped or taken from another case, with numbers at their limits. Its command line may be
-changed too, and it may be read as FILE, and then have lines that include some of FILES. A third of the inputs are for
+with other bytes, with lines swapped or taken from another case, with numbers at their limits, with misspelt words. Its
+command line may be changed too, and it may be read as FILE, and then have lines that include some of FILES. A third of the inputs are for
 `list`, `check` and `record`: their own cases, texts of `asm` and `boot`, and sessions of `debug` and `replay` as
 transcripts. An answer is right if
 - tests/answers.py finds its status, its output and its text on standard error right;
@@ -101,6 +101,7 @@ def pools():
         recorded[name].append((args, data))
         if name in ("asm", "boot", "list", "expand"):
             made["lint"].append((["lint"] + ["--deny"] * (len(data) % 2), data))
+            made["lint"].append((["lint", "--json"] + ["--deny"] * (len(data) % 2), data))
         if name in ("asm", "boot"):
             made["list"].append((["list"] + ["--labels"] * (name == "boot"), data))
         if name in ("profile", "asm"):
@@ -159,6 +160,18 @@ def other_numbers(chance, data, other):
     return b"".join(words)
 
 
+def misspelt_words(chance, data, other):
+    """Some words with a letter more or less, or with two that are swapped."""
+    words = re.split(rb"(\s+)", data)
+    for _ in range(chance.choice([1, 1, 2, 4])):
+        place = chance.randrange(0, len(words), 2)
+        word = words[place]
+        at = chance.randint(0, len(word))
+        swapped = word[at + 1 : at + 2] + word[at : at + 1]
+        words[place] = word[:at] + chance.choice([b"e", b"a", swapped, b""]) + word[at + chance.randrange(3) :]
+    return b"".join(words)
+
+
 def words_of_a_kind(chance, data, other):
     """Other words of the same kinds, so that most texts stay right."""
     words = re.split(rb"(\s+)", data)
@@ -183,7 +196,7 @@ def with_includes(chance, data):
     return b"\n".join(lines)
 
 
-CHANGES = [cut, doubled, other_bytes, swapped_lines, lines_of_another, other_numbers]
+CHANGES = [cut, doubled, other_bytes, swapped_lines, lines_of_another, other_numbers, misspelt_words]
 
 
 def few_turns(args, data):

@@ -78,6 +78,23 @@ def warns_of_the_expansion(run, args, data, answer):
     return run([it for it in args if it != "/dev/stdin"], expanded.output.encode()) if expanded.status == 0 else answer
 
 
+def lacks_hints(run, args, data, answer):
+    """No fault of FILE has anything that may help."""
+    return answer._replace(error=re.sub("; (the nearest name is|it needs) .*", "", answer.error))
+
+
+def lists_no_warnings(run, args, data, answer):
+    return answer._replace(output=answer.output.split("\n\n")[0] + "\n") if "\n\n" in answer.output else answer
+
+
+def writes_no_json(run, args, data, answer):
+    return run([it for it in args if it != "--json"], data)
+
+
+def lacks_hints_in_json(run, args, data, answer):
+    return answer._replace(output=re.sub('"hint":"[^"]*"', '"hint":null', answer.output))
+
+
 def answers_as_asm(run, args, data, answer):
     return run(["asm"], data)
 
@@ -105,6 +122,10 @@ CHANGES = {
     refuses_2000_bytes: ["all"],
     next_column: ["all"],
     lacks_last_line_of_fault: ["expand", "list", "lint", "check", "record"],
+    lacks_hints: ["all"],
+    lists_no_warnings: ["list"],
+    writes_no_json: ["lint"],
+    lacks_hints_in_json: ["lint"],
     answers_as_asm: ["list"],
     never_denies: ["lint"],
     warns_of_the_expansion: ["lint"],

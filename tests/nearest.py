@@ -1,4 +1,4 @@
-"""The label that is nearest to a word, as docs/FORMATS.md has it."""
+"""The name that is nearest to a word, as docs/FORMATS.md has it."""
 import functools
 
 

@@ -1,13 +1,13 @@
 """Refuses each allocation of the program in turn: python3 tests/refuse_memory.py PROGRAM [CALLER]
 
 With one allocation refused a run must report `ga-bench: memory`, with status 3 and nothing on standard output, or answer
-as it does with ample memory, save that the faults of a file may be reported as of standard input: the first one alone, without
-the file's name. The runs are those of recorded cases, SESSIONS, and those of files that have names. CALLER is the program of the crate
-ga_refused_calls: its call must answer as it does with ample memory, or be refused and leave its borrowed values as they
-were before, unless memory runs out outside the call; and at least one is refused. In a conversation at the prompt it may
-also be one line that is answered `refused Memory`; the others are then answered as if this one had no effect. The last
-line that is printed is 'memory: N passed, M failed', a run each, and the exit status is 0 if M is 0. It needs a C compiler,
-the command in the variable CC or else cc.
+as it does with ample memory, save that the faults of a file, and those that are written as JSON, may be reported as of standard
+input: the first one alone, without the file's name, and without what may help. The runs are those of recorded cases, SESSIONS,
+and those of files that have names. CALLER is the program of the crate ga_refused_calls: its call must answer as it does with
+ample memory, or be refused and leave its borrowed values as they were before, unless memory runs out outside the call; and at
+least one is refused. In a conversation at the prompt it may also be one line that is answered `refused Memory`; the others are
+then answered as if this one had no effect. The last line that is printed is 'memory: N passed, M failed', a run each, and the
+exit status is 0 if M is 0. It needs a C compiler, the command in the variable CC or else cc.
 """
 import os
 import re
@@ -39,6 +39,9 @@ SESSIONS = [
     (["asm", "/dev/stdin"], b"const A 5\nbody B X\n  X b! A !b\nend\nnode 708,709 use B east &here\nhere: .\n"),
     (["lint"], b"node 709 5 push x:\nsub: [ push unext ]\n1 2 3 dup @ ! +\nnode 708 jump warm sub: $1F5 a! 5 ! ;\n"),
     (["lint", "--deny", "/dev/stdin"], b"const A 5\nbody B X\n  X b! A !b\nend\nnode 708,709 use B east &here\nhere: .\n"),
+    (["lint", "--json"], b"node 709 5 push x:\nsub: [ push unext ]\n1 2 3 dup @ ! +\nnode 708 jump warm sub: $1F5 a! 5 ! ;\n"),
+    (["lint", "--json", "--deny", "/dev/stdin"], b"const A 5\nbody B X\n  X b! A !b\nend\nnode 708,709 use B east &here\nhere: .\n"),
+    (["list", "/dev/stdin"], b"const A 5\nbody B X\n  X b! A !b\nend\nnode 708,709 use B east &here\nhere: .\n"),
     (["list", "-"], b"node 709 main: $5 $7 + @b\ndata x: , main"),
     (["list", "--labels", "-"], b"node 709 main: $5 $7 + @b\ndata x: , main"),
     (["list", "--counts", "--turns", "9", "-"], HEAD + b"> turn 3\n"),
@@ -59,11 +62,12 @@ SESSIONS = [
 
 def recorded_runs():
     """Of each subcommand the accepted case with the most bytes, up to MOST_BYTES, and of each fault that it reports the
-    refused case with the fewest."""
+    refused case with the fewest. JSON_RUNS has what is written as JSON."""
     runs = {}
     for data, case in sorted(((stream(case, "stdin") or b"", case) for case in CASES), key=lambda it: len(it[0])):
         name, is_told = (case["args"] or [""])[0], {"stdout", "stderr"} & {*case}
-        if name in SUBCOMMANDS and case.get("status") in (0, 1) and is_told and len(data) <= MOST_BYTES:
+        is_json = case["args"][:2] == ["lint", "--json"]
+        if name in SUBCOMMANDS and case.get("status") in (0, 1) and is_told and len(data) <= MOST_BYTES and not is_json:
             fault = re.sub("[0-9]", "", case.get("stderr", "").partition("\n")[0])
             runs[name, fault] = runs[name, fault] if fault and (name, fault) in runs else (case["args"], data)
     return [*runs.values()]
@@ -108,8 +112,10 @@ CALLS = [
     *[(["serve", *words], data) for words, data in RUNS],
 ]  # fmt: skip
 MOST = 10000
-# A fault of a file with a name, as compilers show it.
-NAMED_FAULT = re.compile(rb"^.*:(\d+:\d+): error: (\w+): (.*?)(?: \(node (\d+)\))?\n((?:  .*\n)*)", re.M)
+# A fault of a file with a name, as compilers show it, with the node and with what may help.
+NAMED_FAULT = re.compile(
+    rb"^.*:(\d+:\d+): error: (\w+): (.*?)(?: \(node (\d+)\))?(?:; (?:the nearest name is|it needs) .*)?\n((?:  .*\n)*)", re.M
+)
 
 
 def answer(program, words, data, **variables):
@@ -177,6 +183,10 @@ NAMED = {
     "end": b"node 709 5 !b",
     "errors": b'include "faulty"\n',
     "faulty": b"node 708 frob\nnode 709 jump gone\nnode 710 to 000\nnode 711 5 . .\n",
+    "misspelt": b"const A 5\nbody B X\n  X b! A !b\nend\nnode 708 A use B east drpo\nnode 709 jmup x\n",
+    "labels": b'const LOOPS 5\nnode 708 main: .\nnode 709 loop: . lap: jump lop\n',
+    "bodies": b"body SEND\n  .\nend\nnode 708 use SEDN\n",
+    "full": b"node 709 5 " + b"[ . ] " * 63 + b"data , 5 , 6",
     "missing": b'include "sub/library"\ninclude "gone"\n',
     "malformed": b"node 708 .\ninclude gone\n",
     "itself": b'include "itself"\n',
@@ -185,17 +195,24 @@ NAMED_RUNS = [
     *[(job, "x.transcript") for job in ("check", "record", "debug")],
     *[(job, "good") for job in ("asm", "expand", "lint", "list --labels", "map", "profile --json --turns 9", "debug")],
     *[(job, "errors") for job in ("asm", "lint", "boot 708,709", "trace", "debug")],
-    *[("list", name) for name in ("missing", "malformed", "itself")],
+    *[("list", name) for name in ("good", "missing", "malformed", "itself", "misspelt", "labels", "bodies", "full")],
+    *[("debug", name) for name in ("misspelt", "full")],
 ]
+# Warnings and faults as JSON.
+JSON_RUNS = [("lint --json", name) for name in ("good", "errors", "misspelt", "labels", "full", "missing")]
+JSON_RUNS += [("lint --json --deny", name) for name in ("good", "labels")]
 
 
-def named_runs(folder):
-    """Runs of files with names of their own."""
+def write_named(folder):
     os.makedirs(f"{folder}/sub")
     for name, text in NAMED.items():
         with open(f"{folder}/{name}", "wb") as file:
             file.write(text)
-    return [([*job.split(), f"{folder}/{name}"], b"") for job, name in NAMED_RUNS]
+
+
+def runs_of(folder, runs):
+    """Runs of files with names of their own."""
+    return [([*job.split(), f"{folder}/{name}"], b"") for job, name in runs]
 
 
 def rights_of_run(ample):
@@ -207,6 +224,16 @@ def rights_of_run(ample):
         kinds = [b"asm " + node] if node else [b"source", b"expand", b"include"]
         unnamed += [b"ga-bench: %b %b %b\n%b%b\n" % (kind, place, name, lines, means) for kind in kinds]
     return [ample, *[(code, told, text) for text in unnamed], (3, b"", b"ga-bench: memory\n")] if code != 3 else []
+
+
+def refuse_json(program, library, run):
+    """Refuses each allocation of a run with faults as JSON. Those of standard input have the same lines as in the text form."""
+    as_text = answer(program, [it for it in run[0] if it != "--json"], b"")
+
+    def rights(ample):
+        return [ample, *rights_of_run((as_text[0], b"", as_text[2]))[1:]] if ample[0] == as_text[0] else []
+
+    return refuse_each(program, library, rights, run)
 
 
 def rights_of_files(ample):
@@ -231,7 +258,9 @@ def main(program, caller=None):
         subprocess.run([compiler, "-shared", "-fPIC", "-O1", "-o", library, f"{FOLDER}/refuse_memory.c", "-ldl"], check=True)
         told = [*pool.map(partial(refuse_each, program, library, rights_of_run), RUNS + LINES)]
         told += pool.map(partial(refuse_each, program, library, rights_of_files), FILES)
-        told += pool.map(partial(refuse_each, program, library, rights_of_run), named_runs(f"{folder}/named"))
+        write_named(f"{folder}/named")
+        told += pool.map(partial(refuse_each, program, library, rights_of_run), runs_of(f"{folder}/named", NAMED_RUNS))
+        told += pool.map(partial(refuse_json, program, library), runs_of(f"{folder}/named", JSON_RUNS))
         os.mkdir(f"{folder}/talk")
         told.append(refuse_in_talk(program, library, f"{folder}/talk"))
         if caller:

@@ -28,10 +28,28 @@ def starts_of(text):
     return [it.line for it in pieces[behind_definitions(pieces) :] if it.text == "node" and firsts[it.line] is it]
 
 
+def sections_of(text):
+    """The lines with which the sections of a text begin, and those behind them."""
+    starts = starts_of(text)
+    return [*zip(starts, [*starts[1:], text.count("\n") + 2])]
+
+
+def part_of(text, head, first, end):
+    """The part of a section that reaches from one line up to another, behind the lines of the head."""
+    rows = text.split("\n")[: end - 1]
+    return "\n".join(row if line < head or first <= line else "" for line, row in enumerate(rows, 1))
+
+
 def parts_of(text):
-    rows, starts = text.split("\n"), starts_of(text)
-    for first, end in [*zip(starts, [*starts[1:], len(rows) + 1])][:MOST_SECTIONS]:
-        yield "\n".join(row if line < starts[0] or first <= line else "" for line, row in enumerate(rows[: end - 1], 1))
+    sections = sections_of(text)
+    for first, end in sections[:MOST_SECTIONS]:
+        yield part_of(text, sections[0][0], first, end)
+
+
+def part_at(text, line):
+    """The part of the section that has a line, or the text."""
+    sections = sections_of(text)
+    return next((part_of(text, sections[0][0], first, end) for first, end in sections if first <= line < end), text)
 
 
 def first_fault(text):
