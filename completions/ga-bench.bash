@@ -42,7 +42,7 @@ _ga_bench() {
     1replay) options='-h --help' operands=(FILE) ;;
     1expand) options='-h --help' operands=(FILE) ;;
     1list) options='--place --route --turns --labels --counts -h --help' operands=(FILE) ;;
-    1lint) options='--deny -h --help' operands=(FILE) ;;
+    1lint) options='--deny --json -h --help' operands=(FILE) ;;
     1race) options='--place --route --turns --witness -h --help' operands=(FILE) ;;
     1map) options='--place --route --turns -h --help' operands=(FILE) ;;
     1profile) options='--place --route --turns --from --json -h --help' operands=(FILE) ;;

@@ -77,6 +77,7 @@ complete -c ga-bench -n '__fish_seen_subcommand_from list' -l counts -d 'Makes a
 complete -c ga-bench -n '__fish_seen_subcommand_from list' -s h -l help -d 'Print help'
 complete -c ga-bench -n '__fish_seen_subcommand_from list' -F
 complete -c ga-bench -n '__fish_seen_subcommand_from lint' -l deny -d 'Exits with status 1 if there is a warning'
+complete -c ga-bench -n '__fish_seen_subcommand_from lint' -l json -d 'Writes each warning and each error as JSON, one object on a line'
 complete -c ga-bench -n '__fish_seen_subcommand_from lint' -s h -l help -d 'Print help'
 complete -c ga-bench -n '__fish_seen_subcommand_from lint' -F
 complete -c ga-bench -n '__fish_seen_subcommand_from race' -l place -d 'The input is source text, even if it begins with \'profile\'; its words are placed'
