@@ -1,7 +1,7 @@
 //! All faults of a text.
 use ga_asm::{TextError, assemble_text};
 use ga_expand::expand;
-use ga_faults::{Fault, at_origin, faults, first_fault, origin};
+use ga_faults::{Fault, at_origin, faults, first_fault, origin, part_at};
 use std::test::Fail;
 
 const TWO: &str = "const A 1\nnode 708\n  A jump agin\nnode 709 frob\nnode 710 .\n";
@@ -36,5 +36,13 @@ fn a_fault_of_an_expansion_is_where_its_token_was_written(rt: HostRuntime) -> Re
     }
     let place = origin(alloc, text, &made, 1, 1)?;
     assert!(rt; place.line == 3 && place.column == 1);
+    Ok(())
+}
+
+#[test]
+fn the_part_that_has_a_line(rt: HostRuntime) -> Result<(), Fail> {
+    let alloc = rt.alloc();
+    assert!(rt; part_at(alloc, TWO, 4)?.as_str() == "const A 1\n\n\nnode 709 frob");
+    assert!(rt; part_at(alloc, TWO, 1)?.as_str() == TWO);
     Ok(())
 }
