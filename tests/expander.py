@@ -13,7 +13,7 @@ Piece = namedtuple("Piece", "text line column")
 Body = namedtuple("Body", "arity parts")
 WORDS = {"const", "body", "end", "use", "include", "to", "north", "east", "south", "west"}
 SIDES = re.compile(r"(right|down|left|up)(\|(right|down|left|up))+")
-MOST_TOKENS, MOST_BYTES = 262144, 64
+MOST_TOKENS, MOST_BYTES, MOST_BODIES, MOST_PARAMETERS = 262144, 64, 1024, 64
 
 
 def fault_at(piece, name):
@@ -136,24 +136,26 @@ class Unfolder:
         self.constants |= {name.text} if name else set()
         return next(pieces, None)
 
-    def check_name(self, piece, taken):
+    def check_name(self, piece, taken, has_all):
         if not NAME.fullmatch(piece.text):
             raise fault_at(piece, "BadToken")
         if piece.text in RESERVED or piece.text in WORDS:
             raise fault_at(piece, "ReservedName")
         if piece.text in taken:
             raise fault_at(piece, "DuplicateName")
+        if has_all:
+            raise fault_at(piece, "TooLarge")
 
     def definition(self, body, pieces):
         name = next(pieces, None)
         if not name:
             raise fault_at(body, "OpenDefinition")
-        self.check_name(name, {*self.bodies, *self.constants})
+        self.check_name(name, {*self.bodies, *self.constants}, len(self.bodies) == MOST_BODIES)
         self.body, self.parameters = body, []
         piece = next(pieces, None)
         while piece and piece.line == body.line:
             check_length(piece)
-            self.check_name(piece, self.parameters)
+            self.check_name(piece, self.parameters, len(self.parameters) == MOST_PARAMETERS)
             self.parameters.append(piece.text)
             piece = next(pieces, None)
         if not self.tokens(piece, pieces):

@@ -21,7 +21,7 @@ DEFINITIONS = [
 ]  # fmt: skip
 BAD_DEFINITIONS = [
     "const", "const dup 5", "const ONE 2", "const 5 5", "const TWO", "const TWO 262144", "const TWO 1<<18", "body PAIR end", "body dup",
-    "body LONG X X", "frob", "use PAIR", "node 000 .", "const NEXT 5 node 001 frob", "body OPEN", "é", "end", "body MORE use GONE end",
+    "body LONG X X", " ".join(["body MANY", *(f"P{n}" for n in range(65))]), "frob", "use PAIR", "node 000 .", "const NEXT 5 node 001 frob", "body OPEN", "é", "end", "body MORE use GONE end",
 ]  # fmt: skip
 NODES = [f"{row}{column:02}" for row in range(8) for column in range(18)]
 

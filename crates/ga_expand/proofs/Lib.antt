@@ -6,6 +6,7 @@ mod Stages
 mod Taking
 mod Tokens
 mod Steps
+mod Opcodes
 mod Origins
 mod Lists
 mod TokensRead
@@ -13,5 +14,6 @@ mod Made
 mod Copies
 mod Expressions
 mod Unchanged
+mod Uses
 mod PlainTexts
 mod WorkedExpansions

@@ -10,15 +10,15 @@ use Rattle.std.proofs.lemmas.List.{length-map, map-append, take_more}
 use Rattle.std.proofs.lemmas.Option.{slice_get-map}
 use Rattle.ga_expand.specs.declared.bodies.Part as part
 use Rattle.ga_expand.specs.declared.bodies.SharedBody as body
+use Rattle.ga_expand.specs.declared.piece.Piece as written
 use Rattle.ga_pack.specs.Model.Text.{Place}
 use Rattle.ga_expand.specs.declared.error.ExpandErrorKind.TheVariants.{TooLarge}
 use Rattle.ga_expand.specs.Error.{Fault}
-use Rattle.ga_expand.specs.Bodies.{Arguments, Draft, Part, Reading, SharedBody, Tokens, Unfolding, begun, behind, behind_all, body_named, failed, filled, missing, unless_ended, use_of, used}
+use Rattle.ga_expand.specs.Bodies.{Arguments, Draft, Part, Reading, SharedBody, Tokens, Unfolding, begun, behind, behind_all, body_named, failed, filled, missing, unless_ended, use_of, used, with_parts}
 use Rattle.ga_expand.specs.Constants.{is_among}
 use Rattle.ga_expand.specs.Expanding.{Body, Piece, Stage}
 use Rattle.ga_expand.specs.inner.Bodies.{body_in, filled_in, part_in, texts_in}
 use Rattle.ga_expand.specs.inner.Piece.{piece_in}
-use Rattle.ga_expand.specs.inner.Pieces.{part_pieces}
 use Rattle.ga_expand.proofs.Origins.{position_map}
 
 -- ---- names
@@ -101,6 +101,18 @@ module _ (arguments body : List part.Part) (i : ℕ) (one new : part.Part) (insi
       ∙ append_assoc old (map (filled_in arguments) (take i body)) (new ∷ [])
       ∙ ap (λ (ps : List part.Part). old ++ ps) (sym one_more)
 
+  pub pieces_more : (old before after : List written.Piece)
+      → before ≡ old ++ map (λ part. part.piece) (map (filled_in arguments) (take i body))
+      → after ≡ before ++ new.piece ∷ []
+      → after ≡ old ++ map (λ part. part.piece) (map (filled_in arguments) (take (i + 1) body))
+  pieces_more old before after b a =
+      let so_far = map (filled_in arguments) (take i body) in
+      a ∙ ap (λ (ps : List written.Piece). ps ++ new.piece ∷ []) b
+      ∙ append_assoc old (map (λ part. part.piece) so_far) (new.piece ∷ [])
+      ∙ ap (λ (ps : List written.Piece). old ++ ps) (sym
+      (ap (map (λ (one : part.Part). one.piece)) one_more
+      ∙ map-append (λ (one : part.Part). one.piece) so_far (new ∷ [])))
+
   pub stage_more : (before after : Stage)
       → before ≡ behind_all Body (map part_in (map (filled_in arguments) (take i body)))
       → after ≡ behind before new.piece.text.now
@@ -112,28 +124,67 @@ module _ (arguments body : List part.Part) (i : ℕ) (one new : part.Part) (insi
       ∙ ap (behind_all Body) (sym (ap (map part_in) one_more
       ∙ map-append part_in so_far (new ∷ [])))
 
--- the tokens of a `use` whose arguments are all there
-pub used_up : (now : Unfolding) (place : Place) (more : ℕ) (old new body arguments : List part.Part)
-    (stage : Stage) → more ≡ 0 → now.parts ≡ map part_in old
+-- the tokens of a `use` in a body
+pub used_parts : (now : Unfolding) (draft : Draft) (old new body arguments : List part.Part)
+    (stage : Stage) → now.draft ≡ Some draft → now.parts ≡ map part_in old
     → new ≡ old ++ map (filled_in arguments) body
     → stage ≡ behind_all Body (map part_in (map (filled_in arguments) body))
-    → ◌≡◌ {A = Result Unfolding Fault}
-    (Ok (missing now place more (map part_in body) (map part_in arguments)))
-    (Ok (record now { parts = map part_in new; reading = Tokens stage }))
-used_up now place more old new body arguments stage none had is after =
+    → ◌≡◌ {A = Unfolding} (record now { parts = map part_in new; reading = Tokens stage })
+    (used now (map part_in body) (map part_in arguments))
+used_parts now draft old new body arguments stage inside had is after =
     let all = map (filled (map part_in arguments)) (map part_in body) in
     let parts : now.parts ++ all ≡ map part_in new =
     ap (λ (ps : List Part). ps ++ all) had ∙ sym (with_filled old arguments body)
     ∙ ap (map part_in) (sym is) in
     let last : behind_all Body all ≡ stage =
     ap (behind_all Body) (sym (filled_parts arguments body)) ∙ sym after in
-    ap {B = Result Unfolding Fault}
-    (λ (m : ℕ). Ok (missing now place m (map part_in body) (map part_in arguments))) none
-    ∙ ap {B = Result Unfolding Fault}
-    (λ (ps : List Part). Ok (record now { parts = ps; reading = Tokens (behind_all Body all) }))
-    parts
-    ∙ ap {B = Result Unfolding Fault}
-    (λ (s : Stage). Ok (record now { parts = map part_in new; reading = Tokens s })) last
+    sym (ap {B = Unfolding}
+    (λ (d : Option Draft). with_parts now d all (behind_all Body all)) inside
+    ∙ ap {B = Unfolding}
+    (λ (ps : List Part). record now { parts = ps; reading = Tokens (behind_all Body all) }) parts
+    ∙ ap {B = Unfolding}
+    (λ (s : Stage). record now { parts = map part_in new; reading = Tokens s }) last)
+
+pieces_of_parts : (parts : List part.Part)
+    → map piece_in (map (λ part. part.piece) parts) ≡ map (λ part. part.piece) (map part_in parts)
+pieces_of_parts [] = refl
+pieces_of_parts (one ∷ parts) =
+    ap (λ (ps : List Piece). piece_in one.piece ∷ ps) (pieces_of_parts parts)
+
+-- the tokens of a `use` in the text
+pub used_pieces : (now : Unfolding) (old new : List written.Piece)
+    (body arguments : List part.Part) (stage : Stage) → now.draft ≡ None
+    → now.text ≡ map piece_in old
+    → new ≡ old ++ map (λ part. part.piece) (map (filled_in arguments) body)
+    → stage ≡ behind_all Body (map part_in (map (filled_in arguments) body))
+    → ◌≡◌ {A = Unfolding} (record now { text = map piece_in new; reading = Tokens stage })
+    (used now (map part_in body) (map part_in arguments))
+used_pieces now old new body arguments stage outside had is after =
+    let all = map (filled (map part_in arguments)) (map part_in body) in
+    let added = map (filled_in arguments) body in
+    let filled_pieces : map piece_in (map (λ part. part.piece) added)
+    ≡ map (λ part. part.piece) all =
+    pieces_of_parts added
+    ∙ ap (map (λ (one : Part). one.piece)) (filled_parts arguments body) in
+    let text : now.text ++ map (λ part. part.piece) all ≡ map piece_in new =
+    ap (λ (ps : List Piece). ps ++ map (λ part. part.piece) all) had
+    ∙ ap (λ (ps : List Piece). map piece_in old ++ ps) (sym filled_pieces)
+    ∙ sym (map-append piece_in old (map (λ part. part.piece) added))
+    ∙ ap (map piece_in) (sym is) in
+    let last : behind_all Body all ≡ stage =
+    ap (behind_all Body) (sym (filled_parts arguments body)) ∙ sym after in
+    sym (ap {B = Unfolding}
+    (λ (d : Option Draft). with_parts now d all (behind_all Body all)) outside
+    ∙ ap {B = Unfolding}
+    (λ (ps : List Piece). record now { text = ps; reading = Tokens (behind_all Body all) }) text
+    ∙ ap {B = Unfolding}
+    (λ (s : Stage). record now { text = map piece_in new; reading = Tokens s }) last)
+
+other_parts : (now : Unfolding) (next : Reading) (draft : Option Draft) (parts : List Part)
+    (stage : Stage) → with_parts (record now { reading = next }) draft parts stage
+    ≡ with_parts now draft parts stage
+other_parts now next (Some draft) parts stage = refl
+other_parts now next None parts stage = refl
 
 pub other_reading : (now : Unfolding) (next : Reading) (place : Place) (more : ℕ)
     (parts arguments : List Part)
@@ -145,7 +196,9 @@ other_reading now next place more parts arguments = by (more == 0)
         arguments else record now { reading = Arguments place (more - 1) parts arguments })
         (if b then used now parts arguments
         else record now { reading = Arguments place (more - 1) parts arguments })
-    by true = refl
+    by true =
+        other_parts now next now.draft (map (filled arguments) parts)
+        (behind_all Body (map (filled arguments) parts))
     by false = refl
 
 -- ---- the body that a `use` names
@@ -202,14 +255,6 @@ begun_by now next place one parts arguments left less same none =
     ∙ ap (λ (ps : List part.Part). missing
     (record now { left = now.left - length (map part_in one.parts.items) }) place one.arity
     (map part_in one.parts.items) (map part_in ps)) none
-
--- ---- all tokens
-
-pub all_pieces : (parts : List part.Part)
-    → map (λ part. part.piece) (map part_in parts) ≡ part_pieces parts
-all_pieces [] = refl
-all_pieces (one ∷ parts) =
-    ap (λ (ps : List Piece). piece_in one.piece ∷ ps) (all_pieces parts)
 
 -- ---- the end of a body
 

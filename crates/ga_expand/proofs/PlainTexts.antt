@@ -27,7 +27,7 @@ use Rattle.ga_pack.specs.Model.Token.{Token, as_fixed, as_hex, as_label, as_name
 use Rattle.ga_expand.specs.Constants.{Constants, constant_named}
 use Rattle.ga_expand.specs.Expanding.{Body, Head, Naming, NodeName, Piece, Scope, Stage, Towards, Value, Valuing, expansion_from, further, is_ascii, is_const, is_to, item_at, label_in, number_text, onto, piece_at, pieces_of, same_or, stage_by, start, step_at, word_at, word_of, word_step}
 use Rattle.ga_expand.specs.Bodies as bodies
-use Rattle.ga_expand.specs.Bodies.{Part, Tokens, Unfolding, first, is_body, is_use, read_at, unfolded, unfolded_from}
+use Rattle.ga_expand.specs.Bodies.{Tokens, Unfolding, first, is_body, is_use, read_at, unfolded, unfolded_from}
 use Rattle.ga_expand.specs.Error.{Fault}
 use Rattle.ga_expand.specs.NodeLists.{is_list, spread, spread_from}
 use Rattle.ga_expand.specs.Texts.{expanded, expansion}
@@ -35,7 +35,7 @@ use Rattle.ga_expand.specs.Places.{direction_named}
 use Rattle.ga_expand.specs.Laws.{PlainStays}
 use Rattle.ga_expand.specs.Literal.{as_character, literal_of}
 use Rattle.ga_expand.proofs.Stages.{is_naming, naming}
-use Rattle.ga_expand.proofs.Unchanged.{SpreadsAt, as_part, item_spreads, name_spreads, pieces_in}
+use Rattle.ga_expand.proofs.Unchanged.{SpreadsAt, item_spreads, name_spreads}
 use Rattle.ga_expand.specs.Sides.{as_sides}
 use Rattle.ga_expand.specs.inner.Plain.{is_plain_byte}
 
@@ -121,7 +121,7 @@ plain_word constants (c ∷ cs) h = rw (no_literal c cs h) (by (constant_named c
     by (Some n) = refl
     by None = rw (plain_ascii (c ∷ cs) h) refl
 
-none_named : (text : List ℕ) → constant_named [] text ≡ None
+pub none_named : (text : List ℕ) → constant_named [] text ≡ None
 none_named text = by (is_name text)
   where
     by : (b : Bool) → ◌≡◌ {A = Option ℕ} (if b then None else None) None
@@ -136,7 +136,7 @@ bytes_stay (c ∷ cs) h =
 
 -- ---- the opcodes, and the words with a meaning of their own
 
-name_stays : (o : Op) → word_of [] (name_of o) ≡ Ok (name_of o)
+pub name_stays : (o : Op) → word_of [] (name_of o) ≡ Ok (name_of o)
 unfolding word_of literal_of
 name_stays Jump = refl
 name_stays o = refl
@@ -553,23 +553,17 @@ first_stays (piece ∷ pieces) ts e h =
 
 -- ---- no token of a plain text is a part of a definition or of a `use`
 
-abbrev plain_state : List Part → Stage → Unfolding
-plain_state parts stage = record first { parts = parts; reading = Tokens stage }
+abbrev plain_state : List Piece → Stage → Unfolding
+plain_state text stage = record first { text = text; reading = Tokens stage }
 
-one_unfolds : (stage : Stage) (parts : List Part) (piece : Piece) (pieces : List Piece)
+one_unfolds : (stage : Stage) (text : List Piece) (piece : Piece) (pieces : List Piece)
     → is_use stage piece.text ≡ false
-    → unfolded_from (plain_state (parts ++ as_part piece ∷ []) (bodies.behind stage piece.text))
-    pieces ≡ Ok (pieces_in (parts ++ as_part piece ∷ []) ++ pieces)
-    → unfolded_from (plain_state parts stage) (piece ∷ pieces)
-    ≡ Ok (pieces_in parts ++ piece ∷ pieces)
+    → unfolded_from (plain_state (text ++ piece ∷ []) (bodies.behind stage piece.text)) pieces
+    ≡ Ok ((text ++ piece ∷ []) ++ pieces)
+    → unfolded_from (plain_state text stage) (piece ∷ pieces) ≡ Ok (text ++ piece ∷ pieces)
 unfolding unfolded_from read_at
-one_unfolds stage parts piece pieces other rest =
-    let same : pieces_in (parts ++ as_part piece ∷ []) ++ pieces
-    ≡ pieces_in parts ++ piece ∷ pieces =
-    ap (λ (ps : List Piece). ps ++ pieces)
-    (map-append (λ (part : Part). part.piece) parts (as_part piece ∷ []))
-    ∙ append_assoc (pieces_in parts) (piece ∷ []) pieces in
-    rw other (rest ∙ ap Ok same)
+one_unfolds stage text piece pieces other rest =
+    rw other (rest ∙ ap Ok (append_assoc text (piece ∷ []) pieces))
 
 no_use : (text : List ℕ) → is_name_token (meaning_of text) ≡ false → is_use Body text ≡ false
 unfolding meaning_of
@@ -577,51 +571,51 @@ no_use text e = other_word text (codes "use") refl e
 
 abbrev Unfolds : Stage → List Piece → Type 0
 Unfolds stage pieces =
-    all_placed stage (meanings (is_naming stage) (texts_in pieces)) ≡ true → (parts : List Part)
-    → unfolded_from (plain_state parts stage) pieces ≡ Ok (pieces_in parts ++ pieces)
+    all_placed stage (meanings (is_naming stage) (texts_in pieces)) ≡ true → (text : List Piece)
+    → unfolded_from (plain_state text stage) pieces ≡ Ok (text ++ pieces)
 
-nothing_left : (parts : List Part)
-    → ◌≡◌ {A = Result (List Piece) Fault} (Ok (pieces_in parts)) (Ok (pieces_in parts ++ []))
-nothing_left parts = ap Ok (sym (append-nil (pieces_in parts)))
+nothing_left : (text : List Piece)
+    → ◌≡◌ {A = Result (List Piece) Fault} (Ok text) (Ok (text ++ []))
+nothing_left text = ap Ok (sym (append-nil text))
 
 pieces_unfold : (stage : Stage) (pieces : List Piece) → Unfolds stage pieces
 unfolding meanings meaning_at unfolded_from
-pieces_unfold Body [] h parts = nothing_left parts
-pieces_unfold Value [] h parts = nothing_left parts
-pieces_unfold NodeName [] h parts = nothing_left parts
-pieces_unfold Head [] h parts = absurd (cc)
-pieces_unfold (Naming place) [] h parts = absurd (cc)
-pieces_unfold (Valuing name place) [] h parts = absurd (cc)
-pieces_unfold (Towards name place) [] h parts = absurd (cc)
-pieces_unfold Body (piece ∷ pieces) h parts =
+pieces_unfold Body [] h text = nothing_left text
+pieces_unfold Value [] h text = nothing_left text
+pieces_unfold NodeName [] h text = nothing_left text
+pieces_unfold Head [] h text = absurd (cc)
+pieces_unfold (Naming place) [] h text = absurd (cc)
+pieces_unfold (Valuing name place) [] h text = absurd (cc)
+pieces_unfold (Towards name place) [] h text = absurd (cc)
+pieces_unfold Body (piece ∷ pieces) h text =
     let t = meaning_of piece.text in
     let two = and_parts (not (is_name_token t) && not (is_bad t))
     (all_placed (stage_by t) (meanings (is_node t) (texts_in pieces))) h in
     let one = and_parts (not (is_name_token t)) (not (is_bad t)) two.0 in
-    one_unfolds Body parts piece pieces
+    one_unfolds Body text piece pieces
     (no_use piece.text (not-true (is_name_token t) one.0))
     (pieces_unfold (stage_by t) pieces (next_placed (stage_by t) t (is_node t)
-    (is_naming (stage_by t)) (texts_in pieces) (naming t) two.1) (parts ++ as_part piece ∷ []))
-pieces_unfold Value (piece ∷ pieces) h parts =
+    (is_naming (stage_by t)) (texts_in pieces) (naming t) two.1) (text ++ piece ∷ []))
+pieces_unfold Value (piece ∷ pieces) h text =
     let t = meaning_of piece.text in
     let two = and_parts (not (is_bad t))
     (all_placed (stage_by t) (meanings (is_node t) (texts_in pieces))) h in
-    one_unfolds Value parts piece pieces refl
+    one_unfolds Value text piece pieces refl
     (pieces_unfold (stage_by t) pieces (next_placed (stage_by t) t (is_node t)
-    (is_naming (stage_by t)) (texts_in pieces) (naming t) two.1) (parts ++ as_part piece ∷ []))
-pieces_unfold NodeName (piece ∷ pieces) h parts =
+    (is_naming (stage_by t)) (texts_in pieces) (naming t) two.1) (text ++ piece ∷ []))
+pieces_unfold NodeName (piece ∷ pieces) h text =
     let t = meaning_at true piece.text in
     let two = and_parts (is_node_name t)
     (all_placed Body (meanings (is_node t) (texts_in pieces))) h in
     let good = name_is_good t two.0 in
-    one_unfolds NodeName parts piece pieces refl
+    one_unfolds NodeName text piece pieces refl
     (pieces_unfold Body pieces
     (next_placed Body t (is_node t) false (texts_in pieces) good.1 two.1)
-    (parts ++ as_part piece ∷ []))
-pieces_unfold Head (piece ∷ pieces) h parts = absurd (cc)
-pieces_unfold (Naming place) (piece ∷ pieces) h parts = absurd (cc)
-pieces_unfold (Valuing name place) (piece ∷ pieces) h parts = absurd (cc)
-pieces_unfold (Towards name place) (piece ∷ pieces) h parts = absurd (cc)
+    (text ++ piece ∷ []))
+pieces_unfold Head (piece ∷ pieces) h text = absurd (cc)
+pieces_unfold (Naming place) (piece ∷ pieces) h text = absurd (cc)
+pieces_unfold (Valuing name place) (piece ∷ pieces) h text = absurd (cc)
+pieces_unfold (Towards name place) (piece ∷ pieces) h text = absurd (cc)
 
 body_means : meaning_of (codes "body") ≡ model.name (codes "body")
 unfolding meaning_of
@@ -647,7 +641,7 @@ first_unfolds (piece ∷ pieces) ts e h =
       no_use piece.text (ap is_name_token node),
     )
     (pieces_unfold (stage_by t) pieces (next_placed (stage_by t) t (is_node t)
-    (is_naming (stage_by t)) (texts_in pieces) (naming t) placed) (as_part piece ∷ []))
+    (is_naming (stage_by t)) (texts_in pieces) (naming t) placed) (piece ∷ []))
 
 -- ---- no section of a plain text has a list
 

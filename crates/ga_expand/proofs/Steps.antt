@@ -169,20 +169,27 @@ sound_first scope piece made true is e =
 sound_first scope piece made false is e = sound_plain scope piece made is e
 
 sound_new : (scope : Scope) (text : List ℕ) (place : Place) (made : Step) (o : Option ℕ)
-    → number_of scope.constants text ≡ o → (if is_some o then Err DuplicateName
+    → is_reserved text ≡ false → number_of scope.constants text ≡ o
+    → (if is_some o then Err DuplicateName
     else silent (with_stage scope (Valuing text place))) ≡ Ok made → Sound made
-sound_new scope text place made None new e =
-    sound_silent (with_stage scope (Valuing text place)) made new e
-sound_new scope text place made (Some n) new e = absurd (cc)
+sound_new scope text place made None free new e =
+    sound_silent (with_stage scope (Valuing text place)) made (new, free) e
+sound_new scope text place made (Some n) free new e = absurd (cc)
+
+-- a name that isn't kept isn't reserved
+not_kept : (text : List ℕ) (b : Bool) → is_reserved text ≡ b → is_kept text ≡ false → b ≡ false
+not_kept text false is e = refl
+not_kept text true is e = absurd (cc)
 
 sound_named : (scope : Scope) (text : List ℕ) (place : Place) (made : Step) (a b : Bool)
-    → (if not a then Err BadToken else if b then Err ReservedName
+    → is_kept text ≡ b → (if not a then Err BadToken else if b then Err ReservedName
     else if is_some (number_of scope.constants text) then Err DuplicateName
     else silent (with_stage scope (Valuing text place))) ≡ Ok made → Sound made
-sound_named scope text place made false b e = absurd (cc)
-sound_named scope text place made true true e = absurd (cc)
-sound_named scope text place made true false e =
-    sound_new scope text place made (number_of scope.constants text) refl e
+sound_named scope text place made false b is e = absurd (cc)
+sound_named scope text place made true true is e = absurd (cc)
+sound_named scope text place made true false is e =
+    sound_new scope text place made (number_of scope.constants text)
+    (not_kept text (is_reserved text) refl is) refl e
 
 sound_valued : (scope : Scope) (name : List ℕ) (value : Result ℕ ExpandErrorKind)
     (made : Step) → valued scope name value ≡ Ok made → Sound made
@@ -287,7 +294,7 @@ sound_step : (scope : Scope) (piece : Piece) (stage : Stage) (made : Step)
 unfolding step_at
 sound_step scope piece Head made is e = sound_first scope piece made (is_const piece.text) is e
 sound_step scope piece (Naming place) made is e =
-    sound_named scope piece.text place made (is_name piece.text) (is_kept piece.text) e
+    sound_named scope piece.text place made (is_name piece.text) (is_kept piece.text) refl e
 sound_step scope piece (Valuing name place) made is e =
     sound_valued scope name (value_of scope.constants piece.text) made e
 sound_step scope piece Body made is e =

@@ -5,7 +5,7 @@ use Rattle.std.specs.List.{list_all}
 use Rattle.std.specs.Str.{bytes_eq}
 use Rattle.std.proofs.lemmas.Bool.{and_parts}
 use Rattle.std.proofs.lemmas.List.{map-append}
-use Rattle.ga_expand.specs.Bodies.{ConstantName, ConstantValue, Definitions, Part, Reading, Tokens, Unfolding, behind, first, is_body, is_use, most_unfolded, read_at, unfolded, unfolded_from}
+use Rattle.ga_expand.specs.Bodies.{ConstantName, ConstantValue, Definitions, Reading, Tokens, Unfolding, behind, first, is_body, is_use, most_unfolded, read_at, unfolded, unfolded_from}
 use Rattle.ga_expand.specs.Expanding.{Body, Piece, Stage, is_const}
 use Rattle.ga_expand.specs.NodeLists.{NoList, NodeNext, Section, Spreading, begins_section, in_section, is_list, spread, spread_from, with_piece}
 use Rattle.ga_expand.specs.inner.Making.{has_list, is_apart}
@@ -35,38 +35,28 @@ abbrev head_state : List (List ℕ) → List Piece → Reading → Unfolding
 head_state constants definitions reading =
     record first { constants = constants; definitions = definitions; reading = reading }
 
-abbrev text_state : List (List ℕ) → List Piece → List Part → Stage → Unfolding
-text_state constants definitions parts stage =
-    record (head_state constants definitions (Tokens stage)) { parts = parts }
+abbrev text_state : List (List ℕ) → List Piece → List Piece → Stage → Unfolding
+text_state constants definitions text stage =
+    record (head_state constants definitions (Tokens stage)) { text = text }
 
-abbrev pub as_part : Piece → Part
-as_part piece = record { piece = piece; parameter = None }
-
-abbrev pub pieces_in : List Part → List Piece
-pieces_in parts = map (λ part. part.piece) parts
-
-one_more : (definitions : List Piece) (parts : List Part) (piece : Piece) (pieces : List Piece)
-    → (definitions ++ pieces_in (parts ++ as_part piece ∷ [])) ++ pieces
-    ≡ (definitions ++ pieces_in parts) ++ piece ∷ pieces
-one_more definitions parts piece pieces =
-    ap (λ (ps : List Piece). (definitions ++ ps) ++ pieces)
-    (map-append (λ (part : Part). part.piece) parts (as_part piece ∷ []))
-    ∙ ap (λ (ps : List Piece). ps ++ pieces)
-    (sym (append_assoc definitions (pieces_in parts) (piece ∷ [])))
-    ∙ append_assoc (definitions ++ pieces_in parts) (piece ∷ []) pieces
+one_more : (definitions text : List Piece) (piece : Piece) (pieces : List Piece)
+    → (definitions ++ (text ++ piece ∷ [])) ++ pieces ≡ (definitions ++ text) ++ piece ∷ pieces
+one_more definitions text piece pieces =
+    ap (λ (ps : List Piece). ps ++ pieces) (sym (append_assoc definitions text (piece ∷ [])))
+    ∙ append_assoc (definitions ++ text) (piece ∷ []) pieces
 
 text_unfolds : (constants : List (List ℕ)) (definitions : List Piece) (stage : Stage)
-    (pieces : List Piece) → list_all is_apart pieces ≡ true → (parts : List Part)
-    → unfolded_from (text_state constants definitions parts stage) pieces
-    ≡ Ok ((definitions ++ pieces_in parts) ++ pieces)
+    (pieces : List Piece) → list_all is_apart pieces ≡ true → (text : List Piece)
+    → unfolded_from (text_state constants definitions text stage) pieces
+    ≡ Ok ((definitions ++ text) ++ pieces)
 unfolding unfolded_from read_at
-text_unfolds constants definitions stage [] h parts =
-    ap Ok (sym (append-nil (definitions ++ pieces_in parts)))
-text_unfolds constants definitions stage (piece ∷ pieces) h parts =
+text_unfolds constants definitions stage [] h text =
+    ap Ok (sym (append-nil (definitions ++ text)))
+text_unfolds constants definitions stage (piece ∷ pieces) h text =
     let two = and_parts (is_apart piece) (list_all is_apart pieces) h in
     rw (no_use stage piece two.0)
     (text_unfolds constants definitions (behind stage piece.text) pieces two.1
-    (parts ++ as_part piece ∷ []) ∙ ap Ok (one_more definitions parts piece pieces))
+    (text ++ piece ∷ []) ∙ ap Ok (one_more definitions text piece pieces))
 
 abbrev HeadUnfolds : Reading → List Piece → Type 0
 HeadUnfolds reading pieces = (constants : List (List ℕ)) (definitions : List Piece)
@@ -111,7 +101,7 @@ heads_unfold (piece ∷ pieces) h =
         ∙ ap Ok (append_assoc definitions (piece ∷ []) pieces))
     by constants definitions none all more false is =
         rw (is, none.1, none.0) (text_unfolds constants definitions (behind Body piece.text)
-        pieces all (as_part piece ∷ [])
+        pieces all (piece ∷ [])
         ∙ ap Ok (append_assoc definitions (piece ∷ []) pieces))
 
 pub apart_unfolds : (pieces : List Piece) → list_all is_apart pieces ≡ true

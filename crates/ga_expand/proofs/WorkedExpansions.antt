@@ -12,7 +12,7 @@ use Rattle.ga_expand.specs.Constants.{Constants}
 use Rattle.ga_expand.specs.Expression.{inside, left_of, made_by, parted, right_of, value_of}
 use Rattle.ga_expand.specs.Error.{Fault}
 use Rattle.ga_expand.specs.Expanding.{Piece, expansion_from, pieces_of, step_at, word_of}
-use Rattle.ga_expand.specs.Bodies.{Part, SharedBody, Unfolding, first, read_at, unfolded_from, use_of}
+use Rattle.ga_expand.specs.Bodies.{Part, SharedBody, Unfolding, first, name_error, read_at, unfolded_from, use_of}
 use Rattle.ga_expand.specs.NodeLists.{Spreading, list_ended, spread_from, start_spread}
 use Rattle.ga_expand.specs.Texts.{expansion}
 use Rattle.ga_expand.specs.Literal.{literal_of}
@@ -249,6 +249,15 @@ two_parameters : ◌≡◌ {A = Expansion} (expansion (codes "body A X X\nend"))
     (failed DuplicateName 1 10)
 unfolding expansion unfolded_from read_at pieces_of lexemes is_reserved failed
 two_parameters = refl
+
+-- where as many are there as may be, a good name is one too many
+one_too_many : name_error false true (codes "STEP") ≡ Some TooLarge
+unfolding is_reserved
+one_too_many = refl
+
+taken_first : name_error true true (codes "STEP") ≡ Some DuplicateName
+unfolding is_reserved
+taken_first = refl
 
 -- two tokens where one is left
 two_tokens : SharedBody

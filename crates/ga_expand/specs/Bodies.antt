@@ -1,5 +1,5 @@
 -- Shared bodies: how the head of a text defines them, and which tokens each `use` stands for.
-use Rattle.std.specs.Prelude.{◌||◌, ◌&&◌, ◌==◌, ◌-◌, ℕ, Bool, true, false, not, List, [], ◌∷◌, ◌++◌, codes, length, map, nat_lt, slice_get, Option, Some, None, Result, Ok, Err, if◌then◌else◌}
+use Rattle.std.specs.Prelude.{◌||◌, ◌&&◌, ◌==◌, ◌-◌, ℕ, Bool, true, false, not, List, [], ◌∷◌, ◌++◌, codes, length, map, nat_le, nat_lt, slice_get, Option, Some, None, Result, Ok, Err, if◌then◌else◌}
 use Rattle.std.specs.List.{find, position}
 use Rattle.std.specs.Option.{is_some, option_and_then, unwrap_or}
 use Rattle.std.specs.Str.{bytes_eq}
@@ -11,8 +11,7 @@ use Rattle.ga_expand.specs.Constants.{is_among, is_kept}
 use Rattle.ga_expand.specs.Error.{Fault}
 use Rattle.ga_expand.specs.Expanding.{Body, NodeName, Piece, Stage, is_const, stage_by}
 
--- A token of a body or of the text. In a body it may be the name of a parameter, which has a number
--- from 0.
+-- A token of a body, or an argument. It may be the name of a parameter, which has a number from 0.
 pub record Part : Type 0 where
   pub piece : Piece
   pub parameter : Option ℕ
@@ -27,6 +26,14 @@ pub record SharedBody : Type 0 where
 -- as long, so without a limit thirty such bodies would be longer than any memory.
 abbrev pub most_unfolded : ℕ
 most_unfolded = 262144
+
+-- A text has at most this many bodies, and a body at most this many parameters, so that the one
+-- with a name is found soon.
+abbrev pub most_bodies : ℕ
+most_bodies = 1024
+
+abbrev pub most_parameters : ℕ
+most_parameters = 64
 
 -- the body that is being defined: the place of its `body`, and its name
 pub record Draft : Type 0 where
@@ -62,8 +69,10 @@ pub record Unfolding : Type 0 where
   -- the body that is being defined, if one is, and its parameters
   pub draft : Option Draft
   pub parameters : List (List ℕ)
-  -- the tokens of this body, or those of the text behind its definitions
+  -- the tokens of this body
   pub parts : List Part
+  -- the tokens of the text behind its definitions
+  pub text : List Piece
   pub reading : Reading
 
 abbrev pub first : Unfolding
@@ -75,6 +84,7 @@ first = record {
   draft = None;
   parameters = [];
   parts = [];
+  text = [];
   reading = Definitions;
 }
 
@@ -98,11 +108,18 @@ is_body_name now text = is_some (body_named now.bodies text)
 abbrev pub is_taken : Unfolding → List ℕ → Bool
 is_taken now text = is_body_name now text || is_among now.constants text
 
--- what is wrong with a name that is defined, if it is taken or not
-abbrev pub name_error : Bool → List ℕ → Option ExpandErrorKind
-name_error taken text =
+-- what is wrong with a name that is defined, if it is taken or not, and if there are as many as may
+-- be
+abbrev pub name_error : Bool → Bool → List ℕ → Option ExpandErrorKind
+name_error taken full text =
     if not (is_name text) then Some BadToken else if is_kept text then Some ReservedName
-    else if taken then Some DuplicateName else None
+    else if taken then Some DuplicateName else if full then Some TooLarge else None
+
+abbrev pub has_all_bodies : Unfolding → Bool
+has_all_bodies now = nat_le most_bodies (length now.bodies)
+
+abbrev pub has_all_parameters : Unfolding → Bool
+has_all_parameters now = nat_le most_parameters (length now.parameters)
 
 -- ---- definitions
 
@@ -164,16 +181,19 @@ abbrev pub is_use : Stage → List ℕ → Bool
 is_use Body text = bytes_eq text (codes "use")
 is_use stage text = false
 
-abbrev pub with_part : Unfolding → Stage → Part → Unfolding
-with_part now stage part = record now {
-  parts = now.parts ++ part ∷ [];
-  reading = Tokens (behind stage part.piece.text);
+-- tokens of the body that is being defined, or else of the text, and what is behind them
+abbrev pub with_parts : Unfolding → Option Draft → List Part → Stage → Unfolding
+with_parts now (Some draft) parts stage =
+    record now { parts = now.parts ++ parts; reading = Tokens stage }
+with_parts now None parts stage = record now {
+  text = now.text ++ map (λ part. part.piece) parts;
+  reading = Tokens stage;
 }
 
 abbrev pub with_token : Unfolding → Stage → Piece → Unfolding
 with_token now stage piece =
     if is_use stage piece.text then record now { reading = UseName piece.place }
-    else with_part now stage (part_at now piece)
+    else with_parts now now.draft (part_at now piece ∷ []) (behind stage piece.text)
 
 -- a token of a body or of the text, or the end of a body
 abbrev pub token_or_end : Unfolding → Stage → Piece → Option Draft → Unfolding
@@ -187,10 +207,8 @@ abbrev pub filled : List Part → Part → Part
 filled arguments part = unwrap_or (option_and_then (slice_get arguments) part.parameter) part
 
 abbrev pub used : Unfolding → List Part → List Part → Unfolding
-used now parts arguments = record now {
-  parts = now.parts ++ map (filled arguments) parts;
-  reading = Tokens (behind_all Body (map (filled arguments) parts));
-}
+used now parts arguments =
+    let all = map (filled arguments) parts in with_parts now now.draft all (behind_all Body all)
 
 -- a `use` for which this many arguments are missing
 abbrev pub missing : Unfolding → Place → ℕ → List Part → List Part → Unfolding
@@ -224,12 +242,13 @@ read_at now piece ConstantName =
     else Ok (with_name now piece)
 read_at now piece ConstantValue = Ok (kept now piece Definitions)
 read_at now piece (BodyName place) =
-    unless (name_error (is_taken now piece.text) piece.text) piece.place
+    unless (name_error (is_taken now piece.text) (has_all_bodies now) piece.text) piece.place
     (drafted now (record { start = place; name = piece.text }))
 read_at now piece (Parameters line) =
     if piece.place.line == line
-    then unless (name_error (is_among now.parameters piece.text) piece.text) piece.place
-    (with_parameter now piece.text)
+    then unless
+    (name_error (is_among now.parameters piece.text) (has_all_parameters now) piece.text)
+    piece.place (with_parameter now piece.text)
     else Ok (token_or_end now Body piece (ends now.draft piece.text))
 read_at now piece (Tokens stage) =
     Ok (token_or_end now stage piece (ends now.draft piece.text))
@@ -274,8 +293,7 @@ unless_open None pieces = Ok pieces
 -- the tokens of a text whose tokens are all read
 abbrev pub whole : Unfolding → Result (List Piece) Fault
 whole now =
-    unless_open (left_open now.draft now.reading)
-    (now.definitions ++ map (λ part. part.piece) now.parts)
+    unless_open (left_open now.draft now.reading) (now.definitions ++ now.text)
 
 abbrev pub go_on : Result Unfolding Fault → (Unfolding → Result (List Piece) Fault)
     → Result (List Piece) Fault

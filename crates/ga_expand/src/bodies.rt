@@ -11,8 +11,7 @@ use crate::piece::Piece;
 use crate::role::{Role, role_behind};
 use std::alloc::AllocError;
 
-/// A token of a body or of the text. In a body it may be the name of a parameter, which has a
-/// number from 0.
+/// A token of a body, or an argument. It may be the name of a parameter, which has a number from 0.
 #[derive(Clone, Copy)]
 pub(crate) struct Part<'a> {
     pub(crate) piece: Piece<'a>,
@@ -58,7 +57,7 @@ fn filled<'a>(arguments: &[Part<'a>], part: Part<'a>) -> Part<'a>
     }
 }
 
-/// Adds what a `use` stands for, and returns what is behind it.
+/// Adds what a `use` in a body stands for, and returns what is behind it.
 pub(crate) fn push_filled<'a>(
     parts: &mut Vec<Part<'a>>,
     body: &[Part<'a>],
@@ -74,6 +73,26 @@ pub(crate) fn push_filled<'a>(
         let part = filled(arguments, *part);
         role = behind(role, part.piece.text);
         parts.push(part)?;
+    }
+    Ok(role)
+}
+
+/// Adds what a `use` in the text stands for, and returns what is behind it.
+pub(crate) fn push_pieces<'a>(
+    pieces: &mut Vec<Piece<'a>>,
+    body: &[Part<'a>],
+    arguments: &[Part<'a>],
+) -> Result<Role, AllocError>
+    ensures pieces { OnOk result (pieces.new.items ≡ pieces.old.items
+        ++ map (λ part. part.piece) (map (filled_in arguments.now) body.now)) }
+    ensures role { IfOk result (λ role. role_stage role ≡ model.behind_all Body
+        (map part_in (map (filled_in arguments.now) body.now))) }
+{
+    let mut role = Role::Item;
+    for part in body {
+        let part = filled(arguments, *part);
+        role = behind(role, part.piece.text);
+        pieces.push(part.piece)?;
     }
     Ok(role)
 }

@@ -1,5 +1,5 @@
 //! Constants, their names and their values.
-ghost use Rattle.std.specs.Prelude.{◌≡◌, ◌≢◌, ◌++◌, ◌∷◌, ℕ, [], IfErr, None, OnOk, codes, option_map, Ok, if◌then◌else◌, Some};
+ghost use Rattle.std.specs.Prelude.{◌≡◌, ◌≢◌, ◌++◌, ◌∷◌, ℕ, [], IfErr, None, OnOk, codes, option_map, Ok, if◌then◌else◌, Some, false, true};
 ghost use Rattle.std.specs.List.{list_all};
 ghost use Rattle.std.specs.Option.{is_some};
 ghost use Rattle.std.specs.Str.{bytes_eq};
@@ -8,7 +8,7 @@ ghost use Rattle.ga_pack.specs.Model.Token.{is_name};
 ghost use Rattle.ga_expand.specs.Constants as model;
 ghost use Rattle.ga_expand.specs.Expression.{value_of, value_within};
 ghost use Rattle.ga_expand.specs.declared.error.ExpandErrorKind.TheVariants.{Memory};
-ghost use Rattle.ga_expand.specs.inner.Constants.{constants_in};
+ghost use Rattle.ga_expand.specs.inner.Constants.{are_free, constants_in};
 
 use crate::error::ExpandErrorKind;
 use crate::expression::{inside, parted};
@@ -23,6 +23,7 @@ use std::str;
 #[derive(Drop)]
 pub(crate) struct Constants {
     values: IndexMap<Name, Word18>,
+    ghost free: { are_free values.entries ≡ true },
 }
 
 impl Constants {
@@ -61,7 +62,8 @@ impl Constants {
 
     /// Adds a constant.
     pub(crate) fn define(&mut self, name: Name, value: Word18) -> Result<(), ExpandErrorKind>
-        requires { model.number_of (constants_in self.old.values.entries) name.bytes ≡ None }
+        requires new { model.number_of (constants_in self.old.values.entries) name.bytes ≡ None }
+        requires free { plain.is_reserved name.bytes ≡ false }
         ensures ok { OnOk result (constants_in self.new.values.entries
             ≡ constants_in self.old.values.entries ++ (name.bytes, value) ∷ []) }
         ensures err { IfErr result (λ kind. kind ≡ Memory) }

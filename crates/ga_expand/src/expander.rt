@@ -1,5 +1,5 @@
 //! A text is expanded token by token.
-ghost use Rattle.std.specs.Prelude.{◌≡◌, ◌≢◌, ℕ, [], IfErr, IfOk, Err, None, Ok, OnOk, Some, option_map};
+ghost use Rattle.std.specs.Prelude.{◌≡◌, ◌≢◌, ℕ, [], IfErr, IfOk, Err, None, Ok, OnOk, Some, false, option_map};
 ghost use Rattle.std.specs.Str.{IsAscii};
 ghost use Rattle.ga_source.specs.Token.{place_of};
 ghost use Rattle.ga_expand.specs.Constants.{number_of};
@@ -7,11 +7,12 @@ ghost use Rattle.ga_expand.specs.Error.{fault_of};
 ghost use Rattle.ga_expand.specs.Expanding as model;
 ghost use Rattle.ga_expand.specs.Expression.{value_of};
 ghost use Rattle.ga_expand.specs.Places.{direction_named, port_named};
-ghost use Rattle.ga_pack.specs.Model.Token.{meaning_of};
+ghost use Rattle.ga_pack.specs.Model.Token.{is_reserved};
 ghost use Rattle.ga_place.specs.Node.{node_named};
 ghost use Rattle.ga_expand.specs.declared.error.ExpandErrorKind.TheVariants.{Memory};
 ghost use Rattle.ga_expand.specs.inner.Constants.{constants_in};
 ghost use Rattle.ga_expand.specs.inner.Piece.{piece_here, piece_in};
+ghost use Rattle.ga_expand.specs.inner.Role.{op_named, role_stage};
 ghost use Rattle.ga_expand.specs.inner.Scope.{HasFailed, HasTaken, HasWritten, IsFresh, Took, scope_of, stage_of};
 ghost use Rattle.ga_expand.specs.inner.Writing.{Finished};
 
@@ -20,12 +21,12 @@ use crate::error::{ExpandError, ExpandErrorKind};
 use crate::expansion::Expansion;
 use crate::piece::Piece;
 use crate::places::{Direction, port_named, port_towards};
-use crate::role::{Role, role_behind};
+use crate::role::{Role, behind_mark, behind_op};
 use crate::spelling::{Spelling, spell};
 use crate::writing::Writer;
 use ga_place::Node;
 use ga_source::{Name, Place};
-use ga_word::Word18;
+use ga_word::{Op, Word18};
 use std::alloc::Global;
 
 /// What the next token is for.
@@ -210,8 +211,32 @@ impl Expander {
         ensures { Took self.old self.new (model.plain_at (scope_of self.old)
             (piece_here text.now place)) result }
     {
+        match Op::from_bytes(text) {
+            Some(op) => self.take_op(op, text, place),
+            None => self.take_word(text, place),
+        }
+    }
+
+    /// An opcode, which stays as it is: no constant has its name.
+    #[inline(always)]
+    fn take_op(&mut self, op: Op, text: &[u8], place: Place) -> Result<(), ExpandErrorKind>
+        requires { op_named text.now ≡ Some op }
+        ensures { Took self.old self.new (model.plain_at (scope_of self.old)
+            (piece_here text.now place)) result }
+    {
+        self.writer.push(&Spelling::Same(text), place)?;
+        self.stage = stage_in(behind_op(op));
+        Ok(())
+    }
+
+    /// A token of the plain text that is no opcode.
+    fn take_word(&mut self, text: &[u8], place: Place) -> Result<(), ExpandErrorKind>
+        requires { op_named text.now ≡ None }
+        ensures { Took self.old self.new (model.plain_at (scope_of self.old)
+            (piece_here text.now place)) result }
+    {
         self.push_word(text, place)?;
-        self.stage = stage_behind(text);
+        self.stage = stage_in(behind_mark(text));
         Ok(())
     }
 
@@ -235,7 +260,9 @@ impl Expander {
 
     /// The value of a constant.
     fn take_value(&mut self, name: Name, text: &[u8]) -> Result<(), ExpandErrorKind>
-        requires { number_of (constants_in self.old.constants.values.entries) name.bytes ≡ None }
+        requires new { number_of (constants_in self.old.constants.values.entries) name.bytes
+            ≡ None }
+        requires free { is_reserved name.bytes ≡ false }
         ensures { Took self.old self.new (model.valued (scope_of self.old) name.bytes
             (value_of (scope_of self.old).constants text.now)) result }
     {
@@ -288,11 +315,11 @@ fn label_in(text: &[u8]) -> Option<&[u8]>
     }
 }
 
-/// What is behind a token of the plain language.
-fn stage_behind(text: &[u8]) -> Stage
-    ensures { stage_of result ≡ model.stage_by (meaning_of text.now) }
+/// The stage in which the next token is for this.
+fn stage_in(role: Role) -> Stage
+    ensures { stage_of result ≡ role_stage role }
 {
-    match role_behind(text) {
+    match role {
         Role::Item => Stage::Body,
         Role::NodeName => Stage::NodeName,
         Role::Value => Stage::Value,

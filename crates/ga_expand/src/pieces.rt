@@ -3,7 +3,6 @@ ghost use Rattle.std.specs.Prelude.{◌≡◌, All};
 ghost use Rattle.ga_expand.specs.inner.Piece.{piece_in, token_piece};
 ghost use Rattle.ga_expand.specs.inner.Plain.{IsTokenOf};
 
-use crate::bodies::Part;
 use crate::piece::Piece;
 use ga_source::{Place, Token};
 
@@ -12,14 +11,14 @@ use ga_source::{Place, Token};
 pub(crate) struct Pieces<'b, 'a> {
     source: &'a str,
     tokens: &'b [Token],
-    pieces: &'b [Piece<'a>],
-    parts: &'b [Part<'a>],
+    first: &'b [Piece<'a>],
+    second: &'b [Piece<'a>],
     ghost inside: { All (IsTokenOf source.now) tokens.now },
 }
 
 impl<'b, 'a> Pieces<'b, 'a> {
     ghost use Rattle.std.specs.Prelude.{◌∷◌, ◌++◌, [], IfSome, None, map};
-    ghost use Rattle.ga_expand.specs.inner.Pieces.{left_in, part_pieces};
+    ghost use Rattle.ga_expand.specs.inner.Pieces.{left_in};
 
     /// The tokens of a text.
     pub(crate) fn of_text(source: &'a str, tokens: &'b [Token]) -> Self
@@ -29,20 +28,20 @@ impl<'b, 'a> Pieces<'b, 'a> {
         Pieces {
             source,
             tokens,
-            pieces: &[],
-            parts: &[],
+            first: &[],
+            second: &[],
         }
     }
 
     /// The tokens that others stand for.
-    pub(crate) fn made(pieces: &'b [Piece<'a>], parts: &'b [Part<'a>]) -> Self
-        ensures { left_in result ≡ map piece_in pieces.now ++ part_pieces parts.now }
+    pub(crate) fn made(first: &'b [Piece<'a>], second: &'b [Piece<'a>]) -> Self
+        ensures { left_in result ≡ map piece_in first.now ++ map piece_in second.now }
     {
         Pieces {
             source: "",
             tokens: &[],
-            pieces,
-            parts,
+            first,
+            second,
         }
     }
 
@@ -58,16 +57,16 @@ impl<'b, 'a> Pieces<'b, 'a> {
             let left = Pieces {
                 source: self.source,
                 tokens,
-                pieces: self.pieces,
-                parts: self.parts,
+                first: self.first,
+                second: self.second,
             };
             return Some((piece, left));
         }
-        if let Some((piece, pieces)) = self.pieces.split_first() {
-            return Some((*piece, Pieces::made(pieces, self.parts)));
+        if let Some((piece, first)) = self.first.split_first() {
+            return Some((*piece, Pieces::made(first, self.second)));
         }
-        let (part, parts) = self.parts.split_first()?;
-        Some((part.piece, Pieces::made(self.pieces, parts)))
+        let (piece, second) = self.second.split_first()?;
+        Some((*piece, Pieces::made(self.first, second)))
     }
 }
 

@@ -28,7 +28,8 @@ pub(crate) fn role_behind(text: &[u8]) -> Role
     }
 }
 
-fn behind_op(op: Op) -> Role
+/// What the token behind an opcode is for.
+pub(crate) fn behind_op(op: Op) -> Role
     ensures { role_stage result ≡ stage_by (plain.op op) }
 {
     if op.takes_dest() {
@@ -38,7 +39,8 @@ fn behind_op(op: Op) -> Role
     }
 }
 
-fn behind_mark(text: &[u8]) -> Role
+/// What the token behind one that is no opcode is for.
+pub(crate) fn behind_mark(text: &[u8]) -> Role
     ensures { role_stage result ≡ mark_stage text.now }
 {
     match text {

@@ -7,13 +7,13 @@ ghost use Rattle.ga_expand.specs.Bodies as model;
 ghost use Rattle.ga_expand.specs.Constants.{is_among};
 ghost use Rattle.ga_expand.specs.Error.{fault_of};
 ghost use Rattle.ga_expand.specs.declared.error.ExpandErrorKind.TheVariants.{Memory};
-ghost use Rattle.ga_expand.specs.inner.Bodies.{Read, draft_in, part_in, reading_in, state_of};
+ghost use Rattle.ga_expand.specs.inner.Bodies.{Read, Used, draft_in, part_in, reading_in, state_of};
 ghost use Rattle.ga_expand.specs.inner.Making.{unfolded_in};
 ghost use Rattle.ga_expand.specs.inner.Piece.{piece_in};
 ghost use Rattle.ga_expand.specs.inner.Pieces.{left_in};
 ghost use Rattle.ga_expand.specs.inner.Role.{role_stage};
 
-use crate::bodies::{Part, SharedBody, behind, body_named, push_filled};
+use crate::bodies::{Part, SharedBody, behind, body_named, push_filled, push_pieces};
 use crate::constants::{is_kept, is_name};
 use crate::error::{ExpandError, ExpandErrorKind};
 use crate::expander::error_at;
@@ -21,7 +21,7 @@ use crate::piece::Piece;
 use crate::pieces::Pieces;
 use crate::role::Role;
 use ga_source::Place;
-use std::alloc::Global;
+use std::alloc::{AllocError, Global};
 use std::mem;
 
 /// The most bytes of a token of a body, of an argument, and of a token that is copied.
@@ -29,6 +29,12 @@ pub(crate) const LONGEST: usize = 64;
 
 /// The most tokens that all `use`s of a text stand for, and those that all its lists stand for.
 pub(crate) const MOST_UNFOLDED: usize = 262_144;
+
+/// The most bodies of a text.
+const MOST_BODIES: usize = 1024;
+
+/// The most parameters of a body.
+const MOST_PARAMETERS: usize = 64;
 
 /// The body that is being defined: the place of its `body`, and its name.
 #[derive(Clone, Copy)]
@@ -69,8 +75,10 @@ pub(crate) struct Unfolder<'a> {
     draft: Option<Draft<'a>>,
     /// The parameters of the body that is being defined.
     parameters: Vec<&'a [u8]>,
-    /// The tokens of this body, or those of the text behind its definitions.
+    /// The tokens of this body.
     parts: Vec<Part<'a>>,
+    /// The tokens of the text behind its definitions.
+    text: Vec<Piece<'a>>,
     /// The tokens of the body whose arguments are read.
     used: Vec<Part<'a>>,
     arguments: Vec<Part<'a>>,
@@ -82,14 +90,14 @@ pub(crate) struct Unfolder<'a> {
 #[derive(Drop)]
 pub(crate) struct Unfolded<'a> {
     definitions: Vec<Piece<'a>>,
-    parts: Vec<Part<'a>>,
+    text: Vec<Piece<'a>>,
 }
 
 impl<'a> Unfolded<'a> {
     pub(crate) fn pieces(&self) -> Pieces<'_, 'a>
         ensures { left_in result ≡ unfolded_in self.now }
     {
-        Pieces::made(&self.definitions, &self.parts)
+        Pieces::made(&self.definitions, &self.text)
     }
 }
 
@@ -106,6 +114,7 @@ impl<'a> Unfolder<'a> {
             draft: None,
             parameters: Vec::new(alloc),
             parts: Vec::new(alloc),
+            text: Vec::new(alloc),
             used: Vec::new(alloc),
             arguments: Vec::new(alloc),
             reading: Reading::Definitions,
@@ -201,6 +210,18 @@ impl<'a> Unfolder<'a> {
         self.has_body(name) || is_among(&self.constants, name)
     }
 
+    fn has_all_bodies(&self) -> bool
+        ensures { result ≡ model.has_all_bodies (state_of self.now) }
+    {
+        self.bodies.len() >= MOST_BODIES
+    }
+
+    fn has_all_parameters(&self) -> bool
+        ensures { result ≡ model.has_all_parameters (state_of self.now) }
+    {
+        self.parameters.len() >= MOST_PARAMETERS
+    }
+
     fn is_parameter(&self, name: &[u8]) -> bool
         ensures { result ≡ is_among (state_of self.now).parameters name.now }
     {
@@ -214,7 +235,7 @@ impl<'a> Unfolder<'a> {
             (model.BodyName (place_of start))) result }
     {
         let taken = self.is_taken(piece.text);
-        if let Some(kind) = name_error(taken, piece.text) {
+        if let Some(kind) = name_error(taken, self.has_all_bodies(), piece.text) {
             return Err(error_at(kind, piece.place));
         }
         self.draft = Some(Draft {
@@ -235,7 +256,7 @@ impl<'a> Unfolder<'a> {
             return self.take_token(piece, Role::Item);
         }
         let taken = self.is_parameter(piece.text);
-        if let Some(kind) = name_error(taken, piece.text) {
+        if let Some(kind) = name_error(taken, self.has_all_parameters(), piece.text) {
             return Err(error_at(kind, piece.place));
         }
         self.parameters.push(piece.text)?;
@@ -295,8 +316,12 @@ impl<'a> Unfolder<'a> {
             return Ok(());
         }
         self.reading = Reading::Tokens(behind(role, piece.text));
-        let part = self.part_at(piece);
-        self.parts.push(part)?;
+        if self.draft.is_some() {
+            let part = self.part_at(piece);
+            self.parts.push(part)?;
+        } else {
+            self.text.push(piece)?;
+        }
         Ok(())
     }
 
@@ -372,9 +397,20 @@ impl<'a> Unfolder<'a> {
             self.reading = Reading::Arguments(start, missing - 1);
             return Ok(());
         }
-        let role = push_filled(&mut self.parts, &self.used, &self.arguments)?;
+        let role = self.push_used()?;
         self.reading = Reading::Tokens(role);
         Ok(())
+    }
+
+    /// Adds what a `use` stands for, whose arguments are all there.
+    fn push_used(&mut self) -> Result<Role, AllocError>
+        ensures { Used self.old self.new result }
+    {
+        if self.draft.is_some() {
+            push_filled(&mut self.parts, &self.used, &self.arguments)
+        } else {
+            push_pieces(&mut self.text, &self.used, &self.arguments)
+        }
     }
 
     /// The tokens, at the end of the text.
@@ -390,7 +426,7 @@ impl<'a> Unfolder<'a> {
         let unfolder = self;
         Ok(Unfolded {
             definitions: unfolder.definitions,
-            parts: unfolder.parts,
+            text: unfolder.text,
         })
     }
 
@@ -411,9 +447,10 @@ impl<'a> Unfolder<'a> {
     }
 }
 
-/// What is wrong with a name that is defined, if it is taken or not.
-fn name_error(taken: bool, text: &[u8]) -> Option<ExpandErrorKind>
-    ensures { result ≡ model.name_error taken text.now }
+/// What is wrong with a name that is defined, if it is taken or not, and if there are as many as
+/// may be.
+fn name_error(taken: bool, full: bool, text: &[u8]) -> Option<ExpandErrorKind>
+    ensures { result ≡ model.name_error taken full text.now }
 {
     if !is_name(text) {
         return Some(ExpandErrorKind::BadToken);
@@ -423,6 +460,9 @@ fn name_error(taken: bool, text: &[u8]) -> Option<ExpandErrorKind>
     }
     if taken {
         return Some(ExpandErrorKind::DuplicateName);
+    }
+    if full {
+        return Some(ExpandErrorKind::TooLarge);
     }
     None
 }

@@ -9,9 +9,10 @@ use Rattle.ga_expand.specs.declared.error.ExpandError.{ExpandError}
 use Rattle.ga_expand.specs.declared.error.ExpandErrorKind.TheVariants.{Memory}
 use Rattle.ga_expand.specs.declared.unfolder.Draft as draft
 use Rattle.ga_expand.specs.declared.unfolder.Reading as reading
+use Rattle.ga_expand.specs.declared.role.Role.{Role}
 use Rattle.ga_expand.specs.declared.unfolder.Reading.TheVariants as at
 use Rattle.ga_expand.specs.declared.unfolder.Unfolder.{Unfolder}
-use Rattle.ga_expand.specs.Bodies.{Arguments, BodyName, ConstantName, ConstantValue, Definitions, Draft, Parameters, Part, Reading, SharedBody, Tokens, Unfolding, UseName}
+use Rattle.ga_expand.specs.Bodies.{Arguments, BodyName, ConstantName, ConstantValue, Definitions, Draft, Parameters, Part, Reading, SharedBody, Tokens, Unfolding, UseName, used}
 use Rattle.ga_expand.specs.Error.{Fault, fault_of}
 use Rattle.ga_expand.specs.inner.Piece.{piece_in}
 use Rattle.ga_expand.specs.inner.Role.{role_stage}
@@ -58,6 +59,7 @@ state_of unfolder = record {
   draft = option_map draft_in unfolder.draft;
   parameters = texts_in unfolder.parameters.items;
   parts = map part_in unfolder.parts.items;
+  text = map piece_in unfolder.text.items;
   reading = reading_in unfolder.used.items unfolder.arguments.items unfolder.reading;
 }
 
@@ -65,3 +67,10 @@ state_of unfolder = record {
 abbrev pub Read : {A : Type 0} → Unfolder → Result Unfolding Fault → Result A ExpandError → Type 0
 Read after answer (Ok done) = answer ≡ Ok (state_of after)
 Read after answer (Err error) = error.kind ≢ Memory → answer ≡ Err (fault_of error)
+
+-- the tokens of a `use` are added, and the answer is what is behind them, unless memory was refused
+abbrev pub Used : {E : Type 0} → Unfolder → Unfolder → Result Role E → Type 0
+Used before after (Ok role) =
+    state_of (record after { reading = at.Tokens role })
+    ≡ used (state_of before) (map part_in before.used.items) (map part_in before.arguments.items)
+Used before after (Err refused) = Unit {0}

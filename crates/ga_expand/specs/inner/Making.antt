@@ -12,12 +12,11 @@ use Rattle.ga_expand.specs.Error.{Fault, fault_of}
 use Rattle.ga_expand.specs.Expanding.{Piece}
 use Rattle.ga_expand.specs.NodeLists.{begins_section, is_list}
 use Rattle.ga_expand.specs.inner.Piece.{piece_in}
-use Rattle.ga_expand.specs.inner.Pieces.{part_pieces}
 
 -- the tokens of a text without its bodies and its `use`s
 abbrev pub unfolded_in : Unfolded → List Piece
 unfolded_in unfolded =
-    map piece_in unfolded.definitions.items ++ part_pieces unfolded.parts.items
+    map piece_in unfolded.definitions.items ++ map piece_in unfolded.text.items
 
 -- a token that is neither `use` nor `body`
 abbrev pub is_apart : Piece → Bool

@@ -1,6 +1,7 @@
 -- How far the code has read a text.
-use Rattle.std.specs.Prelude.{◌≡◌, ◌≢◌, ℕ, true, List, ◌++◌, Result, Ok, Err, None}
+use Rattle.std.specs.Prelude.{◌≡◌, ◌≢◌, ℕ, false, true, List, ◌++◌, Result, Ok, Err, None}
 use Rattle.std.specs.List.{list_all}
+use Rattle.ga_pack.specs.Model.Token.{is_reserved}
 use Rattle.ga_source.specs.Token.{place_of}
 use Rattle.ga_expand.specs.declared.error.ExpandErrorKind.{ExpandErrorKind}
 use Rattle.ga_expand.specs.declared.error.ExpandErrorKind.TheVariants.{Memory}
@@ -56,9 +57,10 @@ abbrev pub HasFailed : Expander → Piece → Fault → Type 0
 HasFailed before piece fault =
     (step (scope_of before) piece ≡ Err fault.kind) × (piece.place ≡ fault.place)
 
--- no constant has the name of one whose value is still to come
+-- no constant has the name of one whose value is still to come, nor has an opcode
 abbrev pub IsFreshAt : Constants → Stage → Type 0
-IsFreshAt constants (Valuing name place) = number_of constants name ≡ None
+IsFreshAt constants (Valuing name place) =
+    (number_of constants name ≡ None) × (is_reserved name ≡ false)
 IsFreshAt constants stage = Unit {0}
 
 abbrev pub IsFresh : Scope → Type 0
