@@ -35,9 +35,9 @@ WORKED = [
     ("node 708 frob\nnode 709 .\n", ["1:10 BadToken"]),
     ("node 708 frob\nnode 709 frob frob\nnode 710 jump gone\n", ["1:10 BadToken", "2:10 BadToken", "3:15 UndefinedLabel 710"]),
     ("node 708 jump gone\nnode 709 frob\n", ["1:15 UndefinedLabel 708", "2:10 BadToken"]),
-    ("node 708 jump gone\nnode 709 .\nnode 708 .\n", ["3:6 DuplicateNode", "1:15 UndefinedLabel 708"]),
+    ("node 708 jump gone\nnode 709 .\nnode 708 .\n", ["1:15 UndefinedLabel 708", "3:6 DuplicateNode"]),
     ("node 708 .\nnode 708 .\n", ["2:6 DuplicateNode"]),
-    ("node 708 jump gone\nnode 708 jump gone\n", ["2:6 DuplicateNode", "1:15 UndefinedLabel 708", "2:15 UndefinedLabel 708"]),
+    ("node 708 jump gone\nnode 708 jump gone\n", ["1:15 UndefinedLabel 708", "2:6 DuplicateNode", "2:15 UndefinedLabel 708"]),
     ("body B frob\n  .\nend\nnode 708 use C\nnode 709 to 000\n", ["4:14 UnknownBody", "5:13 NoNeighbour"]),
     ("body B\n  # jump gone\nend\nnode 708 use B\nnode 709 use B\n", ["2:3 BadToken"]),
     ("body B\n  jump gone\nend\nnode 708 use B\nnode 709 use B\n", ["2:8 UndefinedLabel 708", "2:8 UndefinedLabel 709"]),
@@ -58,21 +58,21 @@ WORKED = [
     ("node 708 -131073\nnode 709 é\nnode 710 262144\n", ["1:10 NumberRange", "2:10 BadToken", "3:10 NumberRange"]),
     ("node 708 frob\r\nnode 709 frob\r\n", ["1:10 BadToken", "2:10 BadToken"]),
     ("node 708 frob\nnode 709 frob", ["1:10 BadToken", "2:10 BadToken"]),
-    ("node 708\nnode 709 .\n", ["2:1 Empty", "1:9 Empty"]),
-    ("node 708\n\n  node 709\n\\ nothing\nnode 710 .\n", ["3:3 Empty", "2:1 Empty", "4:10 Empty"]),
-    ("node 708 [ dup\nnode 709 jump\nnode 710 , 5", ["2:1 BadWord", "1:15 OpenBracket", "2:14 BadToken", "3:10 BadToken"]),
-    ("node 708 .\nnode 709 use\n\nnode 710 frob\n", ["4:1 UnknownBody", "2:10 OpenDefinition", "4:10 BadToken"]),
+    ("node 708\nnode 709 .\n", ["1:9 Empty", "2:1 Empty"]),
+    ("node 708\n\n  node 709\n\\ nothing\nnode 710 .\n", ["2:1 Empty", "3:3 Empty", "4:10 Empty"]),
+    ("node 708 [ dup\nnode 709 jump\nnode 710 , 5", ["1:15 OpenBracket", "2:1 BadWord", "2:14 BadToken", "3:10 BadToken"]),
+    ("node 708 .\nnode 709 use\n\nnode 710 frob\n", ["2:10 OpenDefinition", "4:1 UnknownBody", "4:10 BadToken"]),
     ("", ["1:1 NoNode"]),
     ("\n\n", ["3:1 NoNode"]),
     ("const A 1\nconst B A+\n", ["2:9 BadToken"]),
     ("".join(f"node {name} frob\n" for name in NODES[:20]), [f"{line}:10 BadToken" for line in range(1, 21)]),
     ("".join(f"node {name} frob\n" for name in NODES[:21]), [f"{line}:10 BadToken" for line in range(1, 21)]),
     ("".join(f"node {name} jump gone\n" for name in NODES[:20]) + "node 717 frob\n",
-     ["21:10 BadToken", *[f"{line}:15 UndefinedLabel {NODES[line - 1]}" for line in range(1, 20)]]),
+     [*[f"{line}:15 UndefinedLabel {NODES[line - 1]}" for line in range(1, 20)], "21:10 BadToken"]),
     ("".join(f"node {name} frob\n" for name in NODES[:20]) + "node 000 .\n",
      [f"{line}:10 BadToken" for line in range(1, 21)]),
     ("".join(f"node {name} jump gone\n" for name in NODES[:20]) + "node 000 .\n",
-     ["21:6 DuplicateNode", *[f"{line}:15 UndefinedLabel {NODES[line - 1]}" for line in range(1, 20)]]),
+     [*[f"{line}:15 UndefinedLabel {NODES[line - 1]}" for line in range(1, 20)], "21:6 DuplicateNode"]),
     ("".join(f"node {name} .\n" for name in NODES) + "node 000 frob\nnode 001 frob\n", ["145:6 DuplicateNode"]),
     ("".join(f"node {name} .\n" for name in NODES[:143]) + "node 717 frob\nnode 999 frob\n", ["144:10 BadToken"]),
 ]  # fmt: skip
@@ -177,9 +177,14 @@ def random_texts(program, folder):
 
 
 def heads(error):
-    """The first line of each message on standard error, without what may help. That is by the names of the whole text, and so is
-    the line that is shown."""
-    return re.findall(r"^(\S.*?)(?:; the nearest name is .*|; it needs .*)?\n", error, re.M)
+    """The first line of each message on standard error, without what may help and the line that is shown: these may be by other
+    lines than those of the part."""
+    return re.findall(r"^(\S.*?)(?:; .*)?\n", error, re.M)
+
+
+def place_of(head):
+    """The line and the column of a message."""
+    return [int(it) for it in head.split(":")[1:3]]
 
 
 def parts(program, folder):
@@ -198,6 +203,7 @@ def parts(program, folder):
         first = heads(message(lambda line: (FILE, line), first, text)) if first else []
         if first and first[0] not in found:
             found = [*first, *found][:MOST_FAULTS]
+        found.sort(key=place_of)
         expect(f"parts {round_}: {text!r}", told, found)
 
 

@@ -80,7 +80,7 @@ def warns_of_the_expansion(run, args, data, answer):
 
 def lacks_hints(run, args, data, answer):
     """No fault of FILE has anything that may help."""
-    return answer._replace(error=re.sub("; (the nearest name is|it needs) .*", "", answer.error))
+    return answer._replace(error=re.sub("^(.*?: error: .*?); .*", r"\1", answer.error, flags=re.M))
 
 
 def lists_no_warnings(run, args, data, answer):

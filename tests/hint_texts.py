@@ -2,6 +2,7 @@
 """What may help with a fault of FILE: python3 tests/hint_texts.py PROGRAM
 
   names    texts with a misspelt word: the nearest name, or none, found by hand
+  others   texts with a word in a wrong place, or a body without an end: what helps, by hand
   sizes    programs that are too long for their node: the words that they need, counted by hand
   models   the same texts: tests/hints.py finds the same
   grown    random programs that fit, and the same with more words than there is room for: they need these, too
@@ -47,13 +48,11 @@ NAMES = [
     ("node 709 -fi 5\n", [("1:10 BadToken", "-if")]),
     # nothing is near: all letters differ, or too many
     ("node 709 frob\n", [("1:10 BadToken", None)]),
-    ("node 709 DUP\n", [("1:10 BadToken", None)]),
     ("node 709 #\n", [("1:10 BadToken", None)]),
     ("node 709 dddp\n", [("1:10 BadToken", None)]),
     ("node 709 jump", [("1:14 BadToken", None)]),
     # other words of both languages
     ("node 709 .\nnod 710 .\n", [("2:1 BadToken", "node")]),
-    ("noed 709 .\n", [("1:1 NoNode", None)]),
     ("node 709 . alig .\n", [("1:12 BadToken", "align")]),
     ("node 709 . dtaa , 5\n", [("1:12 BadToken", "data")]),
     ("node 709 rihgt b! @b\n", [("1:10 BadToken", "right")]),
@@ -68,8 +67,44 @@ NAMES = [
     ("const SIZE dupp\nnode 709 .\n", [("1:12 BadToken", None)]),
     ("const PORTS 5\nnode 709 PÖRTS\n", [("2:10 BadToken", "PORTS")]),
     ("const PORTS 5\nnode 709 dropö\n", [("2:10 BadToken", None)]),
-    # what is behind a `const` is offered, wherever that is
+    # what is behind a `const` of the same section is offered, and nothing of another one
     ("node 709 SPED\nconst SPEED 5\n", [("1:10 BadToken", "SPEED")]),
+    ("node 708 .\nconst LAST 5\nnode 709 LATS\n", [("2:1 BadToken", None), ("3:10 BadToken", None)]),
+    ("node 708 .\nconst LAST 5\nnode 709 jump LATS\n", [("2:1 BadToken", None), ("3:15 UndefinedLabel 709", None)]),
+    ("node 708 .\nbody SEND\n  .\nend\nnode 709 SENT\n", [("2:1 BadToken", None), ("5:10 BadToken", None)]),
+    # a name that differs in upper and lower case alone goes first, however long it is
+    ("node 709 DUP\n", [("1:10 BadToken", "dup")]),
+    ("node 709 5 PUSH Dup\n", [("1:12 BadToken", "push")]),
+    ("node 709 5 RIGHT b! !b\n", [("1:12 BadToken", "right")]),
+    ("node 709 END\n", [("1:10 BadToken", None)]),
+    ("const X 5\nnode 709 x\n", [("2:10 BadToken", "X")]),
+    ("const Speed 5\nconst spEED 6\nnode 709 SPEED\n", [("3:10 BadToken", "Speed")]),
+    ("const ABCDEFGHIJKLMNOP 5\nnode 709 abcdefghijklmnop\n", [("2:10 BadToken", "ABCDEFGHIJKLMNOP")]),
+    ("const SIZE 8\nconst LAST size\nnode 709 .\n", [("2:12 BadToken", "SIZE")]),
+    (f"{SEND}node 708 5 send east\n", [("4:12 BadToken", "SEND")]),
+    (f"{SEND}node 708 5 use send east\n", [("4:16 UnknownBody", "SEND")]),
+    ("node 709\nLoop: . jump loop\n", [("2:14 UndefinedLabel 709", "Loop")]),
+    ("node 709\nLoop: . &loop\n", [("2:9 UndefinedLabel 709", "Loop")]),
+    ("node 709\nlopp: .\nLOOP: jump loop\n", [("3:12 UndefinedLabel 709", "LOOP")]),
+    ("NODE 709 .\n", [("1:1 NoNode", "node")]),
+    ("Const A 5\nnode 709 .\n", [("1:1 NoNode", "const")]),
+    # a word with which a text may begin, in front of the first node; of two that are near the first one
+    ("noed 709 .\n", [("1:1 NoNode", "node")]),
+    ("nod 709 .\nnode 79 .\n", [("1:1 NoNode", "node")]),
+    ("cosnt SIZE 8\nnode 709 SIZE\n", [("1:1 NoNode", "const")]),
+    ("bdoy B\n  .\nend\nnode 709 .\n", [("1:1 NoNode", "body")]),
+    ("const A 5\nbdy B\n  .\nend\nnode 709 A\n", [("2:1 NoNode", "body")]),
+    ('inculde "lib"\nnode 709 .\n', [("1:1 NoNode", "include")]),
+    ("include: .\nnode 709 .\n", [("1:1 NoNode", "include")]),
+    ("bode 709 .\n", [("1:1 NoNode", "body")]),
+    ("dup\nnode 709 .\n", [("1:1 NoNode", None)]),
+    ("end\nnode 709 .\n", [("1:1 NoNode", None)]),
+    ("\\ node 709 .\n", [("2:1 NoNode", None)]),
+    # words of the definitions are known, and are near to nothing
+    ("node 709 . end\n", [("1:12 BadToken", None)]),
+    ("node 709 const A 5\n", [("1:10 BadToken", None)]),
+    ("node 709 body B\n", [("1:10 BadToken", None)]),
+    ("node 709 . include\n", [("1:12 BadToken", None)]),
     # in the definitions only those before it, and none for a name that is defined there
     ("const A LASTT\nconst LAST 5\nnode 709 .\n", [("1:9 BadToken", None)]),
     ("const LAST 1\nconst LAST-2 5\nnode 709 .\n", [("2:7 BadToken", None)]),
@@ -110,6 +145,13 @@ NAMES = [
     # in a body, in an argument, in a list of nodes
     ("body B\n  drpo\nend\nnode 708 use B\n", [("2:3 BadToken", "drop")]),
     ("body B\n  jump lop\nend\nnode 708 loop: use B\nnode 709 lop: use B\n", [("2:8 UndefinedLabel 708", "loop")]),
+    # in a body the labels are those of the first section that names the node, or of the text
+    ("body B\n  jump lop\nend\nnode 707 dupp\nnode 708 loop: use B\n", [("2:8 UndefinedLabel 708", "loop"), ("4:10 BadToken", "dup")]),
+    ("body B\n  jump lop\nend\nnode 707 dupp\nnode 709,708\nloop: use B\n",
+     [("2:8 UndefinedLabel 709", "loop"), ("4:10 BadToken", "dup")]),
+    ("body B\n  jump lop\nend\nnode 708 lap: use B\nnode 708 loop: use B\n",
+     [("2:8 UndefinedLabel 708", "lap"), ("5:6 DuplicateNode", None)]),
+    ("body N\n  node 708 jump lop lop2: .\nend\nuse N\nnode 709 .\n", [("2:17 UndefinedLabel 708", "lop2")]),
     (f"{SEND}node 708 5 use SEND rihgt\n", [("4:21 BadToken", "right")]),
     ("body GO NAME\n  jump NAME\nend\nnode 708\nloop: .\n  use GO lopp\n", [("6:10 UndefinedLabel 708", "loop")]),
     ("body SEND PORT\n  PROT b! !b\nend\nnode 708 use SEND east\n", [("2:3 BadToken", None)]),
@@ -117,13 +159,70 @@ NAMES = [
     ("node 708,709 5 ovre\n", [("1:16 BadToken", "over")]),
     # a fault of another kind
     ("node 709 dup:\n", [("1:10 ReservedLabel", None)]),
-    ("nod 709 .\nnode 79 .\n", [("1:1 NoNode", None)]),
     ("node 709 unext\n", [("1:10 UnextAlone 709", None)]),
     # several: errors of other sections don't matter
     ("node 708 dupp\nnode 709 jmp 5\n", [("1:10 BadToken", "dup"), ("2:10 BadToken", "jump")]),
     ("node 708\nloop: jump lop\nnode 709\nback: jump bakc\n", [("2:12 UndefinedLabel 708", "loop"), ("4:12 UndefinedLabel 709", "back")]),
     ("node 708 dupp\nnode 709\nloop: jump lop\n", [("1:10 BadToken", "dup"), ("3:12 UndefinedLabel 709", "loop")]),
     ("const LAST 5\nnode 708 dupp\nnode 709 jump LATS\n", [("2:10 BadToken", "dup"), ("3:15 UndefinedLabel 709", "LAST")]),
+]  # fmt: skip
+LABEL, STAGE = "{0} is a label: call {0}, or &{0} for its address", "the body {} of line {} has no end"
+BODY, EXPRESSION = "{0} is a body: use {0}", "an expression stands only behind const"
+# Texts, and of each message the place, the name, the node if it has one, and what helps or None.
+OTHERS = [
+    # a body without `use`, before a label of its name
+    (f"{SEND}node 708 5 SEND east\n", [("4:12 BadToken", BODY.format("SEND"))]),
+    ("body GO\n  .\nend\nnode 708 GO: . GO\n", [("4:16 BadToken", BODY.format("GO"))]),
+    ("body B\n  .\nend\nbody TWICE\n  B B\nend\nnode 708 use TWICE\n", [("5:3 BadToken", BODY.format("B"))]),
+    ("node 708 STAGE body STAGE\n", [("1:10 BadToken", BODY.format("STAGE"))]),
+    ("node 708 STAGE\nnode 709 body STAGE\n", [("1:10 BadToken", None), ("2:10 BadToken", None)]),
+    (f"{SEND}node 708 [ SEND ]\n", [("4:12 BadWord", None)]),
+    (f"{SEND}node 708 . data , SEND\n", [("4:19 UndefinedLabel 708", None)]),
+    (f"{SEND}node 708 5 call SEND\n", [("4:17 UndefinedLabel 708", None)]),
+    # a label without `call`, in front of it or behind it; that of another node is none, unless the word is in a shared body
+    ("node 709\nfoo: dup ;\nmain: 5 foo\n", [("3:9 BadToken", LABEL.format("foo"))]),
+    ("node 709 main: foo . foo: ;\n", [("1:16 BadToken", LABEL.format("foo"))]),
+    ("node 709 . data foo: , 1 foo\n", [("1:26 BadToken", LABEL.format("foo"))]),
+    ("node 708,709 foo: . foo\n", [("1:21 BadToken", LABEL.format("foo"))]),
+    ("node 709 end: . end\n", [("1:17 BadToken", LABEL.format("end"))]),
+    ("node 709 foo: . Foo\n", [("1:17 BadToken", None)]),
+    ("node 708 foo: .\nnode 709 foo\n", [("2:10 BadToken", None)]),
+    ("body B\n  here\nend\nnode 708 use B\nnode 709 here: .\n", [("2:3 BadToken", LABEL.format("here"))]),
+    # an expression that is no constant's value
+    ("const SIZE 8\nnode 709 SIZE-1 a!\n", [("2:10 BadToken", EXPRESSION)]),
+    ("node 709 2*3\n", [("1:10 BadToken", EXPRESSION)]),
+    ("node 709 -5-3\n", [("1:10 BadToken", EXPRESSION)]),
+    ("node 709 1<<4\n", [("1:10 BadToken", EXPRESSION)]),
+    ("node 709 (1)>>(4)\n", [("1:10 BadToken", EXPRESSION)]),
+    ("const RL right|left\nnode 709 RL|up a!\n", [("2:10 BadToken", None)]),
+    ("node 709 5 north|east b!\n", [("1:12 BadToken", None)]),
+    ("node 709 . data , A_&_B\n", [("1:19 BadToken", EXPRESSION)]),
+    ("const A 5\nnode 709 jump A+1\n", [("2:15 BadToken", EXPRESSION)]),
+    ("const A 5\nnode 709 [ dup jump A+1 ]\n", [("2:21 BadToken", EXPRESSION)]),
+    ("node 2*3 .\n", [("1:6 BadToken", EXPRESSION)]),
+    ("body B N\n  N\nend\nnode 709 use B 2*3\n", [("4:16 BadToken", EXPRESSION)]),
+    ("node 709 (5)\n", [("1:10 BadToken", None)]),
+    ("node 709 2*(3)\n", [("1:10 BadToken", None)]),
+    ("node 709 'A'+1\n", [("1:10 BadToken", None)]),
+    ("node 709 a/b\n", [("1:10 BadToken", None)]),
+    ("const A 5/2\nnode 709 .\n", [("1:9 BadToken", None)]),
+    # a body that goes on into the sections, for any fault of the larger language behind them; one that has an `end`, or no section
+    # in front of the fault, is another matter
+    ("body STAGE\n  dup\nnode 708 5 use STAGE\n", [("3:16 UnknownBody", STAGE.format("STAGE", 1))]),
+    ("const A 5\n\n body STAGE PORT\n  PORT\nnode 708 use STAG\n", [("5:14 UnknownBody", STAGE.format("STAGE", 3))]),
+    ("body ONE\n  .\nnode 708 .\nbody TWO\n  use ONE\nend\nnode 709 use TWO\n", [("5:7 UnknownBody", STAGE.format("ONE", 1))]),
+    (f"body B\nnode 708 {'x' * 65}\n", [("2:10 BadToken", STAGE.format("B", 1))]),
+    ("body B\nnode 708 use end\nnode 709 .\n", [("2:10 OpenDefinition", STAGE.format("B", 1))]),
+    ("node 708 body X\nnode 709 use GONE\n", [("1:10 BadToken", None), ("2:14 UnknownBody", STAGE.format("X", 1))]),
+    (f"{SEND}node 708 .\nnode 709 5 use SEDN east\n", [("5:16 UnknownBody", "the nearest name is SEND")]),
+    ("body STAGE\n  use GONE\nend\nnode 708 use STAGE\n", [("2:7 UnknownBody", None)]),
+    ("body STAGE\n  use GONE\nnode 708 .\n", [("2:7 UnknownBody", None)]),
+    ("body B\nnode 708 .\n", [("1:1 OpenDefinition", None)]),
+    ("body B node\n", [("1:8 ReservedName", None)]),
+    # with sections that have errors too: each by itself, in the order of the places
+    ("node 708 foo: . foo\nnode 709 2*3\nnode 708 DUP\n",
+     [("1:17 BadToken", LABEL.format("foo")), ("2:10 BadToken", EXPRESSION), ("3:10 BadToken", "the nearest name is dup")]),
+    ("node 708 foo: . foo\nnode 709 .\nnode 708 .\n", [("1:17 BadToken", LABEL.format("foo"))]),
 ]  # fmt: skip
 WORD = "[ . ]\n"
 # A line of these is one word, unless its address is 7 modulo 8: then the jump is in the block of eight words behind it, so that it
@@ -165,6 +264,13 @@ SIZES = [
     (f"const LAST 5\nnode 709\n{WORD * 63}LAST LAST\n", "66:1 TooLong 709", 66, 0),
     (f"node 708 .\nnode 709\n{WORD * 66}node 710 .\n", "67:1 TooLong 709", 66, 0),
 ]  # fmt: skip
+# The same of a body, with an error in another section.
+LONG = [
+    (f"body B\n{WORD * 40}end\nnode 708 use B use B\nnode 709 dupp\n",
+     [("26:1 TooLong 708", "it needs 80 words: 80 code, 0 data; 16 over"), ("44:10 BadToken", "the nearest name is dup")]),
+    (f"body B\n{WORD * 40}end\nnode 709 dupp\nnode 707,708 . use B use B\n",
+     [("25:1 TooLong 707", "it needs 81 words: 81 code, 0 data; 17 over"), ("43:10 BadToken", "the nearest name is dup")]),
+]  # fmt: skip
 # Files, and what is reported of the first of them.
 TREES = [
     ({FILE: 'include "part"\nnode 709 .\n', "part": "\\ a note\nnode 708 dorp\n"}, "part:2:10", "the nearest name is drop"),
@@ -172,15 +278,21 @@ TREES = [
     ({FILE: 'node 709\nloop: .\ninclude "part"\n', "part": "jump loob\n"}, "part:1:6", "the nearest name is loop"),
     ({FILE: 'node 709\ninclude "part"\njump loob\n', "part": "loop: .\n"}, f"{FILE}:3:6", "the nearest name is loop"),
     ({FILE: 'node 709\ninclude "part"\ninclude "part"\n', "part": WORD * 33}, "part:32:1", "it needs 66 words: 66 code, 0 data; 2 over"),
+    ({FILE: 'node 709\ninclude "part"\nloop: ;\n', "part": ". loop\n"}, "part:1:3", LABEL.format("loop")),
+    ({FILE: 'include "part"\nnode 709 SEND\n', "part": SEND}, f"{FILE}:2:10", BODY.format("SEND")),
+    ({FILE: 'include "part"\nnode 709 use GONE\n', "part": "\\ a note\nbody STAGE\n  .\n"}, f"{FILE}:2:14", STAGE.format("STAGE", 2)),
     ({FILE: 'include "past"\nnode 709 dupp\n', "part": "const dup 5\n"}, f"{FILE}:1:1", None),
 ]  # fmt: skip
-# Words that random texts have.
+# Words that random texts have, and words that are wrong or in a wrong place in most of them.
 KNOWN = [*OPCODES, *OTHER_WORDS, "ONE", "LAST", "PAIR", "TAKE", "again"]
+MISPLACED = ["PAIR", "TAKE", "again", "Again", "one", "DUP", "ONE+1", "LAST<<2", "a-b", "const", "body", "end", "node", "[", "0"]
 # Items, of which some begin a new word, and some share one.
 ITEMS = [
     ".", "dup", "drop", "over +", "5", "0 1 2", "$1D5 a!", "@b !b", "push pop", "2* 2/ -", "[ dup drop . . ]", "[ @p a! . . ] , $3F",
     "align", "right b! @b", "dup dup dup dup", "-1", "'A'", ";",
 ]  # fmt: skip
+# What helps, of any kind.
+HINT = r"the nearest name is|it needs \d|is a body: use|is a label: call|an expression stands|the body \S+ of line \d+ has no end"
 failures = []
 passed = 0
 
@@ -220,6 +332,7 @@ def worked():
         yield text, [(place, nearest_text(name)) for place, name in found]
     for text, place, code, data in SIZES:
         yield text, [(place, needs(code, data))]
+    yield from OTHERS + LONG
 
 
 def hints_in(error):
@@ -238,9 +351,16 @@ def names(program, folder):
         same(program, folder, text, [(place, nearest_text(name)) for place, name in found])
 
 
+def others(program, folder):
+    for text, found in OTHERS:
+        same(program, folder, text, found)
+
+
 def sizes(program, folder):
     for text, place, code, data in SIZES:
         same(program, folder, text, [(place, needs(code, data))])
+    for text, found in LONG:
+        same(program, folder, text, found)
 
 
 def same(program, folder, text, wanted):
@@ -309,7 +429,7 @@ def trees(program, folder):
 
 
 def alone(program, folder):
-    texts = ["node 709 dupp\n", "node 709 loop: jump lop\n", f"node 709\n{WORD * 65}"]
+    texts = ["node 709 dupp\n", "node 709 loop: jump lop\n", f"node 709\n{WORD * 65}", "node 709 foo: . foo\n", "node 709 2*3\n"]
     for text in texts:
         for job in JOBS:
             for file in [] if job == "debug" else ([], ["-"]):
@@ -327,7 +447,7 @@ def alone(program, folder):
 
 
 def has_hint(error):
-    return bool(re.search("nearest name|it needs", error))
+    return bool(re.search(HINT, error))
 
 
 def misspelt(dice, word):
@@ -349,7 +469,8 @@ def misspelt_text(dice):
     parts = re.split(r"(\s+)", faulty_text(dice, 8))
     words = [at for at in range(0, len(parts), 2) if re.search("[A-Za-z!@]", parts[at])]
     for at in dice.sample(words, min(len(words), dice.choice([1, 1, 2, 3, 5]))):
-        parts[at] = misspelt(dice, parts[at] if dice.random() < 0.8 else dice.choice(KNOWN))
+        word = parts[at] if dice.random() < 0.8 else dice.choice(KNOWN)
+        parts[at] = dice.choice(MISPLACED) if dice.random() < 0.3 else misspelt(dice, word)
     return "".join(parts)
 
 
@@ -389,12 +510,12 @@ def large(program, folder):
         except subprocess.TimeoutExpired:
             status, output, error = None, None, f"longer than {SECONDS} s"
         print(f"large: {name}, {len(text)} bytes: {time.time() - start:.1f} s")
-        expect(f"large: {name}", (status, output, len(re.findall("nearest name is|it needs", error))), (1, "", count))
+        expect(f"large: {name}", (status, output, len(re.findall(HINT, error))), (1, "", count))
 
 
 def main():
     program = os.path.abspath(sys.argv[1])
-    for part in [models, names, sizes, grown, trees, alone, random_texts, large]:
+    for part in [models, names, others, sizes, grown, trees, alone, random_texts, large]:
         with tempfile.TemporaryDirectory() as folder:
             part(program, folder)
     print(f"hints: {passed} passed, {len(failures)} failed")

@@ -114,7 +114,7 @@ CALLS = [
 MOST = 10000
 # A fault of a file with a name, as compilers show it, with the node and with what may help.
 NAMED_FAULT = re.compile(
-    rb"^.*:(\d+:\d+): error: (\w+): (.*?)(?: \(node (\d+)\))?(?:; (?:the nearest name is|it needs) .*)?\n((?:  .*\n)*)", re.M
+    rb"^.*:(\d+:\d+): error: (\w+): (.*?)(?: \(node (\d+)\))?(?:; .*)?\n((?:  .*\n)*)", re.M
 )
 
 

@@ -1,7 +1,7 @@
 """All faults of a source text, as FILE has them. It shares nothing with the program.
 
-`faults_of` gives them in order: the first fault of each part of the text, and in front of them that of the whole text, if no part
-has it. A part is the text up to the end of a section; the lines between the first section and this one are as if empty.
+`faults_of` gives them in the order of their places: the first fault of each part of the text, and that of the whole text. A part is
+the text up to the end of a section; the lines between the first section and this one are as if empty.
 """
 from assembler import Fault, images_of
 from expander import expanded_text, expansion, pieces_of, written_fault
@@ -52,6 +52,19 @@ def part_at(text, line):
     return next((part_of(text, sections[0][0], first, end) for first, end in sections if first <= line < end), text)
 
 
+def is_of_node(text, first, end, node):
+    """Whether a section names a node, alone or in a list."""
+    pieces = [it for it in pieces_of(text) if first <= it.line < end]
+    return len(pieces) > 1 and node in pieces[1].text.split(",")
+
+
+def part_with(text, line, node):
+    """The part of the section that has a line, or else of the first one that names a node, or the text."""
+    sections = sections_of(text)
+    found = [it for it in sections if it[0] <= line < it[1]] or [it for it in sections if is_of_node(text, *it, node)]
+    return part_of(text, sections[0][0], *found[0]) if found else text
+
+
 def first_fault(text):
     """The first fault of a text, or None."""
     try:
@@ -77,4 +90,5 @@ def faults_of(text):
         if len(found) == MOST_FAULTS:
             break
     faults = [*found.values()]
-    return faults if first.text in found else [first, *faults][:MOST_FAULTS]
+    faults = faults if first.text in found else [first, *faults][:MOST_FAULTS]
+    return sorted(faults, key=lambda it: it.place)

@@ -4,11 +4,13 @@ use Rattle.std.specs.Prelude.{Contains, fold}
 use Rattle.std.specs.Bool.{Decides, if◌then◌else◌}
 use Rattle.std.specs.List.{AllPairs, AllZip, IsDistinct, list_any}
 use Rattle.std.proofs.lemmas.List.{length-take, map_more, take-map}
+use Rattle.std.proofs.lemmas.List.Sorted.{Contains-permutation, length_permutation}
 use Rattle.std.proofs.lemmas.List.Sums.{fold-append}
 use Rattle.std.proofs.lemmas.Map.Made.{AllPairs-from_IsDistinct}
 use Rattle.ga_faults.specs.Faults.{AreFaults, AreFirstFaults, HasFirst, IsFirstFault, distinct, is_same, with_first, with_new}
 use Rattle.ga_faults.specs.declared.fault.Fault.{Fault}
 use Rattle.ga_faults.specs.declared.sections.Section.{Section}
+use Rattle.ga_faults.proofs.Moved.{pairs_moved}
 use Rattle.ga_faults.proofs.Once.{distinct_front, distinct_push, distinct_take}
 
 -- ---- part by part
@@ -83,11 +85,13 @@ pub faults_once : (text : List ℕ) (first : Fault) (faults : List Fault)
 unfolding IsDistinct
 faults_once text first faults are =
     let found = are.1.0 in
+    let all = with_first first (take 20 are.0) in
     let once : IsDistinct is_same (with_first first (take 20 (distinct found))) =
     with_first_distinct first (take 20 (distinct found))
     (distinct_take is_same 20 (distinct found) (all_distinct [] found tt)) in
-    AllPairs-from_IsDistinct same_decides faults (subst (IsDistinct is_same)
-    (ap (λ l. with_first first (take 20 l)) (sym are.1.2) ∙ sym are.2) once)
+    pairs_moved all faults are.2.same
+    (AllPairs-from_IsDistinct same_decides all (subst (IsDistinct is_same)
+    (ap (λ l. with_first first (take 20 l)) (sym are.1.2)) once))
 
 at_most : (n : ℕ) (faults : List Fault) → length (take n faults) ≤ n
 at_most n faults = omega (arith, length-take n faults)
@@ -106,7 +110,8 @@ with_first_few first faults few =
 pub faults_few : (text : List ℕ) (first : Fault) (faults : List Fault)
     → AreFaults text (Some first) faults → length faults ≤ 20
 faults_few text first faults are =
-    subst (λ fs. length fs ≤ 20) (sym are.2)
+    let all = with_first first (take 20 are.0) in
+    subst (λ n. n ≤ 20) (sym (length_permutation all faults are.2.same))
     (with_first_few first (take 20 are.0) (at_most 20 are.0))
 
 among : (first : Fault) (faults : List Fault)
@@ -141,4 +146,5 @@ pub faults_first : (text : List ℕ) (first : Fault) (faults : List Fault)
     → IsFirstFault text (Some first) → AreFaults text (Some first) faults → HasFirst text faults
 faults_first text first faults is are =
     has_first text first faults is
-    (subst (λ fs. Contains fs first) (sym are.2) (with_first_has first (take 20 are.0)))
+    (Contains-permutation (with_first first (take 20 are.0)) faults first are.2.same
+    (with_first_has first (take 20 are.0)))

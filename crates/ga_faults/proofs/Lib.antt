@@ -1,9 +1,12 @@
 mod AllFaults
 mod FirstFaults
 mod Keeping
+mod Moved
+mod NamedNodes
 mod Once
 mod SamePlaces
 mod Starting
-mod TokensRead
+pub mod TokensRead
 mod WorkedFaults
+mod WorkedOrder
 mod WorkedSections

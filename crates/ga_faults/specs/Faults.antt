@@ -8,6 +8,7 @@ use Rattle.ga_asm.specs.declared.text.TextError.TheVariants as text_error
 use Rattle.ga_expand.specs.Error.{fault_of}
 use Rattle.ga_expand.specs.Texts.{IsExpansion, expansion}
 use Rattle.ga_expand.specs.declared.expansion.Expansion.{Expansion}
+use Rattle.ga_faults.specs.Order.{AreInOrder}
 use Rattle.ga_faults.specs.Origin.{at_origin}
 use Rattle.ga_faults.specs.Sections.{parts_of}
 use Rattle.ga_faults.specs.contracts.fault.FaultPartialEq.TheImpl as equality
@@ -72,13 +73,13 @@ with_first first faults =
     if list_any (λ other. is_same other first) faults then faults
     else take most_faults (first ∷ faults)
 
--- The faults of a text whose first one is known, if it has one: those of its parts. The first one
--- may be in no part, as at a node that two sections have.
+-- The faults of a text whose first one is known, if it has one: those of its parts, in the order of
+-- their places. The first one may be in no part, as at a node that two sections have.
 abbrev pub AreFaults : List ℕ → Option Fault → List Fault → Type 0
 AreFaults text None faults = faults ≡ []
 AreFaults text (Some first) faults =
     (found : List Fault) × ArePartFaults text found
-    × (faults ≡ with_first first (take most_faults found))
+    × AreInOrder (with_first first (take most_faults found)) faults
 
 -- the faults of a text
 abbrev pub IsFaults : List ℕ → List Fault → Type 0

@@ -1,9 +1,12 @@
 -- The sections of a text, and the parts of the text that have one of them.
-use Rattle.std.specs.Prelude.{◌&&◌, ◌||◌, ◌+◌, ◌-◌, ℕ, Bool, false, true, List, [], ◌∷◌, ◌++◌, codes, map, nat_le, nat_lt, slice_get, take, unwrap_or, Option, Some, None, if◌then◌else◌}
-use Rattle.std.specs.List.{find, join_with_byte}
+use Rattle.std.specs.Prelude.{◌==◌, ◌&&◌, ◌||◌, ◌+◌, ◌-◌, ℕ, Bool, false, true, List, [], ◌∷◌, ◌++◌, codes, filter, map, nat_le, nat_lt, slice_get, take, unwrap_or, Option, Some, None, if◌then◌else◌}
+use Rattle.std.specs.List.{find, join_with_byte, list_any}
+use Rattle.std.specs.Option.{option_or}
 use Rattle.std.specs.Str.{bytes_eq}
 use Rattle.ga_pack.specs.Model.Text.{lines_of}
+use Rattle.ga_place.specs.Node.{node_named}
 use Rattle.ga_expand.specs.Expanding.{Piece, pieces_of}
+use Rattle.ga_expand.specs.NodeLists.{names_in}
 use Rattle.ga_faults.specs.declared.reading.Reading.{Reading}
 use Rattle.ga_faults.specs.declared.reading.Reading.TheVariants.{Body, ConstantName, ConstantValue, Definition, Rest}
 use Rattle.ga_faults.specs.declared.sections.Section.{Section}
@@ -111,3 +114,41 @@ part_at text line =
     let starts = section_starts text in
     part_or_text text (unwrap_or (slice_get starts 0) 0)
     (find (has_line line) (sections_at starts))
+
+-- ---- the part that has a node
+
+-- the tokens of a text that a section has
+abbrev pub tokens_in : List ℕ → Section → List Piece
+tokens_in text section =
+    filter (λ token. has_line token.place.line section) (pieces_of text)
+
+-- whether there is a node, and it is this one
+abbrev pub is_node : ℕ → Option ℕ → Bool
+is_node node None = false
+is_node node (Some other) = other == node
+
+-- whether a text is the name of a node, of three digits, or has it between commas
+abbrev pub has_name : ℕ → List ℕ → Bool
+has_name node text = list_any (λ name. is_node node (node_named name)) (names_in text)
+
+-- whether a token, if there is one, has it
+abbrev pub is_name : ℕ → Option Piece → Bool
+is_name node None = false
+is_name node (Some token) = has_name node token.text
+
+-- whether a section names a node: that is behind the `node` with which it begins
+abbrev pub names_node : List ℕ → ℕ → Section → Bool
+names_node text node section = is_name node (slice_get (tokens_in text section) 1)
+
+-- the one of some sections that has a line, or else the first one that names a node
+abbrev pub section_of : List ℕ → ℕ → ℕ → List Section → Option Section
+section_of text line node sections =
+    option_or (find (has_line line) sections) (find (names_node text node) sections)
+
+-- The part of the section of a text that has a line. A line of a shared body is in no section: then
+-- it is the part of the first section that names a node, or the text if none does.
+unfoldable pub part_of : List ℕ → ℕ → ℕ → List ℕ
+part_of text line node =
+    let starts = section_starts text in
+    part_or_text text (unwrap_or (slice_get starts 0) 0)
+    (section_of text line node (sections_at starts))

@@ -4,6 +4,7 @@ ghost use Rattle.ga_faults.specs.Faults.{AreFaults, ArePartFaults, HasFirst, IsF
 
 use crate::fault::Fault;
 use crate::first::first_fault;
+use crate::order::sort_by_place;
 use crate::parts::{lines_of, part_text};
 use crate::sections::{section_starts, sections_at};
 use std::alloc::{AllocError, Global};
@@ -15,11 +16,11 @@ const MOST_FAULTS: usize = 20;
 const MOST_SECTIONS: usize = 144;
 
 /// The faults of a text of the larger language, which a plain text is too; or none if it has no
-/// fault. They are the first faults of its parts, in their order, each once, and at most 20. A part
-/// has the lines of one section, which begins at a line with `node`, and those before the first
-/// section. If the first fault of the whole text isn't among these, it comes in front of them. Only
-/// the first 144 sections are looked at. Fails only when out of memory. (The rules are this
-/// project's own: profile.)
+/// fault. They are the first faults of its parts, each once, and at most 20, in the order of their
+/// places. A part has the lines of one section, which begins at a line with `node`, and those
+/// before the first section. The first fault of the whole text is always among them. Only the first
+/// 144 sections are looked at. Fails only when out of memory. (The rules are this project's own:
+/// profile.)
 pub fn faults(alloc: Global, text: &str) -> Result<Vec<Fault>, AllocError>
     ensures faults { IfOk result (λ faults. IsFaults text.now faults.items) }
     ensures most { IfOk result (λ faults. length faults.items ≤ 20) }
@@ -41,6 +42,7 @@ fn faults_with(alloc: Global, text: &str, first: Fault) -> Result<Vec<Fault>, Al
     let mut faults = part_faults(alloc, text)?;
     faults.truncate(MOST_FAULTS);
     push_first(&mut faults, first)?;
+    sort_by_place(&mut faults)?;
     Ok(faults)
 }
 

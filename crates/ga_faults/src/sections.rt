@@ -81,7 +81,7 @@ pub(crate) fn section_starts(alloc: Global, text: &str) -> Result<Vec<usize>, Al
 }
 
 /// What a token of a text is written as.
-fn token_text(text: &str, token: Token) -> &[u8]
+pub(crate) fn token_text(text: &str, token: Token) -> &[u8]
     requires { (token.start ≤ token.end) × (token.end ≤ length text.now) }
     ensures { result.now ≡ slice_range text.now token.start token.end }
 {

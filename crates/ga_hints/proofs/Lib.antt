@@ -1,8 +1,12 @@
+mod Expressions
 mod ImageSizes
 mod Lists
+mod OpenBodies
 mod OneHint
 mod Programs
 mod Sizes
 mod TokenTexts
+mod WorkedExpressions
 mod WorkedHints
+mod WorkedOpenBodies
 mod WorkedSizes

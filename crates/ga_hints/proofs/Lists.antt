@@ -1,11 +1,11 @@
 -- Lists, one element after another.
-use Rattle.std.proofs.Common.{◌≡◌, ◌∙◌, ◌+◌, ◌<◌, ◌≤◌, ◌++◌, ℕ, suc, Bool, List, [], ◌∷◌, Option, Bor, length, map, get_or, drop, take, not, refl, sym, ap, add-one, append-nil, append_assoc, arith, if◌then◌else◌}
+use Rattle.std.proofs.Common.{◌≡◌, ◌∙◌, ◌+◌, ◌-◌, ◌<◌, ◌≤◌, ◌++◌, ℕ, suc, Bool, List, [], ◌∷◌, Option, Some, None, true, false, Bor, length, map, get_or, drop, take, not, refl, sym, ap, add-one, append-nil, append_assoc, arith, if◌then◌else◌}
 use Rattle.std.specs.Prelude.{◌==◌, ◌&&◌, slice_get}
-use Rattle.std.specs.List.{list_any, position, prefix_len}
-use Rattle.std.specs.Option.{option_and_then}
+use Rattle.std.specs.List.{find, list_any, position, prefix_len}
+use Rattle.std.specs.Option.{option_and_then, option_map}
 use Rattle.std.specs.Str.{bytes_eq}
 use Rattle.std.proofs.Math.Seq.{drop-cons}
-use Rattle.std.proofs.lemmas.List.{drop_all, get_or-map, length-map, take_more}
+use Rattle.std.proofs.lemmas.List.{drop_all, get_or-map, length-drop, length-map, take_all, take_more}
 use Rattle.ga_pack.specs.Model.Text.{lexemes, texts_of}
 use Rattle.ga_source.specs.Token.{place_of, token_of}
 use Rattle.ga_source.specs.declared.token.Place.{Place}
@@ -45,6 +45,12 @@ left_at {Y = Y} f xs index other inside =
 pub none_left : {X Y : Type 0} (f : X → Y) (xs : List X) (index : ℕ) → length xs ≤ index
     → drop index (map f xs) ≡ []
 none_left f xs index past = drop_all index (map f xs) (omega (arith, length-map xs f, past))
+
+-- what is left at an index, as a slice has it
+pub rest_whole : {X : Type 0} (xs : List X) (index : ℕ)
+    → take (length xs - index) (drop index xs) ≡ drop index xs
+rest_whole xs index =
+    take_all (length xs - index) (drop index xs) (omega (arith, length-drop index xs))
 
 -- ---- names
 
@@ -113,3 +119,28 @@ pub among_map : (word : List ℕ) (names : List (Bor (List ℕ)))
     → is_among (map now names) word ≡ list_any (λ name. bytes_eq word name.now) names
 among_map word [] = refl
 among_map word (name ∷ names) = rw (among_map word names) refl
+
+-- ---- the first name that passes a test
+
+found_by : {X Y : Type 0} (f : X → Y) (x : X) (found : Option X) (rest : Option Y) (b : Bool)
+    → option_map f found ≡ rest
+    → option_map f (if b then Some x else found) ≡ (if b then Some (f x) else rest)
+found_by f x found rest true same = refl
+found_by f x found rest false same = same
+
+find_map : {X Y : Type 0} (f : X → Y) (test : Y → Bool) (xs : List X)
+    → option_map f (find (λ x. test (f x)) xs) ≡ find test (map f xs)
+find_map f test [] = refl
+find_map f test (x ∷ xs) =
+    found_by f x (find (λ x. test (f x)) xs) (find test (map f xs)) (test (f x))
+    (find_map f test xs)
+
+as_it_is : {X : Type 0} (found : Option X) → option_map (λ x. x) found ≡ found
+as_it_is None = refl
+as_it_is (Some x) = refl
+
+pub found_map : {X Y : Type 0} (f : X → Y) (test : Y → Bool) (xs : List X) (found : Option X)
+    → option_map (λ x. x) found ≡ find (λ x. test (f x)) xs
+    → option_map f found ≡ find test (map f xs)
+found_map f test xs found is =
+    ap (option_map f) (sym (as_it_is found) ∙ is) ∙ find_map f test xs

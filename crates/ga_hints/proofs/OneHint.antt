@@ -13,8 +13,9 @@ use Rattle.ga_asm.specs.Text.{AtMostOne}
 use Rattle.ga_asm.specs.declared.error.AsmError.{AsmError}
 use Rattle.ga_faults.specs.declared.fault.Fault.{Fault}
 use Rattle.ga_faults.specs.declared.fault.Fault.TheVariants.{Asm, Expand, Source as In}
-use Rattle.ga_faults.specs.Sections.{part_at}
+use Rattle.ga_faults.specs.Sections.{part_of}
 use Rattle.ga_hints.specs.Hints.{ExpandsTo, Hint, IsHint, IsProgramHint, items_hint, program_hint}
+use Rattle.ga_hints.specs.Names.{word_at}
 use Rattle.ga_hints.proofs.Programs.{same_tokens}
 
 -- items and sections, back from those with places
@@ -46,19 +47,20 @@ same_sections text one other has has_too =
     ap sections_in has.2.2 ∙ sections_back has.2.0 _ ∙ same ∙ sym (sections_back has_too.2.0 _)
     ∙ sym (ap sections_in has_too.2.2)
 
-same_hint : (text : List ℕ) (error : AsmError) (one other : List PlacedSection)
+same_hint : (text part : List ℕ) (error : AsmError) (one other : List PlacedSection)
     → sections_in one ≡ sections_in other
-    → program_hint text error one ≡ program_hint text error other
-same_hint text error one other same =
-    ap (λ sections. option_and_then (items_hint error.kind text (error_place error))
+    → program_hint text part error one ≡ program_hint text part error other
+same_hint text part error one other same =
+    ap (λ sections. option_and_then
+    (items_hint error.kind part (word_at text (error_place error)))
     (option_map (λ section. section.items)
     (find (λ section. error.node == section.name) sections))) same
 
 one_program_hint : (text : List ℕ) (error : AsmError) (hint other : Option Hint)
     → IsProgramHint text error hint → IsProgramHint text error other → hint ≡ other
 one_program_hint text error hint other (Some one, has, is) (Some more, has_too, is_too) =
-    is ∙ same_hint text error one more
-    (same_sections (part_at text error.line) one more has has_too) ∙ sym is_too
+    let part = part_of text error.line error.node in
+    is ∙ same_hint text part error one more (same_sections part one more has has_too) ∙ sym is_too
 one_program_hint text error hint other (Some one, has, is) (None, none, is_too) =
     absurd (none one has)
 one_program_hint text error hint other (None, none, is) (Some more, has, is_too) =

@@ -3,8 +3,10 @@ use Rattle.std.proofs.Common.{◌≡◌, [], ◌∷◌, Some, None, refl}
 use Rattle.std.specs.Prelude.{codes}
 use Rattle.std.specs.Fmt.{digits}
 use Rattle.ga_pack.specs.Model.Text.{lexemes, texts_of}
-use Rattle.ga_hints.specs.Hints.{label_in}
-use Rattle.ga_hints.specs.Names.{bodies_in, constants_in, names_from, nearest_of, word_at}
+use Rattle.ga_hints.specs.Expression.{is_expression}
+use Rattle.ga_hints.specs.Hints.{Body, Expression, Label, bad_token_hint, label_in}
+use Rattle.ga_hints.specs.Names.{bodies_in, constants_in, names_from, word_at}
+use Rattle.ga_hints.specs.Nearest.{nearest_of}
 use Rattle.ga_hints.specs.Size.{size_text}
 
 -- the names of a text
@@ -36,6 +38,27 @@ label_of_address = refl
 -- a word that is a name isn't meant as another one
 not_another : nearest_of (codes "drop") (codes "dro" ∷ codes "drop" ∷ []) ≡ None
 not_another = refl
+
+-- a word that differs from a name in the case of its letters alone is meant as that name, although
+-- another one comes before it
+recased : nearest_of (codes "Size") (codes "SIZ" ∷ codes "SIZE" ∷ codes "size" ∷ [])
+    ≡ Some (codes "SIZE")
+recased = refl
+
+-- a word that means nothing is the name of a body, or else that of a label, or else an expression
+is_body : bad_token_hint (texts_of (codes "body ab 5 end\nnode 1\n ab: ab")) (codes "ab")
+    ≡ Some (Body (codes "ab"))
+unfolding names_from texts_of lexemes
+is_body = refl
+
+is_label : bad_token_hint (texts_of (codes "node 1\n foo: 5\n foo")) (codes "foo")
+    ≡ Some (Label (codes "foo"))
+unfolding names_from texts_of lexemes
+is_label = refl
+
+is_sum : bad_token_hint (texts_of (codes "node 1\n SIZE+1")) (codes "SIZE+1") ≡ Some Expression
+unfolding names_from texts_of lexemes is_expression
+is_sum = refl
 
 -- how a size is written
 written : size_text (record { code = 37; «data» = 34 })

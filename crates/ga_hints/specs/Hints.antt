@@ -1,23 +1,34 @@
 -- What may help with a fault of a source text.
 use Rattle.std.specs.Prelude.{◌≡◌, ◌==◌, ◌++◌, ℕ, Bool, false, List, [], ◌∷◌, codes, string_bytes, Option, Some, None, if◌then◌else◌}
-use Rattle.std.specs.List.{find}
-use Rattle.std.specs.Option.{option_and_then, option_map}
+use Rattle.std.specs.Fmt.{decimal}
+use Rattle.std.specs.List.{find, list_any}
+use Rattle.std.specs.Option.{option_and_then, option_map, option_or}
+use Rattle.std.specs.Str.{bytes_eq}
 use Rattle.ga_pack.specs.Model.Program.{IsProgram, PlacedSection}
 use Rattle.ga_pack.specs.Model.Source.{Item}
 use Rattle.ga_pack.specs.Model.Text.{Place, texts_of}
 use Rattle.ga_pack.specs.declared.error_kind.AsmErrorKind.{AsmErrorKind}
 use Rattle.ga_pack.specs.declared.error_kind.AsmErrorKind.TheVariants.{TooLong, UndefinedLabel}
+use Rattle.ga_pack.specs.declared.error_kind.SourceErrorKind.{SourceErrorKind}
+use Rattle.ga_pack.specs.declared.error_kind.SourceErrorKind.TheVariants as source_kind
 use Rattle.ga_source.specs.Error as source
 use Rattle.ga_source.specs.Program.{sections_in}
+use Rattle.ga_source.specs.declared.error.SourceError.{SourceError}
 use Rattle.ga_asm.specs.Error as assembly
 use Rattle.ga_asm.specs.declared.error.AsmError.{AsmError}
+use Rattle.ga_expand.specs.Constants.{is_among, words_of_definitions}
 use Rattle.ga_expand.specs.Error as expansion
+use Rattle.ga_expand.specs.Expanding.{Piece}
 use Rattle.ga_expand.specs.Texts.{IsExpansion}
+use Rattle.ga_expand.specs.declared.error.ExpandErrorKind.{ExpandErrorKind}
 use Rattle.ga_expand.specs.declared.expansion.Expansion.{Expansion}
-use Rattle.ga_faults.specs.Sections.{part_at}
+use Rattle.ga_faults.specs.Sections.{part_at, part_of}
 use Rattle.ga_faults.specs.declared.fault.Fault.{Fault}
 use Rattle.ga_faults.specs.declared.fault.Fault.TheVariants.{Asm, Expand, Source}
-use Rattle.ga_hints.specs.Names.{names_for_expand, names_for_label, names_for_source, nearest_of, word_at, words_before}
+use Rattle.ga_hints.specs.Expression.{is_expression}
+use Rattle.ga_hints.specs.Names.{bodies_in, first_words, names_for_expand, names_for_label, names_for_source, word_at, words_before}
+use Rattle.ga_hints.specs.Nearest.{nearest_of}
+use Rattle.ga_hints.specs.OpenBody.{open_body, pieces_before}
 use Rattle.ga_hints.specs.Size.{size_of, size_text}
 use Rattle.ga_hints.specs.declared.hint_kind.Hint as written
 use Rattle.ga_hints.specs.declared.hint_kind.Hint.TheVariants as hint
@@ -27,20 +38,25 @@ use Rattle.ga_hints.specs.declared.size.Size.{Size}
 pub data Hint : Type 0 where
   Nearest : List ℕ → Hint
   Needs : Size → Hint
+  Body : List ℕ → Hint
+  Label : List ℕ → Hint
+  Expression : Hint
+  -- the name of a body, and the line of its `body`
+  OpenBody : List ℕ → ℕ → Hint
 
 abbrev pub hint_of : written.Hint → Hint
 hint_of (hint.Nearest name) = Nearest (string_bytes name)
 hint_of (hint.Needs size) = Needs size
+hint_of (hint.Body name) = Body (string_bytes name)
+hint_of (hint.Label name) = Label (string_bytes name)
+hint_of hint.Expression = Expression
+hint_of (hint.OpenBody name line) = OpenBody (string_bytes name) line
 
 -- ---- a name that may have been meant
 
 -- the one of some names that is nearest to a word, if one is near
 abbrev pub nearest_hint : List (List ℕ) → List ℕ → Option Hint
 nearest_hint names word = option_map Nearest (nearest_of word names)
-
--- the same for the token of a text at a place
-abbrev pub token_hint : List ℕ → Place → List (List ℕ) → Option Hint
-token_hint text place names = option_and_then (nearest_hint names) (word_at text place)
 
 -- `&` and a label is the address of the label
 abbrev pub label_in : List ℕ → List ℕ
@@ -51,21 +67,19 @@ abbrev pub is_address : List ℕ → Bool
 is_address [] = false
 is_address (c ∷ word) = c == 38
 
--- The token of a text at a place is the name of a label of a node, which has these items and not
--- that label.
-abbrev pub label_hint : List ℕ → Place → List Item → Option Hint
-label_hint text place items =
-    option_and_then (λ word. nearest_hint
-    (names_for_label (is_address word) items (texts_of text)) (label_in word))
-    (word_at text place)
+-- A word is the name of a label of a node, which has these items and not that label. The constants
+-- that may be meant are those of a part.
+abbrev pub label_hint : List ℕ → List Item → List ℕ → Option Hint
+label_hint part items word =
+    nearest_hint (names_for_label (is_address word) items (texts_of part)) (label_in word)
 
 -- ---- a fault of a program
 
--- what may help with a fault of the items of a node
-abbrev pub items_hint : AsmErrorKind → List ℕ → Place → List Item → Option Hint
-items_hint UndefinedLabel text place items = label_hint text place items
-items_hint TooLong text place items = Some (Needs (size_of items))
-items_hint kind text place items = None
+-- what may help with a fault of the items of a node, at a word, if it is at one
+abbrev pub items_hint : AsmErrorKind → List ℕ → Option (List ℕ) → List Item → Option Hint
+items_hint UndefinedLabel part word items = option_and_then (label_hint part items) word
+items_hint TooLong part word items = Some (Needs (size_of items))
+items_hint kind part word items = None
 
 -- the items of a node of a program
 abbrev pub items_of : List PlacedSection → ℕ → Option (List Item)
@@ -73,9 +87,11 @@ items_of program node =
     option_map (λ section. section.items)
     (find (λ section. node == section.name) (sections_in program))
 
-abbrev pub program_hint : List ℕ → AsmError → List PlacedSection → Option Hint
-program_hint text error program =
-    option_and_then (items_hint error.kind text (assembly.error_place error))
+-- what may help with a fault of a text, which is one of the program of a part
+abbrev pub program_hint : List ℕ → List ℕ → AsmError → List PlacedSection → Option Hint
+program_hint text part error program =
+    option_and_then
+    (items_hint error.kind part (word_at text (assembly.error_place error)))
     (items_of program error.node)
 
 -- the program of the text that a text expands to
@@ -88,23 +104,67 @@ abbrev pub IsProgramOf : List ℕ → Option (List PlacedSection) → Type 0
 IsProgramOf text (Some program) = ExpandsTo text program
 IsProgramOf text None = (program : List PlacedSection) → ExpandsTo text program → ⊥
 
--- What may help with a fault of the program of the part of a text that has its line. So faults of
--- other sections don't matter.
+-- What may help with a fault of the program of the part of a text that has its line, or its node at
+-- a line of a shared body. So faults of other sections don't matter.
 abbrev pub IsProgramHint : List ℕ → AsmError → Option Hint → Type 0
 IsProgramHint text error hint =
-    (program : Option (List PlacedSection)) × IsProgramOf (part_at text error.line) program
-    × (hint ≡ option_and_then (program_hint text error) program)
+    let part = part_of text error.line error.node in
+    (program : Option (List PlacedSection)) × IsProgramOf part program
+    × (hint ≡ option_and_then (program_hint text part error) program)
+
+-- ---- a fault of the text that a text expands to
+
+-- a word with `:` behind it defines a label
+abbrev pub label_of : List ℕ → List ℕ
+label_of word = word ++ codes ":"
+
+-- what may help with a word that means nothing, in a part with these tokens
+abbrev pub bad_token_hint : List (List ℕ) → List ℕ → Option Hint
+bad_token_hint tokens word =
+    if is_among (bodies_in tokens) word then Some (Body word)
+    else if is_among tokens (label_of word) then Some (Label word)
+    else if is_expression word then Some Expression
+    else if is_among words_of_definitions word then None
+    else nearest_hint (names_for_source tokens) word
+
+-- the same at a fault of a kind, with the part that has its line
+abbrev pub source_word_hint : SourceErrorKind → List ℕ → List ℕ → Option Hint
+source_word_hint source_kind.BadToken part word = bad_token_hint (texts_of part) word
+source_word_hint source_kind.NoNode part word = nearest_hint first_words word
+source_word_hint kind part word = None
+
+abbrev pub source_hint : List ℕ → SourceError → Option Hint
+source_hint text error =
+    option_and_then (source_word_hint error.kind (part_at text error.line))
+    (word_at text (source.error_place error))
+
+-- ---- a fault of the definitions
+
+abbrev pub has_node : List Piece → Bool
+has_node tokens = list_any (λ token. bytes_eq token.text (codes "node")) tokens
+
+-- A body that is open has no `end`, if a `node` is behind its name.
+abbrev pub open_body_hint : Option (List Piece) → Option Hint
+open_body_hint (Some (start ∷ name ∷ tokens)) =
+    if has_node tokens then Some (OpenBody name.text start.place.line) else None
+open_body_hint tokens = None
+
+-- what may help with a word at a place of a text
+abbrev pub expand_word_hint : ExpandErrorKind → List ℕ → Place → List ℕ → Option Hint
+expand_word_hint kind text place word =
+    option_or (open_body_hint (open_body (pieces_before text place)))
+    (nearest_hint (names_for_expand kind (words_before text place)) word)
+
+abbrev pub expand_hint : List ℕ → expansion.Fault → Option Hint
+expand_hint text fault =
+    option_and_then (expand_word_hint fault.kind text fault.place) (word_at text fault.place)
 
 -- ---- all faults
 
 -- what may help with a fault of a text, if anything does
 abbrev pub IsHint : List ℕ → Fault → Option Hint → Type 0
-IsHint text (Expand error) hint =
-    let place = (expansion.fault_of error).place in
-    hint ≡ token_hint text place (names_for_expand error.kind (words_before text place))
-IsHint text (Source error) hint =
-    hint ≡ token_hint text (source.error_place error)
-    (names_for_source error.kind (texts_of text))
+IsHint text (Expand error) hint = hint ≡ expand_hint text (expansion.fault_of error)
+IsHint text (Source error) hint = hint ≡ source_hint text error
 IsHint text (Asm error) hint = IsProgramHint text error hint
 
 -- ---- how a hint is written
@@ -112,3 +172,12 @@ IsHint text (Asm error) hint = IsProgramHint text error hint
 abbrev pub hint_text : written.Hint → List ℕ
 hint_text (hint.Nearest name) = codes "the nearest name is " ++ string_bytes name
 hint_text (hint.Needs size) = size_text size
+hint_text (hint.Body name) =
+    string_bytes name ++ codes " is a body: use " ++ string_bytes name
+hint_text (hint.Label name) =
+    string_bytes name ++ codes " is a label: call " ++ string_bytes name ++ codes ", or &"
+    ++ string_bytes name ++ codes " for its address"
+hint_text hint.Expression = codes "an expression stands only behind const"
+hint_text (hint.OpenBody name line) =
+    codes "the body " ++ string_bytes name ++ codes " of line " ++ decimal line
+    ++ codes " has no end"

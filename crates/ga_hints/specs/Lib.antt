@@ -1,4 +1,7 @@
 pub mod Names
+pub mod Nearest
+pub mod Expression
+pub mod OpenBody
 pub mod Size
 pub mod Hints
 pub mod Laws

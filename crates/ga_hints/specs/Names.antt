@@ -1,5 +1,5 @@
 -- The names that a token of a text may be meant as.
-use Rattle.std.specs.Prelude.{ℕ, ◌-◌, ◌||◌, Bool, false, List, [], ◌∷◌, ◌++◌, codes, fold, length, map, slice_get, take, unwrap_or, Option, Some, None, if◌then◌else◌}
+use Rattle.std.specs.Prelude.{ℕ, ◌-◌, ◌||◌, Bool, false, List, [], ◌∷◌, ◌++◌, codes, length, map, slice_get, take, unwrap_or, Option, Some, None, if◌then◌else◌}
 use Rattle.std.specs.List.{position}
 use Rattle.std.specs.Option.{option_and_then}
 use Rattle.std.specs.Str.{bytes_eq}
@@ -7,13 +7,9 @@ use Rattle.ga_word.specs.Op.{name_of, opcodes}
 use Rattle.ga_pack.specs.Model.Layout.{names_in}
 use Rattle.ga_pack.specs.Model.Source.{Item}
 use Rattle.ga_pack.specs.Model.Text.{Place, lexemes, texts_of}
-use Rattle.ga_pack.specs.declared.error_kind.SourceErrorKind.{SourceErrorKind}
-use Rattle.ga_pack.specs.declared.error_kind.SourceErrorKind.TheVariants as source_kind
-use Rattle.ga_expand.specs.Constants.{is_among}
 use Rattle.ga_expand.specs.Texts.{is_at}
 use Rattle.ga_expand.specs.declared.error.ExpandErrorKind.{ExpandErrorKind}
 use Rattle.ga_expand.specs.declared.error.ExpandErrorKind.TheVariants as expand_kind
-use Rattle.ga_nearest.specs.Nearest.{nearer, nothing_near}
 
 -- the text of the first token of a text that is at a place
 abbrev pub word_at : List ℕ → Place → Option (List ℕ)
@@ -50,10 +46,13 @@ bodies_in tokens = names_from (codes "body") false tokens
 -- ---- the names that may be meant at a fault of a text with these tokens
 
 -- a token of the expansion that means nothing
-unfoldable pub names_for_source : SourceErrorKind → List (List ℕ) → List (List ℕ)
-names_for_source source_kind.BadToken tokens =
+unfoldable pub names_for_source : List (List ℕ) → List (List ℕ)
+names_for_source tokens =
     map name_of opcodes ++ item_words ++ constants_in tokens ++ bodies_in tokens
-names_for_source kind tokens = []
+
+-- what a text may begin with: a definition, the line of another file, or a section
+abbrev pub first_words : List (List ℕ)
+first_words = codes "const" ∷ codes "body" ∷ codes "include" ∷ codes "node" ∷ []
 
 -- behind a token the name of a constant or a body is defined
 abbrev pub defines : Option (List ℕ) → Bool
@@ -76,11 +75,3 @@ names_for_expand kind before = []
 abbrev pub names_for_label : Bool → List Item → List (List ℕ) → List (List ℕ)
 names_for_label is_address items tokens =
     names_in items ++ (if is_address then [] else constants_in tokens)
-
--- ---- the nearest name
-
--- The first of the names that are nearest to a word, if one is near. A word that is one of the
--- names isn't meant as another one.
-abbrev pub nearest_of : List ℕ → List (List ℕ) → Option (List ℕ)
-nearest_of word names =
-    if is_among names word then None else (fold nearer (nothing_near word) names).name

@@ -12,10 +12,18 @@ pub enum Hint {
     Nearest(String),
     /// The words that the node's program needs, which are more than its memory has.
     Needs(Size),
+    /// The token is the name of a body.
+    Body(String),
+    /// The token is the name of a label.
+    Label(String),
+    /// The token is an expression.
+    Expression,
+    /// The name of a body that has no `end`, and the line of its `body`.
+    OpenBody { name: String, line: usize },
 }
 
 /// Writes the hint, as `the nearest name is SIZE`, or
-/// `it needs 71 words: 37 code, 34 data; 7 over`.
+/// `it needs 71 words: 37 code, 34 data; 7 over`, or `stage is a body: use stage`.
 impl fmt::Display for Hint {
     ghost output = { λ hint. Some (hint_text hint) };
 
@@ -23,6 +31,17 @@ impl fmt::Display for Hint {
         match self {
             Hint::Nearest(name) => write!(f, "the nearest name is {name}"),
             Hint::Needs(size) => write!(f, "{size}"),
+            Hint::Body(name) => write!(f, "{name} is a body: use {name}"),
+            Hint::Label(name) => {
+                write!(
+                    f,
+                    "{name} is a label: call {name}, or &{name} for its address"
+                )
+            }
+            Hint::Expression => f.write_str("an expression stands only behind const"),
+            Hint::OpenBody { name, line } => {
+                write!(f, "the body {name} of line {line} has no end")
+            }
         }
     }
 }

@@ -1,22 +1,26 @@
 //! The names that a token of a text may be meant as.
 ghost use Rattle.std.specs.Prelude.{◌≡◌, ◌==◌, ◌&&◌, ◌≤◌, ◌++◌, ◌∷◌, [], if◌then◌else◌, IfOk, OnOk, map, length, slice_get, slice_range, IsUtf8, option_map, false};
-ghost use Rattle.std.specs.List.{list_any, position};
-ghost use Rattle.std.specs.Str.{bytes_eq};
+ghost use Rattle.std.specs.List.{position};
 ghost use Rattle.ga_word.specs.Op.{name_of, opcodes};
 ghost use Rattle.ga_pack.specs.Model.Text.{texts_of};
 ghost use Rattle.ga_source.specs.Token.{place_of};
-ghost use Rattle.ga_expand.specs.Constants.{is_among};
-ghost use Rattle.ga_hints.specs.Names.{constants_in, defines, item_words, last_of, names_for_expand, names_for_source, names_from, nearest_of, word_at, words_before};
+ghost use Rattle.ga_hints.specs.Names.{constants_in, defines, item_words, last_of, names_for_expand, names_for_source, names_from, word_at, words_before};
 
 use ga_expand::ExpandErrorKind;
-use ga_nearest::Nearest;
-use ga_source::{Name, Place, SourceErrorKind, Token, tokens};
+use ga_source::{Name, Place, Token, tokens};
 use ga_word::Op;
 use std::alloc::{AllocError, Global};
 use std::str;
 
+/// A place by its line and its column.
+pub(crate) fn place(line: usize, column: usize) -> Place
+    ensures { result ≡ record { line = line; column = column } }
+{
+    Place { line, column }
+}
+
 /// What the tokens of a text are written as, in order.
-fn words_of(alloc: Global, text: &str) -> Result<Vec<&str>, AllocError>
+pub(crate) fn words_of(alloc: Global, text: &str) -> Result<Vec<&str>, AllocError>
     ensures { IfOk result (λ words. map (λ word. word.now) words.items ≡ texts_of text.now) }
 {
     let tokens = tokens(alloc, text)?;
@@ -28,7 +32,7 @@ fn words_of(alloc: Global, text: &str) -> Result<Vec<&str>, AllocError>
 }
 
 /// What a token of a text is written as.
-fn token_text(text: &str, token: Token) -> &str
+pub(crate) fn token_text(text: &str, token: Token) -> &str
     requires inside { (token.start ≤ token.end) × (token.end ≤ length text.now) }
     requires whole { IsUtf8 (slice_range text.now token.start token.end) }
     ensures { result.now ≡ slice_range text.now token.start token.end }
@@ -52,7 +56,7 @@ pub(crate) fn word_at(alloc: Global, text: &str, place: Place) -> Result<Option<
 }
 
 /// The index of the first token at a place.
-fn index_at(tokens: &[Token], place: Place) -> Option<usize>
+pub(crate) fn index_at(tokens: &[Token], place: Place) -> Option<usize>
     ensures { result ≡ position (λ token. (token.line == place.line)
         && (token.column == place.column)) tokens.now }
 {
@@ -122,24 +126,20 @@ fn push_if<'a>(names: &mut Vec<&'a str>, is_name: bool, token: &'a str) -> Resul
     Ok(())
 }
 
-/// The names that the token at a fault of a text's expansion may be meant as.
+/// The names that a token that means nothing may be meant as, in a part with these tokens.
 #[tactic(auto, unfolding(crate::specs::Names::names_for_source))]
-pub(crate) fn names_for_source(
+pub(crate) fn names_for_source<'a>(
     alloc: Global,
-    text: &str,
-    kind: SourceErrorKind,
-) -> Result<Vec<&str>, AllocError>
+    tokens: &[&'a str],
+) -> Result<Vec<&'a str>, AllocError>
     ensures { IfOk result (λ names. map (λ name. name.now) names.items
-        ≡ names_for_source kind (texts_of text.now)) }
+        ≡ names_for_source (map (λ token. token.now) tokens.now)) }
 {
     let mut names = Vec::new(alloc);
-    if kind == SourceErrorKind::BadToken {
-        let words = words_of(alloc, text)?;
-        push_opcodes(&mut names)?;
-        push_item_words(&mut names)?;
-        push_names_behind(&mut names, &words, "const")?;
-        push_names_behind(&mut names, &words, "body")?;
-    }
+    push_opcodes(&mut names)?;
+    push_item_words(&mut names)?;
+    push_names_behind(&mut names, tokens, "const")?;
+    push_names_behind(&mut names, tokens, "body")?;
     Ok(names)
 }
 
@@ -195,7 +195,7 @@ fn words_before(alloc: Global, text: &str, place: Place) -> Result<Vec<&str>, Al
 }
 
 /// What is directly behind each token that is a keyword.
-fn names_behind<'a>(
+pub(crate) fn names_behind<'a>(
     alloc: Global,
     tokens: &[&'a str],
     keyword: &str,
@@ -236,36 +236,4 @@ fn label_names(alloc: Global, labels: &[Name]) -> Result<Vec<&str>, AllocError>
         names.push(label.as_str())?;
     }
     Ok(names)
-}
-
-/// The name that is nearest to a word, if one is near, and the word isn't a name itself.
-pub(crate) fn nearest_of<'a>(
-    alloc: Global,
-    word: &'a str,
-    names: &[&'a str],
-) -> Result<Option<&'a str>, AllocError>
-    ensures { IfOk result (λ name. option_map (λ name. name.now) name
-        ≡ nearest_of word.now (map (λ name. name.now) names.now)) }
-{
-    if is_among(names, word) {
-        return Ok(None);
-    }
-    let mut nearest = Nearest::to(word);
-    for name in names {
-        nearest.offer(alloc, *name)?;
-    }
-    Ok(nearest.name())
-}
-
-/// Whether a word is one of some names.
-fn is_among(names: &[&str], word: &str) -> bool
-    ensures { result ≡ is_among (map (λ name. name.now) names.now) word.now }
-{
-    is_any(names, word)
-}
-
-fn is_any(names: &[&str], word: &str) -> bool
-    ensures { result ≡ list_any (λ name. bytes_eq word.now name.now) names.now }
-{
-    names.iter().any(|name| word == *name)
 }

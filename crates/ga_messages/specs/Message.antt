@@ -16,9 +16,9 @@ abbrev pub node_remark : Option ℕ → List ℕ
 node_remark (Some name) = codes " (node " ++ node_text name ++ codes ")"
 node_remark None = []
 
--- what may help
+-- what may help, in one line, as it may have a token of the text
 abbrev pub hint_remark : Option (List ℕ) → List ℕ
-hint_remark (Some hint) = codes "; " ++ hint
+hint_remark (Some hint) = codes "; " ++ shown_name hint
 hint_remark None = []
 
 -- where a message about a line and a column of a file is

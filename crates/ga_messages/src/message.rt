@@ -88,7 +88,7 @@ fn push_text(text: &mut String, alloc: Global, message: &Message<'_>) -> Result<
     push_place(text, file.as_str(), message.place)?;
     push_kind(text, message.level, message.kind, numbered_line(shown, 3))?;
     push_node(text, message.node)?;
-    push_hint(text, &message.hint)?;
+    push_hint(text, alloc, &message.hint)?;
     push_lines(text, shown)
 }
 
@@ -123,13 +123,14 @@ fn push_node(text: &mut String, node: Option<Node>) -> Result<(), AllocError>
     Ok(())
 }
 
-/// Adds what may help, if anything is known.
-fn push_hint(text: &mut String, hint: &Option<String>) -> Result<(), AllocError>
+/// Adds what may help, if anything is known, as it is shown in one line.
+fn push_hint(text: &mut String, alloc: Global, hint: &Option<String>) -> Result<(), AllocError>
     ensures { OnOk result (string_bytes text.new
         ≡ string_bytes text.old ++ hint_remark (option_map string_bytes hint.now)) }
 {
     if let Some(hint) = hint {
-        write!(text, "; {hint}")?;
+        let shown = shown_name(alloc, hint.as_str())?;
+        write!(text, "; {shown}")?;
     }
     Ok(())
 }

@@ -1,7 +1,8 @@
 //! All faults of a text.
 use ga_asm::{TextError, assemble_text};
 use ga_expand::expand;
-use ga_faults::{Fault, at_origin, faults, first_fault, origin, part_at};
+use ga_faults::{Fault, at_origin, faults, first_fault, origin, part_at, part_of};
+use ga_place::Node;
 use std::test::Fail;
 
 const TWO: &str = "const A 1\nnode 708\n  A jump agin\nnode 709 frob\nnode 710 .\n";
@@ -44,5 +45,15 @@ fn the_part_that_has_a_line(rt: HostRuntime) -> Result<(), Fail> {
     let alloc = rt.alloc();
     assert!(rt; part_at(alloc, TWO, 4)?.as_str() == "const A 1\n\n\nnode 709 frob");
     assert!(rt; part_at(alloc, TWO, 1)?.as_str() == TWO);
+    Ok(())
+}
+
+#[test]
+fn the_part_that_names_a_node(rt: HostRuntime) -> Result<(), Fail> {
+    let Some(node) = Node::new(709) else {
+        return Err("no node".into());
+    };
+    let part = "const A 1\n\n\nnode 709 frob";
+    assert!(rt; part_of(rt.alloc(), TWO, 1, node)?.as_str() == part);
     Ok(())
 }

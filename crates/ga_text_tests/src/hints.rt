@@ -44,3 +44,22 @@ fn a_program_that_is_too_long_has_its_size(rt: HostRuntime) -> Result<(), Fail> 
     assert!(rt; size.as_str() == "it needs 71 words: 1 code, 70 data; 7 over");
     Ok(())
 }
+
+#[test]
+fn what_a_token_is(rt: HostRuntime) -> Result<(), Fail> {
+    let alloc = rt.alloc();
+    let body = help(alloc, "body SEND\n !b\nend\nnode 708 SEND\n")?;
+    assert!(rt; body.as_str() == "SEND is a body: use SEND");
+    let label = help(alloc, "node 708 again: 5 !b again\n")?;
+    assert!(rt; label.as_str() == "again is a label: call again, or &again for its address");
+    let expression = help(alloc, "const SIZE 5\nnode 708 SIZE-1\n")?;
+    assert!(rt; expression.as_str() == "an expression stands only behind const");
+    Ok(())
+}
+
+#[test]
+fn a_body_without_an_end(rt: HostRuntime) -> Result<(), Fail> {
+    let open = help(rt.alloc(), "body SEND\n !b\nnode 708 use GONE\n")?;
+    assert!(rt; open.as_str() == "the body SEND of line 1 has no end");
+    Ok(())
+}

@@ -1,6 +1,6 @@
 use Rattle.std.proofs.Common.{◌≡◌, fold, take}
 use Rattle.ga_nearest.specs.Nearest.{nearer, nothing_near}
-use Rattle.ga_hints.proofs.names.nearest_of.Given as goal
+use Rattle.ga_hints.proofs.nearest.nearest_by_edits.Given as goal
 
 -- the nearest of the names so far
 abbrev pub invariant-loop-name : goal.invariant-loop-name

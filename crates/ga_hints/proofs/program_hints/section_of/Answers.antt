@@ -4,7 +4,7 @@ use Rattle.std.specs.List.{find}
 use Rattle.std.specs.Option.{option_map}
 use Rattle.ga_source.specs.Item.{item_of}
 use Rattle.ga_hints.proofs.Programs.{items_borrowed, section_found}
-use Rattle.ga_hints.proofs.hints.section_of.Goals as goal
+use Rattle.ga_hints.proofs.program_hints.section_of.Goals as goal
 
 pub returns : goal.returns
 returns c =

@@ -1,0 +1,16 @@
+-- The one of some names that is nearest to a word.
+use Rattle.std.specs.Prelude.{ℕ, List, fold, Option, None, if◌then◌else◌}
+use Rattle.std.specs.List.{find}
+use Rattle.std.specs.Option.{option_or}
+use Rattle.std.specs.Str.{str_eq_ignore_ascii_case}
+use Rattle.ga_expand.specs.Constants.{is_among}
+use Rattle.ga_nearest.specs.Nearest.{nearer, nothing_near}
+
+-- The first of the names that differs from a word only in the case of ASCII letters; or else the
+-- first of those that are nearest to it, if one is near. A word that is one of the names isn't
+-- meant as another one.
+abbrev pub nearest_of : List ℕ → List (List ℕ) → Option (List ℕ)
+nearest_of word names =
+    if is_among names word then None
+    else option_or (find (str_eq_ignore_ascii_case word) names)
+    (fold nearer (nothing_near word) names).name
