@@ -1,6 +1,6 @@
 """Finds the warnings about a source text, after the rules in crates/ga_lint/README.md. It shares nothing with the program.
 
-`warnings_of` gives them in order, each with the token at its place.
+`warnings_of` gives them in order, each with its node and the token at its place.
 """
 from collections import namedtuple
 
@@ -16,15 +16,20 @@ ROOM = 10
 # The opcodes that write by the address that one sets.
 WRITERS = {"b!": {"!b"}, "a!": {"!", "!+"}}
 PORTS = {0x80, 0x40, 0x20, 0x10}
+FILLER = "."
+WARM = 0x29
+EXTENDED = 0x200
 
 
 def reached(address):
-    """What an address reaches: a word of RAM, or one or several ports; else None."""
+    """What an address reaches: a word of RAM or of ROM, or one or several ports; else None."""
     address %= 0x200
     bits = address ^ 0x155
     if address < 0x80:
         return "ram", address % RAM
-    if address >= 0x100 and bits and bits % 16 == 0:
+    if address < 0x100:
+        return "rom", address % RAM
+    if bits and bits % 16 == 0:
         return ("port" if bits in PORTS else "ports"), bits
     return None, None
 
@@ -54,6 +59,7 @@ class Node:
         self.targets = [self.target(at) for at in range(len(self.words))]
         self.starts = self.found_starts()
         self.comes = self.found_comes()
+        self.extended = self.found_extended()
 
     def target(self, at):
         """The address that the destination of a word means, or None."""
@@ -84,10 +90,40 @@ class Node:
             comes.append(goes_on and word.kind != "data")
         return comes
 
+    def slot0_field(self, at):
+        """The destination of a word in slot 0, or None."""
+        return self.fields[at] if len(self.ops[at]) == 1 else None
+
+    def found_extended(self):
+        """The addresses of the words that run in extended mode, found from the first to the last one."""
+        fields = [self.slot0_field(at) for at in range(len(self.words))]
+        led = {it - EXTENDED for it in fields if it is not None and it >= EXTENDED}
+        found, goes_on = set(), False
+        for at, word in enumerate(self.words):
+            if word.kind == "follower":
+                continue
+            goes_on = word.kind == "code" and (goes_on or at in led)
+            if goes_on:
+                found.add(at)
+                goes_on = up_to(ENDS, self.ops[at])[-1] not in (";", "jump")
+                if fields[at] is None and self.targets[at] is not None and reached(self.targets[at])[0] == "ram":
+                    led.add(reached(self.targets[at])[1])
+        return found
+
+    def jumps_by_push(self):
+        """Whether a `;` stands behind a `push`, with nothing but fillers between."""
+        runs = [[]]
+        for word, ops in zip(self.words, self.ops):
+            run = up_to(ENDS, ops)
+            runs[-1] += [it for it in run if it != FILLER]
+            if word.kind == "data" or run[-1:] and run[-1] in ENDS:
+                runs.append([])
+        return any(run[-2:] == ["push", ";"] for run in runs)
+
     def is_open(self):
         """Whether execution may come to any word."""
         pointers = [self.image.labels[it.name.text] for it in self.items if it.kind == "," and it.name]
-        is_led = any("ex" in it for it in self.ops) or self.targets_in("port", "ports")
+        is_led = any("ex" in it for it in self.ops) or self.targets_in("port", "ports") or self.jumps_by_push()
         return bool(is_led) or any(at < self.image.code for at in pointers)
 
     def is_code(self, at):
@@ -187,7 +223,8 @@ def several_ports(node, at):
     run, p = up_to(ENDS, node.ops[at]), at + 1
     for slot, op in enumerate(run):
         if op == "@p" and p < len(node.words) and reached(node.words[p].value)[0] == "ports":
-            setter, *behind = [*node.ops[at][slot + 1 :], *node.ops_from(at + 1)] or [None]
+            left = [*node.ops[at][slot + 1 :], *node.ops_from(at + 1)]
+            setter, *behind = [it for it in left if it != FILLER] or [None]
             ends = ENDS | WRITERS.get(setter, set()) | {setter}
             if setter in WRITERS and up_to(ends, behind)[-1:] in [[it] for it in WRITERS[setter]]:
                 return True
@@ -202,16 +239,15 @@ def returns_nowhere(node, at):
 
 @rule
 def leaves_extended(node, at):
-    fields = [field for ops, field in zip(node.ops, node.fields) if len(ops) == 1 and ops != ["call"]]
-    entered = [field - 0x200 for field in fields if field >= 0x200]
-    goes_back = len(node.ops[at]) == 1 and node.ops[at] != ["call"] and node.fields[at] < at
-    return goes_back and any(it <= node.fields[at] for it in entered)
+    field = node.slot0_field(at)
+    goes_back = field is not None and node.ops[at] != ["call"] and field < at
+    return goes_back and {at, field} <= node.extended
 
 
 @rule
 def over_memory(node, at):
     kind, address = reached(node.targets[at]) if node.targets[at] is not None else (None, None)
-    return kind == "ram" and address >= len(node.words)
+    return kind == "ram" and address >= len(node.words) or kind == "rom" and address != WARM
 
 
 def warnings_of_node(image):
@@ -228,4 +264,4 @@ def warnings_of_node(image):
 
 def warnings_of(text):
     """The warnings about a plain source text, or its Fault."""
-    return [it for image in images_of(text).values() for it in warnings_of_node(image)]
+    return [(node, *it) for node, image in images_of(text).items() for it in warnings_of_node(image)]

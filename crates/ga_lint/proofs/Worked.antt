@@ -1,5 +1,5 @@
 -- The rules at worked values.
-use Rattle.std.proofs.Common.{◌≡◌, ℕ, List, [], ◌∷◌, Some, None, true, false, length, refl}
+use Rattle.std.proofs.Common.{◌≡◌, ℕ, List, [], ◌∷◌, ◌++◌, Some, None, true, false, length, refl}
 use Rattle.std.specs.Prelude.{Option, codes, map}
 use Rattle.std.specs.Fmt.{digits}
 use Rattle.ga_asm.specs.Image.{ImageView}
@@ -13,6 +13,7 @@ use Rattle.ga_lint.specs.SeveralPorts.{several_ports}
 use Rattle.ga_lint.specs.SplitLoop.{split_loop}
 use Rattle.ga_lint.specs.StraightRun.{is_first_wrong}
 use Rattle.ga_lint.specs.UnextRepeats.{unext_repeats}
+use Rattle.ga_lint.specs.Unreachable.{unreachable}
 use Rattle.ga_lint.specs.Warning.{warning_text}
 use Rattle.ga_lint.specs.declared.warning.WarningKind.TheVariants.{UnextRepeats, PushesTooMany, PopsTooMany, UnusedLabel, Unreachable, ReturnsNowhere, OverMemory}
 use Rattle.ga_pack.specs.Model.Layout.{Labels}
@@ -135,6 +136,27 @@ with_a_label : node_warnings 708
 unfolding node_warnings by_address
 with_a_label = refl
 
+-- `2 push` and `;`, with or without words between, and code behind that
+abbrev behind_pushed : List Op → List ItemView → NodeView
+behind_pushed ops others =
+    node_with (code ops None ∷ Follower 2
+    ∷ others ++ code (op.Dup ∷ op.Return ∷ op.Nop ∷ op.Nop ∷ []) None ∷ []) []
+
+a_computed_jump :
+    unreachable (behind_pushed (op.FetchP ∷ op.Push ∷ op.Return ∷ op.Nop ∷ []) []) 2 ≡ false
+a_computed_jump = refl
+
+over_fillers_of_two_words :
+    unreachable (behind_pushed (op.FetchP ∷ op.Push ∷ op.Nop ∷ op.Nop ∷ [])
+    (code (op.Nop ∷ op.Return ∷ op.Nop ∷ op.Nop ∷ []) None ∷ [])) 3 ≡ false
+over_fillers_of_two_words = refl
+
+-- behind `push pop` the `;` goes where the caller was
+not_a_computed_jump :
+    unreachable (behind_pushed (op.FetchP ∷ op.Push ∷ op.Pop ∷ op.Nop ∷ [])
+    (code (op.Return ∷ op.Nop ∷ op.Nop ∷ op.Nop ∷ []) None ∷ [])) 3 ≡ true
+not_a_computed_jump = refl
+
 -- ---- the straight run
 
 -- eleven literals: the last one has no room
@@ -185,6 +207,20 @@ in_the_next_word : several_ports
     ≡ true
 in_the_next_word = refl
 
+-- `$1F5 .` at the end of a word, and `. b! !b` behind it: fillers change nothing
+over_fillers : several_ports
+    (node_with (code (op.Dup ∷ op.Dup ∷ op.FetchP ∷ op.Nop ∷ []) None ∷ Follower 0x1F5
+    ∷ code (op.Nop ∷ op.BStore ∷ op.StoreB ∷ op.Nop ∷ []) None ∷ []) (0 ∷ 0x1F5 ∷ 0 ∷ [])) 0
+    ≡ true
+over_fillers = refl
+
+-- `$1F5 $1D5 .`: B is set to the address of one side
+below_another : several_ports
+    (node_with (code (op.Dup ∷ op.FetchP ∷ op.FetchP ∷ op.Nop ∷ []) None ∷ Follower 0x1F5
+    ∷ Follower 0x1D5 ∷ code (op.Nop ∷ op.BStore ∷ op.StoreB ∷ op.Nop ∷ []) None ∷ [])
+    (0 ∷ 0x1F5 ∷ 0x1D5 ∷ 0 ∷ [])) 0 ≡ false
+below_another = refl
+
 -- ---- destinations
 
 -- `jump $201`, and a loop at 001 that `jump 1` in slot 0 closes
@@ -201,6 +237,40 @@ spins : leaves_extended (node_with (code (op.Jump ∷ []) (Some 0x201)
     ∷ code (op.Jump ∷ []) (Some 1) ∷ []) []) 1 ≡ false
 spins = refl
 
+-- `jump $201`, a word at 001, `jump 3` in slot 0, and a loop in normal mode at 003
+in_normal_mode : leaves_extended (node_with (code (op.Jump ∷ []) (Some 0x201)
+    ∷ code (op.Plus ∷ op.Nop ∷ op.Nop ∷ op.Nop ∷ []) None ∷ code (op.Jump ∷ []) (Some 3)
+    ∷ code (op.Dup ∷ op.Nop ∷ op.Nop ∷ op.Nop ∷ []) None ∷ code (op.Jump ∷ []) (Some 3) ∷ []) []) 4
+    ≡ false
+in_normal_mode = refl
+
+-- `call $202`, a jump to itself, and a word at 002 to which the loop goes back
+abbrev called_loop : ItemView → List ItemView
+called_loop last =
+    code (op.Call ∷ []) (Some 0x202) ∷ code (op.Jump ∷ []) (Some 1)
+    ∷ code (op.Plus ∷ op.Nop ∷ op.Nop ∷ op.Nop ∷ []) None ∷ last ∷ []
+
+entered_by_a_call :
+    leaves_extended (node_with (called_loop (code (op.Jump ∷ []) (Some 2))) []) 3 ≡ true
+entered_by_a_call = refl
+
+calls_again : leaves_extended (node_with (called_loop (code (op.Call ∷ []) (Some 2))) []) 3 ≡ false
+calls_again = refl
+
+-- behind its `;` the routine that was called doesn't run
+behind_the_routine : leaves_extended (node_with (code (op.Call ∷ []) (Some 0x201)
+    ∷ code (op.Plus ∷ op.Return ∷ op.Nop ∷ op.Nop ∷ []) None
+    ∷ code (op.Plus ∷ op.Nop ∷ op.Nop ∷ op.Nop ∷ []) None ∷ code (op.Jump ∷ []) (Some 2) ∷ []) []) 3
+    ≡ false
+behind_the_routine = refl
+
+-- `jump $201`, `if 3` in slot 1, which keeps the mode, `;`, and a loop at 003
+led_over_a_return : leaves_extended (node_with (code (op.Jump ∷ []) (Some 0x201)
+    ∷ code (op.Plus ∷ op.If ∷ []) (Some 3) ∷ code (op.Return ∷ op.Nop ∷ op.Nop ∷ op.Nop ∷ []) None
+    ∷ code (op.Plus ∷ op.Nop ∷ op.Nop ∷ op.Nop ∷ []) None ∷ code (op.Jump ∷ []) (Some 3) ∷ []) []) 4
+    ≡ true
+led_over_a_return = refl
+
 enters_it : leaves_extended (node_with extended_loop []) 0 ≡ false
 enters_it = refl
 
@@ -212,6 +282,19 @@ behind_the_words = refl
 among_them : over_memory (node_with (code (op.Jump ∷ []) (Some 0x42) ∷ literals ∷ literals ∷ []) [])
     0 ≡ false
 among_them = refl
+
+-- 080 is in ROM; at 0A9, and so at 0E9, it has a word that can be run
+in_rom : over_memory (node_with (code (op.Jump ∷ []) (Some 0x80) ∷ []) []) 0 ≡ true
+in_rom = refl
+
+in_rom_again : over_memory (node_with (code (op.Jump ∷ []) (Some 0xC0) ∷ []) []) 0 ≡ true
+in_rom_again = refl
+
+to_warm : over_memory (node_with (code (op.Jump ∷ []) (Some 0xA9) ∷ []) []) 0 ≡ false
+to_warm = refl
+
+to_warm_again : over_memory (node_with (code (op.Jump ∷ []) (Some 0xE9) ∷ []) []) 0 ≡ false
+to_warm_again = refl
 
 -- `. main:`: the node begins at 001, and has one word
 begins_behind : node_warnings 708 (record {

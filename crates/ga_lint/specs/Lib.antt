@@ -2,11 +2,13 @@ pub mod Warning
 pub mod NodeView
 pub mod UnextRepeats
 pub mod SplitLoop
+pub mod ComputedJump
 pub mod Reaching
 pub mod RunsOff
 pub mod StraightRun
 pub mod Unreachable
 pub mod SeveralPorts
+pub mod ExtendedMode
 pub mod LeavesExtended
 pub mod OverMemory
 pub mod LabelWarnings

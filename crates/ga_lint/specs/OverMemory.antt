@@ -1,16 +1,18 @@
--- A destination in RAM at which the node has no word.
-use Rattle.std.specs.Prelude.{ℕ, Bool, false, length, nat_le}
+-- A destination in memory at which the node has no word to run.
+use Rattle.std.specs.Prelude.{◌==◌, ℕ, Bool, false, length, nat_le, not}
 use Rattle.std.specs.Option.{option_map_or}
 use Rattle.ga_lint.specs.NodeView.{NodeView, dest_at, lands}
 use Rattle.ga_place.specs.declared.address.Where.{Where}
-use Rattle.ga_place.specs.declared.address.Where.TheVariants.{Ram}
+use Rattle.ga_place.specs.declared.address.Where.TheVariants.{Ram, Rom}
 
--- a word of RAM behind the first ones
-abbrev pub is_behind : ℕ → Where → Bool
-is_behind words (Ram at) = nat_le words at
-is_behind words where_it_is = false
+-- A word of RAM behind the first ones, or one of ROM, which has only one that can be run: that at
+-- 0A9, by which a node waits for its neighbours.
+abbrev pub is_missing : ℕ → Where → Bool
+is_missing words (Ram at) = nat_le words at
+is_missing words (Rom at) = not (at == 0x29)
+is_missing words where_it_is = false
 
--- the word at an address goes behind the words of its node
+-- the word at an address goes where its node has no word
 abbrev pub over_memory : NodeView → ℕ → Bool
 over_memory node address =
-    option_map_or (λ dest. is_behind (length node.words) (lands dest)) (dest_at node address) false
+    option_map_or (λ dest. is_missing (length node.words) (lands dest)) (dest_at node address) false

@@ -4,6 +4,7 @@ use Rattle.std.specs.List.{list_any, slice_get}
 use Rattle.std.specs.Option.{option_map_or}
 use Rattle.std.specs.Str.{bytes_eq}
 use Rattle.ga_disasm.specs.Disassembling.{ItemView, Code, Follower, Data}
+use Rattle.ga_lint.specs.ComputedJump.{has_computed_jump}
 use Rattle.ga_lint.specs.NodeView.{NodeView, dest_in, lands}
 use Rattle.ga_pack.specs.Model.Layout.{address_of}
 use Rattle.ga_pack.specs.Model.Source.{Value, Number, Label, Item, Transfer, WordTo, Plain}
@@ -119,9 +120,11 @@ points_to_code node (Plain (Label s)) =
 points_to_code node item = false
 
 -- Execution may come to any word of the node: neighbours may lead there, or `ex`, or addresses that
--- the node has as plain words.
+-- the node computes, or has as plain words.
 abbrev pub is_open : NodeView → Bool
-is_open node = goes_out 0 node.words || list_any (points_to_code node) node.items
+is_open node =
+    goes_out 0 node.words || has_computed_jump false node.words
+    || list_any (points_to_code node) node.items
 
 -- ---- code
 

@@ -9,7 +9,7 @@ use Rattle.ga_place.specs.Side.{one_side}
 use Rattle.ga_place.specs.declared.address.Where.{Where}
 use Rattle.ga_place.specs.declared.address.Where.TheVariants.{Ports}
 use Rattle.ga_word.specs.declared.op.Op.{Op}
-use Rattle.ga_word.specs.declared.op.Op.TheVariants.{FetchP, StorePlus, StoreB, Store, BStore, AStore}
+use Rattle.ga_word.specs.declared.op.Op.TheVariants.{FetchP, StorePlus, StoreB, Store, Nop, BStore, AStore}
 use Rattle.ga_word.specs.Op.{ends_word}
 
 -- the ports of several sides
@@ -55,32 +55,41 @@ is_written BStore ops items = is_written_in true (use_in true ops) items
 is_written AStore ops items = is_written_in false (use_in false ops) items
 is_written o ops items = false
 
--- so does the first opcode of the next word of code
-abbrev pub is_written_first : List Op → List ItemView → Bool
-is_written_first [] items = false
-is_written_first (o ∷ ops) items = is_written o ops items
+-- so does the first one of these opcodes that is no filler (`true`), or it doesn't (`false`); or
+-- all are fillers
+abbrev pub first_in : List Op → List ItemView → Option Bool
+first_in [] items = None
+first_in (Nop ∷ ops) items = first_in ops items
+first_in (o ∷ ops) items = Some (is_written o ops items)
 
-abbrev pub is_written_next : List ItemView → Bool
-is_written_next [] = false
-is_written_next (Code reading ∷ items) = is_written_first reading.ops items
-is_written_next (Follower word ∷ items) = is_written_next items
-is_written_next (Data word ∷ items) = false
+-- the same of the next words of code, if it isn't known from the opcodes before them
+abbrev pub is_written_next : Option Bool → List ItemView → Bool
+is_written_next (Some written) items = written
+is_written_next None [] = false
+is_written_next None (Code reading ∷ items) = is_written_next (first_in reading.ops items) items
+is_written_next None (Follower word ∷ items) = is_written_next None items
+is_written_next None (Data word ∷ items) = false
 
-abbrev pub is_literal : Op → Bool
-is_literal FetchP = true
-is_literal o = false
+-- ---- the address that it takes
 
--- One of the opcodes of a word, an `@p`, takes the address of several sides, the next opcode sets a
--- register to it, and the node writes by that. The word's next follower has this address, and the
--- opcode before these took such an address or not.
+-- Behind an opcode T is the address of several sides: `@p` takes it, at an address of this word of
+-- the node, or it was T before, and a filler changes nothing.
+abbrev pub holds_several : NodeView → ℕ → Bool → Op → Bool
+holds_several node p several FetchP =
+    option_map_or (λ word. is_several (lands word)) (slice_get node.image.words p) false
+holds_several node p several Nop = several
+holds_several node p several o = false
+
+-- One of the opcodes of a word, an `@p`, takes the address of several sides, the next opcode that
+-- is no filler sets a register to it, and the node writes by that. The word's next follower has
+-- this address, and behind the opcodes before these T is such an address or not.
 abbrev pub writes_several : NodeView → ℕ → Bool → List Op → List ItemView → Bool
-writes_several node p several [] items = several && is_written_next items
+writes_several node p several [] items = several && is_written_next None items
 writes_several node p several (o ∷ ops) items =
     several && is_written o ops items
     || (if ends_word o then false
     else writes_several node (if is_followed o then p + 1 else p)
-    (is_literal o && option_map_or (λ word. is_several (lands word)) (slice_get node.image.words p)
-    false) ops items)
+    (holds_several node p several o) ops items)
 
 abbrev pub writes_several_in : NodeView → ℕ → ItemView → Bool
 writes_several_in node address (Code reading) =

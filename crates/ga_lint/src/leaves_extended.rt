@@ -1,9 +1,9 @@
-ghost use Rattle.std.specs.Prelude.{◌≡◌, map};
-ghost use Rattle.std.specs.List.{list_any};
+ghost use Rattle.std.specs.Prelude.{◌≡◌, ◌≤◌, length, map};
 ghost use Rattle.ga_disasm.specs.Disassembling.{item_view};
 ghost use Rattle.ga_lint.specs.LeavesExtended as spec;
 ghost use Rattle.ga_lint.specs.inner.NodeText.{node_of};
 
+use crate::extended_mode::{extended_words, is_known, slot0_dest};
 use crate::node_text::NodeText;
 use ga_disasm::Item;
 use ga_word::Op;
@@ -13,44 +13,34 @@ pub(crate) fn leaves_extended(node: &NodeText<'_>, address: usize) -> bool
     ensures { result ≡ spec.leaves_extended (node_of node.now) address }
 {
     match node.words.get(address) {
-        Some(word) => match slot0_dest(word) {
-            Some(dest) => usize::from(dest) < address && is_entered_before(node.words, dest),
+        Some(word) => match leaving_dest(word) {
+            Some(dest) => {
+                let back = usize::from(dest);
+                back < address && run_extended(node.words, back, address)
+            }
             None => false,
         },
         None => false,
     }
 }
 
-/// Whether one of these words enters extended mode at an address or before it.
-fn is_entered_before(words: &[Item], address: u16) -> bool
-    ensures { result ≡ list_any (spec.enters_before address) (map item_view words.now) }
+/// Whether the words at two addresses both run in extended mode.
+fn run_extended(words: &[Item], back: usize, address: usize) -> bool
+    requires { length words.now ≤ 64 }
+    ensures { result ≡ spec.run_extended (map item_view words.now) back address }
 {
-    for word in words {
-        if enters_before(word, address) {
-            return true;
-        }
-    }
-    false
-}
-
-fn enters_before(word: &Item, address: u16) -> bool
-    ensures { result ≡ spec.enters_before address (item_view word.now) }
-{
-    match slot0_dest(word) {
-        Some(dest) => dest >= 0x200 && dest - 0x200 <= address,
-        None => false,
-    }
+    let known = extended_words(words);
+    is_known(known.as_slice(), back) && is_known(known.as_slice(), address)
 }
 
 /// The destination of a word in slot 0, but not that of a `call`.
-fn slot0_dest(word: &Item) -> Option<u16>
-    ensures { result ≡ spec.slot0_dest (item_view word.now) }
+fn leaving_dest(word: &Item) -> Option<u16>
+    ensures { result ≡ spec.leaving_dest (item_view word.now) }
 {
     match word {
         Item::Code(packed) => match *packed.ops.as_slice() {
             [Op::Call] => None,
-            [_] => packed.dest,
-            _ => None,
+            _ => slot0_dest(word),
         },
         _ => None,
     }

@@ -2,6 +2,8 @@
 #![tactic(auto)]
 
 mod applying;
+mod computed_jump;
+mod extended_mode;
 mod label_warnings;
 mod leaves_extended;
 mod linting;

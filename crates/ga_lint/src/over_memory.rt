@@ -6,22 +6,26 @@ use crate::lookups::land;
 use crate::node_text::NodeText;
 use ga_place::Where;
 
-/// Whether the destination of the word at an address is in RAM, but behind the node's words.
+/// The only word of ROM that can be run, by its index: that at 0A9, `warm` of source text.
+const WARM: u8 = 0x29;
+
+/// Whether the destination of the word at an address is in memory, where the node has no word.
 pub(crate) fn over_memory(node: &NodeText<'_>, address: usize) -> bool
     ensures { result ≡ spec.over_memory (node_of node.now) address }
 {
     match node.dest_at(address) {
-        Some(dest) => is_behind(node.words.len(), land(dest)),
+        Some(dest) => is_missing(node.words.len(), land(dest)),
         None => false,
     }
 }
 
-/// Whether it is a word of RAM, behind this number of words.
-fn is_behind(words: usize, reached: Where) -> bool
-    ensures { result ≡ spec.is_behind words reached }
+/// Whether it is a word of RAM behind this number of words, or one of ROM that can't be run.
+fn is_missing(words: usize, reached: Where) -> bool
+    ensures { result ≡ spec.is_missing words reached }
 {
     match reached {
         Where::Ram(at) => words <= usize::from(at),
+        Where::Rom(at) => at != WARM,
         _ => false,
     }
 }

@@ -9,6 +9,7 @@ ghost use Rattle.ga_lint.specs.Reaching as spec;
 ghost use Rattle.ga_lint.specs.inner.NodeText.{node_of};
 ghost use Rattle.ga_source.specs.Item.{item_of, value_of};
 
+use crate::computed_jump::has_computed_jump;
 use crate::lookups::{dest_in, land};
 use crate::node_text::NodeText;
 use ga_disasm::Item as Word;
@@ -56,7 +57,7 @@ fn is_target(words: &[Word], address: usize) -> bool
 }
 
 /// Whether the destination of the word there means an address.
-fn goes_to(at: usize, word: &Word, address: usize) -> bool
+pub(crate) fn goes_to(at: usize, word: &Word, address: usize) -> bool
     requires { at < 64 }
     ensures { result ≡ option_map_or (λ dest. spec.is_word address (view.lands dest))
         (view.dest_in at (item_view word.now)) false }
@@ -202,7 +203,7 @@ fn is_last(has_b: bool, op: Op) -> bool
 fn is_open(node: &NodeText<'_>) -> bool
     ensures { result ≡ spec.is_open (node_of node.now) }
 {
-    goes_out(node.words) || has_pointer(node)
+    goes_out(node.words) || has_computed_jump(node.words) || has_pointer(node)
 }
 
 /// Whether one of these words goes to a port, or anywhere by `ex`.

@@ -54,12 +54,24 @@ fn writes_several(node: &NodeText<'_>, first: usize, ops: &[Op], behind: &[Item]
         if op.ends_word() {
             return false;
         }
-        several = matches!(op, Op::FetchP) && is_several_at(node.image.words(), p);
+        several = holds_several(node, p, several, *op);
         if is_followed(*op) {
             p += 1;
         }
     }
     several && is_written_next(behind)
+}
+
+/// Whether T is the address of the ports of several sides behind an opcode, if it was that before
+/// or not. The word's next follower has this address.
+fn holds_several(node: &NodeText<'_>, p: usize, several: bool, op: Op) -> bool
+    ensures { result ≡ spec.holds_several (node_of node.now) p several op }
+{
+    match op {
+        Op::FetchP => is_several_at(node.image.words(), p),
+        Op::Nop => several,
+        _ => false,
+    }
 }
 
 /// Whether the word at an address is the address of the ports of several sides.
@@ -82,14 +94,17 @@ fn is_several(reached: Where) -> bool
     }
 }
 
-/// Whether the first opcode of the next word of code sets a register by which the node writes.
+/// Whether the next opcode in these words that is no filler sets a register by which the node
+/// writes.
 fn is_written_next(words: &[Item]) -> bool
-    ensures { result ≡ spec.is_written_next (map item_view words.now) }
+    ensures { result ≡ spec.is_written_next None (map item_view words.now) }
 {
     for (index, word) in words.iter().enumerate() {
         match word {
             Item::Code(packed) => {
-                return is_written_first(packed.ops.as_slice(), &words[index + 1..]);
+                if let Some(written) = first_in(packed.ops.as_slice(), &words[index + 1..]) {
+                    return written;
+                }
             }
             Item::Follower(_) => {}
             Item::Data(_) => return false,
@@ -98,13 +113,17 @@ fn is_written_next(words: &[Item]) -> bool
     false
 }
 
-fn is_written_first(ops: &[Op], behind: &[Item]) -> bool
-    ensures { result ≡ spec.is_written_first ops.now (map item_view behind.now) }
+/// Whether the first one of these opcodes that is no filler sets a register by which the node
+/// writes, if there is one.
+fn first_in(ops: &[Op], behind: &[Item]) -> Option<bool>
+    ensures { result ≡ spec.first_in ops.now (map item_view behind.now) }
 {
-    match ops.first() {
-        Some(op) => is_written(*op, &ops[1..], behind),
-        None => false,
+    for (slot, op) in ops.iter().enumerate() {
+        if !matches!(op, Op::Nop) {
+            return Some(is_written(*op, &ops[slot + 1..], behind));
+        }
     }
+    None
 }
 
 /// Whether an opcode sets a register by which these opcodes, and then these words, write.

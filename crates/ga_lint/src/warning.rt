@@ -27,9 +27,9 @@ pub enum WarningKind {
     SeveralPorts,
     /// A `;` returns, but nothing was called or pushed since the entry.
     ReturnsNowhere,
-    /// A destination leaves extended mode, in a node that uses it.
+    /// A destination leaves extended mode in a loop.
     LeavesExtended,
-    /// A destination is in RAM, but behind the node's words.
+    /// A destination is in memory, where the node has no word to run.
     OverMemory,
 }
 
