@@ -86,7 +86,7 @@ def meanings():
     shown = [case.get("stderr", "").splitlines() for case in CASES if case["args"][:1] in kinds]
     found = {lines[0].split()[-1]: lines[-1] for lines in shown if len(lines) > 2 and lines[0].startswith("ga-bench: ")}
     linted = "".join(case.get("stdout", "") for case in CASES if case["args"][:1] == ["lint"])
-    return found | dict(re.findall(r"^\S.*?:\d+:\d+: warning: (\w+): (.*)$", linted, re.M))
+    return found | dict(re.findall(r"^\S.*?:\d+:\d+: warning: (\w+): (.*) \(node \d+\)$", linted, re.M))
 
 
 CASES = recorded_cases()
@@ -266,7 +266,7 @@ def shown_text(text, line, column):
 def report_text(it):
     """A report as compilers write it."""
     remark = f" (node {it.node})" if it.node else ""
-    hint = f"; {it.hint}" if it.hint else ""
+    hint = f"; {shown_name(it.hint)}" if it.hint else ""
     place = f"{shown_name(it.file)}:{it.line}:{it.column}"
     return f"{place}: {it.level}: {it.name}: {it.meaning}{remark}{hint}\n{it.shown}"
 
@@ -368,13 +368,13 @@ def warning_reports(job, text):
     except Fault as fault:
         raise written_fault(fault, text, plain, pieces) from None
     written = written_pieces(plain, pieces)
-    return [warning_report(job, text, kind, written[token.line, token.column]) for kind, token in found]
+    return [warning_report(job, text, node, kind, written[token.line, token.column]) for node, kind, token in found]
 
 
-def warning_report(job, text, kind, at):
+def warning_report(job, text, node, kind, at):
     meaning = MEANINGS.get(kind, "no recorded case shows what this means")
     file, line = job.origin(at.line)
-    return Report(file, line, at.column, "warning", kind, meaning, None, None, shown_text(text, at.line, at.column))
+    return Report(file, line, at.column, "warning", kind, meaning, f"{node:03}", None, shown_text(text, at.line, at.column))
 
 
 @subcommand("FILE", code=range(65))

@@ -158,7 +158,7 @@ def same(program, folder):
 def names(program, folder):
     odd = ["a b", " ", "-", "--", "-x", "ä→", "tab\there", "esc\x1b[2J", "rlo\u202ename", "cr\rx", "\r", "%s{}", ":3:5: error",
            "x" * 200, "it's", "\\", "\\ x", "*", "~", "$HOME", "`x`", "include", "a\\nb", ".hidden", "...", "@b"]  # fmt: skip
-    warned = ":2:3: warning: RunsOff: the last word of the code, and execution goes on behind it\n    .\n    ^\n"
+    warned = ":2:3: warning: RunsOff: the last word of the code, and execution goes on behind it (node 709)\n    .\n    ^\n"
     for name in odd:
         shown = re.sub("[\x00-\x08\x0b-\x1f\x7f\u202e]", " ", name)
         row = f'include "{name}"'

@@ -29,12 +29,17 @@ FILE = "my.source"
 KEYS = ["column", "file", "hint", "level", "line", "meaning", "name", "node"]
 TOKEN = "a token that the language doesn't have, or one that may not stand there"
 RUNS_OFF = '"level":"warning","line":%d,"meaning":"the last word of the code, and execution goes on behind it","name":"RunsOff",'
-RUNS_OFF += '"node":null}\n'
+RUNS_OFF += '"node":"%s"}\n'
+HINTS = re.compile(
+    r"the nearest name is \S+|it needs \d+ words: \d+ code, \d+ data; \d+ over|(\S+) is a body: use \1|"
+    r"(\S+) is a label: call \2, or &\2 for its address|an expression stands only behind const|the body \S+ of line \d+ has no end"
+)  # fmt: skip
 # Texts with the status and the output of `lint --json my.source`.
 WORKED = [
     ("node 709 main: dup jump main\n", 0, ""),
-    ("node 709 .\n", 0, '{"column":10,"file":"my.source","hint":null,' + RUNS_OFF % 1),
-    ("body B\n\t.\nend\nnode 708 use B\nnode 709 use B\n", 0, ('{"column":2,"file":"my.source","hint":null,' + RUNS_OFF % 2) * 2),
+    ("node 709 .\n", 0, '{"column":10,"file":"my.source","hint":null,' + RUNS_OFF % (1, "709")),
+    ("body B\n\t.\nend\nnode 708 use B\nnode 709 use B\n", 0,
+     "".join('{"column":2,"file":"my.source","hint":null,' + RUNS_OFF % (2, node) for node in ("708", "709"))),
     ("node 708 frob\n", 1, '{"column":10,"file":"my.source","hint":null,"level":"error","line":1,"meaning":"' + TOKEN
      + '","name":"BadToken","node":null}\n'),
     ("node 708\n  dupp\nnode 017\nloop: jump lop\n", 1,
@@ -92,7 +97,7 @@ def compact(values):
 def head_of(it):
     """The first line of the text form of a report."""
     node = f" (node {it['node']})" if it["node"] else ""
-    hint = f"; {it['hint']}" if it["hint"] else ""
+    hint = f"; {shown_name(it['hint'])}" if it["hint"] else ""
     place = f"{shown_name(it['file'])}:{it['line']}:{it['column']}"
     return f"{place}: {it['level']}: {it['name']}: {it['meaning']}{node}{hint}"
 
@@ -123,9 +128,9 @@ def fault_of(it):
         return "a line or a column"
     if it["level"] not in ("error", "warning") or it["meaning"] not in (MEANINGS.get(it["name"]), MEANS.get(it["name"])):
         return "the level, or the meaning"
-    if it["node"] is not None and (it["level"] == "warning" or not re.fullmatch("[0-7](0[0-9]|1[0-7])", it["node"])):
+    if not (re.fullmatch("[0-7](0[0-9]|1[0-7])", it["node"]) if it["node"] else it["level"] == "error"):
         return "the node"
-    is_hint = it["hint"] is None or re.fullmatch(r"the nearest name is \S+|it needs \d+ words: \d+ code, \d+ data; \d+ over", it["hint"])
+    is_hint = it["hint"] is None or HINTS.fullmatch(it["hint"])
     return None if is_hint and (it["hint"] is None or it["level"] == "error") else "the hint"
 
 

@@ -37,7 +37,7 @@ FAULTS = {
 }
 # This one is a fault of `expand`, too.
 NOWHERE = ("node 709\n  to 000 b!\n", f":2:6: error: NoNeighbour: {NEIGHBOUR}\n    to 000 b!\n       ^\n")
-RUNS_OFF = ":1:10: warning: RunsOff: the last word of the code, and execution goes on behind it\n  node 709 .\n           ^\n"
+RUNS_OFF = ":1:10: warning: RunsOff: the last word of the code, and execution goes on behind it (node 709)\n  node 709 .\n           ^\n"
 SESSION = "profile 2\nplace\nnode 709 frob\ngo\n"
 IN_SESSION = f":3:10: error: BadToken: {TOKEN}\n  node 709 frob\n           ^\n"
 failures = []

@@ -1,6 +1,6 @@
 -- An answer to a text, or to what it expands to, is an answer to a file.
 use Rattle.std.proofs.Common.{◌≡◌, Bool, true, false, inl, inr, ℕ, List, Some, None, Result, Ok, Err, refl, string_bytes, subst, sym}
-use Rattle.std.specs.Prelude.{if◌then◌else◌}
+use Rattle.std.specs.Prelude.{◌&&◌, if◌then◌else◌}
 use Rattle.ga_asm.specs.declared.text.TextError.{TextError}
 use Rattle.ga_expand.specs.declared.expansion.Expansion.{Expansion}
 use Rattle.ga_faults.specs.Origin.{at_origin}
@@ -8,7 +8,7 @@ use Rattle.ga_jobs.specs.declared.fault.ServeError.{ServeError}
 use Rattle.ga_jobs.specs.declared.fault.ServeError.TheVariants.{Asm, Memory, Read, Shown, Source, Write}
 use Rattle.ga_jobs.specs.declared.fault.TextFault.TheVariants as shown
 use Rattle.ga_jobs.specs.Fault.{Answers, FailsRightly}
-use Rattle.ga_jobs.specs.Larger.{IsExpandedInput, IsOfFile, IsOfLarger, IsRefused, as_written, is_session, plain_fault, source_fault}
+use Rattle.ga_jobs.specs.Larger.{IsExpandedInput, IsOfFile, IsOfLarger, IsRefused, as_written, is_session, is_shown, plain_fault, source_fault}
 
 module _ {B : Type 0} (Is : List ℕ → Result B ServeError → Type 0) (input : List ℕ) where
   -- ---- plain text
@@ -36,8 +36,11 @@ module _ {B : Type 0} (Is : List ℕ → Result B ServeError → Type 0) (input 
 
   pub refused : (fault : ServeError) (error : TextError) → Some error ≡ plain_fault input fault
       → FailsRightly (Is input) fault → IsRefused Is input
-  refused fault error found is =
-      (fault, fault_is (is_session input) fault error found is, (error, sym found))
+  refused fault error found is = (
+    fault,
+    fault_is (is_session input && is_shown fault) fault error found is,
+    (error, sym found),
+  )
 
   -- ---- larger text
 

@@ -1,5 +1,5 @@
 -- What the program may do for a file, whose source text may be of the larger language.
-use Rattle.std.specs.Prelude.{◌≡◌, ◌⊎◌, ℕ, Bool, List, codes, nat_eq, Option, Some, None, Result, Ok, Err, string_bytes, if◌then◌else◌}
+use Rattle.std.specs.Prelude.{◌≡◌, ◌⊎◌, ◌&&◌, ℕ, Bool, true, false, List, codes, nat_eq, Option, Some, None, Result, Ok, Err, string_bytes, if◌then◌else◌}
 use Rattle.std.specs.List.{starts_with}
 use Rattle.ga_asm.specs.declared.text.TextError.{TextError}
 use Rattle.ga_asm.specs.declared.text.TextError.TheVariants as text_error
@@ -26,9 +26,16 @@ source_fault fault = None
 abbrev pub is_session : List ℕ → Bool
 is_session input = starts_with nat_eq input (codes "profile")
 
--- the fault of an input that is source text, if a fault is one
+-- whether a fault comes with the lines that are shown of its text
+abbrev pub is_shown : ServeError → Bool
+is_shown (Shown fault lines) = true
+is_shown fault = false
+
+-- The fault of an input that was read as source text, if a fault is one. A job that takes a session
+-- too shows the lines of its faults.
 abbrev pub plain_fault : List ℕ → ServeError → Option TextError
-plain_fault input fault = if is_session input then None else source_fault fault
+plain_fault input fault =
+    if is_session input && is_shown fault then None else source_fault fault
 
 abbrev pub written_if : List ℕ → Expansion → ServeError → Option TextError → ServeError
 written_if text made fault (Some error) = shown_fault text (at_origin text made error)

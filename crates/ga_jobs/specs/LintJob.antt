@@ -26,7 +26,8 @@ file_name file = unwrap_or file (codes "-")
 abbrev pub warning_text : Origins → Form → List ℕ → Expansion → lint.Warning → List ℕ
 warning_text origins form text made warning =
     let place = origin text made (record { line = warning.line; column = warning.column }) in
-    written form (report_at (origins place.line) place.column Warning (kind_name warning.kind) None
+    written form (report_at (origins place.line) place.column Warning (kind_name warning.kind)
+    (Some warning.node)
     (shown_text text place.line (Some place.column) (meaning_of (kind_name warning.kind))))
 
 -- and those of several

@@ -4,7 +4,7 @@ ghost use Rattle.ga_jobs.specs.{writes_pieces};
 ghost use Rattle.ga_jobs.specs.Answering.{IsOutput};
 ghost use Rattle.ga_jobs.specs.Engine.{ServesFile};
 ghost use Rattle.ga_jobs.specs.Fault.{Answers};
-ghost use Rattle.ga_jobs.specs.Larger.{IsExpandedInput, IsOfFile, IsOfLarger, as_written, is_session, plain_fault, source_fault};
+ghost use Rattle.ga_jobs.specs.Larger.{IsExpandedInput, IsOfFile, IsOfLarger, as_written, is_session, is_shown, plain_fault, source_fault};
 ghost use Rattle.ga_jobs.specs.Outputs.{in_pieces, text_of};
 ghost use Rattle.ga_jobs.specs.Session.{IsSession};
 
@@ -41,10 +41,10 @@ pub fn serve_file<Rt: AllocGlobal + Threads + Clock + Sync, W: Write>(
 }
 
 /// What a job writes for the bytes of a file, as [`output_of`] answers it. If they are refused as
-/// source text, and don't begin with `profile`, they are read as text of the larger language: the
-/// answer is the one to the text that they expand to. A fault of that text comes at the place where
-/// its token was written, and one of the larger language as `expand` reports it. (The language is
-/// this project's own: profile.)
+/// source text, they are read as text of the larger language: the answer is the one to the text
+/// that they expand to. For a job that takes a session, bytes that begin with `profile` are one. A
+/// fault of that text comes at the place where its token was written, and one of the larger
+/// language as `expand` reports it. (The language is this project's own: profile.)
 pub fn output_of_file<Rt: AllocGlobal + Threads + Clock + Sync>(
     rt: &Rt,
     job: &Job,
@@ -79,15 +79,23 @@ pub fn open_file(alloc: Global, loading: &Loading, input: &[u8]) -> Result<Live,
     }
 }
 
-/// The fault of an input that is source text, if a fault is one.
+/// The fault of an input that was read as source text, if a fault is one. A job that takes a
+/// session too shows the lines of its faults.
 fn plain_fault(input: &[u8], fault: &ServeError) -> Option<TextError>
     ensures { result ≡ plain_fault input.now fault.now }
 {
-    if is_session(input) {
+    if is_session(input) && is_shown(fault) {
         None
     } else {
         source_fault(fault)
     }
+}
+
+/// Whether a fault comes with the lines that are shown of its text.
+fn is_shown(fault: &ServeError) -> bool
+    ensures { result ≡ is_shown fault.now }
+{
+    matches!(fault, ServeError::Shown { .. })
 }
 
 /// Whether an input is a session, and no source text: it begins with `profile`.

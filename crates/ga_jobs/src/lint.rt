@@ -89,7 +89,7 @@ fn push_warning(
         place: Place { line, column },
         level: Level::Warning,
         kind,
-        node: None,
+        node: Some(warning.node),
         hint: None,
         shown: &about,
     };
