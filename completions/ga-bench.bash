@@ -100,7 +100,8 @@ _ga_bench() {
             NotHeld BadProfile NoGo Source Asm Route Tree Boot EarlyReply differs read
             NoFile Folder NotAFile Exists NoName BadText BadCode write Write memory Memory
             own take post check input stopped Counted IoRead Rom Unmapped MultiWrite carry
-            moved waits held stuck ring race turn place step slot follower profile'
+            moved waits held stuck ring race turn place step slot follower profile const
+            body use include to'
         ;;
     options) words=$options ;;
     *) return ;;

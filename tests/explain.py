@@ -2,7 +2,7 @@
 """Compares the texts of `explain` with the pages and with the recorded cases: tests/explain.py PROGRAM
 
 - Its names are those of the tables of faults, warnings, needs, stops, outcomes and the carry in docs/FORMATS.md and
-  docs/CHIP.md, and the TERMS, which are entries of docs/GLOSSARY.md. No name of the tables is missing, nor any that the code has for
+  docs/CHIP.md, the TERMS, which are entries of docs/GLOSSARY.md, and the WORDS of the larger language. No name of the tables is missing, nor any that the code has for
   a reply or a message (NAMING).
 - A fault of source text or of layout has a meaning, which a recorded case of `list` shows; a warning has one that a case of
   `lint` and the table of the page show.
@@ -35,10 +35,12 @@ LINES, COLUMNS = 24, 80
 
 WARNINGS = "`lint`: warnings"
 TERMS = {"stuck", "ring", "race", "turn", "place", "step", "slot", "follower", "profile"}
+# The words of the larger language.
+WORDS = {"const", "body", "use", "include", "to"}
 # No recorded case can make a read, a write or an allocation fail, or a node step 2^64 times. The example of `ring` is
 # that of `stuck`.
-UNRECORDED = {"read", "write", "memory", "Memory", "Counted", "ring"}
-HARMLESS = {"own", "moved"} | TERMS
+UNRECORDED = {"read", "write", "memory", "Memory", "Counted", "ring"} | WORDS
+HARMLESS = {"own", "moved"} | TERMS | WORDS
 # What an output has in place of a name.
 # The files of crates/ that have the names of replies and messages.
 NAMING = [
@@ -187,7 +189,7 @@ def main():
         sys.exit("usage: tests/explain.py PROGRAM")
     program = os.path.abspath(sys.argv[1])
     checks = []
-    names, expected = explain(program).split(), names_of_pages() | TERMS
+    names, expected = explain(program).split(), names_of_pages() | TERMS | WORDS
     checks.append(("names that no page has", sorted(set(names) - expected)))
     checks.append(("names of the pages that are missing", sorted(expected - set(names))))
     checks.append(("names of the code that are missing", sorted(names_of_code() - set(names))))

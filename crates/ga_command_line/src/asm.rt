@@ -12,7 +12,8 @@ use std::alloc::{AllocError, Global};
 const HELP: &str = "\
 Reads source text from FILE or standard input: for each node `node`, its name in three digits, and its items.
 Writes for each node a line with its entry, the number of its words of code and of all its words, and
-then the words, eight on a line.
+then the words, eight on a line. FILE, here and wherever source text is read, may also have constants,
+shared bodies and all else that expand reads.
 
 Example: echo 'node 709 main: $5 $7 + @b' | ga-bench asm
 More: Source text in docs/FORMATS.md";

@@ -11,8 +11,9 @@ use std::alloc::{AllocError, Global};
 
 const HELP: &str = "\
 Reads from FILE, or from standard input if FILE is left out or is -, text of a larger language: source
-text with constants, numbers below zero, characters, several sides, directions, shared bodies, and, in
-FILE, lines of other files. Writes source text, which asm and all others read.
+text with constants and their expressions, numbers below zero, of binary digits and of characters,
+several sides, directions, addresses of labels, shared bodies, lists of nodes, and, in FILE, lines of
+other files. Writes source text, which asm and all others read.
 
 Example: printf 'const ONE -1\nnode 709 to 710 b! ONE !b' | ga-bench expand | ga-bench asm
 More: Larger source text in docs/FORMATS.md";

@@ -7,8 +7,9 @@ ghost use Rattle.ga_command_line.specs.Explain.{IsOfTable, IsTopicAt, explain_co
 use crate::command_line::{LineError, refusal};
 use clap::error::ErrorKind;
 use clap::{Arg, ArgMatches, Command};
-use ga_explain::Topic;
+use ga_explain::{Topic, topics};
 use ga_jobs::Job;
+use ga_nearest::Nearest;
 use std::alloc::{AllocError, Global};
 
 const HELP: &str = "\
@@ -54,10 +55,30 @@ fn topic_of(alloc: Global, found: &ArgMatches<'_>) -> Result<Option<Topic>, Line
     };
     match Topic::named(alloc, name)? {
         Some(topic) => Ok(Some(topic)),
-        None => Err(refusal(
-            alloc,
-            ErrorKind::InvalidValue,
-            "no such name: 'ga-bench explain' lists them",
-        )),
+        None => Err(unknown(alloc, name)),
     }
+}
+
+/// The refusal of a name that the table lacks.
+fn unknown(alloc: Global, name: &str) -> LineError {
+    match unknown_text(alloc, name) {
+        Ok(text) => refusal(alloc, ErrorKind::InvalidValue, text.as_str()),
+        Err(error) => LineError::from(error),
+    }
+}
+
+/// The message about a name that the table lacks, with the nearest one that it has, if one is near.
+fn unknown_text(alloc: Global, name: &str) -> Result<String, AllocError> {
+    let topics = topics(alloc)?;
+    let mut nearest = Nearest::to(name);
+    for topic in &topics {
+        nearest.offer(alloc, topic.name)?;
+    }
+    let mut text = String::from_str(alloc, "no such name")?;
+    if let Some(near) = nearest.name() {
+        text.push_str("; the nearest name is ")?;
+        text.push_str(near)?;
+    }
+    text.push_str(": 'ga-bench explain' lists them")?;
+    Ok(text)
 }

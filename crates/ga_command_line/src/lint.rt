@@ -12,8 +12,9 @@ use std::alloc::{AllocError, Global};
 
 const HELP: &str = "\
 Reads source text, which may be of the larger language, from FILE, or from standard input if FILE is left
-out or is -. Writes each warning as FILE:LINE:COLUMN: warning: NAME: what it means, and below it the line
-and a caret. 'ga-bench explain NAME' has an example of each. A text with warnings assembles as before.
+out or is -. Writes each warning as FILE:LINE:COLUMN: warning: NAME: what it means (node NODE), and below
+it the line and a caret. 'ga-bench explain NAME' has an example of each. A text with warnings assembles as
+before.
 
 With --json each warning is an object on a line, and so is each error of the text, on standard output too.
 

@@ -11,6 +11,7 @@ use Rattle.ga_explain.specs.declared.routes.TheConstants.{BAD_ROUTE, NOT_EDGE, N
 use Rattle.ga_explain.specs.declared.sessions.TheConstants.{BAD_COMMAND, BAD_ADDRESS, BAD_SIDE, BAD_COUNT, BAD_VALUE, NOT_HELD, BAD_PROFILE, NO_GO, SOURCE, ASM, ROUTE, TREE, BOOT, EARLY_REPLY, DIFFERS}
 use Rattle.ga_explain.specs.declared.input.TheConstants.{READ, NO_FILE, FOLDER, NOT_A_FILE, EXISTS, NO_NAME, BAD_TEXT, BAD_CODE, WRITE, REFUSED_WRITE, MEMORY, REFUSED_MEMORY}
 use Rattle.ga_explain.specs.declared.needs.TheConstants.{OWN, TAKE, POST, CHECK, INPUT, STOPPED, COUNTED, IO_READ, ROM, UNMAPPED, MULTI_WRITE}
+use Rattle.ga_explain.specs.declared.language.TheConstants.{CONST, BODY, USE, INCLUDE, TO}
 use Rattle.ga_explain.specs.declared.terms.TheConstants.{CARRY, MOVED, WAITS, HELD, STUCK, RING, RACE, TURN, PLACE, STEP, SLOT, FOLLOWER, PROFILE}
 
 -- the faults of source text
@@ -82,7 +83,7 @@ larger_entries = (
     ) ∷
     (codes "UnknownBody", codes "no body before it has this name", UNKNOWN_BODY.now) ∷ (
       codes "TooLarge",
-      codes "all 'use' of the text, or all its lists, stand for more than 262,144 tokens",
+      codes "over 1,024 bodies, 64 parameters, or 262,144 tokens of all 'use' or all lists",
       TOO_LARGE.now,
     ) ∷
     []
@@ -153,7 +154,7 @@ warnings_entries = (
   LEAVES_EXTENDED.now,
 ) ∷ (
   codes "OverMemory",
-  codes "a destination behind the words of the node",
+  codes "a destination where the node has no word to run",
   OVER_MEMORY.now,
 ) ∷
     []
@@ -252,9 +253,20 @@ terms_entries =
     (codes "profile", [], PROFILE.now) ∷
     []
 
+-- the words of the larger language
+unfoldable pub language_entries : List Entry
+language_entries =
+    (codes "const", [], CONST.now) ∷
+    (codes "body", [], BODY.now) ∷
+    (codes "use", [], USE.now) ∷
+    (codes "include", [], INCLUDE.now) ∷
+    (codes "to", [], TO.now) ∷
+    []
+
 -- all of them, in this order
 abbrev pub entries : List Entry
 entries =
     fold (λ all group. all ++ group) []
     (source_entries ∷ layout_entries ∷ larger_entries ∷ includes_entries ∷ warnings_entries
-    ∷ routes_entries ∷ sessions_entries ∷ input_entries ∷ needs_entries ∷ terms_entries ∷ [])
+    ∷ routes_entries ∷ sessions_entries ∷ input_entries ∷ needs_entries ∷ terms_entries
+    ∷ language_entries ∷ [])

@@ -37,7 +37,7 @@ pub fn topics() -> [Topic; 6]
         ),
         topic!(
             "TooLarge",
-            "all 'use' of the text, or all its lists, stand for more than 262,144 tokens",
+            "over 1,024 bodies, 64 parameters, or 262,144 tokens of all 'use' or all lists",
             TOO_LARGE,
         ),
     ]
@@ -45,7 +45,9 @@ pub fn topics() -> [Topic; 6]
 
 const RESERVED_NAME: &str = "\
 ReservedName: a constant, a body or a parameter has the name of an opcode or of
-a number, or of a word of either language, as 'node', 'to' or 'include'.
+a number, or of a word of either language, as 'node', 'to' or 'include'. What is
+behind the name of a body, on its line, are parameters: its tokens begin on the
+next line.
 
   $ printf 'const up 5\\nnode 709 up\\n' | ga-bench expand
   ga-bench: expand 1:7 ReservedName
@@ -61,7 +63,8 @@ Fixed:
 
 const DUPLICATE_NAME: &str = "\
 DuplicateName: a definition before this one has the name. Constants and bodies
-can't share a name; nor can two parameters of a body.
+can't share a name; nor can two parameters of a body. A file that two others
+include is there twice, with its definitions.
 
   $ printf 'const A 1 const A 2\\nnode 709 A\\n' | ga-bench expand
   ga-bench: expand 1:17 DuplicateName
@@ -77,7 +80,8 @@ Fixed:
 
 const OPEN_DEFINITION: &str = "\
 OpenDefinition: the text ends in a definition: 'const' needs a name and a value,
-'body' a name and 'end', and 'use' a name and one token for each parameter.
+'body' a name and 'end', and 'use' a name and one token for each parameter. So
+'to 709' is two arguments.
 
   $ printf 'const A 1 const B\\n' | ga-bench expand
   ga-bench: expand 1:11 OpenDefinition
@@ -110,7 +114,8 @@ Fixed:
 
 const UNKNOWN_BODY: &str = "\
 UnknownBody: no body with the name behind 'use' is defined before it. A body can
-use those before it, and not itself.
+use those before it, and not itself. A body without its 'end' goes on to the
+next one, with all that is between.
 
   $ printf 'body twice\\n 2* end\\nnode 709 use twise\\n' | ga-bench expand
   ga-bench: expand 3:14 UnknownBody
@@ -128,14 +133,15 @@ Fixed:
 const TOO_LARGE: &str = "\
 TooLarge: with this 'use' all of the text stand for more than 262,144 tokens.
 Those in bodies count, too. Or the sections of all lists of nodes, as of 'node
-708,709', have more.
+708,709', have more. Or the text has over 1,024 bodies, or a body over 64
+parameters.
 
   $ { echo body B; seq 9999; echo end node 709; yes use B | head -n 27; } |
     ga-bench expand
   ga-bench: expand 10028:5 TooLarge
     use B
         ^
-  all 'use' of the text, or all its lists, stand for more than 262,144 tokens
+  over 1,024 bodies, 64 parameters, or 262,144 tokens of all 'use' or all lists
 
 Fixed:
 

@@ -3,6 +3,7 @@
 
 mod includes;
 mod input;
+mod language;
 mod larger;
 mod layout;
 mod needs;
@@ -15,4 +16,4 @@ mod topic;
 mod warnings;
 
 pub use crate::output::output as explain;
-pub use crate::topic::{Topic, meaning};
+pub use crate::topic::{Topic, meaning, topics};

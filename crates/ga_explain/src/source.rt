@@ -77,7 +77,7 @@ Fixed:
 Elsewhere                  Here
 0x15, 15h, #21, 1D5        $15, 21, $1D5: decimal, or hex with a $
 123456789                  at most eight digits
--1                         $3FFFF, or '0 -': there are no signs
+-1                         $3FFFF, or '0 -'; in a FILE -1 is a number
 xor, inv, nop, ret         or, -, ., ;
 >r, r>, @a, !a             push, pop, @, !
 DUP                        dup: opcodes are in lower case
@@ -85,14 +85,14 @@ DUP                        dup: opcodes are in lower case
 : foo, or foo : apart      foo: is one token
 foo!: or a long name       one to sixteen letters, digits and _, no digit first
 foo, as a call             call foo; if ; follows, jump foo
-table, as a number         [ @p . . . ] , table
+table, as a number         [ @p . . . ] , table; in a FILE &table
 ( a note ), \\note          \\ and a blank, up to the line's end
 if .. then, begin .. until labels, and jumps to them
 for .. next                push again: .. next again
 ..                         align
 ] or / outside brackets    only in brackets
 a byte order mark          none: save the text without it (reported at 1:1)
-r---, north                right; for a direction the side: docs/CHIP.md
+r---, north                right; in a FILE north is a side: docs/CHIP.md
 , 5 between instructions   behind a word in brackets with @p, or behind data
 dup behind data            only labels and , words may follow data
 jump, and then nothing     a number or a name behind it, and no opcode's name
@@ -102,7 +102,9 @@ docs/COMING-FROM.md shows the notations of other assemblers beside this one.
 
 const NUMBER_RANGE: &str = "\
 NumberRange: a number over $3FFFF, more than 18 bits, or a destination over $3FF
-outside brackets. Write a negative number as its word: -1 is $3FFFF.
+outside brackets. Write a negative number as its word: -1 is $3FFFF. In a FILE
+-1 may stand, down to -131072; in expressions a value is 0 to $3FFFF, so that
+LAST+10 is too large where LAST is -5.
 
   $ echo 'node 709 $FFFFF' | ga-bench asm
   ga-bench: source 1:10 NumberRange
@@ -214,7 +216,9 @@ to 3FFFF:
 
 const NO_NODE: &str = "\
 NoNode: something comes before the first 'node', or the text has none. A program
-begins with the node that it is for.
+begins with the node that it is for. In a FILE 'const', 'body' and 'include' may
+come before it; the value of a constant is one token, without blanks. A FILE of
+definitions alone has no node: include it.
 
   $ echo '5 dup' | ga-bench asm
   ga-bench: source 1:1 NoNode

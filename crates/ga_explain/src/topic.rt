@@ -3,7 +3,9 @@ ghost use Rattle.ga_explain.specs.Output.{entry_in, meaning_of};
 ghost use Rattle.ga_explain.specs.Table.{entries};
 ghost use Rattle.ga_explain.specs.Topic.{entry_of};
 
-use crate::{includes, input, larger, layout, needs, routes, sessions, source, terms, warnings};
+use crate::{
+    includes, input, language, larger, layout, needs, routes, sessions, source, terms, warnings,
+};
 use std::alloc::{AllocError, Global};
 
 /// A row of the table: a name, its meaning in one line, and its text.
@@ -53,7 +55,7 @@ pub fn meaning(alloc: Global, name: &str) -> Result<&'static str, AllocError>
     }
 }
 
-/// All topics, in the order of the pages.
+/// All topics, in the order of the pages. Fails only when out of memory.
 pub fn topics(alloc: Global) -> Result<Vec<Topic>, AllocError>
     ensures { IfOk result (λ topics. map entry_of topics.items ≡ entries) }
 {
@@ -68,6 +70,7 @@ pub fn topics(alloc: Global) -> Result<Vec<Topic>, AllocError>
     append(&mut topics, &input::topics())?;
     append(&mut topics, &needs::topics())?;
     append(&mut topics, &terms::topics())?;
+    append(&mut topics, &language::topics())?;
     Ok(topics)
 }
 

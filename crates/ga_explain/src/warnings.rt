@@ -63,7 +63,7 @@ pub fn topics() -> [Topic; 11]
         ),
         topic!(
             "OverMemory",
-            "a destination behind the words of the node",
+            "a destination where the node has no word to run",
             OVER_MEMORY,
         ),
     ]
@@ -76,7 +76,7 @@ next word of the code in each round, and a 'push' sets R anew: it may never end.
   $ printf 'node 708 right b! 9 push again: 5 !b unext jump warm' |
     ga-bench lint
   -:1:33: warning: UnextRepeats: each round of this 'unext' also runs the 'push'
-   or the number in its word
+   or the number in its word (node 708)
     node 708 right b! 9 push again: 5 !b unext jump warm
                                     ^
 
@@ -92,7 +92,7 @@ again. A label in front of the loop begins a new word.
 
   $ printf 'node 708 9 push dup dup dup unext jump warm' | ga-bench lint
   -:1:25: warning: SplitLoop: a loop by 'unext' that begins in a new word only
-   since the last one was full
+   since the last one was full (node 708)
     node 708 9 push dup dup dup unext jump warm
                             ^
 
@@ -108,7 +108,7 @@ neighbour.
 
   $ printf 'node 708 right b! 5 !b' | ga-bench lint
   -:1:21: warning: RunsOff: the last word of the code, and execution goes on
-   behind it
+   behind it (node 708)
     node 708 right b! 5 !b
                         ^
 
@@ -124,7 +124,7 @@ or a jump.
 
   $ printf 'node 708 0 1 2 3 4 5 6 7 8 9 10 jump warm' | ga-bench lint
   -:1:26: warning: PushesTooMany: an eleventh word on the data stack: the first
-   one is lost
+   one is lost (node 708)
     node 708 0 1 2 3 4 5 6 7 8 9 10 jump warm
                              ^
 
@@ -140,7 +140,7 @@ runs first is looked at, up to a loop or a jump.
 
   $ printf 'node 708 + jump warm' | ga-bench lint
   -:1:10: warning: PopsTooMany: a word taken from the data stack that the node
-   never pushed
+   never pushed (node 708)
     node 708 + jump warm
              ^
 
@@ -155,7 +155,7 @@ word before. So the code behind it never runs.
 
   $ printf 'node 708 right b! jump warm send: 5 !b jump warm' | ga-bench lint
   -:1:29: warning: UnusedLabel: a label that no item names, at code that never
-   runs
+   runs (node 708)
     node 708 right b! jump warm send: 5 !b jump warm
                                 ^
 
@@ -170,6 +170,7 @@ leads to it. So it never runs.
 
   $ printf 'node 708 right b! jump warm 5 !b jump warm' | ga-bench lint
   -:1:29: warning: Unreachable: code that never runs: nothing leads to it
+   (node 708)
     node 708 right b! jump warm 5 !b jump warm
                                 ^
 
@@ -184,7 +185,7 @@ write to several ports stops the node with MultiWrite.
 
   $ printf 'node 708 right|left b! 5 !b jump warm' | ga-bench lint
   -:1:10: warning: SeveralPorts: the address of several sides, to which the node
-   writes: that stops it
+   writes: that stops it (node 708)
     node 708 right|left b! 5 !b jump warm
              ^
 
@@ -199,6 +200,7 @@ has an old word.
 
   $ printf 'node 708 right b! 5 !b ;' | ga-bench lint
   -:1:21: warning: ReturnsNowhere: a ';' without a call or a push before it
+   (node 708)
     node 708 right b! 5 !b ;
                         ^
 
@@ -213,7 +215,7 @@ LeavesExtended: bit 9 of an address selects extended mode. A destination in slot
 
   $ printf 'node 708 jump $201 [ + . . . ] [ jump $001 ]' | ga-bench lint
   -:1:32: warning: LeavesExtended: a destination in slot 0 that leaves extended
-   mode
+   mode (node 708)
     node 708 jump $201 [ + . . . ] [ jump $001 ]
                                    ^
 
@@ -224,10 +226,12 @@ Fixed:
 
 const OVER_MEMORY: &str = "\
 OverMemory: the node has no word at this address, so it would run what is left
-there, or zeros. Addresses 040 to 07F are those from 000 on again.
+there, or zeros. Addresses 040 to 07F are those from 000 on again. Those from
+080 to 0FF are in ROM, which stops the node except at 'warm'.
 
   $ printf 'node 708 5 jump 9' | ga-bench lint
-  -:1:10: warning: OverMemory: a destination behind the words of the node
+  -:1:10: warning: OverMemory: a destination where the node has no word to run
+   (node 708)
     node 708 5 jump 9
              ^
 

@@ -1,7 +1,7 @@
 //! Every job, by readers and writers that fail at each call in turn, or take and give one byte at a
 //! call.
 use crate::streams::{FIVE_TRIES, LARGER, WORDS, boot_of, run_of, sink_of, source_of};
-use ga_explain::Topic;
+use ga_explain::{Topic, topics};
 use ga_jobs::{Ending, Job, Loading, ServeError, serve};
 use ga_profile::WindowStart;
 use std::alloc::Global;
@@ -170,6 +170,15 @@ fn write_fails(
     writer.fails_at = Some(call);
     let outcome = serve(rt, &mut reader, &mut writer, job);
     (outcome, writer.taken)
+}
+
+#[test]
+fn no_two_topics_have_a_name(rt: HostRuntime) -> Result<(), Fail> {
+    let alloc = rt.alloc();
+    for topic in &topics(alloc)? {
+        assert!(rt; Topic::named(alloc, topic.name)? == Some(*topic));
+    }
+    Ok(())
 }
 
 #[test]
