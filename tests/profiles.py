@@ -532,6 +532,12 @@ def profile_json(it):
     return json.dumps(value, separators=(",", ":")) + "\n"
 
 
+def stack_numbers(data, back):
+    """How deep the stacks of a node were, as an object of JSON, and where they first had no room."""
+    passed = [None if stack.passed is None else f"{stack.passed % 0x400:03X}" for stack in (data, back)]
+    return {"data": data.most, "data_passed": passed[0], "return": back.most, "return_passed": passed[1]}
+
+
 def line_numbers(node, word, turns):
     """A word of memory on the path, as an object of JSON."""
     return {"name": f"{node:03}", "path": turns, "word": None if word is None else f"{word:03X}"}
@@ -543,7 +549,7 @@ def node_numbers(node, it, mean, on_path, stacks):
         "name": f"{node:03}",
         "pass": mean and dict(zip(("turns", "works"), mean)),
         "path": on_path,
-        "stacks": dict(zip(("data", "return"), (stack.most for stack in stacks))),
+        "stacks": stack_numbers(*stacks),
         "turns": {name: it.counts[kind] for name, kind in COUNTS.items()},
         "words": {"in": it.taken, "out": it.posted},
     }

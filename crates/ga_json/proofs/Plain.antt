@@ -14,17 +14,26 @@ use Rattle.ga_profile.specs.declared.profile.Profile.{Profile}
 use Rattle.ga_profile.specs.Lines.{path_lines}
 use Rattle.ga_profile.specs.NodeTurns.{NO_TURNS}
 use Rattle.ga_profile.specs.Unread.{unread_nodes}
-use Rattle.ga_json.specs.Profile.{line_data, lines_data, name_data, node_at, node_data, node_if, nodes_data, pass_data, profile_data, stacks_data, stuck_data, turns_data, window_data, word_data, words_data}
+use Rattle.ga_json.specs.Profile.{line_data, lines_data, name_data, node_at, node_data, node_if, nodes_data, pass_data, passed_data, profile_data, stacks_data, stuck_data, turns_data, window_data, word_data, words_data}
 
 pass_plain : (pass : Option NodePass) → has_float (pass_data pass) ≡ false
 unfolding pass_data
 pass_plain None = refl
 pass_plain (Some pass) = refl
 
+passed_plain : (passed : Option ℕ) → has_float (passed_data passed) ≡ false
+passed_plain None = refl
+passed_plain (Some address) = refl
+
 node_plain : (name : ℕ) (turns : NodeTurns) (pass : Option NodePass) (path : ℕ)
     (depths : StackDepths) → has_float (node_data name turns pass path depths) ≡ false
 unfolding node_data stacks_data turns_data words_data
-node_plain name turns pass path depths = ap (λ b. b || false) (pass_plain pass)
+node_plain name turns pass path depths =
+    rw (
+      pass_plain pass,
+      passed_plain depths.data_stack.passed,
+      passed_plain depths.return_stack.passed,
+    ) refl
 
 either : (b c d : Bool) → b || c ≡ false → (c ≡ false → d ≡ false) → b || d ≡ false
 either true c d none rest = none

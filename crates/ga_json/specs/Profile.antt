@@ -1,5 +1,5 @@
 -- A profile as JSON.
-use Rattle.std.specs.Prelude.{ℕ, List, [], ◌∷◌, codes, get_or, map, Option, Some, None}
+use Rattle.std.specs.Prelude.{◌%◌, ℕ, List, [], ◌∷◌, codes, get_or, map, Option, Some, None}
 use Rattle.std.specs.List.{flat_map, range_with_len}
 use Rattle.serde_json.specs.Data.{Data, Members, array, member, no_members, null, number, object, string, unsigned}
 use Rattle.serde_json.specs.View.{items_of}
@@ -43,11 +43,18 @@ pass_data (Some pass) =
     object (counted (codes "turns") pass.turns (counted (codes "works") pass.works no_members))
 pass_data None = null
 
--- the most words of each stack
+-- the address of a push for which a stack had no room, in ten bits and hex; or there was room
+abbrev pub passed_data : Option ℕ → Data
+passed_data (Some address) = string (hex_digits 3 (address % 0x400))
+passed_data None = null
+
+-- the most words of each stack, and the address of the first push for which it had no room
 unfoldable pub stacks_data : StackDepths → Data
 stacks_data depths =
     object (counted (codes "data") depths.data_stack.most
-    (counted (codes "return") depths.return_stack.most no_members))
+    (member (codes "data_passed") (passed_data depths.data_stack.passed)
+    (counted (codes "return") depths.return_stack.most
+    (member (codes "return_passed") (passed_data depths.return_stack.passed) no_members))))
 
 -- a node, by what it did, its pass, its turns on the path, and how deep its stacks were
 unfoldable pub node_data : ℕ → NodeTurns → Option NodePass → ℕ → StackDepths → Data

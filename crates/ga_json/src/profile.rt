@@ -3,7 +3,7 @@ ghost use Rattle.std.specs.Prelude.{◌≡◌, ◌<◌, ◌≤◌, ◌∷◌, []
 ghost use Rattle.serde_json.specs.Written.{compact_text};
 ghost use Rattle.serde_json.specs.View.{view};
 ghost use Rattle.ga_json.specs.Profile as spec;
-ghost use Rattle.ga_json.specs.Profile.{line_data, lines_data, name_data, node_data, pass_data, profile_data, stacks_data, stuck_data, turns_data, window_data, word_data, words_data};
+ghost use Rattle.ga_json.specs.Profile.{line_data, lines_data, name_data, node_data, pass_data, passed_data, profile_data, stacks_data, stuck_data, turns_data, window_data, word_data, words_data};
 
 use ga_place::Node;
 use ga_profile::{
@@ -179,14 +179,31 @@ fn pass_value(alloc: Global, pass: Option<NodePass>) -> Result<Value, AllocError
     }
 }
 
-/// The most words of each stack.
+/// The most words of each stack, and the address of the first push for which it had no room.
 #[tactic(auto, unfolding(crate::specs::Profile::stacks_data))]
 fn stacks_value(alloc: Global, depths: &StackDepths) -> Result<Value, AllocError>
     ensures { IfOk result (λ value. view value ≡ stacks_data depths.now) }
 {
-    let data = depths.data_stack.most;
-    let below = depths.return_stack.most;
-    json!(in alloc; {"data": data, "return": below})
+    let data = depths.data_stack;
+    let below = depths.return_stack;
+    let data_passed = passed_value(alloc, data.passed)?;
+    let below_passed = passed_value(alloc, below.passed)?;
+    json!(in alloc; {
+        "data": data.most,
+        "data_passed": data_passed,
+        "return": below.most,
+        "return_passed": below_passed
+    })
+}
+
+/// The address of a push for which a stack had no room, in ten bits and hex.
+fn passed_value(alloc: Global, passed: Option<u16>) -> Result<Value, AllocError>
+    ensures { IfOk result (λ value. view value ≡ passed_data passed) }
+{
+    match passed {
+        Some(address) => Ok(Value::String(Hex3::new(address % 0x400).to_string(alloc)?)),
+        None => Ok(Value::Null),
+    }
 }
 
 /// In how many turns a node did what.
