@@ -111,11 +111,11 @@ class Node:
         return found
 
     def jumps_by_push(self):
-        """Whether a `;` stands behind a `push`, with nothing but fillers between."""
+        """Whether a `;` stands behind a `push`, with nothing between that changes R."""
         runs = [[]]
         for word, ops in zip(self.words, self.ops):
             run = up_to(ENDS, ops)
-            runs[-1] += [it for it in run if it != FILLER]
+            runs[-1] += [it for it in run if it in ("push", "pop", "unext") or it in ENDS]
             if word.kind == "data" or run[-1:] and run[-1] in ENDS:
                 runs.append([])
         return any(run[-2:] == ["push", ";"] for run in runs)

@@ -146,6 +146,10 @@ a_computed_jump :
     unreachable (behind_pushed (op.FetchP ∷ op.Push ∷ op.Return ∷ op.Nop ∷ []) []) 2 ≡ false
 a_computed_jump = refl
 
+over_a_copy :
+    unreachable (behind_pushed (op.FetchP ∷ op.Push ∷ op.Dup ∷ op.Return ∷ []) []) 2 ≡ false
+over_a_copy = refl
+
 over_fillers_of_two_words :
     unreachable (behind_pushed (op.FetchP ∷ op.Push ∷ op.Nop ∷ op.Nop ∷ [])
     (code (op.Nop ∷ op.Return ∷ op.Nop ∷ op.Nop ∷ []) None ∷ [])) 3 ≡ false

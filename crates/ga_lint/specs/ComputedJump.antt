@@ -4,15 +4,16 @@ use Rattle.std.specs.Prelude.{◌&&◌, ◌||◌, Bool, true, false, List, [], �
 use Rattle.ga_disasm.specs.Disassembling.{ItemView, Code, Follower, Data}
 use Rattle.ga_lint.specs.StraightRun.{is_return}
 use Rattle.ga_word.specs.declared.op.Op.{Op}
-use Rattle.ga_word.specs.declared.op.Op.TheVariants.{Nop, Push}
+use Rattle.ga_word.specs.declared.op.Op.TheVariants.{Micronext, Pop, Push}
 use Rattle.ga_word.specs.Op.{ends_word}
 
--- behind an opcode R is the word that `push` put there: by this opcode, or before it, and a filler
--- changes nothing
+-- Behind an opcode R is the word that `push` put there: by this opcode; or before it, and this one
+-- leaves R alone.
 abbrev pub is_pushed : Bool → Op → Bool
 is_pushed pushed Push = true
-is_pushed pushed Nop = pushed
-is_pushed pushed o = false
+is_pushed pushed Pop = false
+is_pushed pushed Micronext = false
+is_pushed pushed o = pushed
 
 -- one of these opcodes is a `;` that goes to a pushed word; R is one before them or isn't
 abbrev pub jumps_in : Bool → List Op → Bool
@@ -27,7 +28,7 @@ is_pushed_behind pushed [] = pushed
 is_pushed_behind pushed (o ∷ ops) =
     if ends_word o then false else is_pushed_behind (is_pushed pushed o) ops
 
--- one of these words has such a `;`: at most fillers stand between the `push` and it
+-- one of these words has such a `;`: what stands between the `push` and it leaves R alone
 abbrev pub has_computed_jump : Bool → List ItemView → Bool
 has_computed_jump pushed [] = false
 has_computed_jump pushed (Code reading ∷ items) =

@@ -6,7 +6,7 @@ ghost use Rattle.ga_lint.specs.ComputedJump as spec;
 use ga_disasm::Item;
 use ga_word::Op;
 
-/// Whether one of these words has a `;` behind a `push`, with at most fillers between.
+/// Whether one of these words has a `;` behind a `push`, and what is between leaves R alone.
 pub(crate) fn has_computed_jump(words: &[Item]) -> bool
     ensures { result ≡ spec.has_computed_jump false (map item_view words.now) }
 {
@@ -64,7 +64,7 @@ fn is_pushed(pushed: bool, op: Op) -> bool
 {
     match op {
         Op::Push => true,
-        Op::Nop => pushed,
-        _ => false,
+        Op::Pop | Op::Micronext => false,
+        _ => pushed,
     }
 }
