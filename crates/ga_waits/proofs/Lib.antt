@@ -2,5 +2,9 @@ pub mod Largest
 pub mod Rings
 pub mod RingRows
 pub mod Writing
+pub mod Following
+pub mod Way
+pub mod InOrder
 mod WorkedReset
+mod WorkedCauses
 mod Worked

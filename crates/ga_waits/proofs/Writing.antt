@@ -1,5 +1,5 @@
 -- Texts that are written part by part.
-use Rattle.std.proofs.Common.{◌≡◌, ◌∙◌, ℕ, ◌+◌, ◌<◌, true, false, List, [], ◌∷◌, ◌++◌, length, get_or, drop, ap, sym, add-one, append_assoc, drop-cons}
+use Rattle.std.proofs.Common.{◌≡◌, ◌∙◌, ℕ, ◌+◌, ◌<◌, true, false, List, [], ◌∷◌, ◌++◌, length, get_or, drop, ap, sym, add-one, append_assoc, drop-cons, map, refl}
 use Rattle.std.specs.Prelude.{if◌then◌else◌}
 use Rattle.std.specs.List.{flat_map, range_with_len}
 use Rattle.std.proofs.lemmas.Grind.{flat_map-append}
@@ -58,3 +58,23 @@ lines_more lines n old text new so_far wrote =
     ∙ append_assoc old (text_of before) (text_of (lines n))
     ∙ ap (λ t. old ++ t) (sym (flat_map-append (λ line. line ++ 10 ∷ []) before (lines n))
     ∙ sym (ap text_of (next_line lines n)))
+
+-- one part more of those that are numbered from 0
+pub part_more : (f : ℕ → List ℕ) (n : ℕ) (old text new : List ℕ)
+    → text ≡ old ++ flat_map f (range_with_len 0 n) → new ≡ text ++ f n
+    → new ≡ old ++ flat_map f (range_with_len 0 (n + 1))
+part_more f n old text new so_far wrote =
+    wrote ∙ ap (λ t. t ++ f n) so_far ∙ append_assoc old (flat_map f (range_with_len 0 n)) (f n)
+    ∙ ap (λ t. old ++ t) (sym (next_line f n))
+
+map_is_flat : {A B : Type 0} (f : A → B) (xs : List A)
+    → map f xs ≡ flat_map (λ x. f x ∷ []) xs
+map_is_flat f [] = refl
+map_is_flat f (x ∷ xs) = ap (λ l. f x ∷ l) (map_is_flat f xs)
+
+-- one item more of those that are numbered from 0
+pub item_more : {B : Type 0} (f : ℕ → B) (n : ℕ)
+    → map f (range_with_len 0 (n + 1)) ≡ map f (range_with_len 0 n) ++ f n ∷ []
+item_more f n =
+    map_is_flat f (range_with_len 0 (n + 1)) ∙ next_line (λ i. f i ∷ []) n
+    ∙ ap (λ l. l ++ f n ∷ []) (sym (map_is_flat f (range_with_len 0 n)))

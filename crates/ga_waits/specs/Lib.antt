@@ -6,4 +6,5 @@ pub mod Closed
 pub mod Ring
 pub mod Waits
 pub mod Folded
+pub mod Causes
 pub mod inner

@@ -50,7 +50,7 @@ fn push_busy(
 }
 
 /// Adds the line of a node that has started, unless it is idle.
-fn push_busy_line(
+pub(crate) fn push_busy_line(
     text: &mut String,
     chip: &Chip,
     images: Option<&Images>,
@@ -70,7 +70,7 @@ fn push_busy_line(
 
 /// The names of the idle nodes, each behind a blank.
 #[tactic(auto, unfolding(crate::specs::Folded::idle_names))]
-fn idle_names(alloc: Global, chip: &Chip) -> Result<String, AllocError>
+pub(crate) fn idle_names(alloc: Global, chip: &Chip) -> Result<String, AllocError>
     ensures { IfOk result (λ names. string_bytes names ≡ idle_names chip.now) }
 {
     let mut names = String::new(alloc);
@@ -92,7 +92,7 @@ fn push_idle_name(names: &mut String, chip: &Chip, node: Node) -> Result<(), All
 }
 
 /// Adds a line of the names of the idle nodes, if there is one.
-fn push_idle(text: &mut String, names: &str) -> Result<(), AllocError>
+pub(crate) fn push_idle(text: &mut String, names: &str) -> Result<(), AllocError>
     ensures { OnOk result (string_bytes text.new
         ≡ string_bytes text.old ++ line_of_idle names.now) }
 {

@@ -1,6 +1,7 @@
 //! Who waits for whom on a chip, and what will never move, as text.
 #![tactic(auto)]
 
+mod causes;
 mod folded;
 mod label;
 mod line;
@@ -9,6 +10,7 @@ mod ring;
 mod sides;
 mod text;
 
+pub use causes::causes_first;
 pub use folded::{is_idle, nodes};
 pub use label::push_label;
 pub use line::has_begun;

@@ -1,5 +1,4 @@
 use Rattle.ga_waits.specs.inner.Next as inner
-use Rattle.ga_waits.specs.Ring as spec
 use Rattle.ga_waits.proofs.Rings.{at_start}
 use Rattle.ga_waits.proofs.ring.begins_ring.Goals as goal
 
