@@ -17,3 +17,4 @@ mod Unchanged
 mod Uses
 mod PlainTexts
 mod WorkedExpansions
+mod WorkedOperands

@@ -30,7 +30,7 @@ most_unfolded = 262144
 -- A text has at most this many bodies, and a body at most this many parameters, so that the one
 -- with a name is found soon.
 abbrev pub most_bodies : ℕ
-most_bodies = 1024
+most_bodies = 256
 
 abbrev pub most_parameters : ℕ
 most_parameters = 64

@@ -3,6 +3,7 @@ pub mod Sides
 pub mod Literal
 pub mod Constants
 pub mod Expression
+pub mod Operand
 pub mod Places
 pub mod Expanding
 pub mod Bodies

@@ -120,7 +120,7 @@ impl Constants {
 }
 
 /// The number that a token writes in the plain language.
-fn number(text: &[u8]) -> Option<u32>
+pub(crate) fn number(text: &[u8]) -> Option<u32>
     ensures { result ≡ model.as_number text.now }
 {
     if let Some(number) = address_named(text) {

@@ -24,7 +24,7 @@ pub enum ExpandErrorKind {
     OpenDefinition,
     /// A name behind `use` that no body before it has.
     UnknownBody,
-    /// A body by which a text has more than 1,024, a parameter by which a body has more than 64, a
+    /// A body by which a text has more than 256, a parameter by which a body has more than 64, a
     /// `use` by which all stand for more than 262,144 tokens, or a list of nodes by which the
     /// copies of all have more.
     TooLarge,

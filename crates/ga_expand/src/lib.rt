@@ -10,6 +10,7 @@ mod expression;
 mod literal;
 mod making;
 mod node_lists;
+mod operand;
 mod piece;
 mod pieces;
 mod places;
@@ -22,3 +23,4 @@ mod writing;
 
 pub use error::{ExpandError, ExpandErrorKind};
 pub use expansion::{Expansion, expand};
+pub use operand::is_expression;

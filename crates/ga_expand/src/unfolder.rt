@@ -31,7 +31,7 @@ pub(crate) const LONGEST: usize = 64;
 pub(crate) const MOST_UNFOLDED: usize = 262_144;
 
 /// The most bodies of a text.
-const MOST_BODIES: usize = 1024;
+const MOST_BODIES: usize = 256;
 
 /// The most parameters of a body.
 const MOST_PARAMETERS: usize = 64;
