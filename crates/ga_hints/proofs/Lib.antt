@@ -1,12 +1,10 @@
-mod Expressions
+mod OpenBodies
 mod ImageSizes
 mod Lists
-mod OpenBodies
 mod OneHint
 mod Programs
 mod Sizes
 mod TokenTexts
-mod WorkedExpressions
+mod WorkedBodies
 mod WorkedHints
-mod WorkedOpenBodies
 mod WorkedSizes

@@ -1,11 +1,11 @@
 -- Lists, one element after another.
-use Rattle.std.proofs.Common.{◌≡◌, ◌∙◌, ◌+◌, ◌-◌, ◌<◌, ◌≤◌, ◌++◌, ℕ, suc, Bool, List, [], ◌∷◌, Option, Some, None, true, false, Bor, length, map, get_or, drop, take, not, refl, sym, ap, add-one, append-nil, append_assoc, arith, if◌then◌else◌}
+use Rattle.std.proofs.Common.{◌≡◌, ◌∙◌, ◌+◌, ◌<◌, ◌≤◌, ◌++◌, ℕ, suc, Bool, List, [], ◌∷◌, Option, Some, None, true, false, Bor, length, map, get_or, drop, take, not, refl, sym, ap, add-one, append-nil, append_assoc, arith, if◌then◌else◌}
 use Rattle.std.specs.Prelude.{◌==◌, ◌&&◌, slice_get}
 use Rattle.std.specs.List.{find, list_any, position, prefix_len}
 use Rattle.std.specs.Option.{option_and_then, option_map}
 use Rattle.std.specs.Str.{bytes_eq}
 use Rattle.std.proofs.Math.Seq.{drop-cons}
-use Rattle.std.proofs.lemmas.List.{drop_all, get_or-map, length-drop, length-map, take_all, take_more}
+use Rattle.std.proofs.lemmas.List.{drop_all, get_or-map, length-map, take_more}
 use Rattle.ga_pack.specs.Model.Text.{lexemes, texts_of}
 use Rattle.ga_source.specs.Token.{place_of, token_of}
 use Rattle.ga_source.specs.declared.token.Place.{Place}
@@ -45,12 +45,6 @@ left_at {Y = Y} f xs index other inside =
 pub none_left : {X Y : Type 0} (f : X → Y) (xs : List X) (index : ℕ) → length xs ≤ index
     → drop index (map f xs) ≡ []
 none_left f xs index past = drop_all index (map f xs) (omega (arith, length-map xs f, past))
-
--- what is left at an index, as a slice has it
-pub rest_whole : {X : Type 0} (xs : List X) (index : ℕ)
-    → take (length xs - index) (drop index xs) ≡ drop index xs
-rest_whole xs index =
-    take_all (length xs - index) (drop index xs) (omega (arith, length-drop index xs))
 
 -- ---- names
 
@@ -92,7 +86,7 @@ module _ {X Y : Type 0} (f : X → Y) (p : Y → Bool) where
   prefix_map [] = refl
   prefix_map (x ∷ xs) = rw (prefix_map xs) refl
 
-  position_map : (xs : List X) → position p (map f xs) ≡ position (λ x. p (f x)) xs
+  pub position_map : (xs : List X) → position p (map f xs) ≡ position (λ x. p (f x)) xs
   position_map xs = rw (prefix_map xs, length-map xs f) refl
 
 abbrev is_there : Place → Token → Bool

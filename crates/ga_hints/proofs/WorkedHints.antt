@@ -1,10 +1,12 @@
 -- Names that may be meant and hints, each worked out by hand.
-use Rattle.std.proofs.Common.{◌≡◌, [], ◌∷◌, Some, None, refl}
+use Rattle.std.proofs.Common.{◌≡◌, false, [], ◌∷◌, Some, None, refl}
 use Rattle.std.specs.Prelude.{codes}
 use Rattle.std.specs.Fmt.{digits}
 use Rattle.ga_pack.specs.Model.Text.{lexemes, texts_of}
-use Rattle.ga_hints.specs.Expression.{is_expression}
-use Rattle.ga_hints.specs.Hints.{Body, Expression, Label, bad_token_hint, label_in}
+use Rattle.ga_expand.specs.Expression.{inside, left_of, parted, right_of}
+use Rattle.ga_expand.specs.Literal.{literal_of}
+use Rattle.ga_expand.specs.Operand.{is_operand}
+use Rattle.ga_hints.specs.Hints.{Body, Expression, Label, bad_token_hint, is_label, label_in}
 use Rattle.ga_hints.specs.Names.{bodies_in, constants_in, names_from, word_at}
 use Rattle.ga_hints.specs.Nearest.{nearest_of}
 use Rattle.ga_hints.specs.Size.{size_text}
@@ -46,19 +48,29 @@ recased : nearest_of (codes "Size") (codes "SIZ" ∷ codes "SIZE" ∷ codes "siz
 recased = refl
 
 -- a word that means nothing is the name of a body, or else that of a label, or else an expression
-is_body : bad_token_hint (texts_of (codes "body ab 5 end\nnode 1\n ab: ab")) (codes "ab")
+body_word : bad_token_hint (texts_of (codes "body ab 5 end\nnode 1\n ab: ab")) (codes "ab")
     ≡ Some (Body (codes "ab"))
 unfolding names_from texts_of lexemes
-is_body = refl
+body_word = refl
 
-is_label : bad_token_hint (texts_of (codes "node 1\n foo: 5\n foo")) (codes "foo")
+label_word : bad_token_hint (texts_of (codes "node 1\n foo: 5\n foo")) (codes "foo")
     ≡ Some (Label (codes "foo"))
 unfolding names_from texts_of lexemes
-is_label = refl
+label_word = refl
 
-is_sum : bad_token_hint (texts_of (codes "node 1\n SIZE+1")) (codes "SIZE+1") ≡ Some Expression
-unfolding names_from texts_of lexemes is_expression
-is_sum = refl
+sum_word : bad_token_hint (texts_of (codes "const SIZE 5\nnode 1\n SIZE+1")) (codes "SIZE+1")
+    ≡ Some Expression
+unfolding names_from texts_of lexemes is_operand literal_of parted inside left_of right_of
+sum_word = refl
+
+-- what can't be the name of a label
+no_name : is_label (texts_of (codes "node 1\n my-loop ; my-loop: .")) (codes "my-loop") ≡ false
+unfolding texts_of lexemes
+no_name = refl
+
+opcode : is_label (texts_of (codes "node 1 data dup dup:")) (codes "dup") ≡ false
+unfolding texts_of lexemes
+opcode = refl
 
 -- how a size is written
 written : size_text (record { code = 37; «data» = 34 })

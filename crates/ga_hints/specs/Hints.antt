@@ -1,12 +1,11 @@
 -- What may help with a fault of a source text.
-use Rattle.std.specs.Prelude.{◌≡◌, ◌==◌, ◌++◌, ℕ, Bool, false, List, [], ◌∷◌, codes, string_bytes, Option, Some, None, if◌then◌else◌}
-use Rattle.std.specs.Fmt.{decimal}
-use Rattle.std.specs.List.{find, list_any}
+use Rattle.std.specs.Prelude.{◌≡◌, ◌==◌, ◌&&◌, ◌++◌, ℕ, Bool, false, not, List, [], ◌∷◌, codes, slice_get, string_bytes, Option, Some, None, if◌then◌else◌}
+use Rattle.std.specs.List.{find}
 use Rattle.std.specs.Option.{option_and_then, option_map, option_or}
-use Rattle.std.specs.Str.{bytes_eq}
 use Rattle.ga_pack.specs.Model.Program.{IsProgram, PlacedSection}
 use Rattle.ga_pack.specs.Model.Source.{Item}
-use Rattle.ga_pack.specs.Model.Text.{Place, texts_of}
+use Rattle.ga_pack.specs.Model.Text.{texts_of}
+use Rattle.ga_pack.specs.Model.Token.{is_name}
 use Rattle.ga_pack.specs.declared.error_kind.AsmErrorKind.{AsmErrorKind}
 use Rattle.ga_pack.specs.declared.error_kind.AsmErrorKind.TheVariants.{TooLong, UndefinedLabel}
 use Rattle.ga_pack.specs.declared.error_kind.SourceErrorKind.{SourceErrorKind}
@@ -18,17 +17,17 @@ use Rattle.ga_asm.specs.Error as assembly
 use Rattle.ga_asm.specs.declared.error.AsmError.{AsmError}
 use Rattle.ga_expand.specs.Constants.{is_among, words_of_definitions}
 use Rattle.ga_expand.specs.Error as expansion
-use Rattle.ga_expand.specs.Expanding.{Piece}
+use Rattle.ga_expand.specs.Operand.{is_expression}
 use Rattle.ga_expand.specs.Texts.{IsExpansion}
 use Rattle.ga_expand.specs.declared.error.ExpandErrorKind.{ExpandErrorKind}
+use Rattle.ga_expand.specs.declared.error.ExpandErrorKind.TheVariants as expand_kind
 use Rattle.ga_expand.specs.declared.expansion.Expansion.{Expansion}
 use Rattle.ga_faults.specs.Sections.{part_at, part_of}
 use Rattle.ga_faults.specs.declared.fault.Fault.{Fault}
 use Rattle.ga_faults.specs.declared.fault.Fault.TheVariants.{Asm, Expand, Source}
-use Rattle.ga_hints.specs.Expression.{is_expression}
-use Rattle.ga_hints.specs.Names.{bodies_in, first_words, names_for_expand, names_for_label, names_for_source, word_at, words_before}
+use Rattle.ga_hints.specs.Bodies.{first_open}
+use Rattle.ga_hints.specs.Names.{bodies_in, constants_in, first_words, language_words, names_for_expand, names_for_label, names_for_source, word_at, words_before}
 use Rattle.ga_hints.specs.Nearest.{nearest_of}
-use Rattle.ga_hints.specs.OpenBody.{open_body, pieces_before}
 use Rattle.ga_hints.specs.Size.{size_of, size_text}
 use Rattle.ga_hints.specs.declared.hint_kind.Hint as written
 use Rattle.ga_hints.specs.declared.hint_kind.Hint.TheVariants as hint
@@ -41,8 +40,7 @@ pub data Hint : Type 0 where
   Body : List ℕ → Hint
   Label : List ℕ → Hint
   Expression : Hint
-  -- the name of a body, and the line of its `body`
-  OpenBody : List ℕ → ℕ → Hint
+  OpenBody : List ℕ → Hint
 
 abbrev pub hint_of : written.Hint → Hint
 hint_of (hint.Nearest name) = Nearest (string_bytes name)
@@ -50,7 +48,7 @@ hint_of (hint.Needs size) = Needs size
 hint_of (hint.Body name) = Body (string_bytes name)
 hint_of (hint.Label name) = Label (string_bytes name)
 hint_of hint.Expression = Expression
-hint_of (hint.OpenBody name line) = OpenBody (string_bytes name) line
+hint_of (hint.OpenBody name) = OpenBody (string_bytes name)
 
 -- ---- a name that may have been meant
 
@@ -118,12 +116,17 @@ IsProgramHint text error hint =
 abbrev pub label_of : List ℕ → List ℕ
 label_of word = word ++ codes ":"
 
+-- one of these tokens defines a word as a label: the word is a name, and none of the language
+abbrev pub is_label : List (List ℕ) → List ℕ → Bool
+is_label tokens word =
+    is_name word && not (is_among language_words word) && is_among tokens (label_of word)
+
 -- what may help with a word that means nothing, in a part with these tokens
 abbrev pub bad_token_hint : List (List ℕ) → List ℕ → Option Hint
 bad_token_hint tokens word =
     if is_among (bodies_in tokens) word then Some (Body word)
-    else if is_among tokens (label_of word) then Some (Label word)
-    else if is_expression word then Some Expression
+    else if is_label tokens word then Some (Label word)
+    else if is_expression (constants_in tokens) word then Some Expression
     else if is_among words_of_definitions word then None
     else nearest_hint (names_for_source tokens) word
 
@@ -140,24 +143,31 @@ source_hint text error =
 
 -- ---- a fault of the definitions
 
-abbrev pub has_node : List Piece → Bool
-has_node tokens = list_any (λ token. bytes_eq token.text (codes "node")) tokens
+-- The bodies of a text with these tokens that may lack the `end` at a fault behind some of them:
+-- those in front of an unknown one; or all, if a definition isn't complete.
+abbrev pub bodies_at : ExpandErrorKind → List (List ℕ) → List (List ℕ) → List (List ℕ)
+bodies_at expand_kind.UnknownBody tokens before = bodies_in before
+bodies_at expand_kind.OpenDefinition tokens before = bodies_in tokens
+bodies_at kind tokens before = []
 
--- A body that is open has no `end`, if a `node` is behind its name.
-abbrev pub open_body_hint : Option (List Piece) → Option Hint
-open_body_hint (Some (start ∷ name ∷ tokens)) =
-    if has_node tokens then Some (OpenBody name.text start.place.line) else None
-open_body_hint tokens = None
+-- the first body that has no `end`, if it is one of those
+abbrev pub open_body_hint : ExpandErrorKind → List (List ℕ) → List (List ℕ) → Option Hint
+open_body_hint kind tokens before =
+    option_map OpenBody
+    (option_and_then (slice_get (bodies_at kind tokens before)) (first_open tokens))
 
--- what may help with a word at a place of a text
-abbrev pub expand_word_hint : ExpandErrorKind → List ℕ → Place → List ℕ → Option Hint
-expand_word_hint kind text place word =
-    option_or (open_body_hint (open_body (pieces_before text place)))
-    (nearest_hint (names_for_expand kind (words_before text place)) word)
+-- what may help with a word of a text with these tokens, behind some of them
+abbrev pub expand_word_hint : ExpandErrorKind → List (List ℕ) → List (List ℕ) → List ℕ
+    → Option Hint
+expand_word_hint kind tokens before word =
+    option_or (nearest_hint (names_for_expand kind before word) word)
+    (open_body_hint kind tokens before)
 
 abbrev pub expand_hint : List ℕ → expansion.Fault → Option Hint
 expand_hint text fault =
-    option_and_then (expand_word_hint fault.kind text fault.place) (word_at text fault.place)
+    option_and_then
+    (expand_word_hint fault.kind (texts_of text) (words_before text fault.place))
+    (word_at text fault.place)
 
 -- ---- all faults
 
@@ -176,8 +186,6 @@ hint_text (hint.Body name) =
     string_bytes name ++ codes " is a body: use " ++ string_bytes name
 hint_text (hint.Label name) =
     string_bytes name ++ codes " is a label: call " ++ string_bytes name ++ codes ", or &"
-    ++ string_bytes name ++ codes " for its address"
+    ++ string_bytes name ++ codes " for its address; in data , " ++ string_bytes name
 hint_text hint.Expression = codes "an expression stands only behind const"
-hint_text (hint.OpenBody name line) =
-    codes "the body " ++ string_bytes name ++ codes " of line " ++ decimal line
-    ++ codes " has no end"
+hint_text (hint.OpenBody name) = codes "the body " ++ string_bytes name ++ codes " has no end"

@@ -7,9 +7,11 @@ use Rattle.ga_word.specs.Op.{name_of, opcodes}
 use Rattle.ga_pack.specs.Model.Layout.{names_in}
 use Rattle.ga_pack.specs.Model.Source.{Item}
 use Rattle.ga_pack.specs.Model.Text.{Place, lexemes, texts_of}
+use Rattle.ga_expand.specs.Constants.{is_among}
 use Rattle.ga_expand.specs.Texts.{is_at}
 use Rattle.ga_expand.specs.declared.error.ExpandErrorKind.{ExpandErrorKind}
 use Rattle.ga_expand.specs.declared.error.ExpandErrorKind.TheVariants as expand_kind
+use Rattle.ga_hints.specs.Bodies.{first_open}
 
 -- the text of the first token of a text that is at a place
 abbrev pub word_at : List ℕ → Place → Option (List ℕ)
@@ -36,6 +38,10 @@ names_from word behind [] = []
 names_from word behind (token ∷ tokens) =
     (if behind then token ∷ [] else []) ++ names_from word (bytes_eq token word) tokens
 
+-- the words of the language
+abbrev pub language_words : List (List ℕ)
+language_words = map name_of opcodes ++ item_words
+
 -- the constants and the bodies of a text with these tokens
 abbrev pub constants_in : List (List ℕ) → List (List ℕ)
 constants_in tokens = names_from (codes "const") false tokens
@@ -47,8 +53,7 @@ bodies_in tokens = names_from (codes "body") false tokens
 
 -- a token of the expansion that means nothing
 unfoldable pub names_for_source : List (List ℕ) → List (List ℕ)
-names_for_source tokens =
-    map name_of opcodes ++ item_words ++ constants_in tokens ++ bodies_in tokens
+names_for_source tokens = language_words ++ constants_in tokens ++ bodies_in tokens
 
 -- what a text may begin with: a definition, the line of another file, or a section
 abbrev pub first_words : List (List ℕ)
@@ -62,13 +67,24 @@ defines None = false
 abbrev pub last_of : List (List ℕ) → Option (List ℕ)
 last_of tokens = slice_get tokens (length tokens - 1)
 
--- A value that is none, or a body that isn't defined, behind these tokens. A name that is defined
--- there isn't meant as another one.
-abbrev pub names_for_expand : ExpandErrorKind → List (List ℕ) → List (List ℕ)
-names_for_expand expand_kind.BadToken before =
-    if defines (last_of before) then [] else constants_in before
-names_for_expand expand_kind.UnknownBody before = bodies_in before
-names_for_expand kind before = []
+-- the constants that are defined in these tokens: the last token names none, since its value is
+-- missing
+abbrev pub defined_constants : List (List ℕ) → List (List ℕ)
+defined_constants tokens = constants_in (take (length tokens - 1) tokens)
+
+-- the bodies in front of the first one without an `end`, of which those behind it may be a part
+abbrev pub bodies_before_open : List (List ℕ) → List (List ℕ)
+bodies_before_open tokens =
+    let names = bodies_in tokens in take (unwrap_or (first_open tokens) (length names)) names
+
+-- A word that is no value, or no defined body, behind these tokens. A name that is defined there,
+-- or the name of a body there, isn't meant as another one.
+abbrev pub names_for_expand : ExpandErrorKind → List (List ℕ) → List ℕ → List (List ℕ)
+names_for_expand expand_kind.BadToken before word =
+    if defines (last_of before) then [] else defined_constants before
+names_for_expand expand_kind.UnknownBody before word =
+    if is_among (bodies_in before) word then [] else bodies_before_open before
+names_for_expand kind before word = []
 
 -- A label that isn't defined, by the items of its node; or the address of one, which no constant
 -- is.

@@ -18,8 +18,8 @@ pub enum Hint {
     Label(String),
     /// The token is an expression.
     Expression,
-    /// The name of a body that has no `end`, and the line of its `body`.
-    OpenBody { name: String, line: usize },
+    /// The name of a body that has no `end`.
+    OpenBody(String),
 }
 
 /// Writes the hint, as `the nearest name is SIZE`, or
@@ -35,13 +35,11 @@ impl fmt::Display for Hint {
             Hint::Label(name) => {
                 write!(
                     f,
-                    "{name} is a label: call {name}, or &{name} for its address"
+                    "{name} is a label: call {name}, or &{name} for its address; in data , {name}"
                 )
             }
             Hint::Expression => f.write_str("an expression stands only behind const"),
-            Hint::OpenBody { name, line } => {
-                write!(f, "the body {name} of line {line} has no end")
-            }
+            Hint::OpenBody(name) => write!(f, "the body {name} has no end"),
         }
     }
 }

@@ -1,16 +1,17 @@
 //! What may help with a fault of a source text.
-ghost use Rattle.std.specs.Prelude.{◌≡◌, IfOk, option_map};
+ghost use Rattle.std.specs.Prelude.{◌≡◌, IfOk, map, option_map};
+ghost use Rattle.ga_pack.specs.Model.Text.{texts_of};
 ghost use Rattle.ga_asm.specs.Text.{AtMostOne};
 ghost use Rattle.ga_expand.specs.Error.{fault_of};
-ghost use Rattle.ga_hints.specs.Hints.{IsHint, expand_hint, hint_of};
+ghost use Rattle.ga_hints.specs.Hints.{IsHint, expand_hint, expand_word_hint, hint_of};
 
+use crate::bodies::open_body_hint;
 use crate::hint_kind::Hint;
-use crate::names::{names_for_expand, place, word_at};
+use crate::names::{names_for_expand, place, word_at, words_before};
 use crate::nearest::nearest_hint;
-use crate::open_body::open_body_hint;
 use crate::program_hints::expansion_hint;
 use crate::source_hints::source_hint;
-use ga_expand::ExpandError;
+use ga_expand::{ExpandError, ExpandErrorKind};
 use ga_faults::Fault;
 use std::alloc::{AllocError, Global};
 
@@ -37,12 +38,29 @@ fn expand_hint(alloc: Global, text: &str, error: ExpandError) -> Result<Option<H
         ≡ expand_hint text.now (fault_of error)) }
 {
     let place = place(error.line, error.column);
-    let Some(word) = word_at(alloc, text, place)? else {
-        return Ok(None);
-    };
-    if let Some(hint) = open_body_hint(alloc, text, place)? {
-        return Ok(Some(hint));
+    match word_at(alloc, text, place)? {
+        Some(word) => {
+            let before = words_before(alloc, text, place)?;
+            expand_word_hint(alloc, text, &before, word, error.kind)
+        }
+        None => Ok(None),
     }
-    let names = names_for_expand(alloc, text, place, error.kind)?;
-    nearest_hint(alloc, word, &names)
+}
+
+/// What may help with a fault of a kind at a word of a text, behind some of the text's tokens.
+fn expand_word_hint(
+    alloc: Global,
+    text: &str,
+    before: &[&str],
+    word: &str,
+    kind: ExpandErrorKind,
+) -> Result<Option<Hint>, AllocError>
+    ensures { IfOk result (λ hint. option_map hint_of hint ≡ expand_word_hint kind
+        (texts_of text.now) (map (λ token. token.now) before.now) word.now) }
+{
+    let names = names_for_expand(alloc, before, word, kind)?;
+    match nearest_hint(alloc, word, &names)? {
+        Some(hint) => Ok(Some(hint)),
+        None => open_body_hint(alloc, text, before, kind),
+    }
 }

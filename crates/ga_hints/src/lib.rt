@@ -2,13 +2,13 @@
 //! token is, the body that has no end, or the size of a program that is too long.
 #![tactic(auto)]
 
-mod expression;
+mod bodies;
 mod hint_kind;
 mod hints;
+mod labels;
 pub mod laws;
 mod names;
 mod nearest;
-mod open_body;
 mod open_word;
 mod program_hints;
 mod size;

@@ -4,8 +4,11 @@ ghost use Rattle.std.specs.List.{position};
 ghost use Rattle.ga_word.specs.Op.{name_of, opcodes};
 ghost use Rattle.ga_pack.specs.Model.Text.{texts_of};
 ghost use Rattle.ga_source.specs.Token.{place_of};
-ghost use Rattle.ga_hints.specs.Names.{constants_in, defines, item_words, last_of, names_for_expand, names_for_source, names_from, word_at, words_before};
+ghost use Rattle.ga_expand.specs.Constants.{is_among};
+ghost use Rattle.ga_hints.specs.Names.{bodies_in, constants_in, bodies_before_open, defined_constants, defines, item_words, language_words, last_of, names_for_expand, names_for_source, names_from, word_at, words_before};
 
+use crate::bodies::first_open;
+use crate::nearest::is_among;
 use ga_expand::ExpandErrorKind;
 use ga_source::{Name, Place, Token, tokens};
 use ga_word::Op;
@@ -32,7 +35,7 @@ pub(crate) fn words_of(alloc: Global, text: &str) -> Result<Vec<&str>, AllocErro
 }
 
 /// What a token of a text is written as.
-pub(crate) fn token_text(text: &str, token: Token) -> &str
+fn token_text(text: &str, token: Token) -> &str
     requires inside { (token.start ≤ token.end) × (token.end ≤ length text.now) }
     requires whole { IsUtf8 (slice_range text.now token.start token.end) }
     ensures { result.now ≡ slice_range text.now token.start token.end }
@@ -56,7 +59,7 @@ pub(crate) fn word_at(alloc: Global, text: &str, place: Place) -> Result<Option<
 }
 
 /// The index of the first token at a place.
-pub(crate) fn index_at(tokens: &[Token], place: Place) -> Option<usize>
+fn index_at(tokens: &[Token], place: Place) -> Option<usize>
     ensures { result ≡ position (λ token. (token.line == place.line)
         && (token.column == place.column)) tokens.now }
 {
@@ -126,6 +129,16 @@ fn push_if<'a>(names: &mut Vec<&'a str>, is_name: bool, token: &'a str) -> Resul
     Ok(())
 }
 
+/// The words of the language.
+pub(crate) fn language_words<'a>(alloc: Global) -> Result<Vec<&'a str>, AllocError>
+    ensures { IfOk result (λ names. map (λ name. name.now) names.items ≡ language_words) }
+{
+    let mut names = Vec::new(alloc);
+    push_opcodes(&mut names)?;
+    push_item_words(&mut names)?;
+    Ok(names)
+}
+
 /// The names that a token that means nothing may be meant as, in a part with these tokens.
 #[tactic(auto, unfolding(crate::specs::Names::names_for_source))]
 pub(crate) fn names_for_source<'a>(
@@ -135,42 +148,59 @@ pub(crate) fn names_for_source<'a>(
     ensures { IfOk result (λ names. map (λ name. name.now) names.items
         ≡ names_for_source (map (λ token. token.now) tokens.now)) }
 {
-    let mut names = Vec::new(alloc);
-    push_opcodes(&mut names)?;
-    push_item_words(&mut names)?;
+    let mut names = language_words(alloc)?;
     push_names_behind(&mut names, tokens, "const")?;
     push_names_behind(&mut names, tokens, "body")?;
     Ok(names)
 }
 
-/// The names that the token at a fault of a text's definitions may be meant as.
-pub(crate) fn names_for_expand(
-    alloc: Global,
-    text: &str,
-    place: Place,
-    kind: ExpandErrorKind,
-) -> Result<Vec<&str>, AllocError>
-    ensures { IfOk result (λ names. map (λ name. name.now) names.items
-        ≡ names_for_expand kind (words_before text.now (place_of place))) }
-{
-    let before = words_before(alloc, text, place)?;
-    names_among(alloc, &before, kind)
-}
-
-/// Those of a text with these tokens in front of the fault.
-fn names_among<'a>(
+/// The names that a word at a fault of a text's definitions may be meant as, behind these tokens.
+pub(crate) fn names_for_expand<'a>(
     alloc: Global,
     before: &[&'a str],
+    word: &str,
     kind: ExpandErrorKind,
 ) -> Result<Vec<&'a str>, AllocError>
     ensures { IfOk result (λ names. map (λ name. name.now) names.items
-        ≡ names_for_expand kind (map (λ word. word.now) before.now)) }
+        ≡ names_for_expand kind (map (λ word. word.now) before.now) word.now) }
 {
     match kind {
-        ExpandErrorKind::BadToken if !defines(before) => names_behind(alloc, before, "const"),
-        ExpandErrorKind::UnknownBody => names_behind(alloc, before, "body"),
+        ExpandErrorKind::BadToken if !defines(before) => defined_constants(alloc, before),
+        ExpandErrorKind::UnknownBody if !is_body(alloc, word, before)? => {
+            bodies_before_open(alloc, before)
+        }
         _ => Ok(Vec::new(alloc)),
     }
+}
+
+/// The constants that are defined in these tokens.
+fn defined_constants<'a>(alloc: Global, tokens: &[&'a str]) -> Result<Vec<&'a str>, AllocError>
+    ensures { IfOk result (λ names. map (λ name. name.now) names.items
+        ≡ defined_constants (map (λ token. token.now) tokens.now)) }
+{
+    match tokens.split_last() {
+        Some((_, defining)) => names_behind(alloc, defining, "const"),
+        None => names_behind(alloc, tokens, "const"),
+    }
+}
+
+/// The bodies of these tokens in front of the first one without an `end`.
+fn bodies_before_open<'a>(alloc: Global, tokens: &[&'a str]) -> Result<Vec<&'a str>, AllocError>
+    ensures { IfOk result (λ names. map (λ name. name.now) names.items
+        ≡ bodies_before_open (map (λ token. token.now) tokens.now)) }
+{
+    let mut names = names_behind(alloc, tokens, "body")?;
+    names.truncate(first_open(tokens).unwrap_or(names.len()));
+    Ok(names)
+}
+
+/// Whether a word is the name of a body of a text or a part with these tokens.
+pub(crate) fn is_body(alloc: Global, word: &str, tokens: &[&str]) -> Result<bool, AllocError>
+    ensures { IfOk result (λ is. is
+        ≡ is_among (bodies_in (map (λ token. token.now) tokens.now)) word.now) }
+{
+    let bodies = names_behind(alloc, tokens, "body")?;
+    Ok(is_among(&bodies, word))
 }
 
 /// Whether the name of a constant or a body is defined behind these tokens.
@@ -184,7 +214,7 @@ fn defines(before: &[&str]) -> bool
 }
 
 /// The tokens of a text in front of the first one at a place.
-fn words_before(alloc: Global, text: &str, place: Place) -> Result<Vec<&str>, AllocError>
+pub(crate) fn words_before(alloc: Global, text: &str, place: Place) -> Result<Vec<&str>, AllocError>
     ensures { IfOk result (λ words. map (λ word. word.now) words.items
         ≡ words_before text.now (place_of place)) }
 {

@@ -1,13 +1,14 @@
 //! What may help with a fault of the text that a text expands to.
 ghost use Rattle.std.specs.Prelude.{◌≡◌, IfOk, map, option_map};
 ghost use Rattle.ga_expand.specs.Constants.{is_among, words_of_definitions};
-ghost use Rattle.ga_hints.specs.Hints.{bad_token_hint, hint_of, label_of, nearest_hint, source_hint};
-ghost use Rattle.ga_hints.specs.Names.{bodies_in, first_words};
+ghost use Rattle.ga_hints.specs.Hints.{bad_token_hint, hint_of, nearest_hint, source_hint};
+ghost use Rattle.ga_hints.specs.Names.{first_words};
 
-use crate::expression::is_expression;
 use crate::hint_kind::Hint;
-use crate::names::{names_behind, names_for_source, place, word_at, words_of};
+use crate::labels::is_label;
+use crate::names::{is_body, names_behind, names_for_source, place, word_at, words_of};
 use crate::nearest::{is_among, nearest_hint};
+use ga_expand::is_expression;
 use ga_faults::part_at;
 use ga_source::{SourceError, SourceErrorKind};
 use std::alloc::{AllocError, Global};
@@ -45,32 +46,13 @@ fn bad_token_hint(alloc: Global, word: &str, tokens: &[&str]) -> Result<Option<H
     if is_label(alloc, word, tokens)? {
         return Ok(Some(Hint::Label(String::from_str(alloc, word)?)));
     }
-    if is_expression(word) {
+    if is_expression(&names_behind(alloc, tokens, "const")?, word) {
         return Ok(Some(Hint::Expression));
     }
     if is_of_definitions(word) {
         return Ok(None);
     }
     nearest_hint(alloc, word, &names_for_source(alloc, tokens)?)
-}
-
-/// Whether a word is the name of a body of a part with these tokens.
-fn is_body(alloc: Global, word: &str, tokens: &[&str]) -> Result<bool, AllocError>
-    ensures { IfOk result (λ is. is
-        ≡ is_among (bodies_in (map (λ token. token.now) tokens.now)) word.now) }
-{
-    let bodies = names_behind(alloc, tokens, "body")?;
-    Ok(is_among(&bodies, word))
-}
-
-/// Whether one of these tokens defines a word as a label.
-fn is_label(alloc: Global, word: &str, tokens: &[&str]) -> Result<bool, AllocError>
-    ensures { IfOk result (λ is. is
-        ≡ is_among (map (λ token. token.now) tokens.now) (label_of word.now)) }
-{
-    let mut label = String::from_str(alloc, word)?;
-    label.push(':')?;
-    Ok(is_among(tokens, label.as_str()))
 }
 
 /// Whether a word is one of definitions, which stand before all sections.

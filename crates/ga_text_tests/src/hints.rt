@@ -22,6 +22,8 @@ fn a_misspelt_token_has_the_nearest_name(rt: HostRuntime) -> Result<(), Fail> {
     let body = help(alloc, "body SEND\n !b\nend\nnode 708 use SEMD\n")?;
     assert!(rt; body.as_str() == "the nearest name is SEND");
     assert!(rt; help(alloc, "node 708 5 frobnicate\n")?.is_empty());
+    // a name isn't offered where it is being defined
+    assert!(rt; help(alloc, "const COUNT COUNR\nnode 708 .\n")?.is_empty());
     Ok(())
 }
 
@@ -51,15 +53,23 @@ fn what_a_token_is(rt: HostRuntime) -> Result<(), Fail> {
     let body = help(alloc, "body SEND\n !b\nend\nnode 708 SEND\n")?;
     assert!(rt; body.as_str() == "SEND is a body: use SEND");
     let label = help(alloc, "node 708 again: 5 !b again\n")?;
-    assert!(rt; label.as_str() == "again is a label: call again, or &again for its address");
-    let expression = help(alloc, "const SIZE 5\nnode 708 SIZE-1\n")?;
+    let uses = "again is a label: call again, or &again for its address; in data , again";
+    assert!(rt; label.as_str() == uses);
+    let expression = help(alloc, "const SIZE 5\nnode 708 2*(SIZE)\n")?;
     assert!(rt; expression.as_str() == "an expression stands only behind const");
+    assert!(rt; help(alloc, "node 708 my-label\n")?.is_empty());
     Ok(())
 }
 
 #[test]
 fn a_body_without_an_end(rt: HostRuntime) -> Result<(), Fail> {
-    let open = help(rt.alloc(), "body SEND\n !b\nnode 708 use GONE\n")?;
-    assert!(rt; open.as_str() == "the body SEND of line 1 has no end");
+    let alloc = rt.alloc();
+    let open = help(alloc, "body SEND\n !b\nnode 708 use GONE\n")?;
+    assert!(rt; open.as_str() == "the body SEND has no end");
+    let inside = help(
+        alloc,
+        "body SEND\n !b\nbody TAKE\n @b\nend\nnode 708 use TAKE\n",
+    )?;
+    assert!(rt; inside.as_str() == "the body SEND has no end");
     Ok(())
 }

@@ -7,7 +7,3 @@ returns-in-Body-clause-writes g c =
     let name = string_bytes c.in-Body.name in
     rw (c.in-Body.is, append_assoc name (codes " is a body: use ") name)
     c.write-in-Body.ensures.writes
-
-pub returns-in-OpenBody-clause-writes : goal.returns-in-OpenBody-clause-writes
-returns-in-OpenBody-clause-writes g c =
-    rw c.in-OpenBody.is (simp append_assoc c.write-in-OpenBody.ensures.writes)
