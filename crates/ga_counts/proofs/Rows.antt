@@ -6,10 +6,8 @@ use Rattle.std.specs.Option.{option_map_or}
 use Rattle.ga_asm.specs.Image.{ImageView}
 use Rattle.ga_asm.specs.Places.{word_places}
 use Rattle.ga_disasm.specs.declared.item.Item.{Item}
-use Rattle.ga_disasm.specs.Disassembling.{ItemView, item_view, items_from}
+use Rattle.ga_disasm.specs.Disassembling.{ItemView, item_view}
 use Rattle.ga_list.specs.Row.{label_lines}
-use Rattle.ga_pack.specs.Decoded.{reading_of}
-use Rattle.ga_pack.specs.Followers.{followers}
 use Rattle.ga_pack.specs.Model.Layout.{Labels}
 use Rattle.ga_pack.specs.Model.Program.{PlacedSection}
 use Rattle.ga_source.specs.Program.{item_place, item_place_of, items_at}
@@ -18,16 +16,6 @@ use Rattle.ga_counts.specs.declared.row.Row.{Row}
 use Rattle.ga_counts.specs.declared.word_counts.WordCounts.{WordCounts}
 use Rattle.ga_counts.specs.Listing.{SectionView, section_of, sections_from}
 use Rattle.ga_counts.specs.Row.{row_text, rows_from}
-
--- each word is one item
-pub items_length : (owed left : ℕ) (words : List ℕ)
-    → length (items_from owed left words) ≡ length words
-unfolding items_from
-items_length owed left [] = refl
-items_length owed zero (word ∷ words) = ap suc (items_length owed zero words)
-items_length zero (suc left) (word ∷ words) =
-    ap suc (items_length (followers (reading_of word).ops) left words)
-items_length (suc owed) (suc left) (word ∷ words) = ap suc (items_length owed left words)
 
 -- the line of a word more, of those that are left
 pub rows_next : (labels : Labels) (row : ℕ → ℕ → ItemView → Row) (words : List ℕ)

@@ -2,5 +2,5 @@ pub mod OneListing
 mod Targets
 mod Names
 mod Listed
-mod Rows
+pub mod Rows
 mod Writing

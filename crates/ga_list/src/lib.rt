@@ -12,4 +12,5 @@ mod row;
 pub use labels::list_labels;
 pub use lines::line_of;
 pub use listing::list;
+pub use reading::push_reading;
 pub use row::{push_item, push_labels};

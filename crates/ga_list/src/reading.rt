@@ -13,7 +13,8 @@ use indexmap::IndexMap;
 use std::alloc::AllocError;
 use std::fmt::Write;
 
-/// Adds the instructions of the word at an address, and the line's end.
+/// Adds what the word at an address of a node reads as, with labels for destinations, and the
+/// line's end. (The text is this project's own: profile.)
 pub fn push_reading(
     text: &mut String,
     labels: &IndexMap<String, u8>,

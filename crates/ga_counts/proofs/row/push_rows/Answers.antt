@@ -10,7 +10,8 @@ use Rattle.ga_counts.specs.declared.word_counts.WordCounts.{WordCounts}
 use Rattle.ga_counts.specs.Counts.{word_counts}
 use Rattle.ga_counts.specs.Heat.{most_heat}
 use Rattle.ga_counts.specs.Row.{row_at, row_by, row_text, rows_from, rows_of}
-use Rattle.ga_counts.proofs.Rows.{items_length, rows_end, rows_next}
+use Rattle.ga_list.proofs.Rows.{items_length}
+use Rattle.ga_counts.proofs.Rows.{rows_end, rows_next}
 use Rattle.ga_counts.proofs.row.push_rows.Goals as goal
 
 -- each word has an item
