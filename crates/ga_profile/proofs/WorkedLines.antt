@@ -5,6 +5,7 @@ use Rattle.std.specs.Fmt.{digits}
 use Rattle.ga_word.specs.Hex.{hex_digits}
 use Rattle.ga_word.specs.Op.{op_with}
 use Rattle.ga_asm.specs.Image.{ImageView}
+use Rattle.ga_disasm.specs.Disassembling.{items_from}
 use Rattle.ga_pack.specs.Decoded.{reading_of}
 use Rattle.ga_node.specs.declared.place.Place.TheVariants.{Slot1}
 use Rattle.ga_observe.specs.declared.step.Deed.TheVariants as did
@@ -71,7 +72,7 @@ other_code : line_row [] 11225 (line_of None) ≡ codes "   9   709     .\n"
 unfolding line_row share_of cell digits hex_digits
 other_code = refl
 
--- 709 has a label at 008
+-- 709 has a label at 008, and no word
 abbrev an_image : ImageView
 an_image = record {
   words = [];
@@ -83,8 +84,23 @@ an_image = record {
 
 with_label : line_row ((709, an_image) ∷ []) 11225 (line_of (Some 11))
     ≡ codes "   9   709   00B main+3\n"
-unfolding line_row share_of cell digits hex_digits label_text
+unfolding line_row share_of cell digits hex_digits label_text items_from
 with_label = refl
+
+-- and a word at 000, with a label of its own
+abbrev a_loaded_image : ImageView
+a_loaded_image = record {
+  words = 0x2C572 ∷ [];
+  code_len = 1;
+  entry = 0;
+  labels = (codes "step", 0) ∷ [];
+  item_counts = [];
+}
+
+with_code : line_row ((709, a_loaded_image) ∷ []) 11225 (line_of (Some 0))
+    ≡ codes "   9   709   000           step  [ . +* unext . ]\n"
+unfolding line_row share_of cell digits hex_digits label_text items_from reading_of op_with
+with_code = refl
 
 no_label : line_row ((709, an_image) ∷ []) 11225 (line_of None) ≡ codes "   9   709     .\n"
 unfolding line_row share_of cell digits hex_digits label_text

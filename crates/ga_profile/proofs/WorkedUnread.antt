@@ -1,6 +1,6 @@
 -- The definitions of words that no node will ever read at worked values.
 use Rattle.std.proofs.Common.{◌≡◌, ℕ, ◌==◌, true, false, List, [], ◌∷◌, Option, Some, refl}
-use Rattle.std.specs.Prelude.{codes, None, set}
+use Rattle.std.specs.Prelude.{codes, set}
 use Rattle.ga_word.specs.Op.{op_with}
 use Rattle.ga_pack.specs.Decoded.{reading_of}
 use Rattle.ga_place.specs.Cell.{all_cells, cell_of}

@@ -1,9 +1,8 @@
 -- Texts that are written part by part.
-use Rattle.std.proofs.Common.{◌≡◌, ◌∙◌, ℕ, suc, ◌+◌, ◌<◌, arith, max, List, [], ◌∷◌, ◌++◌, ap, append_assoc, get_or, length, map, refl, sym}
+use Rattle.std.proofs.Common.{◌≡◌, ◌∙◌, ℕ, suc, ◌+◌, ◌<◌, arith, max, List, ◌++◌, ap, get_or, length}
 use Rattle.std.specs.Prelude.{Option, None}
-use Rattle.std.specs.List.{flat_map, range_with_len}
 use Rattle.std.proofs.lemmas.List.{get_or_default}
-use Rattle.ga_dump.proofs.Lines.{next_line}
+pub use Rattle.ga_waits.proofs.Writing.{item_more, part_more}
 use Rattle.ga_place.specs.Cell.{name_at}
 use Rattle.ga_asm.specs.Image.{ImageView}
 use Rattle.ga_chip.specs.Chip.{Chip, state_of}
@@ -18,26 +17,6 @@ use Rattle.ga_profile.specs.Profile.{with_end}
 use Rattle.ga_profile.specs.Rank.{ranked}
 use Rattle.ga_profile.specs.Stacks.{fullness_at, fullness_if, stack_row_at, stack_row_if}
 use Rattle.ga_profile.specs.Table.{row_at, row_if}
-
--- one part more of those that are numbered from 0
-pub part_more : (f : ℕ → List ℕ) (n : ℕ) (old text new : List ℕ)
-    → text ≡ old ++ flat_map f (range_with_len 0 n) → new ≡ text ++ f n
-    → new ≡ old ++ flat_map f (range_with_len 0 (n + 1))
-part_more f n old text new so_far wrote =
-    wrote ∙ ap (λ t. t ++ f n) so_far ∙ append_assoc old (flat_map f (range_with_len 0 n)) (f n)
-    ∙ ap (λ t. old ++ t) (sym (next_line f n))
-
-map_is_flat : {A B : Type 0} (f : A → B) (xs : List A)
-    → map f xs ≡ flat_map (λ x. f x ∷ []) xs
-map_is_flat f [] = refl
-map_is_flat f (x ∷ xs) = ap (λ l. f x ∷ l) (map_is_flat f xs)
-
--- one item more of those that are numbered from 0
-pub item_more : {B : Type 0} (f : ℕ → B) (n : ℕ)
-    → map f (range_with_len 0 (n + 1)) ≡ map f (range_with_len 0 n) ++ f n ∷ []
-item_more f n =
-    map_is_flat f (range_with_len 0 (n + 1)) ∙ next_line (λ i. f i ∷ []) n
-    ∙ ap (λ l. l ++ f n ∷ []) (sym (map_is_flat f (range_with_len 0 n)))
 
 -- the line of a node, read at any default
 pub row_read : (nodes : List NodeTurns) (passes : List (Option NodePass)) (path : List ℕ)

@@ -1,5 +1,5 @@
 -- What a run waits for, and what to change so that it gets shorter.
-use Rattle.std.specs.Prelude.{ℕ, zero, suc, ◌+◌, ◌*◌, ◌/◌, ◌%◌, ◌==◌, Option, Some, None, Bool, true, false, ◌&&◌, not, List, [], ◌∷◌, ◌++◌, codes, get_or, length, max, nat_le, nat_lt, if◌then◌else◌}
+use Rattle.std.specs.Prelude.{ℕ, zero, suc, ◌+◌, ◌*◌, ◌/◌, ◌%◌, ◌==◌, Option, Some, None, Bool, ◌&&◌, not, List, [], ◌∷◌, ◌++◌, codes, get_or, length, max, nat_le, nat_lt, if◌then◌else◌}
 use Rattle.std.specs.Fmt.{decimal}
 use Rattle.std.specs.List.{flat_map, range_with_len}
 use Rattle.ga_place.specs.Cell.{name_at}

@@ -1,7 +1,9 @@
 //! Where the path goes: the words of memory with the most turns on it.
-ghost use Rattle.std.specs.Prelude.{◌≡◌, ◌++◌, IfOk, OnOk, length, string_bytes};
+ghost use Rattle.std.specs.Prelude.{◌≡◌, ◌≤◌, ◌++◌, IfOk, OnOk, length, map, slice_get, string_bytes};
 ghost use Rattle.ga_word.specs.Hex.{hex_digits};
 ghost use Rattle.ga_place.specs.Node as place_spec;
+ghost use Rattle.ga_asm.specs.Image.{labels_of};
+ghost use Rattle.ga_disasm.specs.Disassembling.{item_view};
 ghost use Rattle.ga_waits.specs.Label.{images_in};
 ghost use Rattle.ga_profile.specs.Lines as spec;
 ghost use Rattle.ga_profile.specs.Lines.{line_row, lines_text, node_ranks, path_lines};
@@ -9,10 +11,13 @@ ghost use Rattle.ga_profile.specs.Lines.{line_row, lines_text, node_ranks, path_
 use crate::profile::Profile;
 use crate::rank::{rank_of, ranked};
 use crate::share::{push_cell, push_share, share_of};
-use ga_asm::Images;
+use ga_asm::{Image, Images};
+use ga_disasm::{Item, items};
+use ga_list::push_reading;
 use ga_place::{Node, Where};
 use ga_waits::push_label;
 use ga_word::Hex3;
+use indexmap::IndexMap;
 use std::alloc::{AllocError, Global};
 
 /// The rank of each node by its turns on the path.
@@ -123,23 +128,75 @@ fn push_line_row(
     push_share(text, alloc, 4, share_of(line.turns, turns))?;
     push_cell(text, 6, node_text(alloc, line.node)?.as_str())?;
     push_cell(text, 6, word_text(alloc, line.word)?.as_str())?;
-    push_word_label(text, images, line.node, line.word)?;
-    text.push_str("\n")
+    push_code(text, alloc, images, line.node, line.word)
 }
 
-/// Adds the label of a word of memory.
-fn push_word_label(
+/// Adds what a word of memory is in the program of its node, and the line's end.
+fn push_code(
     text: &mut String,
+    alloc: Global,
     images: Option<&Images>,
     node: Node,
     word: Option<u8>,
 ) -> Result<(), AllocError>
     ensures { OnOk result (string_bytes text.new ≡ string_bytes text.old
-        ++ spec.word_label (images_in images.entry) node word) }
+        ++ spec.code_text (images_in images.entry) node word) }
 {
-    match word {
-        Some(word) => push_label(text, images, node, Where::Ram(word)),
-        None => Ok(()),
+    let Some(word) = word else {
+        return text.push_str("\n");
+    };
+    let mut label = String::new(alloc);
+    push_label(&mut label, images, node, Where::Ram(word))?;
+    match images.and_then(|images| images.image_of(node)) {
+        Some(image) => push_word(text, alloc, image, label.as_str(), word),
+        None => text.push_str("\n"),
+    }
+}
+
+/// Adds the label and the reading of a word of an image, and the line's end.
+fn push_word(
+    text: &mut String,
+    alloc: Global,
+    image: &Image,
+    label: &str,
+    word: u8,
+) -> Result<(), AllocError>
+    ensures { OnOk result (string_bytes text.new ≡ string_bytes text.old
+        ++ spec.word_of_image image.now label.now word) }
+{
+    let items = items(alloc, image.words(), image.code_len())?;
+    push_item(
+        text,
+        image.labels(),
+        items.as_slice(),
+        label,
+        usize::from(word),
+    )
+}
+
+/// Adds the label and the reading of the word at an address, and the line's end.
+fn push_item(
+    text: &mut String,
+    labels: &IndexMap<String, u8>,
+    items: &[Item],
+    label: &str,
+    address: usize,
+) -> Result<(), AllocError>
+    requires { length items.now ≤ 64 }
+    ensures { OnOk result (string_bytes text.new ≡ string_bytes text.old
+        ++ spec.labelled label.now (labels_of labels.now.entries) address
+        (slice_get (map item_view items.now) address)) }
+{
+    match items.get(address) {
+        Some(item) => {
+            push_cell(text, 15, label)?;
+            text.push_str("  ")?;
+            push_reading(text, labels, address, item)
+        }
+        None => {
+            text.push_str(label)?;
+            text.push_str("\n")
+        }
     }
 }
 

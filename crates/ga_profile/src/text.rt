@@ -16,9 +16,9 @@ use std::fmt::Write;
 /// A profile as text: its window; a line for each node that began, with the shares of the turns in
 /// which it worked and waited, a bar of them, its share of the path, and how many words it took and
 /// posted; the bottleneck, with what to change; the words of memory with the most turns on the
-/// path; and the nodes with the fullest stacks. An address has the label of its image that is at it
-/// or the last before it, if there are images. Each line ends with LF. Fails only when out of
-/// memory. (The text is this project's own: profile.)
+/// path, and what they read as; and the nodes with the fullest stacks. An address has the label of
+/// its image that is at it or the last before it, if there are images. Each line ends with LF.
+/// Fails only when out of memory. (The text is this project's own: profile.)
 #[tactic(auto, unfolding(crate::specs::Text::profile_text))]
 pub fn profile_text(
     alloc: Global,
