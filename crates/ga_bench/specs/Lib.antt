@@ -1,1 +1,4 @@
+pub mod Input
+pub mod Numbers
+pub mod Saved
 pub mod Status

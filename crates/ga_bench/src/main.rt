@@ -9,16 +9,19 @@ mod reporting;
 mod saved_files;
 mod transcripts;
 
-ghost use Rattle.std.specs.Prelude.{◌≡◌, IfErr, IfOk, IfSome, map, string_bytes, true};
+ghost use Rattle.std.specs.Prelude.{◌≡◌, IfErr, IfOk, IfSome, Ok, map, option_map, string_bytes, true};
 ghost use Rattle.ga_command_line.specs.CommandLine.{InRange, IsJobOf, IsRight};
-ghost use Rattle.ga_jobs.specs.{writes_pieces};
+ghost use Rattle.ga_jobs.specs.{file_of, writes_pieces};
+ghost use Rattle.ga_jobs.specs.Answering.{IsOutput};
 ghost use Rattle.ga_jobs.specs.Engine.{status_of};
-ghost use Rattle.ga_jobs.specs.Outputs.{in_pieces};
+ghost use Rattle.ga_jobs.specs.Outputs.{in_pieces, text_of};
+ghost use Rattle.ga_bench.specs.Input.{IsReadBy};
+ghost use Rattle.ga_bench.specs.Saved.{IsSaved};
 ghost use Rattle.ga_bench.specs.Status.{HasServed, HasStatus};
 
 use crate::file_text::{FileText, NamedFault, file_text};
 use crate::named::Named;
-use crate::numbers::numbers_of;
+use crate::numbers::{numbers_of, opened};
 use crate::reporting::{refuse, refuse_missing, report_on_file, reported, reported_in};
 use crate::saved_files::{SavedFiles, put};
 use crate::transcripts::{check_status, rewrite_status, serve_transcript, sourced};
@@ -244,7 +247,7 @@ fn list_with_warnings<Rt: AllocGlobal + Threads + Clock + Sync, W: Write>(
 }
 
 /// Writes the numbers of a profile as JSON. Answers the exit status.
-fn numbers_status<Rt: AllocGlobal + Print + Eprint + Threads + Clock + Sync>(
+fn numbers_status<Rt: AllocGlobal + Print + Eprint>(
     rt: &Rt,
     job: &Job,
     loading: &Loading,
@@ -252,7 +255,7 @@ fn numbers_status<Rt: AllocGlobal + Print + Eprint + Threads + Clock + Sync>(
     turns: Option<u32>,
     text: &FileText<'_>,
 ) -> u8 {
-    let numbers = match numbers_of(rt, job, loading, start, turns, text.bytes()) {
+    let numbers = match numbers_of(rt.alloc(), job, loading, start, turns, text.bytes()) {
         Ok(numbers) => numbers,
         Err(fault) => return reported_of(rt, job, text, &Err(fault)),
     };
@@ -297,14 +300,19 @@ fn traced<Rt: AllocGlobal + Threads + Clock + Sync>(
     nodes: &Option<String>,
     input: &[u8],
 ) -> Result<(Output, String), ServeError>
-    ensures { IfOk result (λ made. in_pieces made.0 ≡ true → writes_pieces job.now ≡ true) }
+    ensures waveform { IfOk result (λ made.
+        IsReadBy (file_of job.now) (IsOutput job.now) input.now (Ok (text_of made.0))) }
+    ensures pieces { IfOk result (λ made.
+        in_pieces made.0 ≡ true → writes_pieces job.now ≡ true) }
+    ensures saved { IfOk result (λ made. IsSaved job.now loading.now
+        (option_map string_bytes nodes.now) input.now (string_bytes made.1)) }
 {
     let alloc = rt.alloc();
     let waveform = match job.file() {
         None => output_of(rt, job, input)?,
         Some(_) => output_of_file(rt, job, input)?,
     };
-    let live = open_file(alloc, loading, input)?;
+    let live = opened(alloc, job, loading, input)?;
     Ok((waveform, save_text(alloc, &live, nodes)?))
 }
 

@@ -1,28 +1,43 @@
 //! The numbers of a profile as JSON.
+ghost use Rattle.std.specs.Prelude.{IfOk, string_bytes};
+ghost use Rattle.ga_jobs.specs.{file_of};
+ghost use Rattle.ga_jobs.specs.Fault.{Answers};
+ghost use Rattle.ga_jobs.specs.Session.{IsSession};
+ghost use Rattle.ga_bench.specs.Input.{IsReadBy};
+ghost use Rattle.ga_bench.specs.Numbers.{AreNumbers};
+
 use ga_jobs::race::TURNS;
-use ga_jobs::{Job, Loading, ServeError, answer, open_file};
-use ga_json::profile_json;
-use ga_profile::{WindowStart, measure};
-use std::thread::Threads;
-use std::time::Clock;
+use ga_jobs::{Job, Loading, ServeError, open_file, open_session};
+use ga_json::run_json;
+use ga_profile::WindowStart;
+use ga_transcript::Live;
+use std::alloc::Global;
 
 /// The profile of the session that a job's input opens as JSON, on a line.
-pub fn numbers_of<Rt: AllocGlobal + Threads + Clock + Sync>(
-    rt: &Rt,
+pub fn numbers_of(
+    alloc: Global,
     job: &Job,
     loading: &Loading,
     start: WindowStart,
     turns: Option<u32>,
     input: &[u8],
-) -> Result<String, ServeError> {
-    let alloc = rt.alloc();
-    if job.file().is_none() {
-        // Standard input is no text of the larger language.
-        answer(rt, job, input)?;
+) -> Result<String, ServeError>
+    ensures { IfOk result (λ line.
+        AreNumbers job.now loading.now start turns input.now (string_bytes line)) }
+{
+    let live = opened(alloc, job, loading, input)?;
+    let mut line = run_json(alloc, live.chip(), start, turns.unwrap_or(TURNS))?;
+    line.push_str("\n")?;
+    Ok(line)
+}
+
+/// The session that a job's input opens. Standard input is no text of the larger language.
+pub fn opened(alloc: Global, job: &Job, loading: &Loading, input: &[u8]) -> Result<Live, ServeError>
+    ensures { Answers (λ live. live)
+        (IsReadBy (file_of job.now) (IsSession loading.now) input.now) result }
+{
+    match job.file() {
+        None => open_session(alloc, loading, input),
+        Some(_) => open_file(alloc, loading, input),
     }
-    let live = open_file(alloc, loading, input)?;
-    let profile = measure(alloc, live.chip(), start, turns.unwrap_or(TURNS))?;
-    let mut text = profile_json(alloc, &profile)?;
-    text.push_str("\n")?;
-    Ok(text)
 }

@@ -37,8 +37,8 @@ pub fn reported_in<Rt: AllocGlobal + Print + Eprint>(
     status(outcome)
 }
 
-/// Reports the fault of bytes whose lines were written there: with all faults of the text, if it
-/// has a place in source text, as compilers do on standard error, or as JSON on standard output.
+/// Reports the fault of bytes whose lines were written there: if it has a place, as compilers do on
+/// standard error, or as JSON on standard output; of source text all faults.
 /// Without memory for that it is reported as one of standard input.
 fn report_in<Rt: AllocGlobal + Print + Eprint>(
     rt: &Rt,
