@@ -69,16 +69,28 @@ fn unknown(alloc: Global, name: &str) -> LineError {
 
 /// The message about a name that the table lacks, with the nearest one that it has, if one is near.
 fn unknown_text(alloc: Global, name: &str) -> Result<String, AllocError> {
-    let topics = topics(alloc)?;
-    let mut nearest = Nearest::to(name);
-    for topic in &topics {
-        nearest.offer(alloc, topic.name)?;
-    }
     let mut text = String::from_str(alloc, "no such name")?;
-    if let Some(near) = nearest.name() {
+    if let Some(near) = nearest_name(alloc, name)? {
         text.push_str("; the nearest name is ")?;
         text.push_str(near)?;
     }
     text.push_str(": 'ga-bench explain' lists them")?;
     Ok(text)
+}
+
+/// The name of the table that differs only in the case of its letters, or else the nearest one, if
+/// one is near.
+fn nearest_name<'a>(alloc: Global, name: &'a str) -> Result<Option<&'a str>, AllocError> {
+    let topics = topics(alloc)?;
+    if let Some(topic) = topics
+        .iter()
+        .find(|topic| topic.name.eq_ignore_ascii_case(name))
+    {
+        return Ok(Some(topic.name));
+    }
+    let mut nearest = Nearest::to(name);
+    for topic in &topics {
+        nearest.offer(alloc, topic.name)?;
+    }
+    Ok(nearest.name())
 }

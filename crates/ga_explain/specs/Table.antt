@@ -83,7 +83,7 @@ larger_entries = (
     ) ∷
     (codes "UnknownBody", codes "no body before it has this name", UNKNOWN_BODY.now) ∷ (
       codes "TooLarge",
-      codes "over 1,024 bodies, 64 parameters, or 262,144 tokens of all 'use' or all lists",
+      codes "over 256 bodies, 64 parameters, or 262,144 tokens of all 'use' or all lists",
       TOO_LARGE.now,
     ) ∷
     []
@@ -175,13 +175,16 @@ routes_entries = (
 
 -- the refusals of commands, and faults of replay texts
 unfoldable pub sessions_entries : List Entry
-sessions_entries =
-    (codes "BadCommand", [], BAD_COMMAND.now) ∷
-    (codes "BadAddress", [], BAD_ADDRESS.now) ∷
-    (codes "BadSide", [], BAD_SIDE.now) ∷
-    (codes "BadCount", [], BAD_COUNT.now) ∷
+sessions_entries = (
+  codes "BadCommand",
+  codes "no command here, or words behind it are missing, wrong or left over",
+  BAD_COMMAND.now,
+) ∷
+    (codes "BadAddress", codes "no address: three hex digits, at most 1FF", BAD_ADDRESS.now) ∷
+    (codes "BadSide", codes "no side: r, d, l or u", BAD_SIDE.now) ∷
+    (codes "BadCount", codes "no count: one to seven digits, at most 1000000", BAD_COUNT.now) ∷
     (codes "BadValue", [], BAD_VALUE.now) ∷
-    (codes "NotHeld", [], NOT_HELD.now) ∷
+    (codes "NotHeld", codes "a node that isn't held at a breakpoint", NOT_HELD.now) ∷
     (codes "BadProfile", [], BAD_PROFILE.now) ∷
     (codes "NoGo", codes "no line is 'go'", NO_GO.now) ∷
     (codes "Source", [], SOURCE.now) ∷
@@ -199,7 +202,7 @@ sessions_entries =
       codes "a line that is no command or comment, with no command before it",
       EARLY_REPLY.now,
     ) ∷
-    (codes "differs", [], DIFFERS.now) ∷
+    (codes "differs", codes "the result isn't the one that this line states", DIFFERS.now) ∷
     []
 
 -- the faults of the input and of the output

@@ -37,7 +37,7 @@ pub fn topics() -> [Topic; 6]
         ),
         topic!(
             "TooLarge",
-            "over 1,024 bodies, 64 parameters, or 262,144 tokens of all 'use' or all lists",
+            "over 256 bodies, 64 parameters, or 262,144 tokens of all 'use' or all lists",
             TOO_LARGE,
         ),
     ]
@@ -133,7 +133,7 @@ Fixed:
 const TOO_LARGE: &str = "\
 TooLarge: with this 'use' all of the text stand for more than 262,144 tokens.
 Those in bodies count, too. Or the sections of all lists of nodes, as of 'node
-708,709', have more. Or the text has over 1,024 bodies, or a body over 64
+708,709', have more. Or the text has over 256 bodies, or a body over 64
 parameters.
 
   $ { echo body B; seq 9999; echo end node 709; yes use B | head -n 27; } |
@@ -141,7 +141,7 @@ parameters.
   ga-bench: expand 10028:5 TooLarge
     use B
         ^
-  over 1,024 bodies, 64 parameters, or 262,144 tokens of all 'use' or all lists
+  over 256 bodies, 64 parameters, or 262,144 tokens of all 'use' or all lists
 
 Fixed:
 

@@ -10,12 +10,28 @@ pub fn topics() -> [Topic; 15]
     ensures { map entry_of result ≡ sessions_entries }
 {
     [
-        topic!("BadCommand", "", BAD_COMMAND),
-        topic!("BadAddress", "", BAD_ADDRESS),
-        topic!("BadSide", "", BAD_SIDE),
-        topic!("BadCount", "", BAD_COUNT),
+        topic!(
+            "BadCommand",
+            "no command here, or words behind it are missing, wrong or left over",
+            BAD_COMMAND
+        ),
+        topic!(
+            "BadAddress",
+            "no address: three hex digits, at most 1FF",
+            BAD_ADDRESS
+        ),
+        topic!("BadSide", "no side: r, d, l or u", BAD_SIDE),
+        topic!(
+            "BadCount",
+            "no count: one to seven digits, at most 1000000",
+            BAD_COUNT
+        ),
         topic!("BadValue", "", BAD_VALUE),
-        topic!("NotHeld", "", NOT_HELD),
+        topic!(
+            "NotHeld",
+            "a node that isn't held at a breakpoint",
+            NOT_HELD
+        ),
         topic!("BadProfile", "", BAD_PROFILE),
         topic!("NoGo", "no line is 'go'", NO_GO),
         topic!("Source", "", SOURCE),
@@ -40,7 +56,11 @@ pub fn topics() -> [Topic; 15]
             "a line that is no command or comment, with no command before it",
             EARLY_REPLY,
         ),
-        topic!("differs", "", DIFFERS),
+        topic!(
+            "differs",
+            "the result isn't the one that this line states",
+            DIFFERS
+        ),
     ]
 }
 

@@ -10,6 +10,7 @@ mod Again
 pub mod Reports
 mod WorkedOutputs
 mod WorkedSources
+mod WorkedPlaces
 mod Judged
 mod Sourcing
 mod WithWaits

@@ -1,6 +1,5 @@
 -- What is reported of a source text that was refused.
 use Rattle.std.specs.Prelude.{◌≡◌, ◌&&◌, ℕ, Bool, true, false, not, List, [], ◌∷◌, ◌++◌, Option, Some, None, option_map, unwrap_or, if◌then◌else◌}
-use Rattle.std.specs.Str.{is_utf8}
 use Rattle.ga_asm.specs.declared.text.TextError.TheVariants as text_error
 use Rattle.ga_faults.specs.Faults.{IsFaults}
 use Rattle.ga_faults.specs.declared.fault.Fault.{Fault}
@@ -13,7 +12,9 @@ use Rattle.ga_jobs.specs.declared.fault.ServeError.TheVariants.{Shown}
 use Rattle.ga_jobs.specs.declared.fault.TextFault.TheVariants.{Asm, Expand, Source}
 use Rattle.ga_jobs.specs.Larger.{is_session}
 use Rattle.ga_jobs.specs.Lines.{Origins}
-use Rattle.ga_jobs.specs.Message.{fault_message, told}
+use Rattle.ga_jobs.specs.Message.{told}
+use Rattle.ga_jobs.specs.PlacedFault.{placed_message}
+use Rattle.ga_jobs.specs.Text.{as_text}
 use Rattle.ga_jobs.specs.TextFault.{shown_expand_fault, shown_fault}
 
 -- a fault of a text with the lines that are shown of it
@@ -54,22 +55,19 @@ is_of_text (Shown (Asm error) shown) = true
 is_of_text (Shown (Expand error) shown) = true
 is_of_text fault = false
 
--- an input as text, if it is one
-abbrev pub text_in : List ℕ → Option (List ℕ)
-text_in input = if is_utf8 input then Some input else None
-
 -- the source text of an input that was refused with a fault, if the fault is one of source text
 abbrev pub source_in : List ℕ → ServeError → Option (List ℕ)
 source_in input fault =
-    if not (is_session input) && is_of_text fault then text_in input else None
+    if not (is_session input) && is_of_text fault then as_text input else None
 
-abbrev pub AreTold : Origins → Form → ServeError → Option (List ℕ) → Option (List ℕ) → Type 0
-AreTold origins form fault (Some text) told =
+abbrev pub AreTold : Origins → Form → List ℕ → ServeError → Option (List ℕ) → Option (List ℕ)
+    → Type 0
+AreTold origins form input fault (Some text) told =
     (message : List ℕ) × AreFaultsIn origins form text message × (told ≡ Some message)
-AreTold origins form fault None told = told ≡ fault_message origins form fault
+AreTold origins form input fault None told = told ≡ placed_message origins form input fault
 
 -- What is reported of an input that was refused with a fault: if it is one of source text, all
 -- faults of the text; or else the fault alone, if it has a place.
 unfoldable pub AreFaultsTold : Origins → Form → List ℕ → ServeError → Option (List ℕ) → Type 0
 AreFaultsTold origins form input fault told =
-    AreTold origins form fault (source_in input fault) told
+    AreTold origins form input fault (source_in input fault) told

@@ -60,6 +60,8 @@ pub mod Larger
 pub mod Engine
 pub mod Lines
 pub mod Message
+pub mod WordPlace
+pub mod PlacedFault
 pub mod LintJob
 pub mod FileFaults
 pub mod inner

@@ -11,7 +11,7 @@ use Rattle.ga_profile.specs.declared.window.Window.{Window}
 use Rattle.ga_profile.specs.declared.window.WindowStart.{WindowStart}
 use Rattle.ga_trace.specs.Depth.{all_depths}
 use Rattle.ga_transcript.specs.Live.{LiveView}
-use Rattle.ga_waits.specs.Folded.{nodes_text}
+use Rattle.ga_waits.specs.Causes.{causes_first}
 use Rattle.ga_jobs.specs.declared.fault.ServeError.{ServeError}
 use Rattle.ga_jobs.specs.declared.race.Loading.{Loading}
 use Rattle.ga_jobs.specs.Race.{most_turns}
@@ -24,7 +24,7 @@ profile_in live window =
     (node_passes window live.chip) (path_turns window live.chip)
     (line_turns window live.chip (path_turns window live.chip)) (all_depths window.end live.chip)
     (chip_at_end window live.chip) ++ codes "At the end:\n")
-    ++ nodes_text live.program.images (chip_at_end window live.chip)
+    ++ causes_first live.program.images (chip_at_end window live.chip)
 
 -- the same in at most a number of turns
 abbrev pub profile_after : LiveView → WindowStart → ℕ → List ℕ
@@ -35,7 +35,7 @@ abbrev pub with_waits : List (ℕ × ImageView) → Profile → List ℕ
 with_waits images profile =
     (profile_text images profile.window profile.nodes.items profile.passes.items profile.path.items
     profile.lines.items profile.depths.items profile.chip ++ codes "At the end:\n")
-    ++ nodes_text images profile.chip
+    ++ causes_first images profile.chip
 
 -- the profile of the session that an input opens, or the first fault of that session
 abbrev pub IsProfileText : Loading → WindowStart → Option ℕ → List ℕ

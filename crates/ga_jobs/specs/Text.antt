@@ -1,5 +1,5 @@
 -- The input as text and as words.
-use Rattle.std.specs.Prelude.{◌≡◌, ◌⊎◌, ℕ, List, length, nat_lt, Result, Ok, Err, if◌then◌else◌}
+use Rattle.std.specs.Prelude.{◌≡◌, ◌⊎◌, ℕ, List, length, nat_lt, Option, Some, None, Result, Ok, Err, if◌then◌else◌}
 use Rattle.std.specs.Str.{is_utf8}
 use Rattle.ga_word.specs.Text.{is_empty, words_of_text}
 use Rattle.ga_jobs.specs.declared.fault.ServeError.{ServeError}
@@ -10,6 +10,10 @@ use Rattle.ga_jobs.specs.declared.fault.WordsFault.TheVariants as words
 -- an input as text: itself if it is UTF-8
 abbrev pub text_in : List ℕ → Result (List ℕ) ServeError
 text_in input = if is_utf8 input then Ok input else Err (Input BadText)
+
+-- the same, if it is a text
+abbrev pub as_text : List ℕ → Option (List ℕ)
+as_text input = if is_utf8 input then Some input else None
 
 -- The result of an input that must be a text: the result of the text, with its faults as the
 -- program reports them; or the fault of an input that is no text.

@@ -22,10 +22,13 @@ use Rattle.ga_jobs.specs.TextFault.{shown_fault}
 abbrev pub behind_head : ℕ → ℕ
 behind_head line = if nat_lt line (2 ^ 64 - 2) then line + 2 else line
 
--- the line at which a fault of the head is shown: if no line is `go`, the last one
+-- The line at which a fault of a head or of a replay text is shown. If no line is `go`, it is the
+-- last one.
 abbrev pub head_line : List ℕ → ReplayError → ℕ
 head_line text replay.BadProfile = 1
 head_line text replay.NoGo = length (lines text)
+head_line text (replay.Bad line error) = line
+head_line text (replay.Differs line) = line
 head_line text error = 2
 
 -- The source lines of a transcript begin at line 3 and end where the line `go` begins. Whether a

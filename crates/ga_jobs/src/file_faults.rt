@@ -1,23 +1,25 @@
 //! All faults of a source text, as compilers write them.
 ghost use Rattle.std.specs.Prelude.{◌≡◌, IfOk, option_map, string_bytes};
-ghost use Rattle.ga_jobs.specs.FileFaults.{AreFaultMessages, AreFaultsIn, AreFaultsTold, IsFaultMessage, IsHintText, is_of_text, shown_of, source_in, text_in};
+ghost use Rattle.ga_jobs.specs.FileFaults.{AreFaultMessages, AreFaultsIn, AreFaultsTold, IsFaultMessage, IsHintText, is_of_text, shown_of, source_in};
 ghost use Rattle.ga_jobs.specs.Lines.{origins_of};
 
 use crate::fault::{ServeError, TextFault};
 use crate::larger::is_session;
 use crate::lines::Lines;
-use crate::message::{fault_message, message_with};
+use crate::message::message_with;
+use crate::placed_fault::placed_message;
+use crate::text::as_text;
 use crate::text_fault::{shown_expand_fault, shown_fault};
 use ga_asm::TextError;
 use ga_faults::{Fault, faults};
 use ga_hints::hint;
 use ga_messages::Form;
 use std::alloc::{AllocError, Global};
-use std::str;
 
 /// What is reported of an input that was refused with a fault, in a form: if the fault is one of
 /// source text, all faults of the text, at most 20, each with what may help; or else the fault
-/// alone, as [`fault_message`] writes it. Fails only when out of memory. (Profile.)
+/// alone, at its place in the input. A fault that has none gives `None`. Fails only when out of
+/// memory. (The forms are this project's own: profile.)
 #[tactic(auto, unfolding(crate::specs::FileFaults::AreFaultsTold))]
 pub fn faults_message(
     alloc: Global,
@@ -31,7 +33,7 @@ pub fn faults_message(
 {
     match source_in(input, fault) {
         Some(text) => Ok(Some(faults_text(alloc, lines, form, text)?)),
-        None => fault_message(alloc, lines, form, fault),
+        None => placed_message(alloc, lines, form, input, fault),
     }
 }
 
@@ -41,19 +43,9 @@ fn source_in<'a>(input: &'a [u8], fault: &ServeError) -> Option<&'a str>
     ensures { option_map (λ text. text.now) result ≡ source_in input.now fault.now }
 {
     if !is_session(input) && is_of_text(fault) {
-        text_in(input)
+        as_text(input)
     } else {
         None
-    }
-}
-
-/// The input as text, if it is one.
-fn text_in(input: &[u8]) -> Option<&str>
-    ensures { option_map (λ text. text.now) result ≡ text_in input.now }
-{
-    match str::from_utf8(input) {
-        Ok(text) => Some(text),
-        Err(_) => None,
     }
 }
 

@@ -1,13 +1,14 @@
 ghost use Rattle.std.specs.Prelude.{◌≡◌, ◌==◌, ◌-◌, IfOk, length, slice_index};
-ghost use Rattle.ga_jobs.specs.Meaning.{head_meaning, profile_meaning};
+ghost use Rattle.ga_jobs.specs.Meaning.{head_meaning, profile_meaning, words_meaning};
 
+use crate::fault::WordsFault;
 use ga_debug::ReplayError;
 use ga_explain::meaning;
 use ga_messages::whole_line;
 use std::alloc::{AllocError, Global};
 
-/// What a fault of the head of a transcript, which is this text, means, in one line. Fails only
-/// when out of memory.
+/// What a fault of a text, which is a replay text or has the head of a session, means, in one line.
+/// Fails only when out of memory.
 #[tactic(auto, unfolding(crate::specs::Meaning::head_meaning))]
 pub fn head_meaning(
     alloc: Global,
@@ -23,6 +24,8 @@ pub fn head_meaning(
         ReplayError::Route(_) => meaning(alloc, "Route"),
         ReplayError::Tree(_) => meaning(alloc, "Tree"),
         ReplayError::Boot(_) => meaning(alloc, "Boot"),
+        ReplayError::Bad(_, error) => meaning(alloc, error.name()),
+        ReplayError::Differs(_) => meaning(alloc, "differs"),
         _ => Ok(""),
     }
 }
@@ -46,6 +49,18 @@ fn ends_by_cr(line: &str) -> bool
     ensures { result ≡ (slice_index line.now (length line.now - 1) == 13) }
 {
     line.as_bytes().last() == Some(&b'\r')
+}
+
+/// What a fault of words means, in one line.
+pub(crate) fn words_meaning(fault: &WordsFault) -> &'static str
+    ensures { result.now ≡ words_meaning fault.now }
+{
+    match fault {
+        WordsFault::BadWord(_) => "no word of five hex digits, at most 3FFFF",
+        WordsFault::Empty => "a text without a word",
+        WordsFault::TooLong => "the 65th word: a node has room for 64",
+        WordsFault::BadCode => "",
+    }
 }
 
 const BAD_PROFILE: &str = "the first line isn't 'profile 2'";

@@ -128,7 +128,7 @@ fn asm_message<'a>(file: &'a str, line: usize, error: AsmError, shown: &'a Shown
 }
 
 /// The message of an error.
-fn error_message<'a>(
+pub(crate) fn error_message<'a>(
     file: &'a str,
     place: Place,
     kind: &'static str,

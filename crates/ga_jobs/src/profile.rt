@@ -9,7 +9,7 @@ use crate::session::open_session;
 use ga_asm::Images;
 use ga_profile::{Profile, WindowStart, measure, profile_text};
 use ga_transcript::Live;
-use ga_waits::nodes;
+use ga_waits::causes_first;
 use std::alloc::{AllocError, Global};
 
 /// What each node of the input's chip does in a run, the bottleneck, and who waits at the end. The
@@ -73,7 +73,7 @@ pub(crate) fn with_waits(
 {
     let mut text = profile_text(alloc, profile, Some(images))?;
     text.push_str("At the end:\n")?;
-    let waits = nodes(alloc, &profile.chip, Some(images))?;
+    let waits = causes_first(alloc, &profile.chip, Some(images))?;
     text.push_str(waits.as_str())?;
     Ok(text)
 }

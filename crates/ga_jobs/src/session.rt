@@ -21,12 +21,9 @@ pub fn output(alloc: Global, loading: &Loading, input: &[u8]) -> Result<String, 
 }
 
 /// The session that an input opens: a transcript, or the head of a session, whose commands are
-/// done; or source text. Or the first fault.
-pub(crate) fn open_session(
-    alloc: Global,
-    loading: &Loading,
-    input: &[u8],
-) -> Result<Live, ServeError>
+/// done; or source text. Or the first fault. `Memory` comes only when out of memory. (The sessions
+/// are this project's own: profile.)
+pub fn open_session(alloc: Global, loading: &Loading, input: &[u8]) -> Result<Live, ServeError>
     ensures { Answers (λ live. live) (IsSession loading.now input.now) result }
 {
     let text = input_text(input)?;

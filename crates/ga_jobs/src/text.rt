@@ -1,6 +1,6 @@
-ghost use Rattle.std.specs.Prelude.{◌≤◌, IfOk, vec_len};
+ghost use Rattle.std.specs.Prelude.{◌≡◌, ◌≤◌, IfOk, option_map, vec_len};
 ghost use Rattle.ga_jobs.specs.Fault.{Gives};
-ghost use Rattle.ga_jobs.specs.Text.{text_in, words_in};
+ghost use Rattle.ga_jobs.specs.Text.{as_text, text_in, words_in};
 
 use crate::fault::{InputFault, ServeError, WordsFault};
 use ga_word::{Word18, read_words};
@@ -17,6 +17,16 @@ pub fn input_text(input: &[u8]) -> Result<&str, ServeError>
     match str::from_utf8(input) {
         Ok(text) => Ok(text),
         Err(_) => Err(ServeError::Input(InputFault::BadText)),
+    }
+}
+
+/// The input as text, if it is one.
+pub(crate) fn as_text(input: &[u8]) -> Option<&str>
+    ensures { option_map (λ text. text.now) result ≡ as_text input.now }
+{
+    match str::from_utf8(input) {
+        Ok(text) => Some(text),
+        Err(_) => None,
     }
 }
 

@@ -41,7 +41,11 @@ pub fn shown_transcript_fault(
 }
 
 /// The fault of a head, with the lines that are shown of the text.
-fn shown_head_fault(alloc: Global, text: &str, error: ReplayError) -> Result<ServeError, AllocError>
+pub(crate) fn shown_head_fault(
+    alloc: Global,
+    text: &str,
+    error: ReplayError,
+) -> Result<ServeError, AllocError>
     ensures { IfOk result (λ fault. fault ≡ shown_head_fault text.now error) }
 {
     match error {
@@ -117,13 +121,14 @@ fn behind_head(line: usize) -> usize
     }
 }
 
-/// The line at which a fault of the head is shown.
-fn head_line(text: &str, error: &ReplayError) -> usize
+/// The line at which a fault of a head or of a replay text is shown.
+pub(crate) fn head_line(text: &str, error: &ReplayError) -> usize
     ensures { result ≡ spec.head_line text.now error.now }
 {
     match error {
         ReplayError::BadProfile => 1,
         ReplayError::NoGo => text.lines().count(),
+        ReplayError::Bad(line, _) | ReplayError::Differs(line) => *line as usize,
         _ => 2,
     }
 }

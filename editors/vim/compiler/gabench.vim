@@ -4,9 +4,13 @@ if exists('current_compiler')
 endif
 let current_compiler = 'gabench'
 
-" Errors and warnings of source text have the file's name. Then come the line and a mark.
-if &filetype ==# 'gasource' || &filetype ==# 'galarger'
-  CompilerSet makeprg=ga-bench\ lint\ %:S
+" Errors and warnings of source text and of replay texts have the file's name. Then come the line and a mark.
+if &filetype !=# 'gatranscript'
+  if &filetype ==# 'gasession'
+    CompilerSet makeprg=ga-bench\ replay\ %:S
+  else
+    CompilerSet makeprg=ga-bench\ lint\ %:S
+  endif
   CompilerSet errorformat=%E%f:%l:%c:\ error:\ %m
   CompilerSet errorformat+=%W%f:%l:%c:\ warning:\ %m
   CompilerSet errorformat+=%-C\ \ %.%#
@@ -14,12 +18,8 @@ if &filetype ==# 'gasource' || &filetype ==# 'galarger'
   finish
 endif
 
-" The first line of the output is the file's name, since errors of sessions don't have it.
-if &filetype ==# 'gatranscript'
-  CompilerSet makeprg=(echo\ %:S;\ ga-bench\ check\ %:S)
-else
-  CompilerSet makeprg=(echo\ %:S;\ ga-bench\ replay\ <\ %:S)
-endif
+" The first line of the output is the file's name, since errors of `check` don't have it.
+CompilerSet makeprg=(echo\ %:S;\ ga-bench\ check\ %:S)
 
 " The name; counts, which aren't errors; errors in a source that the file names; other errors with a place; those
 " without one. Then come the line, a mark and what the error means, or the expected and the actual reply.
@@ -30,8 +30,6 @@ CompilerSet errorformat+=%Ega-bench:\ asm\ %*\\d\ %l:%c\ %m
 CompilerSet errorformat+=%Ega-bench:\ source\ %f:%l:%c\ %m
 CompilerSet errorformat+=%Ega-bench:\ asm\ %*\\d\ %f:%l:%c\ %m
 CompilerSet errorformat+=%Ega-bench:\ check\ %m\ %l
-CompilerSet errorformat+=%Ega-bench:\ replay\ line\ %l\ %m
-CompilerSet errorformat+=%Ega-bench:\ replay\ %m\ %l
 CompilerSet errorformat+=%Ega-bench:\ transcript\ line\ %l\ %m
 CompilerSet errorformat+=%Ega-bench:\ %m
 CompilerSet errorformat+=%-C\ \ %.%#

@@ -1,7 +1,7 @@
 use Rattle.std.proofs.Common.{Some, ap, sym}
 use Rattle.std.proofs.lemmas.Bool.{cond-false, false_from_ne_true}
 use Rattle.std.proofs.lemmas.Str.{IsUtf8-from_is_utf8, is_utf8-from_IsUtf8}
-use Rattle.ga_jobs.proofs.file_faults.text_in.Goals as goal
+use Rattle.ga_jobs.proofs.text.as_text.Goals as goal
 
 pub returns-in-Ok : goal.returns-in-Ok
 returns-in-Ok c =
