@@ -154,7 +154,7 @@ def alone(program, folder):
     for job, error in faults.items():
         expect(f"alone: {job}", run(program, [*job.split(), FILE], cwd=folder), (1, "", f"ga-bench: {error}\n"))
     write(folder, "words", "x y\n")
-    expect("alone: dis", run(program, ["dis", "words"], cwd=folder), (1, "", "ga-bench: words 0 BadWord\n"))
+    expect("alone: dis", run(program, ["dis", "words"], cwd=folder), (1, "", "words:1:1: error: BadWord: no word of five hex digits, at most 3FFFF\n  x y\n  ^\n"))
 
 
 def random_texts(program, folder):

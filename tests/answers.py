@@ -42,7 +42,7 @@ from operands import COMMANDS, IN_REPLAYS, command_of
 from outputs import (
     asm_output, boot_output, dis_output, judge_reached, labels_output, list_output, routes_of, rows_of, tree_of,
 )  # fmt: skip
-from profiles import LINES_HEAD, PROFILE, Run, TooLong, profile_json, profile_of, profile_text, share, stuck_text
+from profiles import LINES_HEAD, PROFILE, Run, TooLong, has_code_of, profile_json, profile_of, profile_text, share, stuck_text
 from replies import STACKS, agree_in_other_words, agrees, has_form, ledgers, other_words, registers
 from report_page import BOTTLENECK, fault_of_page
 from sessions import Transcript, head_of, text_of
@@ -90,6 +90,20 @@ def meanings():
 
 
 CASES = recorded_cases()
+# What faults of words mean, and those of lines of a replay text that no recorded case shows.
+WORDS_MEAN = {
+    "BadWord": "no word of five hex digits, at most 3FFFF",
+    "Empty": "a text without a word",
+    "TooLong": "the 65th word: a node has room for 64",
+}
+LINES_MEAN = {
+    "BadCommand": "no command here, or words behind it are missing, wrong or left over",
+    "BadAddress": "no address: three hex digits, at most 1FF",
+    "BadSide": "no side: r, d, l or u",
+    "BadCount": "no count: one to seven digits, at most 1000000",
+    "NotHeld": "a node that isn't held at a breakpoint",
+    "differs": "the result isn't the one that this line states",
+}
 MEANINGS = meanings()
 # The recorded texts of `explain`, by the names behind it.
 EXPLAINED = {tuple(it["args"][1:]): it["stdout"] for it in CASES if it["args"][:1] == ["explain"] and it["status"] == 0}
@@ -286,6 +300,30 @@ def fault_report(origin, fault, text):
     return Report(file, line, column, "error", name, meaning_of(name, text), node, hint, shown_text(text, *fault.place))
 
 
+def other_report(job, fault, text):
+    """What is reported of a fault in FILE that is none of source text: of words, of a replay text or of the head of a session; or
+    None."""
+    kind, *words = fault.text.split()
+    name = "differs" if words[:1] == ["differs"] else words[-1]
+    if kind == "words" and name in WORDS_MEAN:
+        index = {"BadWord": words[0], "Empty": 0, "TooLong": 64}[name]
+        place, meaning = place_of_word(text, int(index)), WORDS_MEAN[name]
+    elif kind in ("replay", "transcript"):
+        numbers = [int(word) for word in words if word.isdecimal()]
+        place, meaning = (*(numbers or fault.place)[:1], 1), LINES_MEAN.get(name) or meaning_of(name, text)
+    else:
+        return None
+    (file, line), column = job.origin(place[0]), place[1]
+    return Report(file, line, column, "error", name, meaning, fault.node, None, shown_text(text, *place))
+
+
+def place_of_word(text, index):
+    """The line and the column where the word with an index stands, or where the text ends."""
+    starts = [it.start() for it in re.finditer("[^ \t\r\n]+", text)]
+    front = text[: starts[index]] if index < len(starts) else text
+    return front.count("\n") + 1, len(front.split("\n")[-1]) + 1
+
+
 def message(origin, fault, text):
     return report_text(fault_report(origin, fault, text))
 
@@ -311,11 +349,13 @@ def text_of_reports(job, reports):
 
 def refused(job, fault, text):
     """The expected answer of a job with a fault: the fault, and behind it what some subcommands show of the text. Of source text in
-    FILE, and as JSON, all faults are reported."""
+    FILE, and as JSON, all faults are reported. A fault that shows an expansion has no place in FILE."""
     placed, shown = PLACED.fullmatch(fault.text), fault.behind
     if placed and fault.place and (job.named() is not None or job.writes_json()):
         faults = [fault] if text.startswith("profile") else faults_of(text)
         return refused_with(job, [fault_report(job.origin, it, text) for it in faults])
+    if job.named() is not None and fault.shows is None and (report := other_report(job, fault, text)):
+        return refused_with(job, [report])
     if fault.place and job.name in SHOWING:
         shown = shown_text(text if fault.shows is None else fault.shows, *fault.place) + meaning_of(fault.text.split()[-1], text) + "\n"
     name = f"{job.named()}: " if job.named() is not None and fault.text.startswith("input ") else ""
@@ -590,7 +630,14 @@ def profile(ask, job, text, answer):
         judge_numbers(answer.output, ask(["profile", *without(job, "json")], text))
     else:
         must_have_form(answer, PROFILE)
+        images = head_of(head_in(job, text)).images
+        demand(all(has_code_of(it, images) for it in rows_of_path(answer.output)), "other code where the path goes")
     return answer.output
+
+
+def rows_of_path(shown):
+    """The rows of the table in a profile that shows where the path goes."""
+    return [*itertools.takewhile(lambda it: it.startswith(" "), shown.split(LINES_HEAD)[1].splitlines())]
 
 
 def without(job, name):
@@ -615,8 +662,7 @@ def judge_numbers(output, shown):
     demand(shown.startswith(f"{max(end - first, 0)} turns from turn {first} on\n"), "another window")
     demand(names == [row[0] for row in rows], "other nodes")
     demand([[*map(str, it)] for it in numbers] == [row[-4:] for row in rows], "other words or passes")
-    rows = itertools.takewhile(lambda it: it.startswith(" "), shown.split(LINES_HEAD)[1].splitlines())
-    demand(lines == [row.split()[:3] for row in rows], "other lines")
+    demand(lines == [row.split()[:3] for row in rows_of_path(shown)], "other lines")
     demand(bottleneck == BOTTLENECK.search(shown)[0], "another bottleneck")
     is_stuck = bottleneck.startswith(stuck_text(map(int, stuck)) + "Bottleneck: ")
     demand(is_stuck or "\nring " in bottleneck, "other nodes are stuck")
@@ -653,7 +699,7 @@ def report(ask, job, text, answer):
 
 @subcommand("FILE")
 def replay(ask, job, text, answer):
-    head = head_of(text, ["profile 2", "profile 1"])
+    head = head_of(text, ["profile 2", "profile 1"], shows_source=job.named() is not None)
     steps = [Step(line, it, command_of(it, IN_REPLAYS)) for line, it in enumerate(head.lines, head.go + 1) if it]
     good = list(itertools.takewhile(lambda it: not it.command.refusal, steps))
     if head.text.startswith("profile 2\n"):
@@ -684,17 +730,25 @@ def judge_old(ask, text, steps, answer):
     """Judges a text of profile 1, whose chip `debug` doesn't have. A line counts as different if the lines before it
     are right, and all lines count as right if another outcome of the last one differs."""
     lines = text.split("\n")
-    found = re.fullmatch("ga-bench: replay (differs ([0-9]+)|line ([0-9]+) NotHeld)\n", answer.error)
-    for at, it in enumerate(steps if found else []):
-        if it.line == int(found[2] or found[3]) and it.command.verb in (("try", "turn") if found[2] else ("pass",)):
+    line, name = refused_line(answer.error)
+    for at, it in enumerate(steps):
+        if it.line == line and it.command.verb in (("try", "turn") if name == "differs" else ("pass",)):
             ask(["replay"], text_of(lines[: it.line - 1]), f"same {count_of(steps[:at])}\n")
-            raise Fault(f"replay {found[1]}")
+            raise Fault(f"replay differs {line}" if name == "differs" else f"replay line {line} {name}")
     last = next((it for it in reversed(steps) if count_of([it])), None)
     if last and answer.status == 0:
         outcome = last.command.operands[-1]
         other = int(outcome == 0) if last.command.verb == "turn" else "waits" if outcome == "moved" else "moved"
         front = [*lines[: last.line - 1], f"{last.text.partition(' = ')[0]} = {other}"]
         ask(["replay"], text_of(front), error=f"ga-bench: replay differs {last.line}\n")
+
+
+def refused_line(error):
+    """The line of a replay text that was refused since its outcome differs, or since a node isn't held, and which of them."""
+    if found := re.fullmatch("ga-bench: replay (?:differs ([0-9]+)|line ([0-9]+) NotHeld)\n", error):
+        return (int(found[1]), "differs") if found[1] else (int(found[2]), "NotHeld")
+    found = re.match("[^\n]*:([0-9]+):1: error: (differs|NotHeld): ", error)
+    return (int(found[1]), found[2]) if found else (None, None)
 
 
 @subcommand("FILE", nodes="LIST", save="SAVE", turns=range(1000001), place=None, route="ROUTE")

@@ -39,12 +39,12 @@ class Word(namedtuple("Word", "value kind first")):
 
 
 class Fault(Exception):
-    """The first fault of an input. It may have a place, which is a line and a column, lines behind its own, and another text
-    whose line is shown."""
+    """The first fault of an input. It may have a place, which is a line and a column, lines behind its own, another text whose
+    line is shown, and a node that it is about."""
 
-    def __init__(self, text, place=None, behind="", shows=None):
+    def __init__(self, text, place=None, behind="", shows=None, node=None):
         super().__init__(text)
-        self.text, self.place, self.behind, self.shows = text, place, behind, shows
+        self.text, self.place, self.behind, self.shows, self.node = text, place, behind, shows, node
 
 
 def fault_at(kind, token, name):

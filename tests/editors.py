@@ -128,8 +128,8 @@ FAULTS = {
     "reply.transcript": ("profile 2\nplace\nnode 000 .\ngo\n> turn 4\nmoved 5\n", "differs", 5, 0),
     "early.transcript": ("profile 2\nplace\nnode 000 .\ngo\nfoo\n> turn 4\nmoved 4\n", "EarlyReply", 5, 0),
     "source.transcript": ("profile 2\nplace\nsource token.source\ngo\n> turn 4\nmoved 4\n", "BadToken", 3, 7, "token.source"),
-    "side.replay": ("profile 2\nplace\nnode 000 .\ngo\ntry 000 r = moved\ntry 000 x = moved\n", "BadSide", 6, 0),
-    "outcome.replay": ("profile 2\nplace\nnode 000 .\ngo\nturn 4 = 5\n", "differs", 5, 0),
+    "side.replay": ("profile 2\nplace\nnode 000 .\ngo\ntry 000 r = moved\ntry 000 x = moved\n", "BadSide", 6, 1),
+    "outcome.replay": ("profile 2\nplace\nnode 000 .\ngo\nturn 4 = 5\n", "differs", 5, 1),
 }
 # Texts with several errors, also in a file that one includes: of each its name, its line and its column, and the file if it is another.
 SEVERAL = {

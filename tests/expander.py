@@ -13,7 +13,7 @@ Piece = namedtuple("Piece", "text line column")
 Body = namedtuple("Body", "arity parts")
 WORDS = {"const", "body", "end", "use", "include", "to", "north", "east", "south", "west"}
 SIDES = re.compile(r"(right|down|left|up)(\|(right|down|left|up))+")
-MOST_TOKENS, MOST_BYTES, MOST_BODIES, MOST_PARAMETERS = 262144, 64, 1024, 64
+MOST_TOKENS, MOST_BYTES, MOST_BODIES, MOST_PARAMETERS = 262144, 64, 256, 64
 
 
 def fault_at(piece, name):

@@ -141,6 +141,10 @@ NAMES = [
     ("const LAST 5\nnode 709 &LAST drop\n", [("2:10 UndefinedLabel 709", None)]),
     ("const LAST 5\nconst LASTS 6\nnode 709 &LAST drop\n", [("3:10 UndefinedLabel 709", None)]),
     ("const LAST LAST\nnode 709 .\n", [("1:12 BadToken", None)]),
+    # what is being defined isn't offered
+    ("const COUNT COUNR\nnode 709 .\n", [("1:13 BadToken", None)]),
+    ("const SIZE 8\nconst SIZES SIZ\nnode 709 .\n", [("2:13 BadToken", "SIZE")]),
+    ("body stage\n  use stag\nend\nnode 709 use stage\n", [("2:7 UnknownBody", None)]),
     ("body A\n  use BODY\nend\nbody BODY\n  .\nend\nnode 709 use A\n", [("2:7 UnknownBody", None)]),
     # in a body, in an argument, in a list of nodes
     ("body B\n  drpo\nend\nnode 708 use B\n", [("2:3 BadToken", "drop")]),
@@ -166,7 +170,8 @@ NAMES = [
     ("node 708 dupp\nnode 709\nloop: jump lop\n", [("1:10 BadToken", "dup"), ("3:12 UndefinedLabel 709", "loop")]),
     ("const LAST 5\nnode 708 dupp\nnode 709 jump LATS\n", [("2:10 BadToken", "dup"), ("3:15 UndefinedLabel 709", "LAST")]),
 ]  # fmt: skip
-LABEL, STAGE = "{0} is a label: call {0}, or &{0} for its address", "the body {} of line {} has no end"
+LABEL = "{0} is a label: call {0}, or &{0} for its address; in data , {0}"
+STAGE = "the body {} has no end"
 BODY, EXPRESSION = "{0} is a body: use {0}", "an expression stands only behind const"
 # Texts, and of each message the place, the name, the node if it has one, and what helps or None.
 OTHERS = [
@@ -185,6 +190,12 @@ OTHERS = [
     ("node 709 . data foo: , 1 foo\n", [("1:26 BadToken", LABEL.format("foo"))]),
     ("node 708,709 foo: . foo\n", [("1:21 BadToken", LABEL.format("foo"))]),
     ("node 709 end: . end\n", [("1:17 BadToken", LABEL.format("end"))]),
+    ("node 709 main: dup ; data main\n", [("1:27 BadToken", LABEL.format("main"))]),
+    # what can't be the name of a label: a word of the language, or one that begins with a digit or has another sign
+    ("node 709 data dup dup:\n", [("1:15 BadToken", None)]),
+    ("node 709 @p . @p:\n", [("1:10 BadToken", None)]),
+    ("node 709 9loop . 9loop:\n", [("1:10 BadToken", None)]),
+    ("node 709 my-loop . my-loop:\n", [("1:10 BadToken", None)]),
     ("node 709 foo: . Foo\n", [("1:17 BadToken", None)]),
     ("node 708 foo: .\nnode 709 foo\n", [("2:10 BadToken", None)]),
     ("body B\n  here\nend\nnode 708 use B\nnode 709 here: .\n", [("2:3 BadToken", LABEL.format("here"))]),
@@ -194,30 +205,47 @@ OTHERS = [
     ("node 709 -5-3\n", [("1:10 BadToken", EXPRESSION)]),
     ("node 709 1<<4\n", [("1:10 BadToken", EXPRESSION)]),
     ("node 709 (1)>>(4)\n", [("1:10 BadToken", EXPRESSION)]),
-    ("const RL right|left\nnode 709 RL|up a!\n", [("2:10 BadToken", None)]),
+    ("const RL right|left\nnode 709 RL|up a!\n", [("2:10 BadToken", EXPRESSION)]),
+    ("const SIZE 8\nnode 709 SIZE|1 a!\n", [("2:10 BadToken", EXPRESSION)]),
+    ("const SIZE 8\nnode 709 2*(SIZE) a!\n", [("2:10 BadToken", EXPRESSION)]),
     ("node 709 5 north|east b!\n", [("1:12 BadToken", None)]),
-    ("node 709 . data , A_&_B\n", [("1:19 BadToken", EXPRESSION)]),
+    ("const A_ 1\nconst _B 2\nnode 709 . data , A_&_B\n", [("3:19 BadToken", EXPRESSION)]),
     ("const A 5\nnode 709 jump A+1\n", [("2:15 BadToken", EXPRESSION)]),
     ("const A 5\nnode 709 [ dup jump A+1 ]\n", [("2:21 BadToken", EXPRESSION)]),
     ("node 2*3 .\n", [("1:6 BadToken", EXPRESSION)]),
     ("body B N\n  N\nend\nnode 709 use B 2*3\n", [("4:16 BadToken", EXPRESSION)]),
-    ("node 709 (5)\n", [("1:10 BadToken", None)]),
-    ("node 709 2*(3)\n", [("1:10 BadToken", None)]),
-    ("node 709 'A'+1\n", [("1:10 BadToken", None)]),
+    ("node 709 (5)\n", [("1:10 BadToken", EXPRESSION)]),
+    ("node 709 2*(3)\n", [("1:10 BadToken", EXPRESSION)]),
+    ("node 709 'A'+1\n", [("1:10 BadToken", EXPRESSION)]),
+    # an operator without an operand, or a name that is no constant
+    ("node 709 . data , A_&_B\n", [("1:19 BadToken", None)]),
+    ("node 709 my-label\n", [("1:10 BadToken", None)]),
+    ("node 709 <<<<<<<\n", [("1:10 BadToken", None)]),
+    ("node 708 .\nconst SIZE 8\nnode 709 SIZE-1\n", [("2:1 BadToken", None), ("3:10 BadToken", None)]),
     ("node 709 a/b\n", [("1:10 BadToken", None)]),
     ("const A 5/2\nnode 709 .\n", [("1:9 BadToken", None)]),
-    # a body that goes on into the sections, for any fault of the larger language behind them; one that has an `end`, or no section
-    # in front of the fault, is another matter
-    ("body STAGE\n  dup\nnode 708 5 use STAGE\n", [("3:16 UnknownBody", STAGE.format("STAGE", 1))]),
-    ("const A 5\n\n body STAGE PORT\n  PORT\nnode 708 use STAG\n", [("5:14 UnknownBody", STAGE.format("STAGE", 3))]),
-    ("body ONE\n  .\nnode 708 .\nbody TWO\n  use ONE\nend\nnode 709 use TWO\n", [("5:7 UnknownBody", STAGE.format("ONE", 1))]),
-    (f"body B\nnode 708 {'x' * 65}\n", [("2:10 BadToken", STAGE.format("B", 1))]),
-    ("body B\nnode 708 use end\nnode 709 .\n", [("2:10 OpenDefinition", STAGE.format("B", 1))]),
-    ("node 708 body X\nnode 709 use GONE\n", [("1:10 BadToken", None), ("2:14 UnknownBody", STAGE.format("X", 1))]),
+    # a body without an `end` in front of the next `body`, or of the text's end
+    ("body STAGE\n  dup\nnode 708 5 use STAGE\n", [("3:16 UnknownBody", STAGE.format("STAGE"))]),
+    ("const A 5\n\n body STAGE PORT\n  PORT\nnode 708 use STAG\n", [("5:14 UnknownBody", STAGE.format("STAGE"))]),
+    ("body ONE\n  .\nnode 708 .\nbody TWO\n  use ONE\nend\nnode 709 use TWO\n", [("5:7 UnknownBody", STAGE.format("ONE"))]),
+    ("body s\n dup\nbody t\n drop\nend\nnode 709 use t\n", [("6:14 UnknownBody", STAGE.format("s"))]),
+    (f"{SEND}body s\n dup\nbody t\n drop\nend\nnode 709 use t\n", [("9:14 UnknownBody", STAGE.format("s"))]),
+    ("body SEND\n .\nend\nbody SENT\n .\nnode 709 use SENT\n", [("6:14 UnknownBody", STAGE.format("SENT"))]),
+    ("body s\n dup\nbody TAKE\n drop\nend\nnode 709 use TAEK\n", [("6:14 UnknownBody", STAGE.format("s"))]),
+    ("body B\n  node 708 use GONE\nend\nuse B\n", [("2:16 UnknownBody", None)]),
+    ("body A\n  use GONE\nend\nbody B\n  .\nnode 709 use B\n", [("2:7 UnknownBody", None)]),
+    ("node 709 use body 5 dup\n", [("1:14 UnknownBody", None)]),
+    (f"body B\nnode 708 {'x' * 65}\n", [("2:10 BadToken", None)]),
+    ("body B\nnode 708 use end\nnode 709 .\n", [("2:10 OpenDefinition", None)]),
+    ("node 708 body X\nnode 709 use GONE\n", [("1:10 BadToken", None), ("2:14 UnknownBody", STAGE.format("X"))]),
     (f"{SEND}node 708 .\nnode 709 5 use SEDN east\n", [("5:16 UnknownBody", "the nearest name is SEND")]),
     ("body STAGE\n  use GONE\nend\nnode 708 use STAGE\n", [("2:7 UnknownBody", None)]),
-    ("body STAGE\n  use GONE\nnode 708 .\n", [("2:7 UnknownBody", None)]),
-    ("body B\nnode 708 .\n", [("1:1 OpenDefinition", None)]),
+    ("body STAGE\n  use GONE\nnode 708 .\n", [("2:7 UnknownBody", STAGE.format("STAGE"))]),
+    (f"{SEND}body STAGE\n  use SEDN\nnode 708 .\n", [("5:7 UnknownBody", "the nearest name is SEND")]),
+    ("body B\nnode 708 .\n", [("1:1 OpenDefinition", STAGE.format("B"))]),
+    (f"{SEND}body B\n  dup\n", [("4:1 OpenDefinition", STAGE.format("B"))]),
+    ("body\n", [("1:1 OpenDefinition", None)]),
+    ("node 709 use\n", [("1:10 OpenDefinition", None)]),
     ("body B node\n", [("1:8 ReservedName", None)]),
     # with sections that have errors too: each by itself, in the order of the places
     ("node 708 foo: . foo\nnode 709 2*3\nnode 708 DUP\n",
@@ -280,7 +308,7 @@ TREES = [
     ({FILE: 'node 709\ninclude "part"\ninclude "part"\n', "part": WORD * 33}, "part:32:1", "it needs 66 words: 66 code, 0 data; 2 over"),
     ({FILE: 'node 709\ninclude "part"\nloop: ;\n', "part": ". loop\n"}, "part:1:3", LABEL.format("loop")),
     ({FILE: 'include "part"\nnode 709 SEND\n', "part": SEND}, f"{FILE}:2:10", BODY.format("SEND")),
-    ({FILE: 'include "part"\nnode 709 use GONE\n', "part": "\\ a note\nbody STAGE\n  .\n"}, f"{FILE}:2:14", STAGE.format("STAGE", 2)),
+    ({FILE: 'include "part"\nnode 709 use GONE\n', "part": "\\ a note\nbody STAGE\n  .\n"}, f"{FILE}:2:14", STAGE.format("STAGE")),
     ({FILE: 'include "past"\nnode 709 dupp\n', "part": "const dup 5\n"}, f"{FILE}:1:1", None),
 ]  # fmt: skip
 # Words that random texts have, and words that are wrong or in a wrong place in most of them.
@@ -292,7 +320,7 @@ ITEMS = [
     "align", "right b! @b", "dup dup dup dup", "-1", "'A'", ";",
 ]  # fmt: skip
 # What helps, of any kind.
-HINT = r"the nearest name is|it needs \d|is a body: use|is a label: call|an expression stands|the body \S+ of line \d+ has no end"
+HINT = r"the nearest name is|it needs \d|is a body: use|is a label: call|an expression stands|the body \S+ has no end"
 failures = []
 passed = 0
 

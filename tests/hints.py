@@ -4,11 +4,10 @@
 has no end; or how many words a node needs that are more than its memory has.
 """
 import functools
-import re
 import string
 
-from assembler import OPCODES, RAM, Fault, Layout, Parser
-from expander import expanded_text, expansion, pieces_of
+from assembler import NAME, NUMBER, NUMBERS, OPCODES, RAM, Fault, Layout, Parser
+from expander import MOST_BYTES, MOST_LEVELS, expanded_text, expansion, literal_of, pieces_of, split_at_weakest
 from nearest import nearest
 from text_faults import part_at, part_with
 
@@ -16,8 +15,6 @@ from text_faults import part_at, part_with
 OTHER_WORDS = "node align data use to north east south west right down left up io rdlu warm".split()
 # Words of the larger language that no word there is near to, and the words with which a text may begin, in this order too.
 DEFINING, BEGINNING = {"const", "body", "end", "include"}, ["const", "body", "include", "node"]
-# An operator, but not `|`, between two letters, digits or `_`; and a shift, whatever is beside it.
-EXPRESSION = re.compile("[A-Za-z0-9_][-+*&][A-Za-z0-9_]|<<|>>")
 LOWER = str.maketrans(string.ascii_uppercase, string.ascii_lowercase)
 
 
@@ -58,39 +55,73 @@ def nearest_hint(word, names):
     return None if found is None else f"the nearest name is {found}"
 
 
-def token_hint(word, pieces):
+def is_label(word, pieces):
+    """Whether a word is the name of a label that one of these tokens defines. A word of the language is none."""
+    return bool(NAME.fullmatch(word)) and word not in [*OPCODES, *OTHER_WORDS] and any(it.text == f"{word}:" for it in pieces)
+
+
+def parts_of(text):
+    """The operands beside the operator that binds least, or what is in parentheses; or nothing."""
+    parted = split_at_weakest(text) if len(text.encode()) <= MOST_BYTES else None
+    if parted:
+        return [*parted[1:]]
+    return [text[1:-1]] if len(text) > 1 and text[0] == "(" and text[-1] == ")" else []
+
+
+def is_operand(piece, names, levels=MOST_LEVELS):
+    """Whether a token is a number, in range or not, or a name, or an expression of those."""
+    if levels == 0:
+        return False
+    if parts := parts_of(piece.text):
+        return all(is_operand(piece._replace(text=it), names, levels - 1) for it in parts)
+    return piece.text in names or piece.text in NUMBERS or bool(NUMBER.fullmatch(piece.text)) or is_literal(piece)
+
+
+def is_literal(piece):
+    """Whether a token has a form of a number that the plain language lacks."""
+    try:
+        return literal_of(piece) is not None
+    except Fault:
+        return True
+
+
+def token_hint(piece, pieces):
     """What may help with a token that may not stand there, in a part with these tokens."""
-    bodies = behind(pieces, "body")
+    word, bodies, constants = piece.text, behind(pieces, "body"), behind(pieces, "const")
     if word in bodies:
         return f"{word} is a body: use {word}"
-    if any(it.text == f"{word}:" for it in pieces):
-        return f"{word} is a label: call {word}, or &{word} for its address"
-    if EXPRESSION.search(word):
+    if is_label(word, pieces):
+        return f"{word} is a label: call {word}, or &{word} for its address; in data , {word}"
+    if parts_of(word) and is_operand(piece, constants):
         return "an expression stands only behind const"
     if word in DEFINING:
         return None
-    return nearest_hint(word, [*OPCODES, *OTHER_WORDS, *behind(pieces, "const"), *bodies])
+    return nearest_hint(word, [*OPCODES, *OTHER_WORDS, *constants, *bodies])
 
 
-def open_body(pieces):
-    """The tokens from a `body` on that has no `end` among these, or none."""
-    found = []
-    for at, piece in enumerate(pieces):
-        if piece.text == "end":
-            found = []
-        elif piece.text == "body" and not found:
-            found = pieces[at:]
-    return found
+def first_open(pieces):
+    """How many bodies are in front of the first one that has no `end` before the next `body`; or None if there is no such one."""
+    starts = [at for at, it in enumerate(pieces) if it.text == "body"]
+    bodies = [pieces[start:end] for start, end in zip(starts, [*starts[1:], len(pieces)])]
+    return next((number for number, body in enumerate(bodies) if all(it.text != "end" for it in body)), None)
 
 
-def expansion_hint(name, word, before):
-    """What may help with a fault of the larger language at a word, behind these tokens."""
-    body = open_body(before)
-    if any(it.text == "node" for it in body[2:]):
-        return f"the body {body[1].text} of line {body[0].line} has no end"
+def expansion_hint(name, word, pieces, at):
+    """What may help with a fault of the larger language at a word, the token of a text with this number."""
+    before = pieces[:at]
     if name == "BadToken" and not (before and before[-1].text in ("const", "body")):
-        return nearest_hint(word, behind(before, "const"))
-    return nearest_hint(word, behind(before, "body")) if name == "UnknownBody" else None
+        return nearest_hint(word, behind(before[:-1], "const"))
+    if name == "UnknownBody":
+        bodies = behind(before, "body")
+        near = None if word in bodies else nearest_hint(word, bodies[: first_open(before)])
+        return near or open_body_hint(bodies, pieces)
+    return open_body_hint(behind(pieces, "body"), pieces) if name == "OpenDefinition" else None
+
+
+def open_body_hint(bodies, pieces):
+    """The first body of a text that has no `end`, if it is one of these, with which the text begins."""
+    number = first_open(pieces)
+    return None if number is None or number >= len(bodies) else f"the body {bodies[number]} has no end"
 
 
 def label_hint(word, items, constants):
@@ -120,11 +151,11 @@ def hint_of(text, fault):
         return None
     word, line = pieces[at].text, fault.place[0]
     if kind == "expand":
-        return expansion_hint(name, word, pieces[:at])
+        return expansion_hint(name, word, pieces, at)
     if name == "NoNode":
         return nearest_hint(word, BEGINNING)
     if name == "BadToken":
-        return token_hint(word, [*pieces_of(part_at(text, line))])
+        return token_hint(pieces[at], [*pieces_of(part_at(text, line))])
     if name in ("UndefinedLabel", "TooLong"):
         return layout_hint(name, nodes[0], word, part_with(text, line, nodes[0]))
     return None

@@ -419,13 +419,15 @@ def others(program, folder):
             wanted = (1, "", f"ga-bench: source {place} BadToken\n{shown}{token}\n")
             expect(f"others: {job} {file}", run(program, [job, file], cwd=folder), wanted)
     for text, job, error in (
-        (f"{row}\n", "dis", "words 0 BadWord"), (f"{row}\n", "one 5", "words 0 BadWord"), (f"{row}\n", "replay", "replay BadProfile"),
-        (f"{row}\n", "check", "replay BadProfile"), (f"{row}\n", "record", "replay BadProfile"),
-        (f"profile 2\nplace\nnode 708 .\ngo\n{row}\n", "check", "transcript line 5 EarlyReply"),
-        (f"profile 2\nplace\nnode 708 .\ngo\n{row}\n", "replay", "replay line 5 BadCommand"),
+        (f"{row}\n", "dis", f"{ALL}:1:1: error: BadWord: no word of five hex digits, at most 3FFFF"),
+        (f"{row}\n", "one 5", f"{ALL}:1:1: error: BadWord: no word of five hex digits, at most 3FFFF"),
+        (f"{row}\n", "replay", f"{ALL}:1:1: error: BadProfile: the first line isn't 'profile 2'"),
+        (f"{row}\n", "check", "ga-bench: replay BadProfile"), (f"{row}\n", "record", "ga-bench: replay BadProfile"),
+        (f"profile 2\nplace\nnode 708 .\ngo\n{row}\n", "check", "ga-bench: transcript line 5 EarlyReply"),
+        (f"profile 2\nplace\nnode 708 .\ngo\n{row}\n", "replay", f"{ALL}:5:1: error: BadCommand: no command here, or words behind it are missing, wrong or left over"),
     ):  # fmt: skip
         write(folder, {ALL: text, "lib": "2C9B2\n"})
-        expect(f"others: {job} of {text!r}", run(program, [*job.split(), ALL], cwd=folder)[2].split("\n")[0], f"ga-bench: {error}")
+        expect(f"others: {job} of {text!r}", run(program, [*job.split(), ALL], cwd=folder)[2].split("\n")[0], error)
 
 
 def saves(program, folder):

@@ -32,7 +32,8 @@ RUNS_OFF = '"level":"warning","line":%d,"meaning":"the last word of the code, an
 RUNS_OFF += '"node":"%s"}\n'
 HINTS = re.compile(
     r"the nearest name is \S+|it needs \d+ words: \d+ code, \d+ data; \d+ over|(\S+) is a body: use \1|"
-    r"(\S+) is a label: call \2, or &\2 for its address|an expression stands only behind const|the body \S+ of line \d+ has no end"
+    r"(\S+) is a label: call \2, or &\2 for its address; in data , \2|an expression stands only behind const|"
+    r"the body \S+ has no end"
 )  # fmt: skip
 # Texts with the status and the output of `lint --json my.source`.
 WORKED = [

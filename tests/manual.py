@@ -85,7 +85,8 @@ COMP_WORDS=("$@") COMP_CWORD=$(($# - 1)) COMPREPLY=()
 _ga_bench
 ((${#COMPREPLY[@]} == 0)) || printf '%s\\n' "${COMPREPLY[@]}"
 """
-# Runs a shell at a terminal of its own, in which what `compadd` would show is printed, each behind its part before.
+# Runs a shell at a terminal of its own, in which what `compadd` would show is printed, each behind its part before. The
+# terminal also shows what is typed, so READY and ENDED are typed in two parts.
 ZSH = r"""
 zmodload zsh/zpty
 zpty inner zsh -f -i
@@ -98,12 +99,12 @@ zpty -w inner '
         print -l -- "" "HIT "$^IPREFIX$^hits
         builtin compadd "$@"
     }
-    ended() { print ENDED; exit }
+    ended() { print EN""DED; exit }
     comppostfuncs=(ended)
     bindkey "^I" complete-word
     setopt rcexpandparam
     zstyle ":completion:*" insert-tab false
-    print READY
+    print REA""DY
 '
 zpty -r -m inner line '*READY*'
 zpty -w -n inner "$2"$'\t'

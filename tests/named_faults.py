@@ -119,21 +119,73 @@ def names(program, folder):
         expect(f"names: {name}", came, (0, f"{name}{RUNS_OFF}", ""))
 
 
+HEAD = "profile 2\nplace\nnode 709 .\ngo\n"
+# Faults of words, of replay texts and of heads of sessions in a file, and what is reported of each behind the file's name.
+PLACED = [
+    ("one 5", "2C9B2 x", "1:7: error: BadWord: no word of five hex digits, at most 3FFFF\n  2C9B2 x\n        ^\n"),
+    ("dis", "2C9B2\r\n\t 4C9B2 é\n", "2:3: error: BadWord: no word of five hex digits, at most 3FFFF\n  \t 4C9B2 é\n  \t ^\n"),
+    ("dis", "\\ words\n2C9B2\n", "1:1: error: BadWord: no word of five hex digits, at most 3FFFF\n  \\ words\n  ^\n"),
+    ("one 5", "\n é\n", "2:2: error: BadWord: no word of five hex digits, at most 3FFFF\n   é\n   ^\n"),
+    ("dis", "", "1:1: error: Empty: a text without a word\n  \n  ^\n"),
+    ("one 5", "\n \n", "3:1: error: Empty: a text without a word\n  \n  ^\n"),
+    ("one 5", "00000\n" * 63 + " 00000  00000 x", "64:15: error: BadWord: no word of five hex digits, at most 3FFFF\n   00000  00000 x\n                ^\n"),
+    ("dis", "00000\n" * 63 + " 00000  00000\n00000", "64:9: error: TooLong: the 65th word: a node has room for 64\n   00000  00000\n          ^\n"),
+    ("replay", "node 709 .\n", "1:1: error: BadProfile: the first line isn't 'profile 2'\n  node 709 .\n  ^\n"),
+    ("replay", "", "1:1: error: BadProfile: the first line isn't 'profile 2'\n  \n  ^\n"),
+    ("replay", "profile 2", "2:1: error: BadRoute: the second line is neither 'place' nor 'route' and names of nodes\n  \n  ^\n"),
+    ("replay", "profile 2\nplace\nnode 709 .\n", "3:1: error: NoGo: no line is 'go'\n  node 709 .\n  ^\n"),
+    ("replay", "profile 2\nroute 709,709\nnode 709 .\ngo\n",
+     "2:1: error: Route: nodes that are no route: from an edge on, from neighbour to new neighbour\n  route 709,709\n  ^\n"),
+    ("replay", SESSION, f"3:10: error: BadToken: {TOKEN}\n  node 709 frob\n           ^\n"),
+    ("replay", HEAD + "frob\n", "5:1: error: BadCommand: no command here, or words behind it are missing, wrong or left over\n  frob\n  ^\n"),
+    ("replay", HEAD + "turn 4\n", "5:1: error: BadCommand: no command here, or words behind it are missing, wrong or left over\n  turn 4\n  ^\n"),
+    ("replay", HEAD + "try 800 r = moved\n", "5:1: error: BadNode: no name of a node: three digits, the row 0 to 7 and the column 00 to 17\n  try 800 r = moved\n  ^\n"),
+    ("replay", HEAD + "break 709 200\n", "5:1: error: BadAddress: no address: three hex digits, at most 1FF\n  break 709 200\n  ^\n"),
+    ("replay", HEAD + "try 709 x = moved\n", "5:1: error: BadSide: no side: r, d, l or u\n  try 709 x = moved\n  ^\n"),
+    ("replay", HEAD + "turn +1 = 1\n", "5:1: error: BadCount: no count: one to seven digits, at most 1000000\n  turn +1 = 1\n  ^\n"),
+    ("replay", "profile 2\nplace\nnode 709\ngo\n", "3:9: error: Empty: a section that makes no word\n  node 709\n          ^\n"),
+    ("replay", "profile 2\nroute 708/709\nnode 708 .\ngo\n",
+     "2:1: error: Tree: routes that are no tree: from one first node, and no node by two ways\n  route 708/709\n  ^\n"),
+    ("replay", "profile 2\nroute 708\nnode 709 .\ngo\n",
+     "2:1: error: Boot: a route without a node that the source text has (node 709)\n  route 708\n  ^\n"),
+    ("replay", HEAD + "\npass 709\n", "6:1: error: NotHeld: a node that isn't held at a breakpoint\n  pass 709\n  ^\n"),
+    ("replay", HEAD + "turn 4 = 5\n", "5:1: error: differs: the result isn't the one that this line states\n  turn 4 = 5\n  ^\n"),
+    ("debug", "profile 3\n", f"1:1: error: BadProfile: the first line isn't 'profile 2'\n  profile 3\n  ^\n"),
+    ("race", "profile 2\nplace\nnode 709 .\n", "3:1: error: NoGo: no line is 'go'\n  node 709 .\n  ^\n"),
+    ("map", HEAD + "moved 4\n", "5:1: error: EarlyReply: a line that is no command or comment, with no command before it\n  moved 4\n  ^\n"),
+]  # fmt: skip
+# Text that expands to a session, by its lines behind `profile 2`: a fault shows a line of the expansion, and has no place in FILE.
+EXPANDED_SESSIONS = [
+    ("place\nnode 709 FIVE\n", "replay NoGo\n  node 709 $00005\nno line is 'go'\n"),
+    ("plaze\nnode 709 FIVE\n", "replay BadRoute\n  plaze\nthe second line is neither 'place' nor 'route' and names of nodes\n"),
+    ("place\nnode 709 FIVE\ngo\nmoved 4\n",
+     "transcript line 5 EarlyReply\n  moved 4\na line that is no command or comment, with no command before it\n"),
+]  # fmt: skip
+OF_SESSIONS = ["map", "profile", "profile --json", "trace", "report", "list --counts", "debug"]
+
+
 def others(program, folder):
     write(folder, "my.source", "node 709 .")
     write(folder, "early", "profile 2\nplace\nnode 709 .\ngo\nmoved 4\n")
-    write(folder, "words", "2C9B2 x")
+    write(folder, "two.words", "2C9B2\n00000\n")
     plain = {
         "boot 708,709,708 my.source": "ga-bench: route Repeated 2\n",
         "run 708 1 5 my.source": "ga-bench: boot Unreached 709\n",
         "run 708,709 3 5 my.source": "ga-bench: plan Empty 2\n",
         "trace --nodes 7 my.source": "ga-bench: route BadRoute\n",
-        "replay my.source": "ga-bench: replay BadProfile\n",
-        "one 5 words": "ga-bench: words 1 BadWord\n",
-        "map early": "ga-bench: transcript line 5 EarlyReply\n  moved 4\na line that is no command or comment, with no command before it\n",
+        "dis --code 3 two.words": "ga-bench: words BadCode\n",
     }
     for job, error in plain.items():
         expect(f"others: {job}", run(program, job.split(), cwd=folder), (1, "", error))
+    for job, text, told in PLACED:
+        write(folder, "input", text)
+        expect(f"others: {job} of {text!r}", run(program, [*job.split(), "input"], cwd=folder), (1, "", f"input:{told}"))
+    for text, told in EXPANDED_SESSIONS:
+        write(folder, "input", f"const FIVE 5\nprofile 2\n\n{text}")
+        # `race` does not look at the lines behind `go`.
+        for job in OF_SESSIONS + (["race"] if "\ngo\n" not in text else []):
+            came = run(program, [*job.split(), "input"], cwd=folder)
+            expect(f"others: {job} of {text!r} in an expansion", came, (1, "", f"ga-bench: {told}"))
     write(folder, "my.session", SESSION)
     told = f"ga-bench: source 3:10 BadToken\n  node 709 frob\n           ^\n{TOKEN}\n"
     for job in ("check", "record"):

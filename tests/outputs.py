@@ -54,20 +54,24 @@ def plain_row(at, word, reads):
     return f"{at:03X}  {word.value:05X}  {word.kind:8} {word.line:5}  {reads}\n"
 
 
+def reading_at(image, at):
+    """What the word at an address of an image reads as."""
+
+    def name_of(ops, field):
+        width = SLOTS[len(ops) - 1][2]
+        target = p_behind(at, ops) >> width << width | field
+        return next((name for name, address in image.labels.items() if address == target), None)
+
+    word = image.words[at]
+    return reading(word.value, name_of) if word.kind == "code" else f", ${word.value:05X}"
+
+
 def listing(image, row=plain_row):
     """The lines of an image: those of its labels, and `row` of each word, by its address and what it reads as."""
-    first = {}
-    for name, address in image.labels.items():
-        first.setdefault(address, name)
     for at, word in enumerate([*image.words, None]):
-
-        def name_of(ops, field):
-            width = SLOTS[len(ops) - 1][2]
-            return first.get(p_behind(at, ops) >> width << width | field)
-
         yield from (f"{name}:\n" for name, address in image.labels.items() if address == at)
         if word:
-            yield row(at, word, reading(word.value, name_of) if word.kind == "code" else f", ${word.value:05X}")
+            yield row(at, word, reading_at(image, at))
 
 
 def labels_output(images):

@@ -2,7 +2,8 @@
 
 `record` makes the run again, one try after the other. In front of each turn `where` shows P, the place, the opcode and the
 need of each node, `expect NNN at` the address of its word in execution, and `expect NNN R` its R; the outcome of a try shows
-who moved. Nothing here is taken from `profile` or `depth` themselves, and no chip is run. Labels are those of assembler.py.
+who moved. Nothing here is taken from `profile` or `depth` themselves, and no chip is run. Labels are those of assembler.py,
+and what words read as is that of outputs.py.
 """
 import json
 import re
@@ -11,6 +12,7 @@ from dataclasses import dataclass, field
 from itertools import accumulate
 
 from assembler import NAME
+from outputs import reading_at
 from replies import LABEL, LOADER, STOPPED
 from schedules import neighbours
 from sessions import head_of
@@ -53,6 +55,7 @@ LINES_HEAD = "path  node  word  where the path goes\n"
 STACKS_HEAD = "node data/10 return/9  the fullest stacks\n"
 # What the profile of a run that isn't worked out has to look like.
 SHARE = r"(?:\.|<1|\d{1,3})"
+READING = r"(?:\[[^\n]+\]|, \$[0-3][0-9A-F]{4})"
 PASSED = rf"(?:  {{}}, passed at [0-3][0-9A-F]{{{{2}}}}{LABEL.replace('{', '{{').replace('}', '}}')})?"
 PROFILE = [
     rf"\d+ turns from turn \d+ on\n{re.escape(HEAD)}",
@@ -60,7 +63,7 @@ PROFILE = [
     rf"\d{{3}}(?: +{SHARE}){{4}} \|b*#*\?*!*~*x* *\| +{SHARE}(?: +\d+){{2}}      \.     \.\n)*",
     re.escape(LEGEND),
     rf"(?:{STUCK})?Bottleneck: [^\n]*\n(?:(?:The run gets|Side by side,) [^\n]*\n|(?:ring(?: \d{{3}})+\n)*)",
-    rf"{LINES_HEAD}(?: +{SHARE}   \d{{3}}   (?:  \.|0[0-3][0-9A-F]{LABEL})\n){{0,10}}",
+    rf"{LINES_HEAD}(?: +{SHARE}   \d{{3}}   (?:  \.|0[0-3][0-9A-F](?:{LABEL}| *{LABEL}  {READING}))\n){{0,10}}",
     rf"(?:{STACKS_HEAD}(?:\d{{3}}(?: +\d+){{2}}{PASSED.format('data')}{PASSED.format('return')}\n){{1,10}})?",
     r"At the end:\n(?:\d{3} P [^\n]*\n)*(?:idle:(?: \d{3})+\n)?(?:ring(?: \d{3})+\n)*",
 ]
@@ -91,6 +94,15 @@ def states_of(lines):
         int(it[1]): State(int(it[2], 16), it["place"], it["op"], it["need"].split()[0], sides_in(it["rest"]), None, None)
         for it in found
     }
+
+
+def distance_of(node, next_of):
+    """How many nodes a node is behind, by the node for which each one waits: the way goes on to a node that waits for none, or
+    to the first node of a ring."""
+    way = [node]
+    while next_of.get(way[-1], way[-1]) not in way:
+        way.append(next_of[way[-1]])
+    return way.index(next_of.get(way[-1], way[-1]))
 
 
 def found_in(reply):
@@ -156,8 +168,19 @@ class Run:
         return replies[len(self.commands) + 1 :]
 
     def nodes_behind(self, turns):
-        """Who waits for whom behind some turns."""
-        return "".join(f"{line}\n" for line in self.replies_behind(turns, ["nodes"])[0])
+        """Who waits for whom behind some turns, each node behind the one that it waits for."""
+        lines = self.replies_behind(turns, ["nodes"])[0]
+        nodes = [line for line in lines if line[:3].isdigit()]
+        next_of = {int(line[:3]): node for line in nodes for node in self.nexts(turns, line)}
+        nodes.sort(key=lambda line: distance_of(int(line[:3]), next_of))
+        return "".join(f"{line}\n" for line in nodes + [line for line in lines if not line[:3].isdigit()])
+
+    def nexts(self, turns, line):
+        """The node for which a node waits behind some turns, if it is one alone, by its line."""
+        ((node, state),) = states_of([line]).items()
+        is_free = state.need in ("take", "check") and " and " not in line and ", held" not in line
+        waits = is_free and (line.endswith(", stuck") or self.waits(turns, node))
+        return list(state.sides.values()) if waits else []
 
     def unread_behind(self, turns):
         """The nodes that wait for good for their words to be read behind some turns. Each node that could read one of these
@@ -414,9 +437,21 @@ def lines_text(lines, length, images):
     rows = []
     for node, word, turns in lines:
         shown = "." if word is None else f"{word:03X}"
-        label = "" if word is None else label_of(images.get(node), word)
-        rows.append(f"{cells((4, share(turns, length)), (6, f'{node:03}'), (6, shown))}{label}\n")
+        code = "" if word is None else code_of(images.get(node), word)
+        rows.append(f"{cells((4, share(turns, length)), (6, f'{node:03}'), (6, shown))}{code}\n")
     return LINES_HEAD + "".join(rows)
+
+
+def code_of(image, word):
+    """The label of a word of memory, and what it reads as, if it was loaded with the image."""
+    label = label_of(image, word)
+    return f"{cells((15, label))}  {reading_at(image, word)}" if image and word < len(image.words) else label
+
+
+def has_code_of(row, images):
+    """Whether a row of the table of the path ends with what the program of its node has at its address."""
+    _, node, word = row.split()[:3]
+    return word == "." or row.split(word, 1)[1] == code_of(images.get(int(node)), int(word, 16))
 
 
 def bottleneck(uses, on_path, length, rings):

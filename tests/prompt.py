@@ -211,7 +211,7 @@ def hostile(program, folder):
         ("long", b" " * 1048577, "ga-bench: {}: input TooLong\n"),
         ("token", b"node 000 nothing\n", "{}:1:10: error: BadToken: "),
         ("label", b"node 000 jump x\n", "{}:1:15: error: UndefinedLabel: a name that is no label of its node (node 000)\n"),
-        ("early", HEAD.encode() + b"moved 4\n", "ga-bench: transcript line 10 EarlyReply\n"),
+        ("early", HEAD.encode() + b"moved 4\n", "{}:10:1: error: EarlyReply: a line that is no command or comment"),
     ]:
         with open(f"{folder}/{name}", "wb") as file:
             file.write(text)

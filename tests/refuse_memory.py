@@ -226,6 +226,19 @@ def rights_of_run(ample):
     return [ample, *[(code, told, text) for text in unnamed], (3, b"", b"ga-bench: memory\n")] if code != 3 else []
 
 
+def refuse_run(program, library, run):
+    """Refuses each allocation of a run. A fault of words or of a replay text in /dev/stdin may come as that of standard input."""
+    args, text = run
+    is_placed = args[:1] in (["dis"], ["one"], ["replay"]) and "/dev/stdin" in args
+    alone = [answer(program, [it for it in args if it != "/dev/stdin"], text)] if is_placed else []
+
+    def rights(ample):
+        first, *others = rights_of_run(ample) or [None]
+        return [first, *alone, *others] if first else []
+
+    return refuse_each(program, library, rights, run)
+
+
 def refuse_json(program, library, run):
     """Refuses each allocation of a run with faults as JSON. Those of standard input have the same lines as in the text form."""
     as_text = answer(program, [it for it in run[0] if it != "--json"], b"")
@@ -256,7 +269,7 @@ def main(program, caller=None):
         library = f"{folder}/refuse_memory.so"
         compiler = os.environ.get("CC", "cc")
         subprocess.run([compiler, "-shared", "-fPIC", "-O1", "-o", library, f"{FOLDER}/refuse_memory.c", "-ldl"], check=True)
-        told = [*pool.map(partial(refuse_each, program, library, rights_of_run), RUNS + LINES)]
+        told = [*pool.map(partial(refuse_run, program, library), RUNS + LINES)]
         told += pool.map(partial(refuse_each, program, library, rights_of_files), FILES)
         write_named(f"{folder}/named")
         told += pool.map(partial(refuse_each, program, library, rights_of_run), runs_of(f"{folder}/named", NAMED_RUNS))

@@ -35,7 +35,8 @@ def head_of(text, profiles=("profile 2",), shows_source=False):
         kind = fault.text.split()[0]
         if shows_source and kind in ("source", "asm"):
             raise in_front_of_go(fault, lines, go) from None
-        raise Fault(f"replay {kind.capitalize()}", (2, None)) from None
+        node = fault.text.split()[-1] if kind == "boot" else None
+        raise Fault(f"replay {kind.capitalize()}", (2, None), node=node) from None
     return Head(images, text_of(lines[: go + 1]), go + 1, lines[go + 1 :])
 
 
