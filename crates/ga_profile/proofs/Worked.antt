@@ -79,9 +79,9 @@ turns_708 = record {
   posted = 1;
 }
 
-all_turns : turns_in 0 708 steps_708 ≡ turns_708
+group_turns : turns_in 0 708 steps_708 ≡ turns_708
 unfolding after_step at_word reading_of op_with
-all_turns = refl
+group_turns = refl
 
 -- in a window from turn 5 on it waits one turn for a word, and works four
 from_turn_5 : (turns_in 5 708 steps_708).counts

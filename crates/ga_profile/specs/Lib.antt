@@ -15,5 +15,8 @@ pub mod Path
 pub mod Rank
 pub mod Kinds
 pub mod Lines
+pub mod Code
+pub mod Alike
+pub mod PathTable
 pub mod Stacks
 pub mod inner

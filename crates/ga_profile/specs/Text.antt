@@ -8,8 +8,9 @@ use Rattle.ga_trace.specs.declared.depth.StackDepths.{StackDepths}
 use Rattle.ga_profile.specs.declared.node_pass.NodePass.{NodePass}
 use Rattle.ga_profile.specs.declared.node_turns.NodeTurns.{NodeTurns}
 use Rattle.ga_profile.specs.declared.window.Window.{Window}
+use Rattle.ga_profile.specs.Alike.{path_groups}
 use Rattle.ga_profile.specs.Bottleneck.{bottleneck_text}
-use Rattle.ga_profile.specs.Lines.{lines_text, path_lines}
+use Rattle.ga_profile.specs.PathTable.{groups_text}
 use Rattle.ga_profile.specs.Stacks.{stacks_text}
 use Rattle.ga_profile.specs.Table.{HEAD, LEGEND, rows}
 use Rattle.ga_profile.specs.Window.{length_of}
@@ -27,5 +28,5 @@ unfoldable pub profile_text : List (ℕ × ImageView) → Window → List NodeTu
 profile_text images window nodes passes path lines depths chip =
     concat (window_text window ∷ HEAD ∷ rows nodes passes path (length_of window) ∷ LEGEND
     ∷ bottleneck_text chip nodes passes path (length_of window)
-    ∷ lines_text images (path_lines path lines) (length_of window)
+    ∷ groups_text images (path_groups images path lines) (length_of window)
     ∷ stacks_text images nodes depths ∷ [])

@@ -1,8 +1,10 @@
 //! What each node of a chip did in the turns of a run, and where the run is slow, as text.
 #![tactic(auto)]
 
+mod alike;
 mod bar;
 mod bottleneck;
+mod code;
 mod kinds;
 mod lines;
 mod marks;
@@ -11,6 +13,7 @@ mod node_turns;
 mod pass_watch;
 mod passes;
 mod path;
+mod path_table;
 mod path_watch;
 mod profile;
 mod rank;

@@ -3,8 +3,9 @@ ghost use Rattle.std.specs.Prelude.{◌≡◌, ◌++◌, IfOk, OnOk, string_byte
 ghost use Rattle.ga_waits.specs.Label.{images_in};
 ghost use Rattle.ga_profile.specs.Text.{profile_text, window_text};
 
+use crate::alike::path_groups;
 use crate::bottleneck::push_bottleneck;
-use crate::lines::{path_lines, push_lines};
+use crate::path_table::push_groups;
 use crate::profile::Profile;
 use crate::stacks::push_stacks;
 use crate::table::{push_head, push_legend, push_rows};
@@ -16,9 +17,10 @@ use std::fmt::Write;
 /// A profile as text: its window; a line for each node that began, with the shares of the turns in
 /// which it worked and waited, a bar of them, its share of the path, and how many words it took and
 /// posted; the bottleneck, with what to change; the words of memory with the most turns on the
-/// path, and what they read as; and the nodes with the fullest stacks. An address has the label of
-/// its image that is at it or the last before it, if there are images. Each line ends with LF.
-/// Fails only when out of memory. (The text is this project's own: profile.)
+/// path, those of several nodes that read alike together; and the nodes with the fullest stacks. An
+/// address has the label of its image that is at it or the last before it, if there are images.
+/// Each line ends with LF. Fails only when out of memory.
+/// (The text is this project's own: profile.)
 #[tactic(auto, unfolding(crate::specs::Text::profile_text))]
 pub fn profile_text(
     alloc: Global,
@@ -40,8 +42,8 @@ pub fn profile_text(
     push_rows(&mut text, alloc, nodes, passes, path, turns)?;
     push_legend(&mut text)?;
     push_bottleneck(&mut text, alloc, profile)?;
-    let lines = path_lines(alloc, profile)?;
-    push_lines(&mut text, alloc, images, lines.as_slice(), turns)?;
+    let groups = path_groups(alloc, images, path, profile.lines.as_slice())?;
+    push_groups(&mut text, alloc, images, groups.as_slice(), turns)?;
     push_stacks(&mut text, alloc, images, nodes, profile.depths.as_slice())?;
     Ok(text)
 }

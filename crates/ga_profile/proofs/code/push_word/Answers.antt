@@ -2,7 +2,7 @@ use Rattle.std.proofs.Common.{◌∙◌, ◌≤◌, ap, length, subst, sym}
 use Rattle.std.proofs.lemmas.List.{length-map}
 use Rattle.ga_disasm.specs.Disassembling.{item_view}
 use Rattle.ga_list.proofs.Rows.{items_length}
-use Rattle.ga_profile.proofs.lines.push_word.Goals as goal
+use Rattle.ga_profile.proofs.code.push_word.Goals as goal
 
 -- each word has an item
 pub push_item-requires : goal.push_item-requires
