@@ -88,15 +88,16 @@ IsCloseUp chip whole (Some window) (Some near) = IsNear chip whole window near
 IsCloseUp chip whole None None = Unit {0}
 IsCloseUp chip whole window near = ⊥
 
--- the page of a profile of a session's chip, with its timelines, a headline and listings of nodes
-abbrev pub IsPage : LiveView → Profile → List ℕ → List SectionView → List ℕ → Type 0
-IsPage live profile headline sections page =
+-- the page of a profile of a session's chip, with its timelines, a headline, listings of nodes and
+-- the text that has their source
+abbrev pub IsPage : LiveView → Profile → List ℕ → List SectionView → List ℕ → List ℕ → Type 0
+IsPage live profile headline sections text page =
     (timeline : Timeline) × IsTimeline live.chip profile.window timeline
     × ((close_up : Option (Bor CloseUp))
     × IsCloseUp live.chip profile.window (close_up_window profile.window profile.passes.items)
     (option_map (λ (lent : Bor CloseUp). lent.now) close_up)
     × (page ≡ page_text headline profile timeline close_up
-    (with_waits live.program.images profile) sections))
+    (with_waits live.program.images profile) sections text))
 
 -- the page of a session, whose source is in a text, from where a start says, in at most this many
 -- turns
@@ -105,7 +106,7 @@ IsReport live start most loading text page =
     (profile : Profile) × IsMeasured live.chip start most profile
     × ((headline : List ℕ) × IsHeadline live.chip most profile headline
     × ((sections : List SectionView) × AreCounted live most loading text sections
-    × IsPage live profile headline sections page))
+    × IsPage live profile headline sections text page))
 
 -- the page of the session that an input opens, or the first fault of that session
 abbrev pub IsReportOutput : Loading → WindowStart → Option ℕ → List ℕ

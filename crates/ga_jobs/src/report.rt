@@ -19,9 +19,9 @@ use std::alloc::{AllocError, Global};
 
 /// A page in HTML of what the input's chip does in a run: a race, a deadlock or the bottleneck as
 /// its headline; timelines; the profile; the chip at the end; and the listing of each node with
-/// counts. The commands behind the head of a session are done first. Then come at most `turns`
-/// turns (by default 1,000,000), until no node moves but those that spin. The profile and the
-/// timelines begin as `start` says.
+/// counts, beside the input. The commands behind the head of a session are done first. Then come
+/// at most `turns` turns (by default 1,000,000), until no node moves but those that spin. The
+/// profile and the timelines begin as `start` says.
 pub fn output(
     alloc: Global,
     loading: &Loading,
@@ -58,6 +58,7 @@ fn page_after(
         &profile,
         headline.as_str(),
         sections.as_slice(),
+        text,
     )
 }
 
@@ -102,16 +103,18 @@ fn race_headline(alloc: Global, race: &Race) -> Result<String, AllocError>
     format!(in alloc; "Race: the schedule decides which word {node} takes.")
 }
 
-/// The page of a profile of a session's chip, with a headline and the listings of its nodes.
+/// The page of a profile of a session's chip, with a headline, the listings of its nodes and the
+/// text with the session's source.
 fn page_of(
     alloc: Global,
     live: &Live,
     profile: &Profile,
     headline: &str,
     listing: &[CountedSection],
+    source: &str,
 ) -> Result<String, AllocError>
     ensures { IfOk result (λ page.
-        IsPage live.now profile.now headline.now (map section_view listing.now)
+        IsPage live.now profile.now headline.now (map section_view listing.now) source.now
         (string_bytes page)) }
 {
     let timeline = timeline_of(alloc, live, profile.window)?;
@@ -124,6 +127,7 @@ fn page_of(
         close_up: near.as_ref(),
         profile_text: shown.as_str(),
         listing,
+        source,
     };
     page_text(alloc, &page)
 }

@@ -1,6 +1,6 @@
 -- The trails of paths, behind one step more.
-use Rattle.std.proofs.Common.{◌≡◌, ◌∙◌, ℕ, zero, suc, ◌+◌, ◌-◌, ◌*◌, ◌/◌, ◌<◌, ◌≤◌, ◌==◌, ◌⊎◌, inl, inr, Bool, true, false, List, [], ◌∷◌, ◌++◌, ap, ap₂, arith, get_or, length, length-set, map, refl, set, subst, sym}
-use Rattle.std.specs.Prelude.{◌&&◌, ◌||◌, Option, Some, None, max, nat_le, nat_lt, replicate, reverse, if◌then◌else◌}
+use Rattle.std.proofs.Common.{◌≡◌, ◌∙◌, ℕ, zero, suc, ◌+◌, ◌-◌, ◌/◌, ◌<◌, ◌≤◌, ◌==◌, ◌⊎◌, inl, inr, Bool, true, false, List, [], ◌∷◌, ◌++◌, ap, ap₂, arith, get_or, length, length-set, map, refl, set, subst, sym}
+use Rattle.std.specs.Prelude.{◌||◌, Option, Some, None, replicate, reverse, if◌then◌else◌}
 use Rattle.std.specs.List.{range_with_len}
 use Rattle.std.specs.Option.{option_map_or, option_or}
 use Rattle.std.proofs.Math.Nat.{div-lt_iff_lt-mul}
@@ -13,7 +13,7 @@ use Rattle.ga_profile.specs.Path.{Path, last_turn, longer, node_index, path_to}
 use Rattle.ga_profile.specs.Window.{length_of}
 use Rattle.ga_report.specs.declared.trail.Trail.{Trail}
 use Rattle.ga_report.specs.Columns.{columns_of, stride_of}
-use Rattle.ga_report.specs.Holder.{column_at, held, is_in_column, last_in}
+use Rattle.ga_report.specs.Holder.{column_at, held, last_in}
 use Rattle.ga_report.specs.inner.Trails.{IsTrailOf, KeptTrails, NO_TRAIL, lengthened, with_node}
 use Rattle.ga_report.proofs.Transferring.{reversed_more}
 

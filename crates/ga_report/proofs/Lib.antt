@@ -3,4 +3,5 @@ pub mod Following
 pub mod Lasting
 pub mod Plain
 pub mod Transferring
+pub mod Numbering
 mod Worked

@@ -1,5 +1,5 @@
 -- What is kept of transfers, behind one step more.
-use Rattle.std.proofs.Common.{◌≡◌, ◌∙◌, ℕ, zero, suc, ◌+◌, ◌==◌, Bool, true, false, List, [], ◌∷◌, ◌++◌, get_or, take, ap, ap₂, refl, sym}
+use Rattle.std.proofs.Common.{◌≡◌, ◌∙◌, ℕ, zero, suc, Bool, true, false, List, [], ◌∷◌, ◌++◌, get_or, take, ap, ap₂, refl, sym}
 use Rattle.std.specs.Prelude.{◌||◌, Err, Ok, OnOk, Result, is_err, Option, Some, None, replicate, reverse, if◌then◌else◌}
 use Rattle.std.specs.Option.{option_to_list}
 use Rattle.std.proofs.Math.Path.{fun_ext}

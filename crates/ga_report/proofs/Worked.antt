@@ -27,6 +27,7 @@ use Rattle.ga_report.specs.Most.{between, most_of}
 use Rattle.ga_report.specs.PathLine.{path_edges}
 use Rattle.ga_report.specs.Picture.{arrow, group}
 use Rattle.ga_report.specs.Rows.{summary, works_text, word_waits_text, reader_waits_text}
+use Rattle.ga_report.specs.Source.{numbered}
 use Rattle.ga_report.specs.Scale.{LABEL, OPENING, scale, share, tick, tick_at, ticks}
 use Rattle.ga_report.specs.Timeline.{row_of}
 use Rattle.ga_report.specs.declared.transfers.Transfer.{Transfer}
@@ -40,6 +41,11 @@ signs = refl
 control : escaped (27 ∷ []) ≡ 0xEF ∷ 0xBF ∷ 0xBD ∷ []
 unfolding escaped chars encode
 control = refl
+
+-- a line behind another one
+second_line : numbered 1 (codes "<b") ≡ codes "2\t&lt;b\n"
+unfolding numbered escaped chars encode digits
+second_line = refl
 
 -- 1300 turns from turn 100 on: 434 columns of 3 turns, the last of which has one
 abbrev long : Window

@@ -17,6 +17,7 @@ pub mod Ending
 pub mod Words
 pub mod Picture
 pub mod Listing
+pub mod Source
 pub mod Page
 pub mod Laws
 pub mod inner

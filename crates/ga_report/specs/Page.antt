@@ -11,6 +11,7 @@ use Rattle.ga_report.specs.Escape.{escaped}
 use Rattle.ga_report.specs.Listing.{listing_part}
 use Rattle.ga_report.specs.Picture.{picture}
 use Rattle.ga_report.specs.Rows.{timeline_part}
+use Rattle.ga_report.specs.Source.{source_part}
 use Rattle.ga_report.specs.Style.{STYLE}
 
 -- the begin of a page, up to its title
@@ -38,15 +39,26 @@ unfoldable pub preformatted : List ℕ → List ℕ → List ℕ
 preformatted headed shown =
     concat (heading headed ∷ escaped shown ∷ codes "</pre>\n" ∷ [])
 
+-- the first of two columns: the listings of nodes
+unfoldable pub listing_column : List SectionView → List ℕ
+listing_column sections =
+    concat (codes "<div class='beside'><div>\n" ∷ listing_part sections ∷ codes "</div>\n" ∷ [])
+
+-- and the second: a source text
+unfoldable pub source_column : List ℕ → List ℕ
+source_column source =
+    concat (codes "<div>\n" ∷ source_part source ∷ codes "</div></div>\n" ∷ [])
+
 -- the end of a page
 unfoldable pub CLOSING : List ℕ
 CLOSING = codes "</main></body></html>\n"
 
 -- A page, by the profile of a run and its timelines: the headline; the timelines; the text of the
--- profile; the chip; and the listings of its nodes.
+-- profile; the chip; and the listings of its nodes, with the source beside them.
 unfoldable pub page_text : List ℕ → Profile → Timeline → Option (Bor CloseUp) → List ℕ
-    → List SectionView → List ℕ
-page_text headline profile timeline close_up shown sections =
+    → List SectionView → List ℕ → List ℕ
+page_text headline profile timeline close_up shown sections source =
     concat (head headline ∷ timeline_part profile.nodes.items timeline
     ∷ close_up_part profile.nodes.items close_up ∷ preformatted (codes "Profile") shown
-    ∷ picture profile.chip profile.nodes.items ∷ listing_part sections ∷ CLOSING ∷ [])
+    ∷ picture profile.chip profile.nodes.items ∷ listing_column sections
+    ∷ source_column source ∷ CLOSING ∷ [])

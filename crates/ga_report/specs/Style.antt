@@ -28,7 +28,10 @@ LAYOUT =
     ∷ codes "linear-gradient(to right,var(--rule),transparent) 0/16px 100% no-repeat,\n"
     ∷ codes "linear-gradient(to left,var(--rule),transparent) 100%/16px 100% no-repeat}\n"
     ∷ codes "pre,summary{font:12px/1.45 ui-monospace,Menlo,Consolas,monospace}\n"
-    ∷ codes "summary{padding:4px 0;cursor:pointer}\n" ∷ [])
+    ∷ codes "summary{padding:4px 0;cursor:pointer}\n"
+    ∷ codes "@media screen and (min-width:1280px){.beside{display:grid;gap:28px;\n"
+    ∷ codes "grid-template-columns:minmax(0,670px) minmax(0,1fr)}\n"
+    ∷ codes ".source{position:sticky;top:0;max-height:100vh}}\n" ∷ [])
 
 -- the rows of the timeline, its scale and its key
 unfoldable pub ROWS : List ℕ

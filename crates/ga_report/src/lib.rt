@@ -21,6 +21,7 @@ mod picture;
 mod posted;
 mod rows;
 mod scale;
+mod source;
 mod step_watch;
 mod style;
 mod timeline;

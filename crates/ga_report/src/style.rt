@@ -53,6 +53,9 @@ fn push_layout(text: &mut String) -> Result<(), AllocError>
         "linear-gradient(to left,var(--rule),transparent) 100%/16px 100% no-repeat}\n",
         "pre,summary{font:12px/1.45 ui-monospace,Menlo,Consolas,monospace}\n",
         "summary{padding:4px 0;cursor:pointer}\n",
+        "@media screen and (min-width:1280px){.beside{display:grid;gap:28px;\n",
+        "grid-template-columns:minmax(0,670px) minmax(0,1fr)}\n",
+        ".source{position:sticky;top:0;max-height:100vh}}\n",
     ];
     push_parts(text, &parts)
 }

@@ -8,12 +8,13 @@ use Rattle.ga_jobs.specs.ReportJob.{IsPage, IsReport}
 use Rattle.ga_jobs.proofs.report.page_after.Goals as goal
 
 -- a page with this headline and these listings is one with equal ones
-page_with : (live : LiveView) (profile : Profile) (page headline shown : List ℕ)
+page_with : (live : LiveView) (profile : Profile) (source page headline shown : List ℕ)
     (sections listed : List SectionView) → headline ≡ shown → sections ≡ listed
-    → IsPage live profile headline sections page → IsPage live profile shown listed page
-page_with live profile page headline shown sections listed h l is =
-    subst (λ (views : List SectionView). IsPage live profile shown views page) l
-    (subst (λ (text : List ℕ). IsPage live profile text sections page) h is)
+    → IsPage live profile headline sections source page
+    → IsPage live profile shown listed source page
+page_with live profile source page headline shown sections listed h l is =
+    subst (λ (views : List SectionView). IsPage live profile shown views source page) l
+    (subst (λ (text : List ℕ). IsPage live profile text sections source page) h is)
 
 pub returns : goal.returns
 unfolding IsReport
@@ -34,7 +35,7 @@ returns c =
         (
           listed,
           c.in_ok-sections.ensures,
-          page_with live profile (string_bytes page) _ shown _ listed h l is,
+          page_with live profile c.args.text.now (string_bytes page) _ shown _ listed h l is,
         ),
       ),
     ))

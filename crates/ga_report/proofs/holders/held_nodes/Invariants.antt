@@ -1,4 +1,4 @@
-use Rattle.std.proofs.Common.{◌≡◌, ◌+◌, None, get_or, length, map}
+use Rattle.std.proofs.Common.{◌≡◌, ◌+◌, None, get_or, map}
 use Rattle.std.specs.List.{range_with_len}
 use Rattle.ga_report.specs.Holder.{held}
 use Rattle.ga_report.proofs.holders.held_nodes.Given as goal

@@ -1,4 +1,4 @@
-use Rattle.std.proofs.Common.{◌≡◌, ◌∙◌, ◌≤◌, [], ◌∷◌, ◌++◌, ap, arith, length, length-append, sym, take}
+use Rattle.std.proofs.Common.{◌∙◌, ◌≤◌, [], ◌∷◌, ◌++◌, arith, length, length-append, sym}
 use Rattle.std.proofs.lemmas.List.{take-append-le, take_all}
 use Rattle.ga_report.proofs.transfers.push_one.Goals as goal
 
