@@ -42,7 +42,9 @@ from operands import COMMANDS, IN_REPLAYS, command_of
 from outputs import (
     asm_output, boot_output, dis_output, judge_reached, labels_output, list_output, routes_of, rows_of, tree_of,
 )  # fmt: skip
-from profiles import LINES_HEAD, PROFILE, Run, TooLong, has_code_of, profile_json, profile_of, profile_text, share, stuck_text
+from profiles import (
+    LINES_HEAD, PROFILE, Run, TooLong, has_code_of, profile_json, profile_of, profile_text, row_of_path, share, stuck_text,
+)  # fmt: skip
 from replies import STACKS, agree_in_other_words, agrees, has_form, ledgers, other_words, registers
 from report_page import BOTTLENECK, fault_of_page
 from sessions import Transcript, head_of, text_of
@@ -654,7 +656,7 @@ def judge_numbers(output, shown):
         end, first = found["window"]["end"], found["window"]["first"]
         names = [it["name"] for it in found["nodes"]]
         numbers = [[*it["words"].values(), *(it["pass"] or {"turns": ".", "works": "."}).values()] for it in found["nodes"]]
-        lines = [[share(it["path"], max(end - first, 0)), it["name"], it["word"] or "."] for it in found["lines"]]
+        lines = [(share(it["path"], max(end - first, 0)), it["name"], it["word"] or ".") for it in found["lines"]]
         bottleneck, stuck = found["bottleneck"], found["stuck"]
     except (ValueError, KeyError, TypeError, AttributeError) as error:
         raise Wrong(f"no JSON of a profile: {error!r}") from None
@@ -662,10 +664,30 @@ def judge_numbers(output, shown):
     demand(shown.startswith(f"{max(end - first, 0)} turns from turn {first} on\n"), "another window")
     demand(names == [row[0] for row in rows], "other nodes")
     demand([[*map(str, it)] for it in numbers] == [row[-4:] for row in rows], "other words or passes")
-    demand(lines == [row.split()[:3] for row in rows_of_path(shown)], "other lines")
+    rows = [row_of_path(it) for it in rows_of_path(shown)]
+    demand(all(rows) and have_rows(lines, rows), "other lines")
     demand(bottleneck == BOTTLENECK.search(shown)[0], "another bottleneck")
     is_stuck = bottleneck.startswith(stuck_text(map(int, stuck)) + "Bottleneck: ")
     demand(is_stuck or "\nring " in bottleneck, "other nodes are stuck")
+
+
+def have_rows(lines, rows):
+    """Whether these rows of the table of the path can be those of these lines, of which there are at most ten. A line has a row
+    of its own, with its share, or it is in a row of several with at least that share; or ten rows have at least as much."""
+    shares = [percent(it["share"]) for it in rows]
+
+    def has_row(part, name, word):
+        at_word = [it for it in rows if it["word"].strip() == word]
+        own = [it["share"] for it in at_word if it["node"] == name and not it["others"]]
+        several = [percent(it["share"]) for it in at_word if it["others"]]
+        return own == [part] if own else percent(part) <= max([*several, min(shares) if len(rows) == 10 else -1])
+
+    return len(rows) <= 10 and all(has_row(*line) for line in lines)
+
+
+def percent(part):
+    """A share as a number; one below 1 is between 0 and 1."""
+    return 0.5 if part == "<1" else int(part.replace(".", "0"))
 
 
 def counted(ask, job, text, answer):
@@ -692,7 +714,7 @@ def report(ask, job, text, answer):
     # race does no commands, so behind some it says nothing of the page
     verdict = ask(["race", *options], text, error=None) if not commands else None
     demand(answer.status == 0, "no page")
-    if fault := fault_of_page(answer.output, shown, listing, verdict):
+    if fault := fault_of_page(answer.output, text, shown, listing, verdict):
         raise Wrong(fault)
     return answer.output
 

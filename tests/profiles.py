@@ -51,11 +51,16 @@ rest: b boots  ~ spins  x stopped  blank idle
 path: the run waits for this node
 """
 STUCK = r"Stuck, since no node reads its word:(?: \d{3})+\.\n"
-LINES_HEAD = "path  node  word  where the path goes\n"
+LINES_HEAD = "path  node     word  where the path goes\n"
 STACKS_HEAD = "node data/10 return/9  the fullest stacks\n"
 # What the profile of a run that isn't worked out has to look like.
 SHARE = r"(?:\.|<1|\d{1,3})"
 READING = r"(?:\[[^\n]+\]|, \$[0-3][0-9A-F]{4})"
+# A row of the table of the path, and what stands behind the address of a word that was loaded.
+ROW_OF_PATH = re.compile(
+    rf" +(?P<share>{SHARE})   (?P<node>\d{{3}})(?:   | \+(?P<others>[1-9]))   (?P<word>  \.|0[0-3][0-9A-F])(?P<code>.*)"
+)
+CODE_OF_ROW = re.compile(rf" *{LABEL}  {READING}")
 PASSED = rf"(?:  {{}}, passed at [0-3][0-9A-F]{{{{2}}}}{LABEL.replace('{', '{{').replace('}', '}}')})?"
 PROFILE = [
     rf"\d+ turns from turn \d+ on\n{re.escape(HEAD)}",
@@ -63,7 +68,7 @@ PROFILE = [
     rf"\d{{3}}(?: +{SHARE}){{4}} \|b*#*\?*!*~*x* *\| +{SHARE}(?: +\d+){{2}}      \.     \.\n)*",
     re.escape(LEGEND),
     rf"(?:{STUCK})?Bottleneck: [^\n]*\n(?:(?:The run gets|Side by side,) [^\n]*\n|(?:ring(?: \d{{3}})+\n)*)",
-    rf"{LINES_HEAD}(?: +{SHARE}   \d{{3}}   (?:  \.|0[0-3][0-9A-F](?:{LABEL}| *{LABEL}  {READING}))\n){{0,10}}",
+    rf"{LINES_HEAD}(?: +{SHARE}   \d{{3}}[ +][^\n]*\n){{0,10}}",
     rf"(?:{STACKS_HEAD}(?:\d{{3}}(?: +\d+){{2}}{PASSED.format('data')}{PASSED.format('return')}\n){{1,10}})?",
     r"At the end:\n(?:\d{3} P [^\n]*\n)*(?:idle:(?: \d{3})+\n)?(?:ring(?: \d{3})+\n)*",
 ]
@@ -432,26 +437,60 @@ def lines_of(turns, on_path):
     return [(ranks[rank], None if word == 64 else word, -less) for less, rank, word in sorted(found)[:10] if less]
 
 
+def alike_of(turns, on_path, images):
+    """The ten with the most turns on the path, of the ten nodes with the most, where words at one address that read alike in
+    several nodes count together: the first node, the word, the turns of all, and how many other nodes there are."""
+    ranks = sorted(NODES, key=lambda node: (-on_path[node], node))[:10]
+    groups = {}
+    for rank, node in enumerate(ranks):
+        for word in (word for word in [*range(64), None] if turns[node, word]):
+            code = code_of(images.get(node), word) if is_loaded(images.get(node), word) else node
+            groups.setdefault((word, code), []).append((rank, turns[node, word]))
+    found = sorted((-sum(it for _, it in group), group[0][0], 64 if word is None else word, len(group) - 1)
+                   for (word, _), group in groups.items())  # fmt: skip
+    return [(ranks[rank], None if word == 64 else word, -less, others) for less, rank, word, others in found[:10]]
+
+
 def lines_text(lines, length, images):
     """Words of memory with their turns on the path, as text."""
     rows = []
-    for node, word, turns in lines:
+    for node, word, turns, others in lines:
         shown = "." if word is None else f"{word:03X}"
+        like = f" +{others}" if others else "   "
         code = "" if word is None else code_of(images.get(node), word)
-        rows.append(f"{cells((4, share(turns, length)), (6, f'{node:03}'), (6, shown))}{code}\n")
+        rows.append(f"{cells((4, share(turns, length)), (6, f'{node:03}'))}{like}{cells((6, shown))}{code}\n")
     return LINES_HEAD + "".join(rows)
+
+
+def is_loaded(image, word):
+    """Whether a word of memory was loaded with the image."""
+    return image is not None and word is not None and word < len(image.words)
 
 
 def code_of(image, word):
     """The label of a word of memory, and what it reads as, if it was loaded with the image."""
     label = label_of(image, word)
-    return f"{cells((15, label))}  {reading_at(image, word)}" if image and word < len(image.words) else label
+    return f"{cells((15, label))}  {reading_at(image, word)}" if is_loaded(image, word) else label
 
 
-def has_code_of(row, images):
-    """Whether a row of the table of the path ends with what the program of its node has at its address."""
-    _, node, word = row.split()[:3]
-    return word == "." or row.split(word, 1)[1] == code_of(images.get(int(node)), int(word, 16))
+def row_of_path(text):
+    """A row of the table of the path, or None: only words that were loaded may be those of several nodes, and code beyond memory
+    has nothing behind its dot."""
+    found = ROW_OF_PATH.fullmatch(text)
+    bare = "" if found and found["word"] == "  ." else LABEL
+    is_alone = found and not found["others"] and re.fullmatch(bare, found["code"])
+    return found if is_alone or found and CODE_OF_ROW.fullmatch(found["code"]) else None
+
+
+def has_code_of(text, images):
+    """Whether a row of the table of the path ends with what the program of its node has at its address, and as many other
+    programs have there, too."""
+    row = row_of_path(text)
+    if row is None or row["word"] == "  .":
+        return row is not None
+    node, word = int(row["node"]), int(row["word"], 16)
+    same = [it for it in {*images, node} if code_of(images.get(it), word) == row["code"]]
+    return node in same and len(same) > int(row["others"] or 0)
 
 
 def bottleneck(uses, on_path, length, rings):
@@ -549,7 +588,7 @@ def profile_text(it):
     """The text of a profile."""
     length, on_path = it.length(), it.on_path()
     rows = "".join(row(node, it.nodes[node], it.passes[node], on_path[node], length) for node in it.began())
-    lines = lines_text(lines_of(it.path, on_path), length, it.images)
+    lines = lines_text(alike_of(it.path, on_path, it.images), length, it.images)
     stacks = stacks_text(it.stacks, it.images)
     return f"{length} turns from turn {it.first} on\n{HEAD}{rows}{LEGEND}{it.bottleneck}{lines}{stacks}At the end:\n{it.at_end}"
 

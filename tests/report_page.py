@@ -5,6 +5,7 @@ A page is right if it is well-formed XML that needs no script and no other file,
 - its headline is the race that `race` finds, or the bottleneck of `profile`;
 - it has the text of `profile`, and that of `list --counts`, node by node: the first line of a node is the summary of its other
   lines, which are folded if a node in front of it has the same words and entry, and the summary says which;
+- beside these it has the text that was loaded, each line behind its number;
 - each node that began has a row, whose parts fill its columns; they are as long as the profile has them, and as its title says;
 - the turns below a timeline stand where they begin;
 - the path of the run goes from one row to another, as tests/profiles.py finds it by the waveform of `trace`;
@@ -12,9 +13,10 @@ A page is right if it is well-formed XML that needs no script and no other file,
 - each of the 144 nodes has a box, in its place, with what `profile` shows of it at the end, and its pending words, which
   are a list, too.
 
-If chromium is there it shows some of them, in two widths and both colour schemes: no error may come on its console, and the picture has the page's background and at least COLOURS colours. (A page with a script, and an
-empty one, show that this fails.) The last line that is printed is 'pages of report: N passed, M failed', a page or a picture
-each, and the exit status is 0 if M is 0.
+If chromium is there it shows some of them, in two widths and both colour schemes: no error may come on its console, and the
+picture has the page's background and at least COLOURS colours. (A page with a script, and an empty one, show that this fails.)
+In a wide picture the source is right of the listing. The last line that is printed is
+'pages of report: N passed, M failed', a page or a picture each, and the exit status is 0 if M is 0.
 """
 import os
 import re
@@ -40,6 +42,8 @@ EXAMPLES = [
     ("fir/fir_pipelined.source", 300, "--from", "20"), ("send/send.source", 300, "--from", "first", "--route", "708,709"),
 ]  # fmt: skip
 WIDTHS, HEIGHT, COLOURS, SECONDS = [400, 1600], 700, 12, 120
+# A page whose listing fills the lower half of a high picture. Right of it is the source, in these columns of a wide one.
+LONG, HIGH, RIGHT = "fir/fir_pipelined.source", 6000, range(860, 1300, 4)
 # What a node does: the class of its line, and the words.
 KINDS = {
     "works": "works", "word": "waits for a word", "reader": "waits for its word to be read", "spins": "spins",
@@ -53,7 +57,7 @@ MOST_LINES = 400
 LINES = ["A thin line is a word, from its post to its take.", f"Nodes take more than {MOST_LINES} words, so none is drawn."]
 LINE = re.compile(r"M(-?\d+) (\d+)\.5L(\d+) (\d+)\.5")
 WORD = re.compile(r"(\d{3}) to (\d{3}): ([0-3][0-9A-F]{4}), turn (\d+) to turn (\d+)")
-HEADINGS = ["Timeline", "Profile", "Chip at the end", "Listing"]
+HEADINGS = ["Timeline", "Profile", "Chip at the end", "Listing", "Source"]
 ROW = re.compile(rf"^(\d{{3}}) +({SHARE}) +({SHARE}) +({SHARE}) +{SHARE} \|(.{{24}})\|", re.M)
 STUCK = r"Stuck, since no node reads its word:(?: \d{3})+\.\n"
 # The need of a step at a port, by what a waveform shows of it.
@@ -94,7 +98,10 @@ class Page:
         demand(len(page.findall("body/main/ul")) == 2, "other lists")
         self.title, self.headline = ("".join(page.find(path).itertext()) for path in ("head/title", "body/main/h1"))
         self.texts = [it.text for it in page.findall("body/main/pre")]
-        self.listings = [listing_in(it) for it in page.findall("body/main/details")]
+        columns = page.findall("body/main/div[@class='beside']/div")
+        demand(len(columns) == 2, "no listing beside a source")
+        self.listings = [listing_in(it) for it in columns[0].findall("details")]
+        self.sources = [it.text for it in columns[1].findall("pre")]
         self.headings = [it.text for it in page.iter("h2")]
         main = [*page.find("body/main")]
         self.charts = charts_in(main)
@@ -361,9 +368,17 @@ def judge_listings(listings, text):
         demand(it.is_open == (it.same_as is None), f"{it.line.split()[1]} isn't folded, or is")
 
 
-def fault_of_page(text, profile, listing, verdict=None, wave=None):
-    """What is wrong with a page of a run with these outputs of `profile`, `list --counts` and `race`, and this waveform, or None.
-    Without one of `race` it may have any race, and without a waveform any words and path."""
+def numbered(source):
+    """The lines of a source text, each behind its number, as a reader of XML has them."""
+    lines = [line.removesuffix("\r") for line in source.removesuffix("\n").split("\n")] if source else []
+    shown = "".join(f"{number}\t{line}\n" for number, line in enumerate(lines, 1))
+    shown = re.sub("[\x00-\x08\x0b\x0c\x0e-\x1f\ufffe\uffff]", "\ufffd", shown)
+    return shown.replace("\r\n", "\n").replace("\r", "\n")
+
+
+def fault_of_page(text, source, profile, listing, verdict=None, wave=None):
+    """What is wrong with a page of a run of a source text with these outputs of `profile`, `list --counts` and `race`, and this
+    waveform, or None. Without one of `race` it may have any race, and without a waveform any words and path."""
     try:
         page = Page(text)
         demand(page.title == page.headline, "the title isn't the headline")
@@ -375,6 +390,7 @@ def fault_of_page(text, profile, listing, verdict=None, wave=None):
         demand(page.key == KEY, f"another key: {page.key}")
         demand(page.texts == [profile], "another profile")
         judge_listings(page.listings, listing)
+        demand(page.sources == [numbered(source) or None], "another source")
         judge_timelines(page, profile)
         judge_chip(page, profile)
         if wave is not None:
@@ -431,12 +447,12 @@ def colours_of(picture):
     return {row[at : at + 3] for row in rows for at in range(0, len(row), size)}, rows[0][:3]
 
 
-def shown(folder, name, width, is_dark):
+def shown(folder, name, width, is_dark, height=HEIGHT):
     """The picture of a page, and what comes on the console."""
-    image = f"{folder}/{name}-{width}-{is_dark}"
+    image = f"{folder}/{name}-{width}-{is_dark}-{height}"
     command = [
         "chromium", "--headless", "--no-sandbox", "--disable-gpu", "--hide-scrollbars", "--enable-logging=stderr",
-        f"--user-data-dir={image}.data", f"--window-size={width},{HEIGHT}", f"--screenshot={image}.png",
+        f"--user-data-dir={image}.data", f"--window-size={width},{height}", f"--screenshot={image}.png",
         *["--force-dark-mode"] * is_dark, f"file://{folder}/{name}.html",
     ]  # fmt: skip
     ran = subprocess.run(command, capture_output=True, timeout=SECONDS, text=True, errors="replace")
@@ -456,6 +472,14 @@ def fault_of_picture(folder, name, width, is_dark):
     if (max(first) < 128) != is_dark:
         return f"the background is {first.hex()}"
     return f"only {len(colours)} colours" if len(colours) < COLOURS else None
+
+
+def fault_of_columns(folder, name):
+    """What is wrong with the listing and the source of a long page, or None."""
+    rows, size = rows_of(shown(folder, name, WIDTHS[-1], False, HIGH)[0])
+    page = rows[0][:size]
+    written = sum(any(row[at * size : (at + 1) * size] != page for at in RIGHT) for row in rows[HIGH // 2 :])
+    return None if written > 500 else f"beside the listing only {written} rows of the picture have a source"
 
 
 # ---- The pages of some runs.
@@ -478,7 +502,9 @@ def made(program, folder, example):
         page.write(text)
     shown = output(program, "profile", *start, *options, path), output(program, "list", "--counts", *options, path)
     verdict = output(program, "race", *options, path) if path.endswith(".source") else None
-    return name, fault_of_page(text, *shown, verdict, Waveform(output(program, "trace", *options, path)))
+    with open(path, encoding="utf-8") as file:
+        source = file.read()
+    return name, fault_of_page(text, source, *shown, verdict, Waveform(output(program, "trace", *options, path)))
 
 
 def tried_by_browser(folder, names, pool):
@@ -493,6 +519,8 @@ def tried_by_browser(folder, names, pool):
     faults = pool.map(lambda it: fault_of_picture(folder, *it), pictures)
     for (name, width, is_dark), fault in zip(pictures, faults):
         yield f"{name} at {width} pixels{' in dark' * is_dark}", fault
+    name = LONG.replace("/", "-")
+    yield f"{name}: listing and source", fault_of_columns(folder, name)
 
 
 def main(program):
