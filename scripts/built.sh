@@ -26,7 +26,7 @@ sources_sum() (
     cd "$root" && command -v sha256sum >/dev/null || exit 1
     {
         printf 'crates.txt\0'
-        find crates \( -name out -o -name must-fail \) -prune -o -type f \
+        find crates \( -name out -o -name must-fail -o -name wrong-bodies \) -prune -o -type f \
             \( -path 'crates/*/src/*' -o -path 'crates/*/specs/*' -o -path 'crates/*/proofs/*' \) -print0
     } | LC_ALL=C sort -z | xargs -0 sha256sum | sum_of
 )
@@ -48,7 +48,7 @@ is_current() {
 # added, moved or removed changes its folder. The size is for a program that a crash has cut.)
 is_untouched() {
     read -r size _ <"$placed"
-    changed=$(cd "$root" && find out/ga-bench crates.txt crates \( -name out -o -name must-fail \) -prune \
+    changed=$(cd "$root" && find out/ga-bench crates.txt crates \( -name out -o -name must-fail -o -name wrong-bodies \) -prune \
         -o -path out/ga-bench \( ! -size "${size}c" -o -cnewer out/placed \) -print -quit \
         -o ! -path out/ga-bench -cnewer out/stamp -print -quit 2>&1) && [ -z "$changed" ]
 }
@@ -111,7 +111,7 @@ begin() {
 
 # Whether no source has changed since `begin`, nor been changed and put back.
 is_as_begun() {
-    touched=$(cd "$root" && find crates.txt crates \( -name out -o -name must-fail \) -prune \
+    touched=$(cd "$root" && find crates.txt crates \( -name out -o -name must-fail -o -name wrong-bodies \) -prune \
         -o -type f ! -name '*.md' -cnewer "$out/begun" -print -quit 2>&1) && [ -z "$touched" ] &&
         [ "$(sources_sum)" = "$begun_sum" ]
 }
