@@ -5,11 +5,11 @@
 #   out/stamp      the sum of the sources that it was built from; its time is from before they were read
 #   out/placed     the size and the sum of the program; its time is from after it was put there
 #   out/unpacked   there if the program is from the release
-#   out/green      of the last ./test, if it passed: the sums of the sources and of the program, and the toolchain
+#   out/green      of the last ./test --prove, if it passed: the sums of the sources and of the program, and the toolchain
 #   out/NAME.log   the log of a crate's last build
 #   out/lock       held by whoever makes the program
 #   out/new.PID, out/unpacking.PID   of the call that makes the program; the next one removes what a killed one left
-#   release/       the program of a green ./test, packed, and a text with the sum of its sources
+#   release/       the program of a green ./test --prove, packed, and a text with the sum of its sources
 
 out=$root/out
 program=$out/ga-bench
@@ -127,9 +127,9 @@ put_in_place() {
         writes touch -r "$out/begun" "$new" && writes mv -f "$new" "$stamp" || return 2
 }
 
-# The record of a ./test that passed.
+# The record of a green `./test --prove` on sources with this sum: it, that of the program, and the toolchain.
 green() {
-    printf '%s %s %s\n' "$(sources_sum)" "$(sum_of <"$program")" "$(rt version)"
+    printf '%s %s %s\n' "$1" "$(sum_of <"$program")" "$(rt version)"
 }
 
 # The value behind a word and a colon in the text of the release.

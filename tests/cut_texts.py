@@ -1,13 +1,16 @@
-"""Runs a program with each prefix of some texts: python3 tests/cut_texts.py PROGRAM
+"""Runs a program with each prefix of some texts: python3 tests/cut_texts.py PROGRAM [--every N]
 
 The texts are those of recorded cases, one of each file and subcommand. tests/answers.py judges each answer. The last
-line that is printed is 'cut texts: N passed, M failed', a prefix each, and the exit status is 0 if M is 0.
+line that is printed is 'cut texts: N passed, M failed', a prefix each, and the exit status is 0 if M is 0. With --every each
+Nth prefix is run.
 """
+import argparse
 import glob
 import json
 import os
 import sys
 from concurrent.futures import ProcessPoolExecutor
+from functools import partial
 
 import answers
 from fuzz import Runner
@@ -27,21 +30,21 @@ def texts_of(file):
     return longest.values()
 
 
-def run_fronts(program, args, data):
+def run_prefixes(program, every, args, data):
     """How many runs with a prefix of these bytes were right, and the faults of the others."""
     runner = Runner(program)
-    told = [(length, answers.wrong(runner, args, data[:length])) for length in range(len(data) + 1)]
+    told = [(length, answers.wrong(runner, args, data[:length])) for length in range(len(data) % every, len(data) + 1, every)]
     wrong = [f"FAILED {args} with {length} bytes: {what}" for length, what in told if what is not None]
     if runner.answer(args, data)[0] != 0:
         wrong.append(f"FAILED {args}: the whole text is refused")
     return len(told) - len(wrong), wrong
 
 
-def main(program):
+def main(program, every):
     runs = [run for file in sorted(glob.glob(f"{answers.ROOT}/tests/cases/*.jsonl")) for run in texts_of(file)]
     passed, failed = 0, 0
     with ProcessPoolExecutor() as pool:
-        for right, wrong in pool.map(run_fronts, [program] * len(runs), *zip(*runs)):
+        for right, wrong in pool.map(partial(run_prefixes, program, every), *zip(*runs)):
             print("\n".join(wrong), end="\n" if wrong else "")
             passed, failed = passed + right, failed + len(wrong)
     print(f"cut texts: {passed} passed, {failed} failed")
@@ -49,6 +52,7 @@ def main(program):
 
 
 if __name__ == "__main__":
-    if len(sys.argv) != 2:
-        sys.exit(__doc__)
-    sys.exit(main(os.path.abspath(sys.argv[1])))
+    options = argparse.ArgumentParser()
+    options.add_argument("program", type=os.path.abspath)
+    options.add_argument("--every", type=int, default=1)
+    sys.exit(main(**vars(options.parse_args())))

@@ -456,7 +456,7 @@ FILETYPES = {".source": "gasource", ".larger": "galarger", ".transcript": "gatra
 
 def vim(counts, program, room, opcodes):
     if not has_vim():
-        print("not tried, since vim with +syntax isn't on PATH: what Vim shows")
+        print("skipped: needs vim with +syntax: what Vim shows")
         return
     every = [*texts(room, opcodes)]
     with ThreadPoolExecutor(os.cpu_count()) as pool:
@@ -525,7 +525,7 @@ def errors(counts, program, room, opcodes):
     for name in GOOD:
         counts.same(f"VS Code's reports of {name}", [*reported(f"{folder}/{name}", room, tasks, matchers)], [])
     if not has_vim():
-        print("not tried, since vim with +syntax isn't on PATH: `:make`")
+        print("skipped: needs vim with +syntax: `:make`")
         return
     for name, (_, fault, line, column, *other) in FAULTS.items():
         file = other[0] if other else name

@@ -94,8 +94,6 @@ def pools():
     """The command lines and inputs of each subcommand: those of its recorded cases, and those made of others."""
     recorded, made = ({name: [] for name in THIRD + OTHERS} for _ in range(2))
     for case in CASES:
-        if case.get("stderr") == "ga-bench: output TooLong\n":
-            continue  # texts like it take seconds, and no other run shows that they are too long
         args, data, output = case["args"], stream(case, "stdin") or b"", stream(case, "stdout") or b""
         name = args[0] if args[:1] and args[0] in recorded else "other"
         recorded[name].append((args, data))

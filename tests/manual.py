@@ -4,7 +4,7 @@
 - Each file that scripts/from_help.py makes is the one in the repository, to the byte.
 - The page formats without a warning.
 - bash, zsh and fish complete the lines of COMPLETED as it has them. A shell or tool that isn't there is named, and
-  not tried.
+  skipped.
 
 The last line that is printed is 'N passed, M failed'.
 """
@@ -172,7 +172,7 @@ def pages():
     }
     for name, command in tools.items():
         if not shutil.which(name) or name == "man" and not is_man():
-            print(f"not tried, since {name} isn't on PATH: the page")
+            print(f"skipped: needs {name}: the page")
             continue
         shown = run(*command, folder=ROOT)
         faults = shown.stderr if name != "mandoc" else shown.stdout
@@ -193,7 +193,7 @@ def completions():
                 pass
         for shell, complete in SHELLS.items():
             if not shutil.which(shell):
-                print(f"not tried, since {shell} isn't on PATH: its completion")
+                print(f"skipped: needs {shell}: its completion")
                 continue
             for line, wanted in COMPLETED.items():
                 found = complete(line, folder)

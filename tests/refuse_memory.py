@@ -1,4 +1,4 @@
-"""Refuses each allocation of the program in turn: python3 tests/refuse_memory.py PROGRAM [CALLER]
+"""Refuses each allocation of the program in turn: python3 tests/refuse_memory.py PROGRAM [CALLER] [--every N]
 
 With one allocation refused a run must report `ga-bench: memory`, with status 3 and nothing on standard output, or answer
 as it does with ample memory, save that the faults of a file, and those that are written as JSON, may be reported as of standard
@@ -7,8 +7,10 @@ and those of files that have names. CALLER is the program of the crate ga_refuse
 ample memory, or be refused and leave its borrowed values as they were before, unless memory runs out outside the call; and at
 least one is refused. In a conversation at the prompt it may also be one line that is answered `refused Memory`; the others are
 then answered as if this one had no effect. The last line that is printed is 'memory: N passed, M failed', a run each, and the
-exit status is 0 if M is 0. It needs a C compiler, the command in the variable CC or else cc.
+exit status is 0 if M is 0. With --every only the first allocation and each Nth one behind it are refused. It needs a C compiler,
+the command in the variable CC or else cc.
 """
+import argparse
 import os
 import re
 import subprocess
@@ -112,6 +114,8 @@ CALLS = [
     *[(["serve", *words], data) for words, data in RUNS],
 ]  # fmt: skip
 MOST = 10000
+# How far the allocations are from each other that are refused.
+every = 1
 # A fault of a file with a name, as compilers show it, with the node and with what may help.
 NAMED_FAULT = re.compile(
     rb"^.*:(\d+:\d+): error: (\w+): (.*?)(?: \(node (\d+)\))?(?:; .*)?\n((?:  .*\n)*)", re.M
@@ -132,7 +136,7 @@ def refuse_each(program, library, rights_of, run):
     if ample not in rights:
         return 0, [f"FAILED {words} with ample memory: got {ample}"]
     passed, wrong, seen = 0, [], set()
-    for number in range(1, MOST):
+    for number in range(1, MOST, every):
         came = answer(program, words, data, LD_PRELOAD=library, REFUSED=str(number))
         if came[0] == 77:
             break
@@ -285,6 +289,9 @@ def main(program, caller=None):
 
 
 if __name__ == "__main__":
-    if len(sys.argv) not in (2, 3):
-        sys.exit(__doc__)
-    sys.exit(main(*map(os.path.abspath, sys.argv[1:])))
+    options = argparse.ArgumentParser()
+    options.add_argument("programs", nargs="+", type=os.path.abspath)
+    options.add_argument("--every", type=int, default=1)
+    given = options.parse_args()
+    every = given.every
+    sys.exit(main(*given.programs))

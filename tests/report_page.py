@@ -118,7 +118,7 @@ class Box:
     def __init__(self, group):
         title, self.rect, *paths = [it for it in group if it.tag != "text"]
         self.name, self.words = title.text[:3], title.text[4:]
-        self.label, self.place = group.find("text"), tuple(map(int, re.findall(r"\d+", group.get("transform"))))
+        self.label, self.place = group.find("text"), tuple(map(int, re.findall(r"\d+", group.get("transform", ""))))
         self.kinds = [it.get("class") for it in paths if it.get("class") != "arrow"]
         self.pending = [it.find("title").text for it in paths if it.get("class") == "arrow"]
 
@@ -529,7 +529,7 @@ def main(program):
         if shutil.which("chromium"):
             results += tried_by_browser(folder, [name for name, _ in results], pool)
         else:
-            print("not tried, since chromium isn't on PATH: pictures of pages")
+            print("skipped: needs chromium: pictures of pages")
     failed = [f"FAILED {name}: {fault}\n" for name, fault in results if fault is not None]
     print("".join(failed), end="")
     print(f"pages of report: {len(results) - len(failed)} passed, {len(failed)} failed")
