@@ -151,12 +151,12 @@ def kinds_of_values(commands):
 
 BASH = r"""
 _ga_bench_route() {
-    local head=${1%"${1##*[,/]}"} route=${1##*/} last nodes=() row column node
+    local head=${1%"${1##*[,/]}"} route=${1##*/} last nodes=() row column node is_node='^[0-7](0[0-9]|1[0-7])$'
     last=${head##*/}
     last=${last%,}
     last=${last##*,}
     if [[ $route == *,* ]]; then
-        [[ $last =~ ^[0-7](0[0-9]|1[0-7])$ ]] || return
+        [[ $last =~ $is_node ]] || return
         row=${last:0:1} column=$((10#${last:1}))
         ((column == 17)) || nodes+=("$row$(printf %02d $((column + 1)))")
         ((column == 0)) || nodes+=("$row$(printf %02d $((column - 1)))")
@@ -164,6 +164,7 @@ _ga_bench_route() {
         ((row == 0)) || nodes+=("$((row - 1))${last:1}")
     elif [[ $head ]]; then
         nodes=("${head%%[,/]*}") last=
+        [[ ${nodes[0]} =~ $is_node ]] || return
     else
         nodes=({0,7}{00..17} {1..6}{00,17})
     fi
@@ -173,7 +174,8 @@ _ga_bench_route() {
 }
 
 _ga_bench() {
-    local word=${COMP_WORDS[COMP_CWORD]} before=${COMP_WORDS[COMP_CWORD - 1]} options operands kind at words
+    local word=${COMP_WORDS[COMP_CWORD]} before=${COMP_WORDS[COMP_CWORD - 1]} options operands kind at
+    local candidates candidate
     COMPREPLY=()
     # Of --route=708 bash makes three words.
     if [[ $before == = ]]; then
@@ -182,7 +184,7 @@ _ga_bench() {
         word=
     fi
     case $((COMP_CWORD > 1))${COMP_WORDS[1]} in
-    0*) options='@TOP@' operands=(COMMAND) ;;
+    0*) options=(@TOP@) operands=(COMMAND) ;;
 @COMMANDS@
     *) return ;;
     esac
@@ -212,17 +214,20 @@ _ga_bench() {
         return
         ;;
     ROUTE)
-        words=$(_ga_bench_route "$word")
+        mapfile -t candidates < <(_ga_bench_route "$word")
         compopt -o nospace 2>/dev/null
         ;;
-    COMMAND) words='@NAMES@' ;;
+    COMMAND) candidates=(@NAMES@) ;;
     NAME)
-        words='@EXPLAINED@'
+        candidates=(@EXPLAINED@)
         ;;
-    options) words=$options ;;
+    options) candidates=("${options[@]}") ;;
     *) return ;;
     esac
-    mapfile -t COMPREPLY < <(compgen -W "$words" -- "$word")
+    # `compgen -W` would expand what is typed, and run its commands.
+    for candidate in "${candidates[@]}"; do
+        [[ $candidate != "$word"* ]] || COMPREPLY+=("$candidate")
+    done
 } && complete -o bashdefault -F _ga_bench ga-bench
 """
 
@@ -243,7 +248,7 @@ def filled(template, **parts):
 
 
 def bash(top, commands, names):
-    row = "    1{}) options='{}' operands=({}) ;;".format
+    row = "    1{}) options=({}) operands=({}) ;;".format
     rows = [row(it.name, " ".join(flags(it.options)), " ".join(operands(it))) for it in commands]
     rows += [row("help", "", "COMMAND")]
     values = kinds_of_values(commands)
@@ -281,6 +286,11 @@ _ga_bench_route() {
     compadd -S '' -a nodes
 }
 
+# `_files` runs the commands in a word.
+_ga_bench_file() {
+    [[ $PREFIX == *(\$\(|\`)* ]] || _files
+}
+
 _ga-bench() {
     local curcontext=$curcontext state line
     local -a commands=(
@@ -301,7 +311,7 @@ _ga-bench() {
 
 _ga-bench "$@"
 """
-ZSH_KINDS = {"FILE": "_files", "ROUTE": "_ga_bench_route", "NAME": "(@EXPLAINED@)"}
+ZSH_KINDS = {"FILE": "_ga_bench_file", "ROUTE": "_ga_bench_route", "NAME": "(@EXPLAINED@)"}
 
 
 def in_quotes(text):

@@ -70,13 +70,24 @@ COMPLETED = {
     "ga-bench run 708 1 200 fi": {"first.source"},
 }  # fmt: skip
 
-# What bash runs for a line that ends in a Tab: its arguments, and the name of its input.
+# Lines of which no shell may run or expand anything when it completes them.
+HOSTILE = [
+    f"ga-bench {line}" for line in (
+        "boot $(touch P)/", "boot `touch P`/", "boot 708,$(touch P),", "boot ${P[$(touch P)]}/", "boot *,", "boot 708,709/$(touch P),",
+        "race --route=$(touch P)/", "race --route $(touch P)/", "trace --nodes $(touch P)/", "trace --save $(touch P)/",
+        "profile --from $(touch P)/", "explain $(touch P)", "asm $(touch P)/", "asm < $(touch P)/", "$(touch P)", "help $(touch P)",
+    )
+]  # fmt: skip
+
+# What bash runs for a line with a Tab, at its end if it has none: its arguments, and the name of its input.
 TYPED = {
     "ga-bench list $HOM": "list /somewhere",
     "ga-bench list $HOME/": "list /somewhere/",
     "ga-bench asm < fir": "asm first.source",
     "ga-bench race --route=717,6": "race --route=717,617",
     "ga-bench boot < first.source 717,6": "boot 717,617 first.source",
+    "ga-bench boot '$(touch P)/\t'": "boot $(touch P)/",
+    "ga-bench trace --nodes '`touch P`/\t'": "trace --nodes `touch P`/",
 }
 
 BASH = """source "$1"
@@ -143,7 +154,8 @@ def typed_in_bash(line, folder):
     """What a line and a Tab run, in bash at a terminal."""
     typist, terminal = pty.openpty()
     shows = 'ga-bench() { input=$(readlink /proc/self/fd/0); echo "$*" ${input##/dev/*}; }'
-    text = f"source {ROOT}/completions/ga-bench.bash; {shows}\n{line}\t\nexit\n"
+    tab = "" if "\t" in line else "\t"
+    text = f"source {ROOT}/completions/ga-bench.bash; {shows}\n{line}{tab}\nexit\n"
     os.write(typist, text.encode())
     streams = {"stdin": terminal, "stdout": subprocess.PIPE, "stderr": subprocess.DEVNULL}
     command = ["bash", "--norc", "--noprofile", "-i"]
@@ -185,6 +197,12 @@ def pages():
             yield f"over 80 columns: {wide}", not wide
 
 
+def was_made(folder):
+    """Whether the command of a hostile line has made its file, which is removed then."""
+    made = f"{folder}/P"
+    return os.path.exists(made) and os.remove(made) is None
+
+
 def completions():
     """Yields the check of each line in each shell that is there."""
     with tempfile.TemporaryDirectory() as folder:
@@ -198,9 +216,16 @@ def completions():
             for line, wanted in COMPLETED.items():
                 found = complete(line, folder)
                 yield f"{shell}: {line!r}: {found}", set(found) == wanted
+            for line in HOSTILE:
+                # zsh itself completes what is behind `<`, and runs its commands, for each program
+                if shell == "zsh" and "<" in line:
+                    continue
+                complete(line, folder)
+                yield f"{shell}: {line!r} runs a command", not was_made(folder)
         for line, wanted in TYPED.items():
             found = typed_in_bash(line, folder)
             yield f"bash at a terminal: {line!r}: {found!r}", found == wanted
+            yield f"bash at a terminal: {line!r} runs a command", not was_made(folder)
 
 
 def wrong(program):
