@@ -45,10 +45,13 @@ is_current() {
 
 # Whether the times and the size show it, as in most cases: no file and no folder has changed since the stamp, nor the
 # program since it was put there. (The time of a file's last change of any kind can't be set back, and a file that is
-# added, moved or removed changes its folder. The size is for a program that a crash has cut.)
+# added, moved or removed changes its folder. The size is for a program that a crash has cut. A time to come shows that
+# the clock was set back, and then no time shows anything.)
 is_untouched() {
     read -r size _ <"$placed"
-    changed=$(cd "$root" && find out/ga-bench crates.txt crates \( -name out -o -name must-fail -o -name wrong-bodies \) -prune \
+    changed=$(cd "$root" && find out/stamp out/placed out/ga-bench crates.txt crates \
+        \( -name out -o -name must-fail -o -name wrong-bodies \) -prune \
+        -o \( -path out/stamp -o -path out/placed \) \( ! -mmin -0 -o -print -quit \) \
         -o -path out/ga-bench \( ! -size "${size}c" -o -cnewer out/placed \) -print -quit \
         -o ! -path out/ga-bench -cnewer out/stamp -print -quit 2>&1) && [ -z "$changed" ]
 }
