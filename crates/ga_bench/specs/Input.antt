@@ -1,7 +1,7 @@
 -- How the input of a job is read.
 use Rattle.std.specs.Prelude.{ℕ, List, Option, Some, None, Result}
-use Rattle.ga_jobs.specs.declared.fault.ServeError.{ServeError}
-use Rattle.ga_jobs.specs.Larger.{IsOfFile}
+use Rattle.ga_input.specs.declared.fault.ServeError.{ServeError}
+use Rattle.ga_input.specs.Larger.{IsOfFile}
 
 -- an answer to the bytes of a file, or of standard input, which is no text of the larger language
 abbrev pub IsReadBy : {B : Type 0} → Option (List ℕ) → (List ℕ → Result B ServeError → Type 0)

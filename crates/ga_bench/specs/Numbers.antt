@@ -5,9 +5,9 @@ use Rattle.ga_profile.specs.declared.window.WindowStart.{WindowStart}
 use Rattle.ga_transcript.specs.Live.{LiveView}
 use Rattle.ga_jobs.specs.{file_of}
 use Rattle.ga_jobs.specs.declared.Job.{Job}
-use Rattle.ga_jobs.specs.declared.race.Loading.{Loading}
-use Rattle.ga_jobs.specs.Race.{most_turns}
-use Rattle.ga_jobs.specs.Session.{IsSession}
+use Rattle.ga_input.specs.declared.loading.Loading.{Loading}
+use Rattle.ga_views.specs.Race.{most_turns}
+use Rattle.ga_input.specs.Session.{IsSession}
 use Rattle.ga_bench.specs.Input.{IsReadBy}
 
 -- a line: the profile of the run of the session that a job's input opens

@@ -3,9 +3,9 @@ use Rattle.std.specs.Prelude.{◌≡◌, ℕ, List, Option, Ok}
 use Rattle.ga_transcript.specs.Live.{LiveView}
 use Rattle.ga_jobs.specs.{file_of}
 use Rattle.ga_jobs.specs.declared.Job.{Job}
-use Rattle.ga_jobs.specs.declared.race.Loading.{Loading}
-use Rattle.ga_jobs.specs.Session.{IsSession}
-use Rattle.ga_jobs.specs.TraceJob.{saved_for}
+use Rattle.ga_input.specs.declared.loading.Loading.{Loading}
+use Rattle.ga_input.specs.Session.{IsSession}
+use Rattle.ga_views.specs.TraceJob.{saved_for}
 use Rattle.ga_bench.specs.Input.{IsReadBy}
 
 -- the save file for the session that a job's input opens, with the nodes that a text names, or with

@@ -6,7 +6,7 @@ use Rattle.ga_command_line.specs.declared.command_line.LineError.{LineError}
 use Rattle.ga_command_line.specs.declared.command_line.LineError.TheVariants.{Parse, Memory}
 use Rattle.ga_jobs.specs.declared.Job.{Job}
 use Rattle.ga_jobs.specs.declared.engine.Ending.{Ending}
-use Rattle.ga_jobs.specs.declared.fault.ServeError.{ServeError}
+use Rattle.ga_input.specs.declared.fault.ServeError.{ServeError}
 use Rattle.ga_jobs.specs.Engine.{Serves, status_of}
 
 -- The status of a wrong line is 2, and no other has it; it is 0 or 1 for help and the version, and

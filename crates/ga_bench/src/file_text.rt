@@ -1,13 +1,14 @@
 //! The text of a file with those that it includes.
 use crate::reading::{has_bytes, input_named, regular_input};
+use ga_diagnostics::Lines;
 use ga_include::{
     IncludeError, IncludeFaultKind, IncludePlace, Included, SourceFile, expand_includes,
     has_includes,
 };
-use ga_jobs::{
-    IncludeFault, IncludeRefusal, InputFault, Job, Lines, ServeError, is_session,
-    shown_include_fault,
+use ga_input::{
+    IncludeFault, IncludeRefusal, InputFault, ServeError, is_session, shown_include_fault,
 };
+use ga_jobs::Job;
 use std::alloc::{AllocError, Global};
 use std::io::Read;
 use std::rt::Files;

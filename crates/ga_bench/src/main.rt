@@ -27,15 +27,17 @@ use crate::saved_files::{SavedFiles, put};
 use crate::transcripts::{check_status, rewrite_status, serve_transcript, sourced};
 use clap::error::ErrorKind::{ArgumentConflict, InvalidValue};
 use ga_command_line::{LineError, job, refusal};
-use ga_jobs::lint::{form_of, warnings};
-use ga_jobs::trace::save_text;
+use ga_diagnostics::Lines;
+use ga_diagnostics::lint::{form_of, warnings};
+use ga_input::{InputFault, Loading, ServeError, Writes, write_output};
 use ga_jobs::{
-    Ending, InputFault, Job, Lines, Loading, Output, ServeError, Writes, open_file, output_of,
-    output_of_file, serve, serve_file, session_source, status, write_output,
+    Ending, Job, Output, open_file, output_of, output_of_file, serve, serve_file, status,
 };
 use ga_messages::Form;
 use ga_profile::WindowStart;
 use ga_prompt::Conversation;
+use ga_replays::session_source;
+use ga_views::trace::save_text;
 use std::alloc::Global;
 use std::io::ErrorKind::{NotFound, OutOfMemory};
 use std::io::{BufReader, IsTerminal, Read, Write};

@@ -1,16 +1,17 @@
 //! The numbers of a profile as JSON.
 ghost use Rattle.std.specs.Prelude.{IfOk, string_bytes};
 ghost use Rattle.ga_jobs.specs.{file_of};
-ghost use Rattle.ga_jobs.specs.Fault.{Answers};
-ghost use Rattle.ga_jobs.specs.Session.{IsSession};
+ghost use Rattle.ga_input.specs.Fault.{Answers};
+ghost use Rattle.ga_input.specs.Session.{IsSession};
 ghost use Rattle.ga_bench.specs.Input.{IsReadBy};
 ghost use Rattle.ga_bench.specs.Numbers.{AreNumbers};
 
-use ga_jobs::race::TURNS;
-use ga_jobs::{Job, Loading, ServeError, open_file, open_session};
+use ga_input::{Loading, ServeError, open_session};
+use ga_jobs::{Job, open_file};
 use ga_json::run_json;
 use ga_profile::WindowStart;
 use ga_transcript::Live;
+use ga_views::race::TURNS;
 use std::alloc::Global;
 
 /// The profile of the session that a job's input opens as JSON, on a line.

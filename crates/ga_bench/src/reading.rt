@@ -1,5 +1,5 @@
 //! The files that are read.
-use ga_jobs::{InputFault, Reads, ServeError, read_input};
+use ga_input::{InputFault, Reads, ServeError, read_input};
 use std::fs;
 use std::fs::OpenFile;
 use std::io::ErrorKind::{NotFound, OutOfMemory};

@@ -5,7 +5,9 @@ ghost use Rattle.ga_bench.specs.Status.{IsStatusOf};
 
 use clap::error::ErrorKind::InvalidValue;
 use ga_command_line::{LineError, refusal};
-use ga_jobs::{Ending, Lines, ServeError, Writes, faults_message, status, write_output};
+use ga_diagnostics::{Lines, faults_message};
+use ga_input::{ServeError, Writes, write_output};
+use ga_jobs::{Ending, status};
 use ga_messages::{Form, ShownText};
 use std::io;
 use std::io::Write;

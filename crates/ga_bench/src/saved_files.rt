@@ -1,5 +1,5 @@
 //! Sessions that are saved in the files of the system.
-use ga_jobs::{InputFault, ServeError};
+use ga_input::{InputFault, ServeError};
 use ga_prompt::{SaveFault, Saves};
 use std::alloc::Global;
 use std::fs::{File, OpenFile, OpenOptions, Permissions};

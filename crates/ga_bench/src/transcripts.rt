@@ -5,12 +5,11 @@ use crate::reading::{input_named, opened, regular_input};
 use crate::reporting::report_on_file;
 use crate::saved_files::put;
 use ga_include::source_path;
-use ga_jobs::record::replacement;
-use ga_jobs::{
-    Ending, FileReport, Job, Reads, ServeError, Sourced, Writes, fault_in_source, read_input,
-    serve_file, source_named, status, write_output,
-};
+use ga_input::{Reads, ServeError, Writes, read_input, write_output};
+use ga_jobs::{Ending, Job, serve_file, status};
 use ga_messages::ShownText;
+use ga_replays::record::replacement;
+use ga_replays::{FileReport, Sourced, fault_in_source, source_named};
 use std::io::{Read, Write};
 use std::rt::Files;
 use std::thread::Threads;

@@ -4,7 +4,7 @@ use Rattle.std.specs.Prelude.{codes}
 use Rattle.clap.proofs.OnLiterals.{clap_on_literals}
 use Rattle.clap.specs.Words.{takes}
 use Rattle.ga_jobs.specs.declared.Job.TheVariants.{One, Asm, Dis, Boot, List, Lint, Counts, Race, Map, Trace, Report, Check, Record, Rewrite, Explain}
-use Rattle.ga_jobs.specs.declared.race.Loading.TheVariants.{Any}
+use Rattle.ga_input.specs.declared.loading.Loading.TheVariants.{Any}
 use Rattle.ga_explain.specs.declared.topic.Topic.{Topic}
 use Rattle.ga_profile.specs.declared.window.WindowStart.TheVariants.{LastNode}
 use Rattle.ga_command_line.specs.Explain.{IsOfTable}

@@ -5,7 +5,7 @@ use Rattle.clap.specs.Words.{App, Row, Text, new_app, subcommand_of, takes}
 use Rattle.ga_jobs.specs.declared.Job.{Job}
 use Rattle.ga_jobs.specs.declared.Job.TheVariants.{One, Asm, Dis, Boot, Run, Debug, Talk, Replay, Explain}
 use Rattle.ga_jobs.specs.declared.Job.TheVariants as job
-use Rattle.ga_jobs.specs.declared.race.Loading.TheVariants.{Any}
+use Rattle.ga_input.specs.declared.loading.Loading.TheVariants.{Any}
 use Rattle.ga_command_line.specs.declared.Subcommand.{Subcommand}
 use Rattle.ga_command_line.specs.declared.Subcommand.TheVariants as sub
 use Rattle.ga_command_line.specs.Boot.{boot_command}

@@ -2,8 +2,8 @@
 use Rattle.std.specs.Prelude.{◌≡◌, List, true, false, codes, None, Some, string_bytes}
 use Rattle.clap.specs.Words.{App, Row, Text, first_of, new_app, new_rule, with_rule}
 use Rattle.clap.specs.declared.builder.action.ArgAction.TheVariants.{SetTrue}
-use Rattle.ga_jobs.specs.declared.race.Loading.{Loading}
-use Rattle.ga_jobs.specs.declared.race.Loading.TheVariants.{Any, Place, Route}
+use Rattle.ga_input.specs.declared.loading.Loading.{Loading}
+use Rattle.ga_input.specs.declared.loading.Loading.TheVariants.{Any, Place, Route}
 use Rattle.ga_command_line.specs.Flag.{is_set}
 use Rattle.ga_command_line.specs.Route.{IsRouteAt}
 

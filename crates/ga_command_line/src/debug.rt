@@ -9,7 +9,8 @@ use crate::file::file_in;
 use crate::loading::{loading_command, loading_in};
 use clap::error::ErrorKind;
 use clap::{Arg, ArgMatches, Command};
-use ga_jobs::{Job, Loading};
+use ga_input::Loading;
+use ga_jobs::Job;
 use std::alloc::{AllocError, Global};
 
 const HELP: &str = "\

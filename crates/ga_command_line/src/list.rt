@@ -13,7 +13,8 @@ use crate::number::number_if;
 use crate::turns::{TURNS_LIMIT, turns_command};
 use clap::error::ErrorKind;
 use clap::{Arg, ArgAction, ArgMatches, Command};
-use ga_jobs::{Job, Loading};
+use ga_input::Loading;
+use ga_jobs::Job;
 use std::alloc::{AllocError, Global};
 
 const HELP: &str = "\

@@ -8,7 +8,7 @@ use crate::command_line::{LineError, refusal};
 use crate::flag::flag_in;
 use clap::error::ErrorKind;
 use clap::{Arg, ArgAction, ArgMatches, Command};
-use ga_jobs::Loading;
+use ga_input::Loading;
 use std::alloc::{AllocError, Global};
 
 /// A subcommand with only the options `--place` and `--route ROUTE`.

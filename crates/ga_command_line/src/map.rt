@@ -12,7 +12,8 @@ use crate::loading::loading_in;
 use crate::number::number_if;
 use crate::turns::{TURNS_LIMIT, turns_command};
 use clap::{Arg, ArgMatches, Command};
-use ga_jobs::{Job, Loading};
+use ga_input::Loading;
+use ga_jobs::Job;
 use std::alloc::{AllocError, Global};
 
 const HELP: &str = "\

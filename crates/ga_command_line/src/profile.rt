@@ -15,7 +15,8 @@ use crate::number::number_if;
 use crate::start::{from_command, start_in};
 use crate::turns::TURNS_LIMIT;
 use clap::{Arg, ArgAction, ArgMatches, Command};
-use ga_jobs::{Job, Loading};
+use ga_input::Loading;
+use ga_jobs::Job;
 use ga_profile::WindowStart;
 use std::alloc::{AllocError, Global};
 

@@ -4,11 +4,11 @@ use Rattle.std.specs.Prelude.{◌&&◌, if◌then◌else◌}
 use Rattle.ga_asm.specs.declared.text.TextError.{TextError}
 use Rattle.ga_expand.specs.declared.expansion.Expansion.{Expansion}
 use Rattle.ga_faults.specs.Origin.{at_origin}
-use Rattle.ga_jobs.specs.declared.fault.ServeError.{ServeError}
-use Rattle.ga_jobs.specs.declared.fault.ServeError.TheVariants.{Asm, Memory, Read, Shown, Source, Write}
-use Rattle.ga_jobs.specs.declared.fault.TextFault.TheVariants as shown
-use Rattle.ga_jobs.specs.Fault.{Answers, FailsRightly}
-use Rattle.ga_jobs.specs.Larger.{IsExpandedInput, IsOfFile, IsOfLarger, IsRefused, as_written, is_session, is_shown, plain_fault, source_fault}
+use Rattle.ga_input.specs.declared.fault.ServeError.{ServeError}
+use Rattle.ga_input.specs.declared.fault.ServeError.TheVariants.{Asm, Memory, Read, Shown, Source, Write}
+use Rattle.ga_input.specs.declared.fault.TextFault.TheVariants as shown
+use Rattle.ga_input.specs.Fault.{Answers, FailsRightly}
+use Rattle.ga_input.specs.Larger.{IsExpandedInput, IsOfFile, IsOfLarger, IsRefused, as_written, is_session, is_shown, plain_fault, source_fault}
 
 module _ {B : Type 0} (Is : List ℕ → Result B ServeError → Type 0) (input : List ℕ) where
   -- ---- plain text

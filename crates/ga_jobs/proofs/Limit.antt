@@ -1,11 +1,11 @@
 -- An input that wasn't refused is not too long.
 use Rattle.std.proofs.Common.{◌≡◌, Bool, true, false, List, ℕ, Result, Ok, Err, refl, subst, sym}
 use Rattle.std.specs.Prelude.{MatchBool, if◌then◌else◌}
-use Rattle.ga_jobs.specs.Fault.{Answers}
+use Rattle.ga_input.specs.Fault.{Answers}
 use Rattle.ga_jobs.specs.declared.Job.{Job}
-use Rattle.ga_jobs.specs.declared.fault.ServeError.{ServeError}
-use Rattle.ga_jobs.specs.declared.fault.ServeError.TheVariants.{Input}
-use Rattle.ga_jobs.specs.declared.fault.InputFault.TheVariants.{TooLong}
+use Rattle.ga_input.specs.declared.fault.ServeError.{ServeError}
+use Rattle.ga_input.specs.declared.fault.ServeError.TheVariants.{Input}
+use Rattle.ga_input.specs.declared.fault.InputFault.TheVariants.{TooLong}
 use Rattle.ga_jobs.specs.{IsJobOutput}
 use Rattle.ga_jobs.specs.Answering.{IsOutput, is_too_long}
 

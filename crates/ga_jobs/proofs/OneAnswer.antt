@@ -4,12 +4,14 @@ use Rattle.std.specs.Prelude.{MatchBool, string_bytes}
 use Rattle.ga_asm.specs.Text.{AtMostOne}
 use Rattle.ga_jobs.specs.declared.Job.{Job}
 use Rattle.ga_jobs.specs.declared.Job.TheVariants.{Counts, Expand, Lint, Map, Profile, Race, Report, Run, Talk, Trace}
-use Rattle.ga_jobs.specs.declared.fault.ServeError.TheVariants.{Input}
-use Rattle.ga_jobs.specs.declared.fault.InputFault.TheVariants.{TooLong}
-use Rattle.ga_jobs.proofs.OneOutput.{one_outputs}
-use Rattle.ga_jobs.proofs.OneRun.{run_outputs}
-use Rattle.ga_jobs.specs.Run.{AreTextsOrEqual}
-use Rattle.ga_jobs.specs.declared.fault.ServeError.{ServeError}
+use Rattle.ga_input.specs.declared.fault.ServeError.TheVariants.{Input}
+use Rattle.ga_input.specs.declared.fault.InputFault.TheVariants.{TooLong}
+use Rattle.ga_input.proofs.OneInput.{one_images, one_made}
+use Rattle.ga_programs.proofs.OneOutput.{one_boot_output, one_list_output}
+use Rattle.ga_programs.proofs.OneRun.{run_outputs}
+use Rattle.ga_replays.proofs.OneOutput.{one_check_output, one_debug_output, one_record_output, one_replay_output}
+use Rattle.ga_programs.specs.Run.{AreTextsOrEqual}
+use Rattle.ga_input.specs.declared.fault.ServeError.{ServeError}
 use Rattle.ga_jobs.specs.{IsJobOutput}
 use Rattle.ga_jobs.specs.Answering.{HasOneOutput, IsOutput, is_too_long}
 
@@ -37,6 +39,18 @@ within_limit : (job : Job) (input : List ℕ) → AtMostOne (IsJobOutput job inp
     → AtMostOne (IsOutput job input)
 within_limit job input only =
     alike_within job input (λ one other. one ≡ other) (λ one other p q. p ∙ sym q) only
+
+-- why an answer is the only one, of each job that is no function of its input
+ruleset one_outputs = (
+  one_images,
+  one_made,
+  one_boot_output,
+  one_debug_output,
+  one_replay_output,
+  one_check_output,
+  one_record_output,
+  one_list_output,
+)
 
 pub one_output : (job : Job) (input : List ℕ) → HasOneOutput job input
 unfolding IsJobOutput

@@ -3,15 +3,12 @@ use Rattle.std.specs.Prelude.{◌≡◌, ◌&&◌, ℕ, Bool, List, length, nat_
 use Rattle.ga_asm.specs.Text.{AtMostOne}
 use Rattle.ga_jobs.specs.declared.Job.{Job}
 use Rattle.ga_jobs.specs.declared.Job.TheVariants.{Counts, Expand, Lint, Map, Profile, Race, Report, Run, Talk, Trace}
-use Rattle.ga_jobs.specs.declared.fault.ServeError.{ServeError}
-use Rattle.ga_jobs.specs.declared.fault.ServeError.TheVariants.{Input}
-use Rattle.ga_jobs.specs.declared.fault.InputFault.TheVariants.{TooLong}
+use Rattle.ga_input.specs.declared.fault.ServeError.{ServeError}
+use Rattle.ga_input.specs.declared.fault.ServeError.TheVariants.{Input}
+use Rattle.ga_input.specs.declared.fault.InputFault.TheVariants.{TooLong}
 use Rattle.ga_jobs.specs.{IsJobOutput, reads_input}
-use Rattle.ga_jobs.specs.Run.{HasRuns}
-
--- the most bytes that an input may have
-abbrev pub INPUT_LIMIT : ℕ
-INPUT_LIMIT = 1048576
+use Rattle.ga_input.specs.Reading.{INPUT_LIMIT}
+use Rattle.ga_programs.specs.Run.{HasRuns}
 
 -- more bytes are too long for a job that reads them
 abbrev pub is_too_long : Job → List ℕ → Bool

@@ -4,12 +4,13 @@ use Rattle.std.specs.Io.KnownBytes.{Appends, Keeps}
 use Rattle.ga_jobs.specs.declared.Job.{Job}
 use Rattle.ga_jobs.specs.declared.engine.Ending.{Ending}
 use Rattle.ga_jobs.specs.declared.engine.Ending.TheVariants as ending
-use Rattle.ga_jobs.specs.declared.fault.ServeError.{ServeError}
-use Rattle.ga_jobs.specs.declared.fault.ServeError.TheVariants.{Read, Write, Memory}
+use Rattle.ga_input.specs.declared.fault.ServeError.{ServeError}
+use Rattle.ga_input.specs.declared.fault.ServeError.TheVariants.{Read, Write, Memory}
 use Rattle.ga_jobs.specs.{writes_pieces}
 use Rattle.ga_jobs.specs.Answering.{IsOutput}
-use Rattle.ga_jobs.specs.Larger.{IsOfFile}
-use Rattle.ga_jobs.specs.Outputs.{AppendsPart, ending_of}
+use Rattle.ga_input.specs.Larger.{IsOfFile}
+use Rattle.ga_jobs.specs.Outputs.{ending_of}
+use Rattle.ga_input.specs.Writing.{AppendsPart}
 
 -- a prefix of an output was appended
 abbrev pub WritesPart : (Result (List ℕ) ServeError → Type 0) → Option (List ℕ) → Option (List ℕ)

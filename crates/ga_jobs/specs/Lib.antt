@@ -5,66 +5,29 @@ use Rattle.std.specs.Str.{bytes_eq}
 use Rattle.ga_explain.specs.Output.{explain_output}
 use Rattle.ga_jobs.specs.declared.Job.{Job}
 use Rattle.ga_jobs.specs.declared.Job.TheVariants as job
-use Rattle.ga_jobs.specs.declared.fault.ServeError.{ServeError}
-use Rattle.ga_jobs.specs.Asm.{IsAsmOutput}
-use Rattle.ga_jobs.specs.Boot.{IsBootOutput}
-use Rattle.ga_jobs.specs.CountsJob.{IsCountsOutput}
-use Rattle.ga_jobs.specs.Debug.{IsDebugOutput}
-use Rattle.ga_jobs.specs.Dis.{dis_output}
-use Rattle.ga_jobs.specs.ExpandJob.{IsExpandOutput}
-use Rattle.ga_jobs.specs.Lines.{origins_in}
-use Rattle.ga_jobs.specs.LintJob.{IsLintOutput, file_name, form_of}
-use Rattle.ga_jobs.specs.Listing.{IsListOutput}
-use Rattle.ga_jobs.specs.MapJob.{IsMapOutput}
-use Rattle.ga_jobs.specs.One.{one_output}
-use Rattle.ga_jobs.specs.ProfileJob.{IsProfileOutput}
-use Rattle.ga_jobs.specs.Race.{IsRaceOutput}
-use Rattle.ga_jobs.specs.Replay.{IsReplayOutput}
-use Rattle.ga_jobs.specs.ReportJob.{IsReportOutput}
-use Rattle.ga_jobs.specs.Run.{IsRunOutput}
-use Rattle.ga_jobs.specs.Session.{IsSessionOutput}
-use Rattle.ga_jobs.specs.TraceJob.{IsTraceOutput}
-use Rattle.ga_jobs.specs.Transcript.{IsCheckOutput, IsRecordOutput}
-pub mod Fault
-pub mod Meaning
-pub mod TextFault
-pub mod TranscriptFault
-pub mod Transcript
-pub mod FileReport
-pub mod ExpandJob
-pub mod Listing
-pub mod Text
-pub mod One
-pub mod Source
-pub mod Asm
-pub mod Dis
-pub mod Tree
-pub mod Boot
-pub mod Run
-pub mod Replay
-pub mod Race
-pub mod Session
-pub mod MapJob
-pub mod ProfileJob
-pub mod TraceJob
-pub mod CountsJob
-pub mod ReportJob
-pub mod SourceName
-pub mod Sourced
-pub mod Debug
+use Rattle.ga_input.specs.declared.fault.ServeError.{ServeError}
+use Rattle.ga_programs.specs.Asm.{IsAsmOutput}
+use Rattle.ga_programs.specs.Boot.{IsBootOutput}
+use Rattle.ga_views.specs.CountsJob.{IsCountsOutput}
+use Rattle.ga_replays.specs.Debug.{IsDebugOutput}
+use Rattle.ga_programs.specs.Dis.{dis_output}
+use Rattle.ga_programs.specs.ExpandJob.{IsExpandOutput}
+use Rattle.ga_diagnostics.specs.Lines.{origins_in}
+use Rattle.ga_diagnostics.specs.LintJob.{IsLintOutput, file_name, form_of}
+use Rattle.ga_programs.specs.Listing.{IsListOutput}
+use Rattle.ga_views.specs.MapJob.{IsMapOutput}
+use Rattle.ga_programs.specs.One.{one_output}
+use Rattle.ga_views.specs.ProfileJob.{IsProfileOutput}
+use Rattle.ga_views.specs.Race.{IsRaceOutput}
+use Rattle.ga_replays.specs.Replay.{IsReplayOutput}
+use Rattle.ga_views.specs.ReportJob.{IsReportOutput}
+use Rattle.ga_programs.specs.Run.{IsRunOutput}
+use Rattle.ga_input.specs.Session.{IsSessionOutput}
+use Rattle.ga_views.specs.TraceJob.{IsTraceOutput}
+use Rattle.ga_replays.specs.Transcript.{IsCheckOutput, IsRecordOutput}
 pub mod Answering
-pub mod Reading
-pub mod Writing
 pub mod Outputs
-pub mod Larger
 pub mod Engine
-pub mod Lines
-pub mod Message
-pub mod WordPlace
-pub mod PlacedFault
-pub mod LintJob
-pub mod FileFaults
-pub mod inner
 
 -- what a job may answer to an input that is not too long
 unfoldable pub IsJobOutput : Job → List ℕ → Result (List ℕ) ServeError → Type 0

@@ -1,5 +1,5 @@
 -- What a job writes, and what writing it does to a writer's bytes.
-use Rattle.std.specs.Prelude.{◌≡◌, ℕ, Bool, true, false, List, codes, nat_eq, Option, Result, Ok, Err, string_bytes, take, if◌then◌else◌}
+use Rattle.std.specs.Prelude.{◌≡◌, ℕ, Bool, true, false, List, codes, nat_eq, Option, Result, Ok, Err, string_bytes, if◌then◌else◌}
 use Rattle.std.specs.List.{starts_with}
 use Rattle.std.specs.Io.KnownBytes.{Appends}
 use Rattle.ga_word.specs.Text.{is_empty}
@@ -7,12 +7,13 @@ use Rattle.ga_jobs.specs.declared.Job.{Job}
 use Rattle.ga_jobs.specs.declared.Job.TheVariants as job
 use Rattle.ga_jobs.specs.declared.engine.Ending.{Ending}
 use Rattle.ga_jobs.specs.declared.engine.Ending.TheVariants as ending
-use Rattle.ga_jobs.specs.declared.fault.ServeError.{ServeError}
-use Rattle.ga_jobs.specs.declared.fault.ServeError.TheVariants.{Write, Memory}
+use Rattle.ga_input.specs.declared.fault.ServeError.{ServeError}
+use Rattle.ga_input.specs.declared.fault.ServeError.TheVariants.{Write, Memory}
 use Rattle.ga_jobs.specs.declared.outputs.Output.{Output}
 use Rattle.ga_jobs.specs.declared.outputs.Output.TheVariants as output
 use Rattle.ga_jobs.specs.{writes_pieces}
-use Rattle.ga_jobs.specs.TraceJob as trace
+use Rattle.ga_input.specs.Writing.{AppendsPart}
+use Rattle.ga_views.specs.TraceJob as trace
 
 -- its text
 abbrev pub text_of : Output → List ℕ
@@ -31,10 +32,6 @@ ending_of (job.Race loading turns witness file) text =
     if starts_with nat_eq text (codes "no race") then ending.Done else ending.Race
 ending_of (job.Lint true json file) text = if is_empty text then ending.Done else ending.Denied
 ending_of job text = ending.Done
-
--- a prefix of a text was appended to a writer's bytes, old and new, and nothing else
-abbrev pub AppendsPart : Option (List ℕ) → Option (List ℕ) → List ℕ → Type 0
-AppendsPart old new text = (count : ℕ) × Appends old new (take count text)
 
 -- A text was written, and how the job ended; or a prefix of it, since a write failed, or memory ran
 -- out while it was made.

@@ -1,18 +1,16 @@
 ghost use Rattle.std.specs.Prelude.{◌≡◌, Err, IfSome, Ok, not, if◌then◌else◌, is_some, string_bytes};
-ghost use Rattle.ga_jobs.specs.declared.fault.InputFault.TheVariants.{TooLong};
-ghost use Rattle.ga_jobs.specs.declared.fault.ServeError.TheVariants.{Input};
-ghost use Rattle.ga_jobs.specs.Fault.{Answers};
+ghost use Rattle.ga_input.specs.declared.fault.InputFault.TheVariants.{TooLong};
+ghost use Rattle.ga_input.specs.declared.fault.ServeError.TheVariants.{Input};
+ghost use Rattle.ga_input.specs.Fault.{Answers};
 ghost use Rattle.ga_jobs.specs.{needs_threads};
 ghost use Rattle.ga_jobs.specs.Answering.{HasOneOutput, IsOutput, is_too_long};
 
-use crate::fault::{InputFault, ServeError};
-use crate::{Job, output, run};
+use crate::{Job, output};
+use ga_input::{INPUT_LIMIT, InputFault, ServeError};
+use ga_programs::run;
 use std::alloc::Global;
 use std::thread::Threads;
 use std::time::Clock;
-
-/// The most bytes that an input may have.
-pub const INPUT_LIMIT: usize = 1_048_576;
 
 /// What a job answers to bytes in memory: its output, or the first fault of the input. An input of
 /// more than 1,048,576 bytes is refused as `Input(TooLong)`; `explain` ignores its input. It reads

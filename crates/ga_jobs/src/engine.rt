@@ -1,16 +1,15 @@
 ghost use Rattle.std.specs.Prelude.{◌≡◌, ◌≢◌, ◌≤◌, ℕ, ◌+◌, false, List, IfErr, IfSome, MatchBool, length};
 ghost use Rattle.std.specs.Io.KnownBytes.{Consumes, Keeps};
 ghost use Rattle.ga_jobs.specs.{reads_input, writes_pieces};
-ghost use Rattle.ga_jobs.specs.Answering.{HasOneOutput, INPUT_LIMIT};
+ghost use Rattle.ga_jobs.specs.Answering.{HasOneOutput};
+ghost use Rattle.ga_input.specs.Reading.{INPUT_LIMIT};
 ghost use Rattle.ga_jobs.specs.Outputs.{ending_of};
-ghost use Rattle.ga_jobs.specs.Reading.{ReadsToEnd};
+ghost use Rattle.ga_input.specs.Reading.{ReadsToEnd};
 ghost use Rattle.ga_jobs.specs.Engine.{Serves, status_of};
 
 use crate::Job;
-use crate::fault::ServeError;
 use crate::outputs::output_of;
-use crate::reading::read_input;
-use crate::reads::Reads;
+use ga_input::{Reads, ServeError, read_input};
 use std::io::{Read, Write};
 use std::thread::Threads;
 use std::time::Clock;

@@ -1,9 +1,9 @@
 ghost use Rattle.std.specs.Prelude.{◌≡◌, Ok, string_bytes};
 ghost use Rattle.ga_explain.specs.Output.{explain_output};
-ghost use Rattle.ga_jobs.specs.Fault.{Answers};
+ghost use Rattle.ga_input.specs.Fault.{Answers};
 
-use crate::fault::ServeError;
 use ga_explain::{Topic, explain};
+use ga_input::ServeError;
 use std::alloc::Global;
 
 /// The text of a topic, or all names.

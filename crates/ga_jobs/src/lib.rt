@@ -1,81 +1,29 @@
 //! The jobs of the bench, and the engine that serves them: it reads an input, makes the text of a
-//! job, and writes it. What a job makes of the bytes of an input is in a module of its name; this
-//! file lists the jobs.
+//! job, and writes it. What a job makes of the bytes of an input is in a crate below; this file
+//! lists the jobs.
 #![tactic(auto)]
 
 ghost use Rattle.std.specs.Prelude.{◌≡◌, IfSome, is_some, map, not, option_map, string_bytes};
 ghost use Rattle.ga_jobs.specs.{IsJobOutput, file_of, given_file, named_file, needs_threads, only_file, reads_input, several_files_of};
-ghost use Rattle.ga_jobs.specs.Fault.{Answers};
+ghost use Rattle.ga_input.specs.Fault.{Answers};
 
 mod answering;
-pub mod asm;
-pub mod boot;
-pub mod check;
-pub mod counts;
-pub mod debug;
-pub mod dis;
 mod engine;
-pub mod expand;
 mod explain;
-mod fault;
-mod file_faults;
-mod file_report;
 mod larger;
-mod lines;
-pub mod lint;
-pub mod list;
-pub mod map;
-mod meaning;
-mod message;
-pub mod one;
 mod outputs;
-mod placed_fault;
-pub mod profile;
-pub mod race;
-mod race_text;
-mod reading;
-mod reads;
-pub mod record;
-pub mod replay;
-pub mod report;
-pub mod run;
-mod session;
-mod source;
-mod source_name;
-mod sourced;
-mod text;
-mod text_fault;
-pub mod trace;
-mod transcript_fault;
-mod tree;
-mod witness;
-mod word_place;
-mod writes;
-mod writing;
 
 pub use crate::answering::{answer, answer_alone};
 pub use crate::engine::{Ending, serve, status};
-pub use crate::fault::{
-    IncludeFault, IncludeRefusal, InputFault, OutputFault, RouteFault, ServeError, TextFault,
-    WordsFault,
-};
-pub use crate::file_faults::faults_message;
-pub use crate::file_report::FileReport;
-pub use crate::larger::{is_session, open_file, output_of_file, serve_file};
-pub use crate::lines::Lines;
-pub use crate::message::fault_message;
+pub use crate::larger::{open_file, output_of_file, serve_file};
 pub use crate::outputs::{Output, output_of};
-pub use crate::race::Loading;
-pub use crate::reading::read_input;
-pub use crate::reads::{Reads, tried_again};
-pub use crate::session::open_session;
-pub use crate::source_name::{fault_in_source, session_source, source_named};
-pub use crate::sourced::Sourced;
-pub use crate::text_fault::shown_include_fault;
-pub use crate::writes::Writes;
-pub use crate::writing::write_output;
+use ga_diagnostics::lint;
 use ga_explain::Topic;
+use ga_input::{Loading, ServeError, session};
 use ga_profile::WindowStart;
+use ga_programs::{asm, boot, dis, expand, list, one};
+use ga_replays::{check, debug, record, replay};
+use ga_views::{counts, map, profile, race, report, trace};
 use std::alloc::Global;
 
 /// What a command line asks for, one variant for each subcommand. The input is in the file, or
@@ -137,8 +85,8 @@ pub enum Job {
         file: Option<String>,
     },
     /// How many commands a transcript has, if each has the expected reply. As a job it has one
-    /// input: several files are inputs of as many jobs, and [`FileReport`] has what is reported of
-    /// each.
+    /// input: several files are inputs of as many jobs, and
+    /// [`FileReport`](ga_replays::FileReport) has what is reported of each.
     Check {
         files: Vec<String>,
     },

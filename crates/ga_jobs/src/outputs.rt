@@ -2,18 +2,15 @@
 ghost use Rattle.std.specs.Prelude.{◌≡◌, IfOk, option_map, string_bytes, true};
 ghost use Rattle.ga_jobs.specs.{writes_pieces};
 ghost use Rattle.ga_jobs.specs.Answering.{IsOutput};
-ghost use Rattle.ga_jobs.specs.Fault.{Answers};
+ghost use Rattle.ga_input.specs.Fault.{Answers};
 ghost use Rattle.ga_jobs.specs.Outputs.{WritesText, in_pieces, text_of};
-ghost use Rattle.ga_jobs.specs.TraceJob.{IsTraceOutput};
+ghost use Rattle.ga_views.specs.TraceJob.{IsTraceOutput};
 
 use crate::Job;
 use crate::answering::{answer, within_limit};
 use crate::engine::{Ending, ending_of};
-use crate::fault::ServeError;
-use crate::race::Loading;
-use crate::trace::{Waveform, prepared};
-use crate::writes::Writes;
-use crate::writing::write_output;
+use ga_input::{Loading, ServeError, Writes, write_output};
+use ga_views::trace::{Waveform, prepared};
 use std::alloc::Global;
 use std::io::Write;
 use std::thread::Threads;

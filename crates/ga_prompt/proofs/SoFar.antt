@@ -3,7 +3,7 @@ use Rattle.std.proofs.Common.{◌≡◌, ◌∙◌, inl, inr, ℕ, Bool, true, f
 use Rattle.std.specs.Prelude.{IfSome, MatchBool, codes, not}
 use Rattle.std.proofs.KnownBytes.{Appends-trans}
 use Rattle.std.proofs.lemmas.Bool.{true≢false}
-use Rattle.ga_jobs.specs.declared.fault.ServeError.{ServeError}
+use Rattle.ga_input.specs.declared.fault.ServeError.{ServeError}
 use Rattle.ga_transcript.specs.Live.{LiveView}
 use Rattle.ga_prompt.specs.declared.conversation.Conversation.{Conversation}
 use Rattle.ga_prompt.specs.Conversation.{DoesLine, IsTurn, last_of, live_of, prompts_of}

@@ -3,7 +3,7 @@ use Rattle.std.proofs.Common.{◌≡◌, inl, inr, ℕ, Bool, false, List, [], �
 use Rattle.std.specs.Prelude.{not}
 use Rattle.std.specs.Io.KnownBytes.{Appends}
 use Rattle.std.proofs.KnownBytes.{Appends-trans}
-use Rattle.ga_jobs.specs.declared.fault.ServeError.{ServeError}
+use Rattle.ga_input.specs.declared.fault.ServeError.{ServeError}
 use Rattle.ga_prompt.specs.declared.conversation.Conversation.{Conversation}
 use Rattle.ga_prompt.specs.Conversation.{DoesLine, IsTurn, last_of, live_of, prompts_of}
 use Rattle.ga_prompt.specs.Request.{request_in}

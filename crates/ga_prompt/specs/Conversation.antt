@@ -1,10 +1,10 @@
 -- One line of a conversation.
 use Rattle.std.specs.Prelude.{◌≡◌, ◌⊎◌, ◌-◌, ◌^◌, ℕ, Bool, true, false, List, [], ◌∷◌, ◌++◌, IfSome, Option, Some, Result, Ok, Err, not}
 use Rattle.std.specs.Io.KnownBytes.{Appends}
-use Rattle.ga_jobs.specs.Writing.{calls_of, has_failed}
-use Rattle.ga_jobs.specs.declared.fault.ServeError.{ServeError}
-use Rattle.ga_jobs.specs.declared.fault.ServeError.TheVariants.{Write}
-use Rattle.ga_jobs.specs.declared.writes.Writes.{Writes}
+use Rattle.ga_input.specs.Writing.{calls_of, has_failed}
+use Rattle.ga_input.specs.declared.fault.ServeError.{ServeError}
+use Rattle.ga_input.specs.declared.fault.ServeError.TheVariants.{Write}
+use Rattle.ga_input.specs.declared.writes.Writes.{Writes}
 use Rattle.ga_transcript.specs.Live.{LiveView}
 use Rattle.ga_prompt.specs.declared.conversation.Conversation.{Conversation}
 use Rattle.ga_prompt.specs.Reading.{ReadFails}

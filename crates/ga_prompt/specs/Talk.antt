@@ -5,7 +5,7 @@ use Rattle.std.specs.List.{flat_map}
 use Rattle.std.specs.Str.{chars, encode_utf8_all}
 use Rattle.ga_debug.specs.Pieces.{pieces}
 use Rattle.ga_messages.specs.Shown.{shown_char}
-use Rattle.ga_jobs.specs.declared.fault.ServeError.{ServeError}
+use Rattle.ga_input.specs.declared.fault.ServeError.{ServeError}
 use Rattle.ga_transcript.specs.Line.{by_kind, kind_of}
 use Rattle.ga_transcript.specs.Live.{IsBack, LiveView, said}
 use Rattle.ga_transcript.specs.Reply.{step_of}

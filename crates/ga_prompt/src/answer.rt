@@ -14,7 +14,7 @@ use crate::nearest::hint_of;
 use crate::reply::{write_reply, write_text, write_undone};
 use crate::request::{Request, request_in};
 use crate::saves::{SaveFault, Saves};
-use ga_jobs::{ServeError, Writes};
+use ga_input::{ServeError, Writes};
 use ga_transcript::{Live, TranscriptError};
 use std::alloc::{AllocError, Global};
 use std::io::Write;

@@ -2,7 +2,7 @@ ghost use Rattle.std.specs.Prelude.{◌≡◌, ◌<◌, IfErr, IfOk};
 ghost use Rattle.ga_prompt.specs.Reading.{ReadFails};
 ghost use Rattle.ga_prompt.specs.inner.Typed.{IsByte};
 
-use ga_jobs::ServeError;
+use ga_input::ServeError;
 use std::io::{ErrorKind, Read};
 
 /// The reads of single bytes: how many may still be made, and whether one failed.

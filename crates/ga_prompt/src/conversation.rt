@@ -6,7 +6,7 @@ use crate::answer::{answer, is_quit};
 use crate::reply::write_text;
 use crate::saves::Saves;
 use crate::typed::Typed;
-use ga_jobs::{ServeError, Writes};
+use ga_input::{ServeError, Writes};
 use ga_transcript::Live;
 use std::alloc::{AllocError, Global};
 use std::io::{Read, Write};

@@ -9,7 +9,7 @@ ghost use Rattle.ga_prompt.specs.Conversation.{WriteFails};
 ghost use Rattle.ga_prompt.specs.Talk.{WritesSo, commands_in, ended, undone_line, undone_text};
 
 use ga_debug::Pieces;
-use ga_jobs::{ServeError, Writes, write_output};
+use ga_input::{ServeError, Writes, write_output};
 use ga_messages::shown_char;
 use ga_transcript::{is_read_as_reply, lines_in};
 use std::io::Write;

@@ -6,7 +6,7 @@ ghost use Rattle.ga_prompt.specs.inner.Typed.{IsClean, IsNext, IsRead};
 
 use crate::byte_reads::ByteReads;
 use crate::request::LINE_LIMIT;
-use ga_jobs::ServeError;
+use ga_input::ServeError;
 use std::alloc::{AllocError, Global};
 use std::io::Read;
 use std::mem::swap;

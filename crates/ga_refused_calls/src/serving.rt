@@ -1,7 +1,8 @@
 //! The engine over standard input and a writer in memory.
 use crate::told::Told;
 use ga_command_line::job;
-use ga_jobs::{Job, ServeError, serve};
+use ga_input::ServeError;
+use ga_jobs::{Job, serve};
 use std::alloc::{AllocError, Global};
 use std::io::Read;
 use std::thread::Threads;

@@ -3,12 +3,14 @@ ghost use Rattle.std.specs.Prelude.{◌≡◌, ◌++◌, List, ℕ, Ok, OnOk};
 ghost use Rattle.ga_jobs.specs.Answering.{IsOutput};
 
 use crate::streams::{FIVE_TRIES, LARGER, LARGER_IMAGES, LINE, WORDS, run_of};
+use ga_diagnostics::lint::{form_of, warnings};
+use ga_diagnostics::{Lines, fault_message, faults_message};
 use ga_include::{SourceFile, expand_includes};
-use ga_jobs::lint::{form_of, warnings};
+use ga_input::{
+    IncludeFault, IncludeRefusal, InputFault, Loading, ServeError, shown_include_fault,
+};
 use ga_jobs::{
-    Ending, IncludeFault, IncludeRefusal, InputFault, Job, Lines, Loading, ServeError, answer,
-    answer_alone, fault_message, faults_message, open_file, output_of_file, serve, serve_file,
-    shown_include_fault, status,
+    Ending, Job, answer, answer_alone, open_file, output_of_file, serve, serve_file, status,
 };
 use ga_messages::Form;
 use std::test::Fail;

@@ -2,7 +2,8 @@
 //! call.
 use crate::streams::{FIVE_TRIES, LARGER, WORDS, boot_of, run_of, sink_of, source_of};
 use ga_explain::{Topic, topics};
-use ga_jobs::{Ending, Job, Loading, ServeError, serve};
+use ga_input::{Loading, ServeError};
+use ga_jobs::{Ending, Job, serve};
 use ga_profile::WindowStart;
 use std::alloc::Global;
 use std::test::Fail;

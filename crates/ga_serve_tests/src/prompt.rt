@@ -1,7 +1,7 @@
 //! Conversations at the prompt, by readers and writers that fail at each call in turn, or are
 //! interrupted, or take and give one byte at a call.
 use crate::streams::{Sink, Source, sink_of, source_of};
-use ga_jobs::ServeError;
+use ga_input::ServeError;
 use ga_prompt::{Conversation, SaveFault, Saves};
 use ga_transcript::Live;
 use std::alloc::Global;

@@ -1,6 +1,7 @@
 //! Inputs are read up to the limit, whatever the pieces they come in.
 use crate::streams::{FIVE_TRIES, LINE, Restless, WORDS, sink_of, source_of};
-use ga_jobs::{Ending, Job, Reads, ServeError, WordsFault, read_input, serve};
+use ga_input::{Reads, ServeError, WordsFault, read_input};
+use ga_jobs::{Ending, Job, serve};
 use std::alloc::{AllocError, Global};
 use std::io::ErrorKind;
 use std::test::Fail;

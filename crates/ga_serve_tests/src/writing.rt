@@ -1,6 +1,7 @@
 //! Writes that are interrupted, and a writer that takes nothing.
 use crate::streams::{FIVE_TRIES, LINE, WORDS, sink_of, source_of};
-use ga_jobs::{Ending, Job, ServeError, serve};
+use ga_input::ServeError;
+use ga_jobs::{Ending, Job, serve};
 use std::io::ErrorKind;
 use std::thread::Threads;
 use std::time::Clock;

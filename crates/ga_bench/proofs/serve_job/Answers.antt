@@ -1,7 +1,7 @@
 use Rattle.std.proofs.Common.{◌≡◌, ℕ, IfSome, List, Option, Some, None, Result}
 use Rattle.ga_jobs.specs.declared.Job.{Job}
 use Rattle.ga_jobs.specs.declared.engine.Ending.{Ending}
-use Rattle.ga_jobs.specs.declared.fault.ServeError.{ServeError}
+use Rattle.ga_input.specs.declared.fault.ServeError.{ServeError}
 use Rattle.ga_jobs.specs.Engine.{Serves, status_of}
 use Rattle.ga_bench.specs.Status.{HasServed}
 use Rattle.ga_bench.proofs.serve_job.Goals as goal

@@ -5,7 +5,7 @@ use Rattle.std.proofs.lemmas.Bool.{false≢true}
 use Rattle.clap.specs.Words.{Row, Text, found_of, rows_of}
 use Rattle.ga_jobs.specs.declared.Job.{Job}
 use Rattle.ga_jobs.specs.declared.Job.TheVariants.{Asm, Boot, Dis, Map, One, Profile, Race, Report, Run, Trace}
-use Rattle.ga_jobs.specs.declared.race.Loading.{Loading}
+use Rattle.ga_input.specs.declared.loading.Loading.{Loading}
 use Rattle.ga_profile.specs.declared.window.WindowStart.{WindowStart}
 use Rattle.ga_command_line.specs.declared.command_line.LineError.{LineError}
 use Rattle.ga_command_line.specs.declared.command_line.LineError.TheVariants.{Memory}

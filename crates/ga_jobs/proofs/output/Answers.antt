@@ -1,6 +1,6 @@
 use Rattle.std.proofs.Common.{string_bytes, subst, sym}
-use Rattle.ga_jobs.specs.Boot.{IsBootOutput}
-use Rattle.ga_jobs.specs.Fault.{Answers}
+use Rattle.ga_programs.specs.Boot.{IsBootOutput}
+use Rattle.ga_input.specs.Fault.{Answers}
 use Rattle.ga_jobs.specs.{IsJobOutput}
 use Rattle.ga_jobs.proofs.output.Goals as goal
 

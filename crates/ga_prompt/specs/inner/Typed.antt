@@ -2,7 +2,7 @@
 use Rattle.std.specs.Prelude.{◌≡◌, ◌==◌, ℕ, Bool, true, false, List, [], ◌∷◌, Option, None, Some, Result, Ok, Err, IfSome, take}
 use Rattle.std.specs.List.{All}
 use Rattle.std.specs.Io.KnownBytes.{Consumes, IsAtEnd}
-use Rattle.ga_jobs.specs.declared.fault.ServeError.{ServeError}
+use Rattle.ga_input.specs.declared.fault.ServeError.{ServeError}
 use Rattle.ga_prompt.specs.Typed.{asked_in, typed}
 
 -- no LF is in a line

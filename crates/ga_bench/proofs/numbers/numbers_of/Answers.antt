@@ -1,6 +1,6 @@
 use Rattle.std.proofs.Common.{string_bytes, subst}
 use Rattle.ga_json.specs.Run.{IsRunJson}
-use Rattle.ga_jobs.specs.Race.{most_turns}
+use Rattle.ga_views.specs.Race.{most_turns}
 use Rattle.ga_bench.proofs.numbers.numbers_of.Goals as goal
 
 pub returns : goal.returns

@@ -5,8 +5,8 @@ use Rattle.std.proofs.lemmas.Bool.{false≢true}
 use Rattle.clap.specs.Words.{Row, Text, found_of, rows_of}
 use Rattle.ga_jobs.specs.declared.Job.{Job}
 use Rattle.ga_jobs.specs.declared.Job.TheVariants as job
-use Rattle.ga_jobs.specs.declared.race.Loading.{Loading}
-use Rattle.ga_jobs.specs.declared.race.Loading.TheVariants.{Any}
+use Rattle.ga_input.specs.declared.loading.Loading.{Loading}
+use Rattle.ga_input.specs.declared.loading.Loading.TheVariants.{Any}
 use Rattle.ga_command_line.specs.declared.command_line.LineError.{LineError}
 use Rattle.ga_command_line.specs.declared.command_line.LineError.TheVariants.{Memory}
 use Rattle.ga_command_line.specs.CommandLine.{AsksFor, InRange}

@@ -2,8 +2,8 @@ use Rattle.std.proofs.Common.{◌≡◌, ◌∙◌, ℕ, List, Some, ap, codes, 
 use Rattle.std.proofs.lemmas.Bool.{true≢false}
 use Rattle.clap.specs.Words.{Row, first_of, found_of, rows_of}
 use Rattle.clap.proofs.WalkLemmas.{first_value-rows}
-use Rattle.ga_jobs.specs.declared.race.Loading.{Loading}
-use Rattle.ga_jobs.specs.declared.race.Loading.TheVariants.{Any, Place, Route}
+use Rattle.ga_input.specs.declared.loading.Loading.{Loading}
+use Rattle.ga_input.specs.declared.loading.Loading.TheVariants.{Any, Place, Route}
 use Rattle.ga_command_line.specs.Flag.{is_set}
 use Rattle.ga_command_line.specs.Loading.{IsLoadingAt}
 use Rattle.ga_command_line.proofs.loading.loading_in.Goals as goal

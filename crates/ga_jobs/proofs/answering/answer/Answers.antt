@@ -1,6 +1,6 @@
 use Rattle.std.proofs.Common.{rules, string_bytes, subst, sym}
-use Rattle.ga_jobs.specs.Fault.{Answers}
-use Rattle.ga_jobs.specs.Run.{IsRunOutput}
+use Rattle.ga_input.specs.Fault.{Answers}
+use Rattle.ga_programs.specs.Run.{IsRunOutput}
 use Rattle.ga_jobs.specs.{IsJobOutput}
 use Rattle.ga_jobs.proofs.Limit.{within}
 use Rattle.ga_jobs.proofs.answering.answer.Goals as goal

@@ -4,8 +4,8 @@ use Rattle.ga_jobs.specs.{reads_input}
 use Rattle.ga_jobs.specs.declared.Job.{Job}
 use Rattle.ga_jobs.specs.declared.Job.TheVariants.{Explain}
 use Rattle.ga_jobs.specs.declared.engine.Ending.{Ending}
-use Rattle.ga_jobs.specs.declared.fault.ServeError.{ServeError}
-use Rattle.ga_jobs.specs.declared.fault.ServeError.TheVariants.{Read, Write, Memory}
+use Rattle.ga_input.specs.declared.fault.ServeError.{ServeError}
+use Rattle.ga_input.specs.declared.fault.ServeError.TheVariants.{Read, Write, Memory}
 use Rattle.ga_jobs.specs.{IsJobOutput}
 use Rattle.ga_jobs.specs.Answering.{IsOutput}
 use Rattle.ga_jobs.specs.Engine.{Serves}

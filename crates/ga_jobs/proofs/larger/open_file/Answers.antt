@@ -1,4 +1,4 @@
-use Rattle.ga_jobs.specs.Session.{IsSession}
+use Rattle.ga_input.specs.Session.{IsSession}
 use Rattle.ga_jobs.proofs.FileAnswers.{larger_text, plain_fails, plain_text, refused}
 use Rattle.ga_jobs.proofs.larger.open_file.Goals as goal
 

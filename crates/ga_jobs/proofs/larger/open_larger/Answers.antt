@@ -1,4 +1,4 @@
-use Rattle.ga_jobs.specs.Session.{IsSession}
+use Rattle.ga_input.specs.Session.{IsSession}
 use Rattle.ga_jobs.proofs.FileAnswers.{expansion_answers, expansion_fails}
 use Rattle.ga_jobs.proofs.larger.open_larger.Goals as goal
 

@@ -1,5 +1,5 @@
 use Rattle.std.proofs.Common.{rules, subst, sym}
-use Rattle.ga_jobs.specs.Fault.{Answers}
+use Rattle.ga_input.specs.Fault.{Answers}
 use Rattle.ga_jobs.specs.Outputs.{text_of}
 use Rattle.ga_jobs.specs.{IsJobOutput}
 use Rattle.ga_jobs.proofs.Limit.{within}

@@ -1,0 +1,3 @@
+mod FaultMessages
+mod Linted
+mod WorkedPlaces

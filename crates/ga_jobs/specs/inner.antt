@@ -1,3 +1,0 @@
--- What only the proof of this crate speaks of: no contract of an exported function rests on it.
-pub mod Witness
-pub mod PlacedFault

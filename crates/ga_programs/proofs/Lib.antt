@@ -1,0 +1,6 @@
+mod Listed
+mod Dealing
+pub mod OneOutput
+pub mod OneRun
+mod Again
+mod WorkedOutputs

@@ -1,0 +1,5 @@
+pub mod OneOutput
+pub mod Reports
+mod WorkedOutputs
+mod WorkedSources
+mod Sourcing

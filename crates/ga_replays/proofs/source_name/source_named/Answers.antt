@@ -1,0 +1,15 @@
+use Rattle.std.proofs.Common.{◌∙◌, ap, sym}
+use Rattle.std.proofs.lemmas.Bool.{cond-false, false_from_ne_true}
+use Rattle.std.proofs.lemmas.Str.{IsUtf8-from_is_utf8, is_utf8-from_IsUtf8}
+use Rattle.ga_replays.specs.SourceName.{source_named}
+use Rattle.ga_replays.proofs.source_name.source_named.Goals as goal
+
+pub returns-in-Ok : goal.returns-in-Ok
+returns-in-Ok c =
+    let utf8 = is_utf8-from_IsUtf8 _ c.in-Ok.ensures.cases.1 in
+    rw (utf8) (c.name_in_text.ensures ∙ ap source_named c.in-Ok.ensures.cases.0)
+
+pub returns-in-Err : goal.returns-in-Err
+returns-in-Err c =
+    sym (cond-false _ _ _
+    (false_from_ne_true _ (λ utf8. c.in-Err.ensures.cases.0 (IsUtf8-from_is_utf8 _ utf8))))

@@ -1,0 +1,5 @@
+mod Judged
+mod WithWaits
+mod Traced
+mod Pieces
+mod Waving
