@@ -45,7 +45,7 @@ HARMLESS = {"own", "moved"} | TERMS | WORDS
 # The files of crates/ that have the names of replies and messages.
 NAMING = [
     "ga_debug/src/error.rt", "ga_debug/src/replay_error.rt", "ga_expand/src/error.rt", "ga_include/src/error.rt",
-    "ga_jobs/src/fault.rt", "ga_lint/src/warning.rt", "ga_prompt/src/answer.rt", "ga_prompt/src/refusal.rt", "ga_transcript/src/error.rt",
+    "ga_input/src/fault.rt", "ga_lint/src/warning.rt", "ga_prompt/src/answer.rt", "ga_prompt/src/refusal.rt", "ga_transcript/src/error.rt",
 ]  # fmt: skip
 SHOWN = {"carry": "C 1", "turn": "moved", "place": "at fetch", "step": "steps", "slot": "slot2"}
 
