@@ -1,6 +1,6 @@
 -- A message as JSON.
 use Rattle.std.specs.Prelude.{ℕ, List, codes, Option, Some, None}
-use Rattle.serde_json.specs.Data.{Data, Members, member, no_members, null, number, object, put, string, unsigned}
+use Rattle.serde_json.specs.Data.{Data, Members, member, no_members, null, number, object, string, unsigned}
 use Rattle.ga_place.specs.Node.{node_text}
 use Rattle.ga_messages.specs.Report.{Report, level_name}
 use Rattle.ga_messages.specs.Shown.{numbered_line}
@@ -35,19 +35,3 @@ report_data report =
     (text_member (codes "meaning") (numbered_line report.shown 3)
     (text_member (codes "name") report.kind
     (member (codes "node") (node_data report.node) no_members))))))))
-
--- the members of an object, with those of a report for its place, its kind, and what may help
-abbrev pub with_place : Report → Members → Members
-with_place report members =
-    put (codes "column") (number_data report.column) (put (codes "line") (number_data report.line)
-    (put (codes "file") (string report.file) members))
-
-abbrev pub with_kind : Report → Members → Members
-with_kind report members =
-    put (codes "meaning") (string (numbered_line report.shown 3))
-    (put (codes "name") (string report.kind)
-    (put (codes "level") (string (level_name report.level)) members))
-
-abbrev pub with_help : Report → Members → Members
-with_help report members =
-    put (codes "hint") (text_data report.hint) (put (codes "node") (node_data report.node) members)

@@ -3,7 +3,8 @@ ghost use Rattle.std.specs.Prelude.{◌≡◌, IfOk, OnOk, option_map, string_by
 ghost use Rattle.serde_json.specs.Data.{put as with_member, string};
 ghost use Rattle.serde_json.specs.Written.{compact_text};
 ghost use Rattle.serde_json.specs.View.{members_view, view};
-ghost use Rattle.ga_messages.specs.Json.{node_data, number_data, report_data, text_data, with_help, with_kind, with_place};
+ghost use Rattle.ga_messages.specs.Json.{node_data, number_data, report_data, text_data};
+ghost use Rattle.ga_messages.specs.inner.Json.{with_help, with_kind, with_place};
 ghost use Rattle.ga_messages.specs.Message.{report_in};
 
 use crate::message::Message;

@@ -4,7 +4,7 @@
 #[cfg(test)]
 mod answers;
 #[cfg(test)]
-mod pieces;
+mod jobs;
 #[cfg(test)]
 mod prompt;
 #[cfg(test)]

@@ -1,7 +1,7 @@
 //! Inputs are read up to the limit, whatever the pieces they come in.
-use crate::streams::{FIVE_TRIES, LINE, Restless, WORDS, sink_of, source_of};
-use ga_input::{Reads, ServeError, WordsFault, read_input};
-use ga_jobs::{Ending, Job, serve};
+use crate::streams::{FIVE_TRIES, WORDS, sink_of, source_of};
+use ga_input::{InputFault, Reads, ServeError, read_input};
+use ga_jobs::{Ending, serve};
 use std::alloc::{AllocError, Global};
 use std::io::ErrorKind;
 use std::test::Fail;
@@ -15,27 +15,17 @@ fn padded(alloc: Global, len: usize) -> Result<Vec<u8>, AllocError> {
     Ok(input)
 }
 
-/// Whether `one 5` writes the line of the four words for an input, by reads of at most `most`
-/// bytes.
-fn is_served(rt: &(impl AllocGlobal + Threads + Clock + Sync), input: &[u8], most: usize) -> bool {
-    let mut reader = source_of(input, most);
-    let mut writer = sink_of(rt.alloc(), 8192);
-    let outcome = serve(rt, &mut reader, &mut writer, &FIVE_TRIES);
-    outcome == Ok(Ending::Done) && writer.taken.as_slice() == LINE.as_bytes()
-}
-
-/// How many bytes of an input that `one 5` refuses aren't read.
+/// How `one 5` ends for an input, and how many of its bytes aren't read then, by reads of at most
+/// `most` bytes.
 fn left_of(
     rt: &(impl AllocGlobal + Threads + Clock + Sync),
     input: &[u8],
     most: usize,
-) -> Option<usize> {
+) -> (Result<Ending, ServeError>, usize) {
     let mut reader = source_of(input, most);
     let mut writer = sink_of(rt.alloc(), 8192);
-    match serve(rt, &mut reader, &mut writer, &FIVE_TRIES) {
-        Ok(_) => None,
-        Err(_) => Some(reader.bytes.len()),
-    }
+    let outcome = serve(rt, &mut reader, &mut writer, &FIVE_TRIES);
+    (outcome, reader.bytes.len())
 }
 
 #[test]
@@ -44,9 +34,10 @@ fn reads_up_to_the_limit(rt: HostRuntime) -> Result<(), Fail> {
     let accepted = padded(alloc, 1_048_576)?;
     let refused = padded(alloc, 1_048_585)?;
     for most in [1, 8192] {
-        assert!(rt; is_served(&rt, &accepted, most));
+        assert!(rt; left_of(&rt, &accepted, most) == (Ok(Ending::Done), 0));
         // one byte past the limit is read
-        assert!(rt; left_of(&rt, &refused, most) == Some(8));
+        let too_long = Err(ServeError::Input(InputFault::TooLong));
+        assert!(rt; left_of(&rt, &refused, most) == (too_long, 8));
     }
     Ok(())
 }
@@ -66,24 +57,5 @@ fn counts_reads(rt: HostRuntime) {
         let input = read_input(rt.alloc(), &mut reader, &mut reads);
         assert!(rt; input.is_err() == has_failed && reads.has_failed() == has_failed);
         assert!(rt; reads.calls() == calls);
-    }
-}
-
-#[test]
-fn reads_so_many_times(rt: HostRuntime) {
-    // The last read is allowed to give the end, and no read is made behind it.
-    for (interruptions, expected) in [
-        (2_097_151, Err(ServeError::Words(WordsFault::Empty))),
-        (2_097_152, Err(ServeError::Read)),
-        (2_097_153, Err(ServeError::Read)),
-    ] {
-        let mut reader = Restless {
-            interruptions,
-            calls: 0,
-        };
-        let mut writer = sink_of(rt.alloc(), 8192);
-        let outcome = serve(&rt, &mut reader, &mut writer, &FIVE_TRIES);
-        assert!(rt; outcome == expected);
-        assert!(rt; reader.calls == 2_097_152 && writer.calls == 0);
     }
 }

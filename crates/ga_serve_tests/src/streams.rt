@@ -1,9 +1,8 @@
-//! Readers and writers in memory, which fail as a test asks, and jobs of routes.
+//! Readers and writers in memory, which fail as a test asks; a job, its input and its output.
 use ga_jobs::Job;
 use std::alloc::Global;
 use std::io;
 use std::io::{ErrorKind, Read, Write};
-use std::test::Fail;
 
 /// Gives its bytes, at most a number of them at a call, and fails at one call, counted from 0.
 #[derive(Drop)]
@@ -38,23 +37,6 @@ pub fn source_of(bytes: &[u8], most: usize) -> Source<'_> {
         fails_at: None,
         kind: ErrorKind::Other,
         calls: 0,
-    }
-}
-
-/// A reader whose first reads are interrupted, before it is at its end.
-#[derive(Drop)]
-pub struct Restless {
-    pub interruptions: u32,
-    pub calls: u32,
-}
-
-impl Read for Restless {
-    fn read(&mut self, _buf: &mut [u8]) -> io::Result<usize> {
-        self.calls = self.calls.saturating_add(1);
-        if self.calls > self.interruptions {
-            return Ok(0);
-        }
-        Err(ErrorKind::Interrupted.into())
     }
 }
 
@@ -110,32 +92,8 @@ pub const WORDS: &str = "04A12 00005 00003 2C9B2";
 pub const LINE: &str =
     "node 000 P 003 A 00005 B 15D R 00000 S 00000 T 00003 C 0 io 00000 at fetch steps 5 need own\n";
 
-/// A text of the larger language.
-pub const LARGER: &str = "const FIVE 5\nnode 709 to 710 b! FIVE !b";
-
-/// What `asm` writes of the text that it expands to.
-pub const LARGER_IMAGES: &str = "node 709 entry 000 code 4 words 4\n04B12 00175 00005 089B2\n";
-
 /// The job `one 5`.
 pub const FIVE_TRIES: Job = Job::One {
     tries: 5,
     file: None,
 };
-
-/// The boot of a route.
-pub fn boot_of(alloc: Global, route: &str) -> Result<Job, Fail> {
-    let route = String::from_str(alloc, route)?;
-    let file = None;
-    Ok(Job::Boot { route, file })
-}
-
-/// The run of a route by these numbers of workers and turns.
-pub fn run_of(alloc: Global, route: &str, workers: u32, turns: u32) -> Result<Job, Fail> {
-    let route = String::from_str(alloc, route)?;
-    Ok(Job::Run {
-        route,
-        workers,
-        turns,
-        file: None,
-    })
-}

@@ -1,0 +1,100 @@
+//! Chips of the examples that use the law of booting and the verdict on races.
+use crate::plans::plan;
+use crate::values::{array, node, nodes, word};
+use ga_boot::images_fit;
+use ga_chip::{Chip, Try};
+use ga_group::Open;
+use ga_law_examples::{
+    PlannedRun, assemble_firmware, boot_firmware, leaf_is_loaded, run_firmware, settled_top,
+    sum_chip, watched_tries,
+};
+use ga_place::Side;
+use std::alloc::Global;
+use std::test::Fail;
+use std::thread::Threads;
+
+/// Tries of 708, 709 and 608 by turns, `count` of each: 708 shares its right side with 709, and the
+/// lower one with 608.
+fn tries(alloc: Global, count: u32) -> Result<Vec<Try>, Fail> {
+    let [node_708, node_709, node_608] = nodes(&[708, 709, 608])?;
+    let mut tries = Vec::new(alloc);
+    for _ in 0..count {
+        for (node, side) in [
+            (node_708, Side::Right),
+            (node_709, Side::Right),
+            (node_608, Side::Down),
+        ] {
+            tries.push(Try { node, side })?;
+        }
+    }
+    Ok(tries)
+}
+
+#[test]
+fn the_example_meets_its_premises(rt: HostRuntime) -> Result<(), Fail> {
+    let [node_708, node_608] = nodes(&[708, 608])?;
+    let memory = array::<64>(&[0x2C9B2])?;
+    images_fit(&assemble_firmware(rt.alloc()).ok_or("no firmware")?);
+    let mut moments = 0u32;
+    for count in 0..120 {
+        let mut chip = boot_firmware(rt.alloc()).ok_or("no chip")?;
+        run_firmware(&mut chip, &tries(rt.alloc(), count)?);
+        if chip.stream_left(node_708) <= 11 && chip.ledger(node_708, Side::Down).read < 9 {
+            assert!(rt; chip.state(node_608).ram() == memory.as_slice());
+            moments = moments.saturating_add(1);
+        }
+    }
+    assert!(rt; moments > 0);
+    Ok(())
+}
+
+/// The leaves 710 and 609 have the word `. . . .` each.
+const TEXT: &str = "node 710 . node 609 .";
+
+/// The chip with 710 loaded: first only 708 and 709 run, by one worker, and then all four nodes by
+/// two.
+fn loaded<R: Threads + Sync>(rt: &R, alloc: Global, turns: u64) -> Result<Option<Chip>, Fail> {
+    let one = PlannedRun {
+        plan: plan(alloc, &[&[708, 709]])?,
+        turns,
+    };
+    let other = PlannedRun {
+        plan: plan(alloc, &[&[708, 710], &[709, 609]])?,
+        turns,
+    };
+    Ok(leaf_is_loaded(rt, alloc, TEXT, &one, &other, &Open))
+}
+
+// One worker may have made all its turns before the other one starts. The load part isn't taken
+// then, and the next boot may do better.
+#[test]
+fn a_leaf_is_loaded_in_pieces(rt: HostRuntime) -> Result<(), Fail> {
+    let node_710 = node(710)?;
+    let memory = array::<64>(&[0x2C9B2])?;
+    assert!(rt; loaded(&rt, rt.alloc(), 0)?.is_none());
+    for _ in 0..500 {
+        if let Some(chip) = loaded(&rt, rt.alloc(), 200_000)? {
+            assert!(rt; chip.state(node_710).ram() == memory.as_slice());
+            return Ok(());
+        }
+    }
+    Err("710 isn't loaded")?
+}
+
+/// 708 sends 5 and 7 to 709, which adds them.
+#[test]
+fn the_same_sum_in_every_order(rt: HostRuntime) -> Result<(), Fail> {
+    let alloc = rt.alloc();
+    let (node_709, twelve) = (node(709)?, word(12)?);
+    let tries = tries(alloc, 40)?;
+    let Some(mut judged) = sum_chip(alloc) else {
+        return Err("memory")?;
+    };
+    assert!(rt; settled_top(alloc, &mut judged, node_709) == Some(twelve));
+    let Some(mut watched) = sum_chip(alloc) else {
+        return Err("memory")?;
+    };
+    assert!(rt; watched_tries(alloc, &mut watched, &tries) == Some(false));
+    assert!(rt; watched.state(node_709).t() == twelve);
+    Ok(())
+}
