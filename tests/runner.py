@@ -73,6 +73,7 @@ TESTS = [
     script("release", "the launcher, with releases of all kinds", file="try_release"),
     script("install", "installing and uninstalling", file="try_install"),
     script("package", "the Debian package", file="try_package"),
+    script("kills", "installations and removals that are killed", file="try_kills", small=["--kills", "8"], whole=["--kills", "100"]),
     script("cases", "recorded cases, to the byte", *CASES, file="run_cases"),
     script("vcd", "waveforms, turn by turn beside what tries show"),
     script("profiled", "profiles of the worked programs, beside what follows from tries"),
