@@ -9,6 +9,7 @@ use Rattle.ga_input.specs.declared.fault.ServeError.{ServeError}
 use Rattle.ga_input.specs.declared.fault.ServeError.TheVariants.{Output}
 use Rattle.ga_input.specs.declared.fault.OutputFault.TheVariants.{TooLong}
 use Rattle.ga_input.specs.declared.loading.Loading.{Loading}
+use Rattle.ga_input.specs.Loading.{IsChipIn}
 use Rattle.ga_input.specs.Text.{text_in}
 
 -- the first words for a verdict
