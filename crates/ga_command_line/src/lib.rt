@@ -43,7 +43,7 @@ use ga_jobs::Job;
 use std::alloc::{AllocError, Global};
 
 /// What a command line may ask for, in the order of help.
-#[derive(Clone, Copy, Debug, PartialEq, Eq)]
+#[derive(Clone, Copy, PartialEq, Eq)]
 pub enum Subcommand {
     One,
     Asm,

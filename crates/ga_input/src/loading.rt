@@ -15,7 +15,7 @@ use ga_transcript::TranscriptError;
 use std::alloc::Global;
 
 /// What an input is, and how a chip is loaded from it.
-#[derive(Debug, PartialEq, Eq, Drop)]
+#[derive(PartialEq, Eq, Drop)]
 pub enum Loading {
     /// The head of a session if it begins with `profile`, else source text whose words are placed.
     Any,

@@ -15,7 +15,7 @@ use std::thread::Threads;
 use std::time::Clock;
 
 /// How a job ended whose output was written.
-#[derive(Debug, Clone, Copy, PartialEq, Eq)]
+#[derive(Clone, Copy, PartialEq, Eq)]
 pub enum Ending {
     Done,
     /// The output reports a race.

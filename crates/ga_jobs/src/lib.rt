@@ -28,7 +28,7 @@ use std::alloc::Global;
 
 /// What a command line asks for, one variant for each subcommand. The input is in the file, or
 /// comes from standard input if there is none.
-#[derive(Debug, PartialEq, Eq, Drop)]
+#[derive(PartialEq, Eq, Drop)]
 pub enum Job {
     /// One node runs the words of the input, for as many tries.
     One {

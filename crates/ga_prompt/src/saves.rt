@@ -5,7 +5,7 @@ ghost use Rattle.ga_transcript.specs.Record.{Holds};
 use std::io;
 
 /// Why a session wasn't saved.
-#[derive(Debug, Clone, Copy, Drop)]
+#[derive(Clone, Copy, Drop)]
 pub enum SaveFault {
     /// There is a file with this name.
     Exists,

@@ -12,7 +12,7 @@ use ga_transcript::{Comparison, compare};
 use std::alloc::{AllocError, Global};
 
 /// What is reported of one of several files, and whether its transcript passes the check.
-#[derive(Debug, PartialEq, Eq, Drop)]
+#[derive(PartialEq, Eq, Drop)]
 pub struct FileReport {
     /// Lines that each name the file, or have a line of a reply. Each ends with LF.
     pub text: String,

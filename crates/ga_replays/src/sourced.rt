@@ -27,7 +27,7 @@ use std::marker::Model;
 /// A transcript whose head names its source. The calls answer what those of the whole text answer,
 /// in which the lines of the source are in the place of its name, by the lines of the file. A
 /// contract sees the line that names the source, how many lines the source has, and the whole text.
-#[derive(Debug, Drop)]
+#[derive(Drop)]
 pub struct Sourced {
     line: String,
     count: u64,
