@@ -245,7 +245,7 @@ def input_of(seed, number):
         change = words_of_a_kind if is_kept else chance.choice(CHANGES)
         data = change(chance, data, any_case(chance)[1])
     args = list(args)
-    # `check` of several files has an output of its own: tests/checking.py.
+    # `check` of several files has an output of its own: tests/transcripts.py.
     has_one_file = args and args[0] in SUBCOMMANDS and args[0] != "check" and "FILE" in SUBCOMMANDS[args[0]].values
     if has_one_file and chance.random() < 0.2:
         args.append("/dev/stdin")

@@ -1,41 +1,28 @@
 #!/usr/bin/env python3
-"""Lines that include a file: python3 tests/includes.py PROGRAM
+"""Lines that include a file: python3 tests/includes.py PROGRAM [--whole] [KIND..]
 
-  same      each subcommand answers for a FILE that includes others as for the text that it stands for, which is written out here
-  names     which file a name means, and how the names of files are shown
-  errors    each error of a line that includes a file, to the byte, for each subcommand that takes source text
-  limits    files that include one another 16 and 17 deep, 64 and 65 files, texts of about 1,048,576 bytes
-  hostile   pipes, devices, folders, links, files that grow or may not be read (but not for root, who may read all), and files that
-            stand for more lines than memory has room for
-  others    what includes no file: standard input, sessions, the sources that they name, and the other subcommands
-  saves     `trace --save` replaces none of the files
-  random    random texts with errors and warnings, cut into files: each message has the file and the line where its token was written
-The last line that is printed is 'includes: N passed, M failed', and the exit status is 0 if M is 0.
+What includes no file, as standard input, sessions and their sources, is in tests/files.py and transcripts.py.
 """
+import json
 import os
 import random
 import re
 import shutil
 import socket
-import subprocess
-import sys
-import tempfile
 import threading
 import time
 
-from answers import include_message, shown_name
+from answers import include_report, shown_name
 from faulty_texts import faulty_lines
-from including import LIMIT, MEANS, IncludeFault, bytes_of, included, whole
+from including import IncludeFault, bytes_of, included, whole
+from jobs import LIMIT, NAMES, OF_SOURCE, job, odd_files, shown
+from testing import main
 from vcd import is_sanitized
 
-SECONDS = 120
 ALL = "all.source"
-OF_SOURCE = [
-    "asm", "boot 708,709", "run 708,709 1 5", "list", "list --labels", "list --counts --turns 50", "lint", "lint --deny", "race --turns 50",
-    "race --witness --turns 50", "race --place --turns 50", "map --turns 50", "profile --turns 50", "profile --json --turns 50",
-    "trace --turns 50", "report --turns 50", "debug", "debug --place", "expand",
-]  # fmt: skip
+TWO_JOBS = [job("asm"), job("lint --json")]
 LIBRARY = "const FIVE 5\nbody SEND PORT\n  PORT b! !b\nend\n"
+WORDS = "[ . ]\n" * 33
 # Files, and the text that the first of them stands for.
 TREES = [
     ({ALL: 'include "lib.source"\nnode 708 FIVE use SEND east\nnode 709 west b! @b\n', "lib.source": LIBRARY},
@@ -44,7 +31,7 @@ TREES = [
      "node 708\n. right b! @b\nagain: jump again\nnode 709\n. right b! @b\nagain: jump again\n"),
     ({ALL: '\t include \t "code" \\ a note\r\nnode 709 .\r\n', "code": "node 708 .\r\n\\ include \"gone\"\r\n"},
      "node 708 .\r\n\\ include \"gone\"\r\nnode 709 .\r\n"),
-    ({ALL: 'include "code"\\\nnode 709 .\n'.replace('"\\', '" \\'), "code": "node 708 ."}, "node 708 .\nnode 709 .\n"),
+    ({ALL: 'include "code" \\\nnode 709 .\n', "code": "node 708 ."}, "node 708 .\nnode 709 .\n"),
     ({ALL: 'include "code"', "code": "node 708 ."}, "node 708 .\n"),
     ({ALL: 'node 709 .\ninclude "code"\r', "code": "node 708 ."}, "node 709 .\nnode 708 .\n"),
     ({ALL: 'node 708 .\ninclude "none"\ninclude "none"\nnode 709 .', "none": ""}, "node 708 .\n\n\nnode 709 ."),
@@ -54,189 +41,166 @@ TREES = [
     ({ALL: 'const ONE 1 body B\ninclude "b"\ninclude "rest"\nend node 709 use B\n', "b": " . ONE\n", "rest": "dup\n"},
      "const ONE 1 body B\n . ONE\ndup\nend node 709 use B\n"),
     ({ALL: 'include "x/a"\nnode 000 .\n', "x/a": 'include "b"\ninclude "y/c"\ninclude "../d"\n', "x/b": "node 001 .\n",
-      "x/y/c": 'include "../../d"\ninclude "../b2"', "x/b2": "node 003 .\n", "d": ". .\n"},
+     "x/y/c": 'include "../../d"\ninclude "../b2"', "x/b2": "node 003 .\n", "d": ". .\n"},
      "node 001 .\n. .\nnode 003 .\n. .\nnode 000 .\n"),
     ({ALL: 'node 708\n[ dup\ninclude "in"\n. ]\n', "in": "drop\n"}, "node 708\n[ dup\ndrop\n. ]\n"),
     ({ALL: 'include "all"\n', "all": "profile 2\nplace\nnode 708 .\ngo\n"}, "profile 2\nplace\nnode 708 .\ngo\n"),
+    # errors and warnings in several files, and what helps with them
+    ({ALL: 'include "lib/part"\nnode 709 .\ninclude "x/é \'y\' \\z"\ninclude "lib/../lib/nested"\n',
+     "lib/part": "node 708 .\n", "x/é 'y' \\z": "node 710\ndupp\n", "lib/nested": 'include "deep"\n',
+     "lib/deep": "node 711\n.\nloop: jump loob\n"},
+     "node 708 .\nnode 709 .\nnode 710\ndupp\nnode 711\n.\nloop: jump loob\n"),
+    ({ALL: 'include "part"\n', "part": "\\ a note\nnode 708 to 000\n"}, "\\ a note\nnode 708 to 000\n"),
+    ({ALL: 'include "part"\nnode 709 SPED\n', "part": "const SPEED 5\n"}, "const SPEED 5\nnode 709 SPED\n"),
+    ({ALL: 'node 709\nloop: .\ninclude "part"\n', "part": "jump loob\n"}, "node 709\nloop: .\njump loob\n"),
+    ({ALL: 'node 709\ninclude "part"\njump loob\n', "part": "loop: .\n"}, "node 709\nloop: .\njump loob\n"),
+    ({ALL: 'node 709\ninclude "part"\ninclude "part"\n', "part": WORDS}, f"node 709\n{WORDS}{WORDS}"),
+    ({ALL: 'node 709\ninclude "part"\nloop: ;\n', "part": ". loop\n"}, "node 709\n. loop\nloop: ;\n"),
+    ({ALL: 'include "lib"\nnode 709 SEND\n', "lib": LIBRARY}, f"{LIBRARY}node 709 SEND\n"),
+    ({ALL: 'include "lib"\nnode 709 use GONE\n', "lib": "\\ a note\nbody STAGE\n  .\n"},
+     "\\ a note\nbody STAGE\n  .\nnode 709 use GONE\n"),
 ]  # fmt: skip
-# A file with a line that is at fault, and what is wrong with it.
-INCLUDE, UNLIKE = 'include "gone"', "BadInclude"
-FAULTS = [
-    ("include", UNLIKE), ("include ", UNLIKE), ('include ""', UNLIKE), ("include gone", UNLIKE), ('include "gone', UNLIKE),
-    ('include gone"', UNLIKE), ("include '", UNLIKE), ('include "a" "b"', UNLIKE), ('include "a"b', UNLIKE), ('include "a" b', UNLIKE),
-    ('include "a"\\', UNLIKE), ('include "a" \\b', UNLIKE), ('include \\ "a"', UNLIKE), ('include x "a"', UNLIKE), ('include x"a"', UNLIKE),
-    ('include "a"\u00a0', UNLIKE), ('include\t"a"\x0b', UNLIKE), ('include "a";', UNLIKE), ('include "a"" \\', UNLIKE),
-    (INCLUDE, "NoFile"), (" \tinclude\t\"gone\" \\ here", "NoFile"), ('include "dir"', "Folder"), ('include "."', "Folder"),
-    ('include ".."', "Folder"), ('include "/"', "Folder"), ('include "pipe"', "NotAFile"), ('include "/dev/null"', "NotAFile"),
-    ('include "/dev/zero"', "NotAFile"), ('include "dangling"', "NoFile"), ('include "bytes"', "BadText"),
-    ('include "long"', "IncludeSize"), ('include "gone/gone"', "NoFile"), ('include " "', "NoFile"), ('include " a"', "NoFile"),
-    ('include "\\"', "NoFile"), ('include "\\ x"', "NoFile"), ('include "é→"', "NoFile"), (f'include "{"x" * 120}"', "NoFile"),
-]  # fmt: skip
+# Lines that are at fault, by what is wrong with them.
+INCLUDE = 'include "gone"'
+FAULTS = {
+    "BadInclude": ["include", "include ", 'include ""', "include gone", 'include "gone', 'include gone"', "include '",
+     'include "a" "b"', 'include "a"b', 'include "a" b', 'include "a"\\', 'include "a" \\b', 'include \\ "a"',
+     'include x "a"', 'include x"a"', 'include "a"\u00a0', 'include\t"a"\x0b', 'include "a";', 'include "a"" \\',],
+    "NoFile": [INCLUDE, ' \tinclude\t"gone" \\ here', 'include "dangling"', 'include "gone/gone"', 'include " "',
+     'include " a"', 'include "\\"', 'include "\\ x"', 'include "é→"', f'include "{"x" * 120}"',],
+    "Folder": ['include "dir"', 'include "."', 'include ".."', 'include "/"'], "BadText": ['include "bytes"'],
+    "NotAFile": ['include "pipe"', 'include "/dev/null"', 'include "/dev/zero"'], "IncludeSize": ['include "long"'],
+}  # fmt: skip
 # Lines that include no file, since `include` isn't their first token.
-UNTOUCHED = ['node 708 include "gone"', '\\ include "gone"', 'include: "gone"', 'include"gone"', 'Include "gone"', '"include" "gone"',
-             'includes "gone"', '\x0binclude "gone"', '\u00a0include "gone"', '. include']  # fmt: skip
-failures = []
-passed = 0
+UNTOUCHED = [
+    'node 708 include "gone"', '\\ include "gone"', 'include: "gone"', 'include"gone"', 'Include "gone"',
+    '"include" "gone"', 'includes "gone"', '\x0binclude "gone"', '\u00a0include "gone"', '. include',
+]  # fmt: skip
 
 
-def expect(what, came, wanted):
-    global passed
-    if came == wanted:
-        passed += 1
-    else:
-        failures.append(what)
-        print(f"failed: {what}: expected {wanted!r}, got {came!r}"[:1500])
+def run(test, it, file, folder="files"):
+    return test.run(it.words(file), "turn 4\nwhere\n", cwd=f"{test.folder}/{folder}")
 
 
-def run(program, arguments, data=b"", **more):
-    try:
-        ran = subprocess.run([program, *arguments], input=data, capture_output=True, timeout=SECONDS, **more)
-    except subprocess.TimeoutExpired:
-        return None, "", f"no answer in {SECONDS} s"
-    return ran.returncode, ran.stdout.decode(), ran.stderr.decode()
-
-
-def write(folder, files):
-    """Writes files in a folder that is empty then."""
-    shutil.rmtree(folder, ignore_errors=True)
-    os.makedirs(folder)
-    for name, text in files.items():
-        path = os.path.join(folder, name)
-        os.makedirs(os.path.dirname(path), exist_ok=True)
-        with open(path, "wb") as file:
-            file.write(text if isinstance(text, bytes) else text.encode())
-    return folder
-
-
-def lines_of(folder, name):
-    """The lines of the text of a file in a folder."""
-    with open(os.path.join(folder, name), encoding="utf-8", newline="") as file:
-        text = file.read()
-    return included(name, text, lambda path: bytes_of(os.path.join(folder, path)))
-
-
-def moved(text, name, lines):
-    """Messages about a text, if its lines were written where `lines` has it."""
+def moved(it, told, name, lines):
+    """Messages about a file, if its lines were written where `lines` has it."""
+    if it.errors == "json":
+        found = [json.loads(row) for row in told.split("\n")[:-1]]
+        found = [one | {"file": lines[one["line"] - 1].file, "line": lines[one["line"] - 1].number} for one in found]
+        return "".join(json.dumps(one, ensure_ascii=False, separators=(",", ":")) + "\n" for one in found)
 
     def at(found):
         line = lines[int(found[1]) - 1]
         return f"{shown_name(line.file)}:{line.number}:"
 
-    return re.sub(rf"^{re.escape(shown_name(name))}:(\d+):(?=\d+: (?:error|warning): )", at, text, flags=re.M)
+    return re.sub(rf"^{re.escape(shown_name(name))}:(\d+):(?=\d+: (?:error|warning): )", at, told, flags=re.M)
 
 
-def compare(program, what, job, folders, lines, name=ALL):
-    """Compares the answer for a FILE in the first folder with that for its text in the second one."""
-    data = b"turn 4\nwhere\n" if job.startswith("debug") else b""
-    split, joined = (run(program, [*job.split(), "--", name], data, cwd=folder) for folder in folders)
-    wanted = joined[0], *(moved(it, name, lines) for it in joined[1:])
-    expect(f"{what}: {job}", split, wanted)
+def put(test, files, is_new=True):
+    """Writes files in a folder, which is emptied if it is to be new."""
+    if is_new:
+        shutil.rmtree(f"{test.folder}/files", ignore_errors=True)
+    for name, text in files.items():
+        test.write(f"files/{name}", text)
 
 
-def fault(line, kind, row, name=ALL):
-    """The message of a line at fault."""
-    column = row.index("include") + 1
-    beside = re.sub(r"[^\t]", " ", row[: column - 1])
-    return f"{name}:{line}:{column}: error: {kind}: {MEANS[kind]}\n  {shown_name(row.removesuffix(chr(13)))[:100]}\n  {beside}^\n"
+def judge(test, what, files, told=None, jobs=(*TWO_JOBS,), is_new=True):
+    """Each of these jobs answers for the first file as the models do for a fault of an include, or as for the text that
+    the file stands for. By hand, `told` is the place and the kind of the fault, or that text. `is_new` is whether the
+    folder is emptied."""
+    put(test, files, is_new)
+    name = [*files][0]
+    try:
+        lines = included(name, files[name], lambda path: bytes_of(os.path.join(test.folder, "files", path)))
+    except IncludeFault as fault:
+        report, found = include_report(fault), str(fault)
+        wanted = {it: it.refusal([report]) for it in jobs}
+    else:
+        found = whole(lines)
+        test.write(f"whole/{name}", found)
+        answers = {it: run(test, it, name, "whole") for it in jobs}
+        wanted = {it: (one[0], *(moved(it, text, name, lines) for text in one[1:])) for it, one in answers.items()}
+    if told is not None:
+        test.expect(f"{what}, the model", found, told)
+    for it in jobs:
+        test.expect(f"{what}, {it.line}", run(test, it, name), wanted[it])
 
 
-def same(program, folder):
-    for index, (files, text) in enumerate(TREES):
-        folders = write(f"{folder}/files", files), write(f"{folder}/whole", {ALL: text})
-        lines = lines_of(folders[0], ALL)
-        expect(f"same {index}: the text", whole(lines), text)
-        for job in OF_SOURCE:
-            compare(program, f"same {index}", job, folders, lines)
-    write(f"{folder}/files", TREES[0][0])
-    told = run(program, ["expand", ALL], cwd=f"{folder}/files")
-    expect("same: expand", told, (0, "node 708 $00005 $001D5\nb! !b\nnode 709 $001D5 b! @b\n", ""))
-    for file in (ALL, f"./{ALL}", f"{folder}/files/{ALL}", f"../files/{ALL}", f"{folder}//files/./{ALL}"):
-        expect(f"same: {file}", run(program, ["expand", file], cwd=f"{folder}/files"), told)
-    expect("same: from another folder", run(program, ["expand", f"files/{ALL}"], cwd=folder), told)
+def same(test):
+    """A subcommand answers for a FILE that includes others as for the text that it stands for, which is written out."""
+    for number, (files, text) in enumerate(TREES):
+        judge(test, number, files, text, OF_SOURCE)
+    put(test, TREES[0][0])
+    told = (0, "node 708 $00005 $001D5\nb! !b\nnode 709 $001D5 b! @b\n", "")
+    for file in ALL, f"./{ALL}", f"{test.folder}/files/{ALL}", f"../files/{ALL}", f"{test.folder}//files/./{ALL}":
+        test.expect(f"expand {file}", run(test, job("expand"), file), told)
+    test.expect("from another folder", run(test, job("expand"), f"files/{ALL}", "."), told)
 
 
-def names(program, folder):
-    odd = ["a b", " ", "-", "--", "-x", "ä→", "tab\there", "esc\x1b[2J", "rlo\u202ename", "cr\rx", "\r", "%s{}", ":3:5: error",
-           "x" * 200, "it's", "\\", "\\ x", "*", "~", "$HOME", "`x`", "include", "a\\nb", ".hidden", "...", "@b"]  # fmt: skip
-    warned = ":2:3: warning: RunsOff: the last word of the code, and execution goes on behind it (node 709)\n    .\n    ^\n"
-    for name in odd:
-        shown = re.sub("[\x00-\x08\x0b-\x1f\x7f\u202e]", " ", name)
+def names(test):
+    """Which file a name means, and how the names of files are shown."""
+    for name in ["-", *NAMES]:
         row = f'include "{name}"'
-        write(folder, {ALL: f"\n{row}\n"})
-        expect(f"names: {name!r} isn't there", run(program, ["list", ALL], cwd=folder), (1, "", fault(2, "NoFile", row)))
-        write(folder, {ALL: f"{row}\n", name: "\\ note\nnode 709 frob\n"})
-        told = "a token that the language doesn't have, or one that may not stand there\n  node 709 frob\n           ^\n"
-        expect(f"names: {name!r} with an error", run(program, ["map", ALL], cwd=folder), (1, "", f"{shown}:2:10: error: BadToken: {told}"))
-        write(folder, {ALL: f"{row}\n", name: "node 709\n  .\n"})
-        expect(f"names: {name!r} with a warning", run(program, ["lint", ALL], cwd=folder), (0, f"{shown}{warned}", ""))
-        write(folder, {name: 'include "lib/a"\n', "lib/a": 'include "../b"\n', "b": "frob\n"})
-        came = run(program, ["asm", "--", f"./{name}"], cwd=folder)
-        expect(f"names: FILE is {name!r}", came[2].split(" error")[0], "./lib/../b:1:1:")
-    write(folder, {"x/all": 'include "y/a"', "x/y/a": f'include "../b"\ninclude "{folder}/c"\n', "x/b": "node 708 .\n",
-                   "c": 'include "x/d"', "x/d": "node 709 frob\n"})  # fmt: skip
-    for file, shown in ("x/all", f"{folder}/x/d"), (f"{folder}/x/all", f"{folder}/x/d"):
-        expect(f"names: {file}, of the error", run(program, ["asm", file], cwd=folder)[2].split(" error")[0], f"{shown}:1:10:")
-    write(folder, {"x/all": 'include "y/a"', "x/y/a": 'include "../b"\n', "x/b": "frob\n"})
-    for file in ("x/all", f"{folder}/x/all", "./x/all", "x//all"):
-        front = file[: -len("all")]
-        expect(f"names: {file}, of the error", run(program, ["asm", file], cwd=folder)[2].split(" error")[0], f"{front}y/../b:1:1:")
-    write(folder, {"a": "node 708 .\n"})
-    for row in (f'include "{folder}/a"', 'include "a"'):
-        came = run(program, ["expand", "/dev/stdin"], row.encode(), cwd=folder)
-        wanted = (0, "node 708 .\n", "") if folder in row else (1, "", fault(1, "NoFile", row, "/dev/stdin"))
-        expect(f"names: {row} in /dev/stdin", came, wanted)
+        judge(test, f"{name!r} isn't there", {ALL: f"\n{row}\n"}, f"{ALL}:2:1 NoFile")
+        files = {ALL: f"{row}\n", name: "node 709\n  .\n"}
+        judge(test, f"{name!r} with a warning", files, None, [job("lint"), job("lint --json")])
+        judge(test, f"{name!r} with an error", {ALL: f"{row}\n", name: "\\ note\nnode 709 frob\n"})
+        test.expect(f"{name!r} in an error", place_of(run(test, job("map --turns 50"), ALL)), f"{shown(name)}:2:10:")
+        judge(test, f"FILE is {name!r}", {f"./{name}": 'include "lib/a"\n', "lib/a": 'include "../b"\n', "b": "frob\n"})
+        test.expect(f"an error behind {name!r}", place_of(run(test, job("asm"), f"./{name}")), "./lib/../b:1:1:")
+    top = f"{test.folder}/files"
+    put(test, {"x/all": 'include "y/a"', "x/y/a": 'include "../b"\n', "x/b": "frob\n", "a": "node 708 .\n"})
+    for file in ("x/all", f"{top}/x/all", "./x/all", "x//all"):
+        test.expect(f"{file}, of the error", place_of(run(test, job("asm"), file)), f"{file[: -len('all')]}y/../b:1:1:")
+    for row in f'include "{top}/a"', 'include "a"':
+        told = test.run(["expand", "/dev/stdin"], row)
+        fault = "/dev/stdin:1:1: error: NoFile: no file has this name\n"
+        wanted = (0, "node 708 .\n", "") if top in row else (1, "", fault)
+        test.expect(f"{row} in /dev/stdin", (*told[:2], told[2][: len(wanted[2])]), wanted)
+    test.write("files/x/y/a", f'include "../../a"\ninclude "{top}/c"\n')
+    test.write("files/c", 'include "x/d"')
+    test.write("files/x/d", "node 709 frob\n")
+    for file in ("x/all", f"{top}/x/all"):
+        test.expect(f"{file}, of the error", place_of(run(test, job("asm"), file)), f"{top}/x/d:1:10:")
 
 
-def odd_files(folder):
-    """Files that can't be included."""
-    os.mkdir(f"{folder}/dir")
-    os.mkfifo(f"{folder}/pipe")
-    os.symlink("nowhere", f"{folder}/dangling")
-    for name, data in ("bytes", b"node 709 \xff\n"), ("long", b"\n" * (LIMIT + 1)):
-        with open(f"{folder}/{name}", "wb") as file:
-            file.write(data)
+def place_of(told):
+    return told[2].split(" error: ")[0]
 
 
-def errors(program, folder):
-    for row, kind in FAULTS:
-        for front, inner in ("", ""), ("node 708 frob\nconst\n", ""), ("", "x/"):
-            files = {ALL: f"{front}{row}\nnode 709 frob\n"}
-            if inner:
-                files = {ALL: 'node 708 .\ninclude "x/in"\n', "x/in": f"{front}{row}"}
-            write(folder, files)
-            odd_files(f"{folder}/{inner}")
-            wanted = fault(front.count("\n") + 1, kind, row, f"{inner}in" if inner else ALL)
-            for job in OF_SOURCE if not front and row in ("include", INCLUDE) else ["asm", "lint"]:
-                status, output, error = run(program, [*job.split(), ALL], cwd=folder)
-                expect(f"errors: {job}, {row!r} behind {front!r}", (status, output, error[: len(wanted)]), (1, "", wanted))
+def errors(test):
+    """Each error of a line that includes a file, to the byte; files that include themselves."""
+    put(test, {})
+    add_odd_files(test, "files/")
+    add_odd_files(test, "files/x/")
+    for row, kind in [(row, kind) for kind, rows in FAULTS.items() for row in rows]:
+        column = row.index("include") + 1
+        jobs = OF_SOURCE if row in ("include", INCLUDE) else TWO_JOBS
+        judge(test, f"{row!r}", {ALL: f"{row}\nnode 709 frob\n"}, f"{ALL}:1:{column} {kind}", jobs, False)
+        files = {ALL: f"node 708 frob\nconst\n{row}\nnode 709 frob\n"}
+        judge(test, f"{row!r} behind errors", files, f"{ALL}:3:{column} {kind}", TWO_JOBS, False)
+        files = {ALL: 'node 708 .\ninclude "x/in"\n', "x/in": row}
+        judge(test, f"{row!r} in another file", files, f"x/in:1:{column} {kind}", TWO_JOBS, False)
     for row in UNTOUCHED:
-        write(folder, {ALL: f"node 708\n{row}\n"})
-        status, output, error = run(program, ["expand", ALL], cwd=folder)
-        expect(f"errors: {row!r} includes nothing", "nclude" in error and not re.search("BadToken|NoNode|: error: BadNode", error), False)
-    cycles(program, folder)
-    write(folder, {ALL: f"node 708 frob\n{INCLUDE}\ninclude\n"})
-    expect("errors: the first counts", run(program, ["asm", ALL], cwd=folder)[2], fault(2, "NoFile", INCLUDE))
-    write(folder, {ALL: 'include "a"\ninclude\n', "a": 'node 708 .\ninclude "b"\n', "b": ". \\\n\ninclude x\n"})
-    expect("errors: the first counts, inside", run(program, ["asm", ALL], cwd=folder)[2], fault(3, "BadInclude", "include x", "b"))
+        test.write(ALL, f"node 708\n{row}\n")
+        error = test.run(["expand", ALL])[2]
+        is_other = "nclude" not in error or re.search("BadToken|NoNode|: error: BadNode", error)
+        test.holds(f"{row!r} includes nothing", is_other)
+    judge(test, "the first counts", {ALL: f"node 708 frob\n{INCLUDE}\ninclude\n"}, f"{ALL}:2:1 NoFile")
+    files = {ALL: 'include "a"\ninclude\n', "a": 'node 708 .\ninclude "b"\n', "b": ". \\\n\ninclude x\n"}
+    judge(test, "the first counts, inside", files, "b:3:1 BadInclude")
+    judge(test, "itself", {ALL: f'\n  include "{ALL}" \\ again\n'}, f"{ALL}:2:3 IncludeCycle")
+    judge(test, "each other", {ALL: 'include "b"\n', "b": f'\ninclude "{ALL}"\n'}, "b:2:1 IncludeCycle")
+    judge(test, "an included one itself", {ALL: 'include "b"\n', "b": '\ninclude "b"\n'}, "b:2:1 IncludeCycle")
+    judge(test, "itself by other names", {ALL: f'include "./{ALL}"'}, f"{'./' * 15}{ALL}:1:1 IncludeDepth")
+    whole_name = f"{test.folder}/files/{ALL}"
+    judge(test, "itself by a whole name", {ALL: f'include "{whole_name}"'}, f"{whole_name}:1:1 IncludeCycle")
 
 
-def cycles(program, folder):
-    """Files that include themselves, by equal names; by other names until they are 16 deep."""
-    row, other = f'include "{ALL}"', 'include "b"'
-    write(folder, {ALL: f"\n  {row} \\ again\n"})
-    expect("errors: itself", run(program, ["asm", ALL], cwd=folder), (1, "", fault(2, "IncludeCycle", f"  {row} \\ again")))
-    write(folder, {ALL: f"{other}\n", "b": f"\n{row}\n"})
-    expect("errors: each other", run(program, ["asm", ALL], cwd=folder), (1, "", fault(2, "IncludeCycle", row, "b")))
-    write(folder, {ALL: f"{other}\n", "b": f"\n{other}\n"})
-    expect("errors: an included one itself", run(program, ["asm", ALL], cwd=folder), (1, "", fault(2, "IncludeCycle", other, "b")))
-    row = f'include "./{ALL}"'
-    write(folder, {ALL: row})
-    name = "./" * 15 + ALL
-    expect("errors: itself by other names", run(program, ["asm", ALL], cwd=folder), (1, "", fault(1, "IncludeDepth", row, name)))
-    row = f'include "{folder}/{ALL}"'
-    write(folder, {ALL: row})
-    wanted = (1, "", fault(1, "IncludeCycle", row, f"{folder}/{ALL}"))
-    expect("errors: itself by a whole name", run(program, ["asm", ALL], cwd=folder), wanted)
+def add_odd_files(test, folder):
+    odd_files(test, folder)
+    os.mkfifo(f"{test.folder}/{folder}pipe")
+    os.symlink("nowhere", f"{test.folder}/{folder}dangling")
 
 
 def chain(count, last):
@@ -244,276 +208,165 @@ def chain(count, last):
     return {f"f{at}": f'include "f{at + 1}"\n' for at in range(1, count)} | {f"f{count}": last}
 
 
-def limits(program, folder):
-    text = "node 708 .\n"
-    write(folder, chain(16, text))
-    expect("limits: 16 deep", run(program, ["expand", "f1"], cwd=folder), (0, text, ""))
-    write(folder, chain(17, text))
-    wanted = (1, "", fault(1, "IncludeDepth", 'include "f17"', "f16"))
-    for job in OF_SOURCE:
-        expect(f"limits: 17 deep, {job}", run(program, [*job.split(), "f1"], cwd=folder), wanted)
-    write(folder, chain(15, 'include "a"\ninclude "b"\ninclude "f1"\n') | {"a": text, "b": 'include "c"\n', "c": ". dup\n"})
-    wanted = (1, "", fault(1, "IncludeDepth", 'include "c"', "b"))
-    expect("limits: the second line is too deep", run(program, ["asm", "f1"], cwd=folder), wanted)
-    for count in 64, 65:
-        rows = [f'include "n{at}"' for at in range(1, count)]
-        write(folder, {ALL: "\n".join([*rows, *rows[1:4]]), **{f"n{at}": "" for at in range(1, count)}, "n1": text})
-        wanted = (0, text, "") if count == 64 else (1, "", fault(64, "IncludeCount", 'include "n64"'))
-        expect(f"limits: {count} files", run(program, ["expand", ALL], cwd=folder), wanted)
-    os.remove(f"{folder}/n64")
-    expect("limits: 64 files, and one that isn't there", run(program, ["expand", ALL], cwd=folder), wanted)
-    write(folder, chain(16, INCLUDE))
-    expect("limits: one too deep that isn't there", run(program, ["asm", "f1"], cwd=folder), (1, "", fault(1, "NoFile", INCLUDE, "f16")))
-    sizes(program, folder)
-
-
 def blank_lines(size):
     """Lines that have this many bytes, 1,024 in each but the first."""
     return " " * ((size - 1) % 1024) + "\n" + (" " * 1023 + "\n") * ((size - 1) // 1024)
 
 
-def sizes(program, folder):
-    """Texts of about LIMIT bytes. The first line that doesn't fit is at fault, and the line that includes a file which is too long
-    by itself."""
-    text, row = "node 708 .\n", 'include "long"'
-    size = "IncludeSize: here the text gets longer than 1,048,576 bytes\n"
+def limits(test):
+    """Files that include one another 16 and 17 deep, and 64 and 65 files."""
+    text = "node 708 .\n"
+    judge(test, "16 deep", chain(16, text), text)
+    judge(test, "17 deep", chain(17, text), "f16:1:1 IncludeDepth", OF_SOURCE)
+    files = chain(15, 'include "a"\ninclude "b"\ninclude "f1"\n') | {"a": text, "b": 'include "c"\n', "c": ". dup\n"}
+    judge(test, "the second line is too deep", files, "b:1:1 IncludeDepth")
+    judge(test, "one too deep that isn't there", chain(16, INCLUDE), "f16:1:1 NoFile")
+    for count in 64, 65:
+        rows = [f'include "n{at}"' for at in range(1, count)]
+        files = {ALL: "\n".join([*rows, *rows[1:4]]), **{f"n{at}": "" for at in range(1, count)}, "n1": text}
+        judge(test, f"{count} files", files, f"{ALL}:64:1 IncludeCount" if count == 65 else text + "\n" * (count + 1))
+    del files["n64"]
+    judge(test, "64 files, and one that isn't there", files, f"{ALL}:64:1 IncludeCount")
+
+
+def sizes(test):
+    """Texts of about 1,048,576 bytes: the first line that doesn't fit is at fault, or that of a file too long."""
+    text, row, jobs = "node 708 .\n", 'include "long"', [job("expand"), *TWO_JOBS]
     for more in -1, 0, 1, len(text):
         long = blank_lines(LIMIT - len(text) + more)
-        write(folder, {ALL: f"{row}\n{text}", "long": long})
-        wanted = (1, "", f"{ALL}:2:1: error: {size}  node 708 .\n  ^\n") if more > 0 else (0, text, "")
-        expect(f"limits: {more} bytes more, in front", run(program, ["expand", ALL], cwd=folder), wanted)
-        place = f"long:{long.count(chr(10))}:1: error: {size}  {' ' * 100}\n  ^\n"
+        told = f"{ALL}:2:1 IncludeSize" if more > 0 else long + text
+        judge(test, f"{more} bytes more, in front", {ALL: f"{row}\n{text}", "long": long}, told, jobs)
+        told = f"long:{long.count(chr(10))}:1 IncludeSize" if more > 0 else text + long
         for end in "\n", "":
-            write(folder, {ALL: f"{text}{row}{end}", "long": long})
-            wanted = (1, "", place) if more > 0 else (0, text, "")
-            expect(f"limits: {more} bytes more, behind {end!r}", run(program, ["expand", ALL], cwd=folder), wanted)
-    write(folder, {ALL: row, "long": " " * LIMIT})
-    expect("limits: an LF more", run(program, ["asm", ALL], cwd=folder)[2].split("\n")[0] + "\n", f"long:1:1: error: {size}")
-    write(folder, {ALL: row, "long": text.ljust(LIMIT - 1)})
-    expect("limits: no LF at its end", run(program, ["expand", ALL], cwd=folder), (0, text, ""))
-    write(folder, {ALL: f"\n{row}\n", "long": " " * (LIMIT + 1)})
-    for job in OF_SOURCE:
-        expect(f"limits: a long file, {job}", run(program, [*job.split(), ALL], cwd=folder), (1, "", fault(2, "IncludeSize", row)))
-    for more, place in (0, "long:1:6:"), (2, f"long:{LIMIT // 2048 + 1}:1:"):
+            judge(test, f"{more} bytes more, behind {end!r}", {ALL: f"{text}{row}{end}", "long": long}, told, jobs)
+    judge(test, "an LF more", {ALL: row, "long": " " * LIMIT}, "long:1:1 IncludeSize")
+    files = {ALL: row, "long": text.ljust(LIMIT - 1)}
+    judge(test, "no LF at its end", files, files["long"] + "\n", jobs)
+    judge(test, "a long file", {ALL: f"\n{row}\n", "long": " " * (LIMIT + 1)}, f"{ALL}:2:1 IncludeSize", OF_SOURCE)
+    for more in 0, 2:
         long = text + blank_lines(LIMIT // 2 - len(text) + more)
-        write(folder, {ALL: f"{row}\n{row}\n", "long": long})
-        expect(f"limits: twice, {more} bytes more", run(program, ["asm", ALL], cwd=folder)[2].split(" error: ")[0], place)
-    write(folder, {ALL: f"{INCLUDE}\n".ljust(LIMIT + 1)})
-    expect("limits: FILE is too long", run(program, ["list", ALL], cwd=folder), (1, "", f"ga-bench: {ALL}: input TooLong\n"))
-    write(folder, {ALL: f"{INCLUDE}\n".ljust(LIMIT)})
-    told = run(program, ["list", ALL], cwd=folder)
-    expect("limits: FILE is as long as it may be", told, (1, "", fault(1, "NoFile", INCLUDE)))
-    write(folder, {ALL: b"include \"gone\"\n\xff\n"})
-    expect("limits: FILE is no text", run(program, ["list", ALL], cwd=folder), (1, "", f"ga-bench: {ALL}: input BadText\n"))
+        told = f"long:{LIMIT // 2048 + 1}:1 IncludeSize" if more else long * 2
+        judge(test, f"twice, {more} bytes more", {ALL: f"{row}\n{row}\n", "long": long}, told)
+    judge(test, "FILE is as long as it may be", {ALL: f"{INCLUDE}\n".ljust(LIMIT)}, f"{ALL}:1:1 NoFile")
+    for data, kind in (f"{INCLUDE}\n".ljust(LIMIT + 1), "TooLong"), (b'include "gone"\n\xff\n', "BadText"):
+        test.write(ALL, data)
+        test.expect(f"FILE is {kind}", test.run(["list", ALL]), (1, "", f"ga-bench: {ALL}: input {kind}\n"))
 
 
-def hostile(program, folder):
-    """Each ends, and what can't be read is reported as a read that failed."""
-    write(folder, {})
-    odd_files(folder)
-    for job in OF_SOURCE:
-        faults = {"pipe": "NotAFile", "dir": "Folder", "/dev/zero": "NotAFile", "/dev/stdin": "NotAFile", "bytes": "BadText"}
-        for name, kind in faults.items():
-            with open(f"{folder}/{ALL}", "w", encoding="utf-8") as file:
-                file.write(f'include "{name}"')
-            told = run(program, [*job.split(), ALL], cwd=folder)
-            expect(f"hostile: {name}, {job}", told, (1, "", fault(1, kind, f'include "{name}"')))
-    unreadable(program, folder)
-    many_lines(program, folder)
-    growing(program, folder)
-
-
-def unreadable(program, folder):
-    os.symlink("loop", f"{folder}/loop")
-    os.symlink("/dev/zero", f"{folder}/zero")
-    os.symlink("dir", f"{folder}/to_dir")
-    with socket.socket(socket.AF_UNIX) as unix, open(f"{folder}/secret", "w", encoding="utf-8") as secret:
-        secret.write("node 708 .\n")
-        here = os.getcwd()
-        os.chdir(folder)
-        unix.bind("socket")
-        os.chdir(here)
-        os.chmod(f"{folder}/secret", 0)
-        rows = {"zero": "NotAFile", "to_dir": "Folder", "socket": "NotAFile", "loop": "read", "/proc/self/mem": "read", "bytes/x": "read",
-                "x" * 300: "read", "nul\0": "read"}  # fmt: skip
-        if os.getuid():
-            rows["secret"] = "read"
-        for name, kind in rows.items():
-            row = f'include "{name}"'
-            with open(f"{folder}/{ALL}", "w", encoding="utf-8") as file:
-                file.write(row)
-            expect(f"hostile: {name[:20]!r}", run(program, ["asm", ALL], cwd=folder), (1, "", fault(1, kind, row)))
+def hostile(test):
+    """Pipes, devices, folders, links, and files that may not be read, but by root: each ends, with its fault."""
+    add_odd_files(test, "files/")
+    top = f"{test.folder}/files"
+    for name, target in {"loop": "loop", "zero": "/dev/zero", "to_dir": "dir"}.items():
+        os.symlink(target, f"{top}/{name}")
+    with socket.socket(socket.AF_UNIX) as unix:
+        unix.bind(f"{top}/socket")
+    os.chmod(f"{test.folder}/{test.write('files/secret', 'node 708 .')}", 0)
+    kinds = dict.fromkeys(["pipe", "/dev/zero", "/dev/stdin", "zero", "socket"], "NotAFile")
+    kinds |= {"dir": "Folder", "to_dir": "Folder", "bytes": "BadText"}
+    kinds |= dict.fromkeys(["loop", "/proc/self/mem", "bytes/x", "x" * 300, "nul\0"], "read")
+    if os.getuid():
+        kinds["secret"] = "read"
+    else:
+        test.skip("a file that may not be read", "a user who isn't root")
+    for name, kind in kinds.items():
+        row = f'include "{name}"'
+        test.write(f"files/{ALL}", row)
+        report = include_report(IncludeFault(ALL, 1, 1, kind, row))
+        for it in OF_SOURCE:
+            test.expect(f"{name[:20]!r}, {it.line}", run(test, it, ALL), it.refusal([report]))
     for name in ("/proc/version", "/proc/self/cmdline", "/proc/self/environ"):
-        with open(f"{folder}/{ALL}", "w", encoding="utf-8") as file:
-            file.write(f'\\\ninclude "{name}"')
-        status, output, error = run(program, ["asm", ALL], cwd=folder)
-        expect(f"hostile: {name}", (status, output, error.split(" error: ")[0]), (1, "", f"{name}:1:1:"))
+        test.write(f"files/{ALL}", f'\\\ninclude "{name}"')
+        told = run(test, job("asm"), ALL)
+        test.expect(name, (*told[:2], place_of(told)), (1, "", f"{name}:1:1:"))
 
 
-def many_lines(program, folder):
-    """Files that stand for very many lines. A program with an address sanitizer is slow, so there are fewer of them."""
-    many, leaf = (30, "\n" * 4096) if is_sanitized(program) else (300, "\n")
-    rows = lambda name, count: f'include "{name}"\n' * count
-    behind = "".join(f'include "n{at}"\n' for at in range(48))
-    trees = {
-        "each twice": {f"f{at}": rows(f"f{at + 1}", 2) for at in range(1, 16)} | {"f16": leaf},
-        "each many times": {f"f{at}": rows(f"f{at + 1}", many) for at in range(1, 16)} | {"f16": leaf},
-        "empty files": {"f1": rows("f2", many), "f2": rows("f3", many), "f3": ""},
-        "long chains": chain(16, "") | {"f1": rows("f2", many), "f2": rows("f3", many) + "frob\n"},
-        "long chains, and files behind them": chain(16, "") | {"f1": rows("f2", many // 3) + behind, "f2": rows("f3", many // 3)}
-        | {f"n{at}": "\n" for at in range(48)},
+def trees_of_many(many_lines, leaf):
+    """Files that stand for very many lines."""
+    def rows(name, count=many_lines):
+        return f'include "{name}"\n' * count
+
+    behind, third = "".join(f'include "n{at}"\n' for at in range(48)), many_lines // 3
+    twice, often = ({f"f{at}": rows(f"f{at + 1}", count) for at in range(1, 16)} | {"f16": leaf}
+                    for count in (2, many_lines))  # fmt: skip
+    return {
+        "each twice": twice, "each many times": often, "empty files": {"f1": rows("f2"), "f2": rows("f3"), "f3": ""},
+        "long chains": chain(16, "") | {"f1": rows("f2"), "f2": rows("f3") + "frob\n"},
+        "long chains, and files behind them": chain(16, "") | {f"n{at}": "\n" for at in range(48)}
+        | {"f1": rows("f2", third) + behind, "f2": rows("f3", third)},
         "a long line": {"f1": 'include "f2" \\' + " " * (LIMIT - 16), "f2": "node 708 frob\n"},
-        "many faults": {"f1": 'include "f2"\n' * 20, "f2": "".join(f"node {at:03} frob\n" for at in range(18)) * (many // 3)},
+        "many faults": {"f1": rows("f2", 20), "f2": "".join(f"node {at:03} frob\n" for at in range(18)) * third},
     }  # fmt: skip
-    for name, files in trees.items():
-        write(folder, files)
+
+
+def many(test):
+    """Files that stand for more lines than memory has room for; fewer for a program with an address sanitizer."""
+    is_small = not test.is_whole or is_sanitized(test.program)
+    for name, files in trees_of_many(*((30, "\n" * 4096) if is_small else (300, "\n"))).items():
+        put(test, files)
         start = time.time()
-        status, output, error = run(program, ["asm", "f1"], cwd=folder)
-        print(f"hostile: {name}: {time.time() - start:.1f} s")
-        expect(f"hostile: {name}", (status, output, ": error: " in error), (1, "", True))
+        told = run(test, job("asm"), "f1")
+        print(f"many: {name}: {time.time() - start:.1f} s")
+        test.expect(name, (*told[:2], ": error: " in told[2]), (1, "", True))
 
 
-def growing(program, folder):
+def growing(test):
     """A file that grows while it is read is read up to some place, or is too long."""
-    write(folder, {ALL: 'node 708 .\ninclude "grows"\n', "grows": "\n" * (LIMIT // 2)})
+    put(test, {ALL: 'node 708 .\ninclude "grows"\n', "grows": "\n" * (LIMIT // 2)})
     ended = threading.Event()
 
     def grow():
-        with open(f"{folder}/grows", "ab", buffering=0) as file:
+        with open(f"{test.folder}/files/grows", "ab", buffering=0) as file:
             while not ended.is_set() and file.tell() < 1 << 24:
                 file.write(b"\n" * 4096)
 
     thread = threading.Thread(target=grow)
     thread.start()
-    for round_ in range(20):
-        told = run(program, ["expand", ALL], cwd=folder)
+    for number in range(test.size(5, 20)):
+        told = run(test, job("expand"), ALL)
         is_right = told == (0, "node 708 .\n", "") or told[:2] == (1, "") and "IncludeSize" in told[2]
-        expect(f"hostile: a file that grows, {round_}", is_right, True)
+        test.holds(f"{number}: {told}", is_right)
     ended.set()
     thread.join()
 
 
-def others(program, folder):
-    row = 'include "lib"'
-    text = f"node 708 .\n{row}\n"
-    write(folder, {ALL: text, "lib": "node 709 .\n"})
-    for job in OF_SOURCE:
-        if not job.startswith(("debug", "expand")):
-            for file in [], ["-"]:
-                status, output, error = run(program, [*job.split(), *file], text.encode(), cwd=folder)
-                wanted = (1, "", "ga-bench: source 2:1 BadToken")
-                expect(f"others: {job} {file} with standard input", (status, output, error.split("\n")[0]), wanted)
-    for file in [], ["-"]:
-        expect(f"others: expand {file} with standard input", run(program, ["expand", *file], text.encode(), cwd=folder), (0, text, ""))
-    session = f"profile 2\nplace\n{text}go\n"
-    write(folder, {ALL: text, "lib": "node 709 .\n", "my.session": session, "named": f"profile 2\nplace\nsource {ALL}\ngo\n"})
-    token = "a token that the language doesn't have, or one that may not stand there"
-    shown = f"  {row}\n  ^\n"
-    for job in ("list --counts", "race", "map", "profile --json", "trace", "report", "debug"):
-        wanted = (1, "", f"my.session:4:1: error: BadToken: {token}\n{shown}")
-        expect(f"others: a session, {job}", run(program, [*job.split(), "my.session"], cwd=folder), wanted)
-    wanted = (1, "", f"{ALL}:2:1: error: BadToken: {token}\n{shown}")
-    expect("others: a source of debug", run(program, ["debug", "named"], cwd=folder), wanted)
-    for job in ("check", "record"):
-        for file, place in ("my.session", "4:1"), ("named", f"{ALL}:2:1"):
-            wanted = (1, "", f"ga-bench: source {place} BadToken\n{shown}{token}\n")
-            expect(f"others: {job} {file}", run(program, [job, file], cwd=folder), wanted)
-    for text, job, error in (
-        (f"{row}\n", "dis", f"{ALL}:1:1: error: BadWord: no word of five hex digits, at most 3FFFF"),
-        (f"{row}\n", "one 5", f"{ALL}:1:1: error: BadWord: no word of five hex digits, at most 3FFFF"),
-        (f"{row}\n", "replay", f"{ALL}:1:1: error: BadProfile: the first line isn't 'profile 2'"),
-        (f"{row}\n", "check", "ga-bench: replay BadProfile"), (f"{row}\n", "record", "ga-bench: replay BadProfile"),
-        (f"profile 2\nplace\nnode 708 .\ngo\n{row}\n", "check", "ga-bench: transcript line 5 EarlyReply"),
-        (f"profile 2\nplace\nnode 708 .\ngo\n{row}\n", "replay", f"{ALL}:5:1: error: BadCommand: no command here, or words behind it are missing, wrong or left over"),
-    ):  # fmt: skip
-        write(folder, {ALL: text, "lib": "2C9B2\n"})
-        expect(f"others: {job} of {text!r}", run(program, [*job.split(), ALL], cwd=folder)[2].split("\n")[0], error)
-
-
-def saves(program, folder):
+def saves(test):
+    """`trace --save` replaces none of the files."""
     files = {ALL: 'include "x/lib"\nnode 709 .\n', "x/lib": 'node 708 .\ninclude "../more"\n', "more": "node 710 .\n"}
-    write(folder, files)
-    os.symlink("more", f"{folder}/link")
-    os.link(f"{folder}/x/lib", f"{folder}/twin")
-    names_of_files = [ALL, f"./{ALL}", "x/lib", f"{folder}/x/lib", "x/../more", "more", "./more", "link", "twin"]
-    for name in names_of_files:
-        for words in (["--save", name, ALL], [f"--save={name}", f"{folder}/{ALL}"]):
-            status, output, error = run(program, ["trace", *words], cwd=folder)
-            expect(f"saves: {words}", (status, output, error.split("\n")[0]), (2, "", "error: the save file would replace FILE"))
-        for file, text in files.items():
-            with open(f"{folder}/{file}", encoding="utf-8") as it:
-                expect(f"saves: {name}, {file} is left", it.read(), text)
-    status, output, error = run(program, ["trace", "--save", "new.gtkw", ALL], cwd=folder)
-    with open(f"{folder}/new.gtkw", encoding="utf-8") as file:
-        saved = [name in text for text in [file.read()] for name in ("708", "709", "710")]
-    expect("saves: another name", (status, error, output != "", saved), (0, "", True, [True] * 3))
-    write(folder, {ALL: 'include "lib"\n', "lib": "node 708 frob\n"})
-    status, output, error = run(program, ["trace", "--save", "new.gtkw", ALL], cwd=folder)
-    is_saved = os.path.exists(f"{folder}/new.gtkw")
-    expect("saves: with an error", (status, output, error.split(" error")[0], is_saved), (1, "", "lib:1:10:", False))
+    for name, text in files.items():
+        test.write(name, text)
+    os.symlink("more", f"{test.folder}/link")
+    os.link(f"{test.folder}/x/lib", f"{test.folder}/twin")
+    for name in [ALL, f"./{ALL}", "x/lib", f"{test.folder}/x/lib", "x/../more", "more", "./more", "link", "twin"]:
+        for words in (["--save", name, ALL], [f"--save={name}", f"{test.folder}/{ALL}"]):
+            status, output, error = test.run(["trace", *words])
+            wanted = (2, "", "error: the save file would replace FILE")
+            test.expect(f"{words}", (status, output, error.split("\n")[0]), wanted)
+        test.expect(f"{name}, each is left", {file: test.read(file) for file in files}, files)
+    status, output, error = test.run(["trace", "--save", "new.gtkw", ALL])
+    saved = [name in test.read("new.gtkw") for name in ("708", "709", "710")]
+    test.expect("another name", (status, error, output != "", saved), (0, "", True, [True] * 3))
+    test.write("more", "node 708 frob\n")
+    told = test.run(["trace", "--save", "newer.gtkw", ALL])
+    test.expect("with an error", (*told[:2], os.path.exists(f"{test.folder}/newer.gtkw")), (1, "", False))
 
 
-class Cutter:
-    """Cuts a text into files at random borders of its lines."""
-
-    def __init__(self, dice):
-        self.dice, self.files, self.count = dice, {}, 0
-
-    def name_in(self, folder):
-        """A new name in a file of this folder, and what it is from the top."""
-        self.count += 1
-        own = f"{self.dice.choice('ab')} {self.count}" if self.dice.random() < 0.2 else f"{self.dice.choice('ab')}{self.count}.source"
-        kind = self.dice.random()
-        if kind < 0.3:
-            own = f"{self.dice.choice(['x', 'y'])}/{own}"
-        elif kind < 0.5 and folder:
-            return f"../{own}", os.path.normpath(os.path.join(folder, "..", own))
-        return own, os.path.normpath(os.path.join(folder, own))
-
-    def cut(self, lines, path, depth=1):
-        """Writes lines to a file, some of them to others that it includes."""
-        dice, rows, at = self.dice, [], 0
-        while at < len(lines):
-            if depth < 5 and dice.random() < 0.25:
-                end = min(len(lines), at + dice.choice([0, 1, 1, 2, 5, 20]))
-                name, inner = self.name_in(os.path.dirname(path))
-                if end > at:
-                    self.cut(lines[at:end], inner, depth + 1)
-                    front, behind = dice.choice(["include ", "include \t", "  include "]), dice.choice(["", " ", " \\", "\t\\ a note"])
-                    rows.append(f'{front}"{name}"{behind}')
-                at = end
-            else:
-                rows.append(lines[at])
-                at += 1
-        end = "\n" * (depth == 1 or dice.random() < 0.7 or rows[-1] == "")
-        self.files[path] = "\n".join(rows) + end
-
-
-def random_texts(program, folder):
-    dice = random.Random(1)
-    for round_ in range(250):
-        cutter = Cutter(dice)
-        lines = faulty_lines(dice, 30)
-        cutter.cut(lines, ALL)
-        folders = write(f"{folder}/files", cutter.files), f"{folder}/whole"
-        found = lines_of(folders[0], ALL)
-        expect(f"random {round_}: the text is as it was", whole(found), "\n".join(lines) + "\n")
-        for job in dice.sample(OF_SOURCE, 2) + ["asm", "lint"]:
-            write(folders[1], {ALL: whole(found)})
-            compare(program, f"random {round_}", job, folders, found)
-    for round_ in range(250):
-        cutter = Cutter(dice)
-        cutter.cut(faulty_lines(dice, 8), ALL)
-        spoil(dice, cutter.files)
-        folders = write(f"{folder}/files", cutter.files), f"{folder}/whole"
-        job = dice.choice(OF_SOURCE)
-        try:
-            found = lines_of(folders[0], ALL)
-        except IncludeFault as it:
-            expect(f"random {round_}: {cutter.files}", run(program, [*job.split(), ALL], cwd=folders[0]), (1, "", include_message(it)))
-            continue
-        write(folders[1], {ALL: whole(found)})
-        compare(program, f"random {round_}: spoiled", job, folders, found)
+def cut(dice, lines, files, path, depth=1):
+    """Writes lines to a file, some of them to others that it includes, cut at random borders."""
+    rows, files[path] = [], ""
+    while lines:
+        count = dice.choice([1, 1, 2, 5, 20]) if depth < 5 and dice.random() < 0.25 else 0
+        if count:
+            folder = os.path.dirname(path)
+            name = dice.choice(["", "", "x/", "y/"] + ["../"] * (folder != ""))
+            name += f"{dice.choice(['a', 'b', 'b '])}{len(files)}"
+            cut(dice, lines[:count], files, os.path.normpath(os.path.join(folder, name)), depth + 1)
+            front = dice.choice(["include ", "include \t", "  include "])
+            rows.append(f'{front}"{name}"{dice.choice(["", " ", " " + chr(92), chr(9) + chr(92) + " a note"])}')
+        else:
+            rows.append(lines[0])
+        lines = lines[count or 1 :]
+    files[path] = "\n".join(rows) + "\n" * (depth == 1 or dice.random() < 0.7 or rows[-1] == "")
 
 
 def spoil(dice, files):
@@ -522,18 +375,24 @@ def spoil(dice, files):
         path = dice.choice([*files])
         rows = files[path].split("\n")
         other = os.path.relpath(dice.choice([*files]), os.path.dirname(path) or ".")
-        row = dice.choice([f'include "{other}"', f'include "{other}" \\', 'include "gone"', "include", 'include "x" y', 'include "."'])
+        wrong = ['include "gone"', "include", 'include "x" y', 'include "."']
+        row = dice.choice([f'include "{other}"', f'include "{other}" \\', *wrong])
         rows.insert(dice.randint(0, len(rows)), row)
         files[path] = "\n".join(rows) + dice.choice(["", "\n", "\r\n"])
 
 
-def main():
-    program = os.path.abspath(sys.argv[1])
-    for part in [same, names, errors, limits, hostile, others, saves, random_texts]:
-        with tempfile.TemporaryDirectory() as folder:
-            part(program, os.path.realpath(folder) + "/top")
-    print(f"includes: {passed} passed, {len(failures)} failed")
-    sys.exit(1 if failures else 0)
+def any_text(test):
+    """Random texts with errors and warnings, cut into files: a message has the place where its token was written."""
+    dice = random.Random(1)
+    for number in range(test.size(60, 500)):
+        files, is_spoiled = {}, number % 2
+        lines = faulty_lines(dice, 8 if is_spoiled else 30)
+        cut(dice, lines, files, ALL)
+        if is_spoiled:
+            spoil(dice, files)
+        jobs = [*TWO_JOBS, job("lint"), *dice.sample(OF_SOURCE, 1 if is_spoiled else 2)]
+        judge(test, f"{number}: {files}", files, None if is_spoiled else "\n".join(lines) + "\n", jobs)
 
 
-main()
+if __name__ == "__main__":
+    main(__doc__, same, names, errors, limits, sizes, hostile, many, growing, saves, any_text)
