@@ -21,7 +21,7 @@ from typing import NamedTuple
 
 ROOT = os.path.dirname(os.path.dirname(os.path.abspath(__file__)))
 COUNTS = re.compile(r"\b(\d+) passed, (\d+) failed\b")
-SKIPPED = re.compile(r"^skipped: needs .*$", re.M)
+SKIPPED = re.compile(r"^(?:.*: )?skipped: needs .*$", re.M)
 SECONDS = 3600
 MOST_SHOWN = 20
 CASES = sorted(glob.glob(f"{ROOT}/tests/cases/*.jsonl"))
