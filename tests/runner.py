@@ -22,6 +22,7 @@ from typing import NamedTuple
 ROOT = os.path.dirname(os.path.dirname(os.path.abspath(__file__)))
 COUNTS = re.compile(r"\b(\d+) passed, (\d+) failed\b")
 SKIPPED = re.compile(r"^(?:.*: )?skipped: needs .*$", re.M)
+FAULT = re.compile(r"FAILED|failed|Traceback")
 SECONDS = 3600
 MOST_SHOWN = 20
 CASES = sorted(glob.glob(f"{ROOT}/tests/cases/*.jsonl"))
@@ -135,7 +136,8 @@ def run(test, program, is_whole):
     passed, failed = map(int, found.groups()) if found else (int(status == 0), int(status != 0))
     failed += status != 0 and failed == 0
     skipped = [it for it in lines if SKIPPED.match(it)]
-    shown = (lines[:-1] if found else lines)[:MOST_SHOWN] + [f"see {os.path.relpath(log, ROOT)}"] if failed else skipped
+    first = next((at for at, line in enumerate(lines) if FAULT.match(line)), 0)
+    shown = lines[first:][:MOST_SHOWN] + [f"see {os.path.relpath(log, ROOT)}"] if failed else skipped
     return Result(passed, failed, len(skipped), time.time() - began, shown)
 
 
