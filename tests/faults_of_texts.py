@@ -41,14 +41,14 @@ def judge(test, what, text, lines, *jobs):
     status, told, _ = job("lint --json").answer(text, FILE)
     for it in [*map(job, lines), *(jobs if status else [])]:
         test.expect(f"{what}, {it.line} of {text!r}", test.run(it.words(FILE)), it.answer(text, FILE))
-    found = [json.loads(row) for row in told.splitlines()]
+    found = [json.loads(row) for row in told.split("\n")[:-1]]
     return {(it["level"], it["hint"] and it["hint"].split()[0]) for it in found} or {"nothing"}
 
 
 def any_text(test):
     """Random texts: with errors, with misspelt words, too long for their node; and the texts of recorded cases."""
     dice, kinds = random.Random(1), set()
-    for number in range(test.size(20, 400)):
+    for number in range(test.size(20, 300)):
         for text in faulty_text(dice, dice.choice([8, 30])), misspelt_text(dice), long_text(dice):
             kinds |= judge(test, number, text, [*dice.sample(MODELLED, 2), "lint --json"], dice.choice(OF_ALL_ERRORS))
     cases = [it for it in answers.CASES if it["args"][:1] in (["lint"], ["expand"], ["list"])]
@@ -70,7 +70,7 @@ def parts(test):
 
 
 def large_texts(most):
-    """Texts of at most this many bytes, with what is large in it, and how many errors it has, if all are helped."""
+    """What is large, a text of at most this many bytes, and how many errors it has, if something helps with each."""
     sections = "".join(f"node {name} .\n" for name in NODES[:143]) + "node 717 frob\n"
     body, rest = f"{'. ' * 100}\nend\n", most - len(sections)
     count = rest // len(f"body B00000\n{body}")

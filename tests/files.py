@@ -3,10 +3,9 @@
 import os
 
 from answers import LINES_MEAN, WORDS_MEAN, Report, fault_report, meaning_of, report_text, shown_text
-from assembler import Fault
 from jobs import (
-    JOBS, LIMIT, MODELLED, NAMES, OF_ALL_ERRORS, OF_SESSIONS, OF_SOURCE, OTHER_NAMES, all_reports, job, odd_files,
-    reports_of, shown,
+    JOBS, LIMIT, MODELLED, NAMES, OF_ALL_ERRORS, OF_SESSIONS, OF_SOURCE, OTHER_NAMES, all_reports, fault_from, job,
+    odd_files, reports_of, shown,
 )  # fmt: skip
 from sessions import head_of
 from testing import main
@@ -16,12 +15,16 @@ TOKEN = "a token that the language doesn't have, or one that may not stand there
 LABEL = "a name that is no label of its node"
 RUNS_OFF = "the last word of the code, and execution goes on behind it"
 WARNED, FROB, LOOP = "node 709 .", "node 708 frob\nnode 709 .\n", "node 000\nloop: jump lop\n"
-# Texts with what is reported of them, to the byte: as text, and as JSON.
+# Texts with what is reported of them, to the byte: as text, and as JSON; and the listing in front of warnings.
 WRITTEN = {
     WARNED: (
         f"my.source:1:10: warning: RunsOff: {RUNS_OFF} (node 709)\n  node 709 .\n           ^\n",
         '{"column":10,"file":"my.source","hint":null,"level":"warning","line":1,'
-        f'"meaning":"{RUNS_OFF}","name":"RunsOff","node":"709"}}\n'),
+        f'"meaning":"{RUNS_OFF}","name":"RunsOff","node":"709"}}\n',
+        "node 709 entry 000 code 1 words 1\n000  2C9B2  code         1  [ . . . . ]\n"),
+    "\nbody B\n\t.\nend\nnode 709 use B\n": (
+        f"my.source:3:2: warning: RunsOff: {RUNS_OFF} (node 709)\n  \t.\n  \t^\n", None,
+        "node 709 entry 000 code 1 words 1\n000  2C9B2  code         2  [ . . . . ]\n"),
     "node 709\n\tdup frob\nnode 000\nloop: jump lop\n": (
         f"my.source:2:6: error: BadToken: {TOKEN}\n  \tdup frob\n  \t    ^\n"
         f"my.source:4:12: error: UndefinedLabel: {LABEL} (node 000); the nearest name is loop\n"
@@ -29,17 +32,18 @@ WRITTEN = {
         '{"column":6,"file":"my.source","hint":null,"level":"error","line":2,'
         f'"meaning":"{TOKEN}","name":"BadToken","node":null}}\n'
         '{"column":12,"file":"my.source","hint":"the nearest name is loop","level":"error","line":4,'
-        f'"meaning":"{LABEL}","name":"UndefinedLabel","node":"000"}}\n'),
+        f'"meaning":"{LABEL}","name":"UndefinedLabel","node":"000"}}\n', None),
     "const ONE 1\nbody B\n  ONE jump gone\nend\nnode 708 use B\nnode 709 to 000\n": (
         f"my.source:3:12: error: UndefinedLabel: {LABEL} (node 708)\n    ONE jump gone\n             ^\n"
         "my.source:6:13: error: NoNeighbour: no neighbour of the node, or a direction in which the chip ends\n"
-        "  node 709 to 000\n              ^\n", None),
-    "": ("my.source:1:1: error: NoNode: something before the first 'node', or a text without one\n  \n  ^\n", None),
+        "  node 709 to 000\n              ^\n", None, None),
+    "": (
+        "my.source:1:1: error: NoNode: something before the first 'node', or a text without one\n  \n  ^\n", None, None),
 }
 # Texts with warnings, errors and neither.
 TEXTS = [
     *WRITTEN, "node 709 main: dup jump main\n", "node 708 .\nnode 709 .\n",
-    "\nbody B\n\t.\nend\nnode 708 use B\nnode 709 use B\n",
+    "body B\n\t.\nend\nnode 708 use B\nnode 709 use B\n",
     "node 709 right b! left a! 9 push\n  @ !b unext jump warm\n", FROB, "node 709\n\tdup frob\n", LOOP,
     "node 708\n  dupp\nnode 017\nloop: jump lop\n", "node 709\n" + "[ . ]\n" * 66, "node 708 frob\nnode 709 to 000\n",
 ]  # fmt: skip
@@ -79,14 +83,14 @@ def written(test):
             if it.input_fault(text) is None and it.line in MODELLED:
                 judge(test, it, "-", text, text)
                 test.expect(f"{it.line} with {text!r}", test.run(it.words(), text), test.run(it.words("-"), text))
-    for text, (told, as_json) in WRITTEN.items():
+    for text, (told, as_json, listing) in WRITTEN.items():
         test.write(FILE, text)
-        is_error = int(text != WARNED)
-        for line in ("lint", "asm", "map", "debug")[: 1 + 3 * is_error]:
-            wanted = (1, "", told) if is_error else (0, told, "")
+        for line in ["list"] if listing else ["list", "lint", "asm", "map", "debug"]:
+            wanted = (0, f"{listing}\n{told}", "") if listing else (1, "", told)
             test.expect(f"{line} with {text!r}, to the byte", test.run([line, FILE]), wanted)
         if as_json:
-            test.expect(f"JSON of {text!r}, to the byte", test.run(["lint", "--json", FILE]), (is_error, as_json, ""))
+            came = test.run(["lint", "--json", FILE])
+            test.expect(f"JSON of {text!r}, to the byte", came, (int(listing is None), as_json, ""))
 
 
 def names(test):
@@ -124,17 +128,10 @@ def standard(test):
         for it in OF_SOURCE:
             if it.line.startswith("debug"):
                 continue
-            if (fault := it.input_fault(text)) is None:
-                wanted = 0, text, ""
-            elif it.input == "json":
-                wanted = it.refusal(all_reports(text, "-"))
-            else:
-                wanted = it.input_refusal(fault, text)
+            fault = it.input_fault(text)
+            wanted = it.input_refusal(fault, text) if fault and it.input != "json" else it.answer(text, "-")
             for file in [], ["-"]:
-                came = test.run(it.words(*file), text)
-                if fault is None and "include" not in text:
-                    came, wanted = came[::2], (0, "")
-                test.expect(f"{it.line} {file} of {text!r}", came, wanted)
+                test.expect(f"{it.line} {file} of {text!r}", test.run(it.words(*file), text), wanted)
     line = f"  node 708 frob\n           ^\n{TOKEN}\n"
     for name, behind in {"asm": "", "list": line, "lint": line, "map": line}.items():
         wanted = (1, "", f"ga-bench: source 1:10 BadToken\n{behind}")
@@ -146,10 +143,7 @@ def sessions(test):
     test.write("lib", "node 709 .\n")
     for source in FAULTY[:-1]:
         session = f"profile 2\nplace\n{source}{chr(10) * (source[-1:] != chr(10))}go\n"
-        try:
-            head_of(session, shows_source=True)
-        except Fault as it:
-            fault = it
+        fault = fault_from(head_of, session, shows_source=True)
         report = fault_report(lambda line: ("my.session", line), fault, session)
         test.write("my.session", session)
         for it in JOBS:

@@ -89,13 +89,7 @@ class Job(namedtuple("Job", TABLE.split("\n")[1].split())):
 
     def input_fault(self, text):
         """The first fault for which it refuses a text in standard input, or None."""
-        if self.reads == "larger":
-            return self.fault_of(text)
-        try:
-            images_of(text)
-        except Fault as fault:
-            return fault
-        return None
+        return self.fault_of(text) if self.reads == "larger" else fault_from(images_of, text)
 
     def input_refusal(self, fault, text):
         """Its answer to a text in standard input with this fault at its place."""
@@ -123,6 +117,15 @@ OTHER_NAMES = ["line\nfeed", 'say "hi"']
 def job(line):
     """The row of a command line."""
     return next(it for it in JOBS if it.line == line)
+
+
+def fault_from(model, *arguments, **more):
+    """The fault with which a call ends, or None."""
+    try:
+        model(*arguments, **more)
+    except Fault as fault:
+        return fault
+    return None
 
 
 def shown(name):
