@@ -178,11 +178,11 @@ fn serves_byte_by_byte(rt: HostRuntime) -> Result<(), Fail> {
         let bytes = served(&rt, job, input, 1, None, None);
         assert!(rt;
             whole.outcome.is_ok() && bytes.outcome == whole.outcome,
-            "{job:?}"
+            "{input}"
         );
         assert!(rt;
             !whole.taken.is_empty() && bytes.taken == whole.taken,
-            "{job:?}"
+            "{input}"
         );
     }
     Ok(())
@@ -196,7 +196,7 @@ fn fails_at_each_read_of_a_job(rt: HostRuntime) -> Result<(), Fail> {
         for call in 0..whole.reads {
             let failed = served(&rt, job, input, PIECE, Some(call), None);
             let is_right = failed.outcome == Err(ServeError::Read) && failed.writes == 0;
-            assert!(rt; is_right, "{job:?}, read {call}");
+            assert!(rt; is_right, "{input}, read {call}");
         }
     }
     Ok(())
@@ -214,12 +214,12 @@ fn fails_at_each_write_of_a_job(rt: HostRuntime) -> Result<(), Fail> {
             let failed = served(&rt, job, input, piece, None, Some(call));
             assert!(rt;
                 failed.outcome == Err(ServeError::Write),
-                "{job:?}, write {call}"
+                "{input}, write {call}"
             );
             let front = text
                 .get(..piece.saturating_mul(call as usize))
                 .unwrap_or(&text);
-            assert!(rt; failed.taken.as_slice() == front, "{job:?}, write {call}");
+            assert!(rt; failed.taken.as_slice() == front, "{input}, write {call}");
         }
     }
     Ok(())
