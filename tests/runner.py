@@ -169,7 +169,7 @@ def main():
     options.add_argument("--list", action="store_true")
     options.add_argument("--whole", action="store_true")
     options.add_argument("names", nargs="*")
-    given = options.parse_args()
+    given = options.parse_intermixed_args()
     if given.list:
         print("\n".join(f"{test.name:<16} {test.about}" for test in TESTS))
         return 0
