@@ -38,9 +38,9 @@ class Test(NamedTuple):
     command: list
     small: list = []
     whole: list = []
-    # what must be on PATH, and the programs of tests that it needs
+    # what must be on PATH, and whether it runs a program of tests, which a build of all crates leaves
     needs: tuple = ()
-    programs: tuple = ()
+    is_built: bool = False
 
 
 class Result(NamedTuple):
@@ -83,7 +83,7 @@ TESTS = [
     script("long_output", "recordings up to the most that is written"),
     script("turns", "chips by turns, and by tries one after the other"),
     script("mutants", "wrong programs, which `fuzz` must fail", "--seed", "1", file="fuzz_mutants"),
-    script("cuts", "boot streams in pieces", file="cut_streams", programs=(CUT_STREAMS,)),
+    Test("cuts", "boot streams in pieces", [sys.executable, f"{ROOT}/tests/cut_streams.py", CUT_STREAMS, *BOOTS], is_built=True),
     script("schedules", "boots of routes and trees in random orders", *BOOTS),
     script("races", "verdicts on races, and the witness of each race"),
     script("report_page", "pages of report, read, and shown by a browser"),
@@ -111,7 +111,7 @@ TESTS = [
 def lacking(test, is_whole):
     """What a test needs that isn't there."""
     missing = [it for it in test.needs if not shutil.which(it)]
-    if not is_whole and test.programs:
+    if not is_whole and test.is_built:
         missing.append("the programs of tests, which ./test --prove builds")
     return missing
 
@@ -122,7 +122,7 @@ def run(test, program, is_whole):
     if missing := lacking(test, is_whole):
         return Result(0, 0, 1, 0, [f"skipped: needs {missing[0]}"])
     words = [program if it == "PROGRAM" else it for it in test.command]
-    words += [*test.programs, *(test.whole if is_whole else test.small)]
+    words += test.whole if is_whole else test.small
     log = f"{ROOT}/out/tests/{test.name}.log"
     with open(log, "wb") as file:
         try:
