@@ -67,6 +67,7 @@ def check(name, about, file):
 
 # Those that take longest come first.
 TESTS = [
+    script("kills", "installations and removals that are killed", file="try_kills", small=["--kills", "8"], whole=["--kills", "100"]),
     script("fuzz", "recorded inputs, changed at random", "--seed", "1", small=["--runs", "3000"], whole=["--seconds", "60"]),
     script("memory", "runs with each allocation refused in turn", file="refuse_memory", small=["--every", "20"],
            whole=[REFUSED_CALLS], needs=(os.environ.get("CC", "cc"),)),
@@ -74,7 +75,6 @@ TESTS = [
     script("release", "the launcher, with releases of all kinds", file="try_release"),
     script("install", "installing and uninstalling", file="try_install"),
     script("package", "the Debian package", file="try_package"),
-    script("kills", "installations and removals that are killed", file="try_kills", small=["--kills", "8"], whole=["--kills", "100"]),
     script("cases", "recorded cases, to the byte", *CASES, file="run_cases"),
     script("vcd", "waveforms, turn by turn beside what tries show"),
     script("profiled", "profiles of the worked programs, beside what follows from tries"),
