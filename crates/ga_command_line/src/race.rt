@@ -26,7 +26,7 @@ or for N turns.
   race: ..                 a multiport read may take either of two words: the node that reads, and both
                            words with their writers, labels and lines. The exit status is 1
   no race: ..              the nodes are at rest, and no schedule leads elsewhere
-  no race in 2 rounds ..   the run repeats itself; no race as far as it went
+  no race in 2 rounds ..   the run repeats itself, and no schedule has a race
   no race so far: ..       no race as far as it went
 
 Example: printf 'node 709 $1F5 a! @\nnode 708 right a! 1 !\nnode 710 left a! 2 !' | ga-bench race

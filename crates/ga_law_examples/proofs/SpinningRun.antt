@@ -115,18 +115,21 @@ all_spin_first name part there =
     subst (λ p. Spins p.state) (sym found.1)
     (record { unposted = refl; jump = refl; stands = inl (refl, refl) })
 
--- so no run of tries names a side, and any two runs agree
+-- so no run of tries names a side
+pub spinning_names_none : OnePortNamesNoSide → (tries : List asked.Try) (name : ℕ)
+    → sides_of spinning_chip (tries_of tries) name ≡ []
+spinning_names_none law tries name =
+    law spinning_chip (tries_of tries) name
+    (reads_one_port spinning_chip tries name all_spin_first)
+
+-- and any two runs agree
 pub spinning_agree : OnePortNamesNoSide → (one two : Chip) (tries others : List asked.Try)
     (name : ℕ) → one ≡ spinning_chip → two ≡ spinning_chip
     → AgreesWith (sides_of one (tries_of tries) name) (sides_of two (tries_of others) name)
 spinning_agree law one two tries others name first second =
     inl (
       sides_of two (tries_of others) name,
-      ap (λ l. l ++ sides_of two (tries_of others) name) (sym (none one tries first)),
+      ap (λ l. l ++ sides_of two (tries_of others) name)
+          (sym (ap (λ chip. sides_of chip (tries_of tries) name) first
+          ∙ spinning_names_none law tries name)),
     )
-  where
-    none : (chip : Chip) (all : List asked.Try) → chip ≡ spinning_chip
-        → sides_of chip (tries_of all) name ≡ []
-    none chip all is =
-        law chip (tries_of all) name
-        (reads_one_port chip all name (subst AllSpin (sym is) all_spin_first))

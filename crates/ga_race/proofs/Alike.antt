@@ -1,11 +1,13 @@
 -- Tries lead chips that are alike by equal moves to chips that are alike.
-use Rattle.std.proofs.Common.{◌≡◌, ℕ, ◌<◌, ◌==◌, Bool, true, false, List, [], ◌∷◌, ◌++◌, ◌⊎◌, inl, inr, Option, Some, None, option_map, refl, sym, ap, ap₂, ◌∙◌, subst, arith}
-use Rattle.std.specs.Prelude.{◌^◌, ◌-◌, ◌&&◌, not, if◌then◌else◌}
+use Rattle.std.proofs.Common.{◌≡◌, ℕ, zero, suc, ◌<◌, ◌==◌, Bool, true, false, List, [], ◌∷◌, ◌++◌, ◌⊎◌, inl, inr, Option, Some, None, option_map, refl, sym, ap, ap₂, ◌∙◌, subst, arith}
+use Rattle.std.specs.Prelude.{◌%◌, ◌^◌, ◌-◌, ◌&&◌, get_or, not, if◌then◌else◌}
+use Rattle.std.specs.List.{list_any}
 use Rattle.std.proofs.lemmas.Bool.{cases_eq, ne_eqb}
 use Rattle.std.proofs.lemmas.Option.{same_Some}
 use Rattle.ga_place.specs.declared.side.Side.{Side}
 use Rattle.ga_node.specs.State.{State, is_fetch}
 use Rattle.ga_node.specs.Need.{need_of, wants}
+use Rattle.ga_node.specs.Slot.{step}
 use Rattle.ga_node.specs.declared.need.Need.TheVariants as need
 use Rattle.ga_node.specs.declared.need.Stop.TheVariants.{Counted}
 use Rattle.ga_chip.specs.declared.outcome.Outcome.{Outcome}
@@ -15,7 +17,7 @@ use Rattle.ga_chip.specs.Run.{Event, Try, SetBreak, ClearBreak, PassBreak, Piece
 use Rattle.ga_chip.specs.Legal.{IsLegal}
 use Rattle.ga_chip.proofs.Kept.{legal_kept}
 use Rattle.ga_chip.proofs.Runs.{stand_ran}
-use Rattle.ga_race.specs.Spins.{IsSpinning}
+use Rattle.ga_race.specs.Spins.{IsSpinning, uncounted}
 use Rattle.ga_race.specs.Rounds.{IsAlike, unnumbered}
 use Rattle.ga_race.proofs.Uncounted.{step_same, wants_same}
 use Rattle.ga_race.proofs.Tried.{Leaves, part_else, part_here}
@@ -43,23 +45,79 @@ pub need_alike : (p q : Part) → unnumbered p ≡ unnumbered q → p.state.step
 need_alike p q e below below' = need_wants p.state below
     ∙ wants_same p.state q.state (ap (λ (u : Part). u.state) e) ∙ sym (need_wants q.state below')
 
+-- whether there is a breakpoint
+abbrev has_any : List Bool → Bool
+has_any breaks = list_any (λ break. break) breaks
+
+-- if there is none, no address has one
+none_any : (breaks : List Bool) (at : ℕ) → has_any breaks ≡ false → get_or breaks at false ≡ false
+none_any [] at none = refl
+none_any (false ∷ breaks) zero none = refl
+none_any (false ∷ breaks) (suc at) none = none_any breaks at none
+none_any (true ∷ breaks) at none = cc
+
+-- so passes that count equally hold equally
+held_alike : (fetch one two any at : Bool) → (any ≡ false → at ≡ false) → one && any ≡ two && any
+    → fetch && (not one && at) ≡ fetch && (not two && at)
+held_alike false one two any at none e = refl
+held_alike true true true any at none e = refl
+held_alike true false false any at none e = refl
+held_alike true true false true at none e = cc
+held_alike true false true true at none e = cc
+held_alike true true false false at none e = sym (none refl)
+held_alike true false true false at none e = none refl
+
+-- a breakpoint holds both of two parts that are equal but for numbers, or neither
+holds_alike : (p q : Part) → unnumbered p ≡ unnumbered q → is_held p ≡ is_held q
+holds_alike p q e =
+    let breaks : p.breaks ≡ q.breaks = ap (λ (u : Part). u.breaks) e in
+    let at : ℕ = p.state.p % 2 ^ 9 in
+    held_alike (is_fetch p.state.place) p.pass q.pass (has_any p.breaks) (get_or p.breaks at false)
+    (none_any p.breaks at)
+    (ap (λ (u : Part). u.pass) e ∙ ap (λ l. q.pass && has_any l) (sym breaks))
+    ∙ ap₂ (λ (s : State) l. is_fetch s.place && (not q.pass && get_or l (s.p % 2 ^ 9) false))
+    (ap (λ (u : Part). u.state) e) breaks
+
 -- a try of such parts asks for the same thing
 asks_alike : (p q : Part) (side : Side) → unnumbered p ≡ unnumbered q
     → need_of p.state ≡ need_of q.state → asks p side ≡ asks q side
 unfolding asks
-asks_alike p q side e n = ap (λ held. asks_if held p side) (ap is_held e) ∙ by (is_held q)
+asks_alike p q side e n = ap (λ held. asks_if held p side) (holds_alike p q e) ∙ by (is_held q)
   where
     by : (held : Bool) → asks_if held p side ≡ asks_if held q side
     by true = ap held_by n
     by false = ap₂ (λ m (u : Part). asks_by m u.state.node u.stream side) n e
 
+-- a pass that ends counts as before
+ends : (pass stays any : Bool) → (pass && stays) && any ≡ (pass && any) && stays
+ends false stays any = refl
+ends true true true = refl
+ends true true false = refl
+ends true false true = refl
+ends true false false = refl
+
+-- a part without its numbers after a step
+abbrev after_step : Option ℕ → Part → Part
+after_step word part = record (unnumbered part) {
+  state = uncounted (step part.state word);
+  pass = (part.pass && has_any part.breaks) && not (is_fetch part.state.place);
+}
+
+passed : (word : Option ℕ) (part : Part) → unnumbered (stepped word part) ≡ after_step word part
+passed word part = ap (λ pass. record (unnumbered part) {
+  state = uncounted (step part.state word);
+  pass = pass;
+}) (ends part.pass (not (is_fetch part.state.place)) (has_any part.breaks))
+
 -- a step leaves such parts equal but for numbers
 stepped_alike : (word : Option ℕ) (p q : Part) → unnumbered p ≡ unnumbered q
     → unnumbered (stepped word p) ≡ unnumbered (stepped word q)
 stepped_alike word p q e =
-    ap₂ (λ (s : State) (u : Part). record u
+    passed word p
+    ∙ ap₂ (λ (s : State) (u : Part). record u
     { state = s; pass = u.pass && not (is_fetch u.state.place) })
     (step_same p.state q.state word (ap (λ (u : Part). u.state) e)) e
+    ∙ sym (passed word q)
 
 -- two results have the same outcome, and parts that are equal but for numbers
 abbrev ResultsAlike : Outcome × Part → Outcome × Part → Type 0

@@ -1,8 +1,9 @@
 -- The verdict after some turns is so.
-use Rattle.std.proofs.Common.{◌≡◌, ◌∙◌, ℕ, Bool, true, false, List, Some, ap, subst, sym}
+use Rattle.std.proofs.Common.{◌≡◌, ◌∙◌, ◌+◌, ℕ, Bool, true, false, List, Option, Some, None, ap, subst, sym}
 use Rattle.ga_chip.specs.Chip.{Chip}
 use Rattle.ga_chip.specs.Run.{Event, ran, turns_of, words_fed}
 use Rattle.ga_chip.specs.Legal.{IsLegal}
+use Rattle.ga_chip.proofs.Kept.{legal_ran}
 use Rattle.ga_observe.specs.Laws.{events_in}
 use Rattle.ga_observe.specs.Seen.{steps_seen, turns_numbered}
 use Rattle.ga_observe.proofs.Watched.{plain_turns}
@@ -14,12 +15,15 @@ use Rattle.ga_race.specs.Verdict.{AgreesFor, IsSo}
 use Rattle.ga_race.specs.Watch.{CountsFit, finds_race, first_watch, watch_on}
 use Rattle.ga_race.specs.declared.verdict.Verdict.{Verdict}
 use Rattle.ga_race.specs.declared.verdict.Verdict.TheVariants as verdict
-use Rattle.ga_race.specs.inner.Ending.{IsFound}
+use Rattle.ga_race.specs.Rounds.{HasNoBreaks}
+use Rattle.ga_race.specs.inner.Ending.{IfRound, IsFound, MadeTwice}
 use Rattle.ga_race.proofs.Deciding.{quiet_within, watch_finds}
 use Rattle.ga_race.proofs.Differs.{race_differs}
+use Rattle.ga_race.proofs.EndingAll.{all_names}
 use Rattle.ga_race.proofs.Fair.{breaks_kept}
 use Rattle.ga_race.proofs.Fitting.{steps_are_counted}
 use Rattle.ga_race.proofs.Following.{finds_same}
+use Rattle.ga_race.proofs.Rounds.{turns_front}
 use Rattle.ga_race.proofs.Spinning.{no_race_spinning}
 use Rattle.ga_race.proofs.TurnLists.{turns_tries}
 use Rattle.ga_race.proofs.Watching.{finds_all}
@@ -54,22 +58,46 @@ race_in chip turns legal found =
     subst (HasRace chip) (plain_turns turns)
     (watch_finds chip (turns_numbered turns) legal found)
 
+-- what is true for the turns of a round implies another thing
+pub if_round : (v : Option Verdict) (one two : ℕ → Type 0)
+    → ((period : ℕ) → one period → two period) → IfRound v one → IfRound v two
+if_round (Some (verdict.Round period)) one two implies holds = implies period holds
+if_round (Some (verdict.Race race)) one two implies holds = tt
+if_round (Some (verdict.AtRest spins)) one two implies holds = tt
+if_round (Some verdict.Open) one two implies holds = tt
+if_round None one two implies holds = tt
+
 -- what is found after some turns is so
 pub found_so : (chip : Chip) (turns : ℕ) (race : Bool) (v : Verdict) → IsLegal chip
     → race ≡ finds_race chip (turns_numbered turns)
-    → IsFound race (ran chip (turns_of turns)) (Some v) → IsSo chip turns v
-found_so chip turns race (verdict.Race details) legal is found =
+    → IsFound race (ran chip (turns_of turns)) (Some v)
+    → (HasNoBreaks chip → IfRound (Some v) (MadeTwice chip turns)) → IsSo chip turns v
+found_so chip turns race (verdict.Race details) legal is found made =
     let one = race_in chip turns legal (sym is ∙ found) in
     (one, (race_differs chip (turns_of turns) legal one).0)
-found_so chip turns race (verdict.AtRest spins) legal is found =
+found_so chip turns race (verdict.AtRest spins) legal is found made =
     let quiet = sym is ∙ found.0 in (
       agrees_for chip turns legal quiet,
       λ free.
-          let rest = found.1 (breaks_kept chip (turns_of turns) (turns_tries turns) legal free) in
+          let shown = found.1 (breaks_kept chip (turns_of turns) (turns_tries turns) legal free) in
+          let rest = all_names (ran chip (turns_of turns)) spins
+          (legal_ran chip (turns_of turns) legal) shown in
           let all = no_race_spinning chip (turns_of turns) legal
           (no_race_in chip turns legal quiet) rest in
-          record { rest = rest; determinate = all.0; most = all.1 },
+          record { shown = shown; rest = rest; determinate = all.0; most = all.1 },
     )
-found_so chip turns race (verdict.Round round) legal is found =
+found_so chip turns race (verdict.Round period) legal is found made =
+    let quiet = sym is ∙ found in (
+      agrees_for chip turns legal quiet,
+      λ free. let twice = made free in record {
+        first = twice.first;
+        twice = twice.twice;
+        round = record {
+          back = twice.back;
+          race = turns_front chip (twice.first + period + period) turns twice.twice
+              (no_race_in chip turns legal quiet);
+        };
+      },
+    )
+found_so chip turns race verdict.Open legal is found made =
     agrees_for chip turns legal (sym is ∙ found)
-found_so chip turns race verdict.Open legal is found = agrees_for chip turns legal (sym is ∙ found)

@@ -32,4 +32,5 @@ mod WorkedSpins
 pub mod Spun
 pub mod Resting
 pub mod EndingAll
+pub mod Returning
 pub mod Judging

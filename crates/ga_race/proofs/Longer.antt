@@ -113,16 +113,21 @@ unfolding need_of
 need_counted part spins full e = ap (λ b. if b then need.Stopped Counted else wants part.state) e
     ∙ ap (λ n. if full then need.Stopped Counted else n) (spins_own part.state spins)
 
--- in that case the node rests
+-- in that case a try asks for nothing
+pub spent_asks : (chip : Chip) (name : ℕ) (side : Side) (s : IsSpinning chip name)
+    → (s.part.state.steps == 2 ^ 64 - 1) ≡ true → asks s.part side ≡ Nothing Stopped
+spent_asks chip name side s full =
+    asks_need s.part side s.unbroken ∙ ap (λ n. asks_by n s.part.state.node s.part.stream side)
+    (need_counted s.part s.spins true full)
+
+-- so the node rests
 spent_rests : (chip : Chip) (name : ℕ) (s : IsSpinning chip name)
     → (s.part.state.steps == 2 ^ 64 - 1) ≡ true → IsResting chip name
 unfolding after
 spent_rests chip name s full side = (λ e. none (sym is ∙ e), λ e. none' (sym is ∙ e))
   where
     asked : asks s.part side ≡ Nothing Stopped
-    asked = asks_need s.part side s.unbroken
-        ∙ ap (λ n. asks_by n s.part.state.node s.part.stream side)
-        (need_counted s.part s.spins true full)
+    asked = spent_asks chip name side s full
 
     is : (tried chip name side).0 ≡ Stopped
     is = ap (λ r. r.0) (tried_there chip name side s.part s.there)

@@ -28,7 +28,7 @@ race_front chip front more race before later event name cell e l =
     }
 
 -- if more turns have no race, fewer have none
-turns_front : (chip : Chip) (few many : ℕ) → few ≤ many → HasNoRace chip (turns_of many)
+pub turns_front : (chip : Chip) (few many : ℕ) → few ≤ many → HasNoRace chip (turns_of many)
     → HasNoRace chip (turns_of few)
 turns_front chip few many less race =
     let both : few + (many - few) ≡ many = omega arith in
@@ -83,9 +83,9 @@ module _ (chip : Chip) (first period : ℕ) (legal : IsLegal chip)
   next rounds =
       turns_split (behind rounds) period
       ∙ ap (λ n. turns_of (behind rounds) ++ some_turns n period)
-      (behind_is first period round.fours rounds round.divides)
+      (behind_is first period round.back.fours rounds round.back.divides)
       ∙ ap (λ es. turns_of (behind rounds) ++ es)
-      (same_turns first period (fours_behind round.fours rounds))
+      (same_turns first period (fours_behind round.back.fours rounds))
 
   -- and so do two more
   next_two : (rounds : ℕ) → turns_of (behind (suc (suc rounds))) ≡ turns_of (behind rounds)
@@ -103,7 +103,8 @@ module _ (chip : Chip) (first period : ℕ) (legal : IsLegal chip)
   up_to : (rounds : ℕ) → IsCounting (ran chip (turns_of (behind (suc (suc rounds)))))
       → IsRound rounds
   up_to zero counts = record {
-    alike = subst (λ es. IsAlike (ran chip (turns_of first)) (ran chip es)) (next 0) round.again;
+    alike = subst (λ es. IsAlike (ran chip (turns_of first)) (ran chip es)) (next 0)
+        round.back.again;
     race = subst (HasNoRace chip) (next_two 0) round.race;
   }
   up_to (suc rounds) counts =
@@ -158,7 +159,7 @@ counts_turns chip turns legal last name part there =
 pub race_round : (chip : Chip) (first period turns : ℕ) → IsLegal chip → GoesRound chip first period
     → CountsLast chip (turns + period) → HasNoRace chip (turns_of turns)
 race_round chip first period turns legal round last =
-    let h = enough first period turns round.some in
+    let h = enough first period turns round.back.some in
     all_turns chip first period legal round turns turns (omega arith)
     (counts_turns chip (turns + period) legal last)
 

@@ -1,5 +1,6 @@
 -- Runs that go round: a period of turns leads back to the same chip, except for numbers.
-use Rattle.std.specs.Prelude.{◌≡◌, ℕ, ◌+◌, ◌*◌, ◌-◌, ◌^◌, ◌≤◌, ◌<◌, false, List, [], length, option_map, ◌⊎◌, Some}
+use Rattle.std.specs.Prelude.{◌≡◌, ℕ, ◌+◌, ◌*◌, ◌-◌, ◌^◌, ◌≤◌, ◌<◌, ◌&&◌, false, List, [], length, option_map, ◌⊎◌, Some}
+use Rattle.std.specs.List.{list_any}
 use Rattle.ga_chip.specs.Part.{Part}
 use Rattle.ga_chip.specs.Chip.{Chip, no_counts, part_of}
 use Rattle.ga_chip.specs.Run.{Event, has_break, ran, turns_of, words_fed}
@@ -8,10 +9,15 @@ use Rattle.ga_race.specs.Clocks.{steps_in}
 use Rattle.ga_race.specs.Races.{RunsAgree, HasNoRace, IsDeterminateWithin, IsFed}
 use Rattle.ga_race.specs.Spins.{IsSpinning, uncounted}
 
--- a node's part without its numbers: of steps, of words written and of words read
+-- A node's part without its numbers: of steps, of words written and of words read. A pass counts
+-- only where the node has a breakpoint.
 abbrev pub unnumbered : Part → Part
-unnumbered part =
-    record part { state = uncounted part.state; written = no_counts; read = no_counts }
+unnumbered part = record part {
+  state = uncounted part.state;
+  pass = part.pass && list_any (λ break. break) part.breaks;
+  written = no_counts;
+  read = no_counts;
+}
 
 -- Two chips are alike: the same words are pending, and each node has the same part at both, except
 -- for its numbers, or it spins at both.
@@ -21,13 +27,17 @@ pub record IsAlike (one two : Chip) : Type 0 where
       → (option_map unnumbered (part_of one name) ≡ option_map unnumbered (part_of two name))
       ⊎ (IsSpinning one name × IsSpinning two name)
 
--- A chip goes round: after the first turns a period more leads to a chip that is alike, and the run
--- of a second period has no race. A period is a multiple of four turns, one for each side.
-pub record GoesRound (chip : Chip) (first period : ℕ) : Type 0 where
+-- A chip comes back: after the first turns a period more leads to a chip that is alike. A period is
+-- a multiple of four turns, one for each side.
+pub record ComesBack (chip : Chip) (first period : ℕ) : Type 0 where
   pub fours : ℕ
   pub divides : period ≡ fours * 4
   pub some : 1 ≤ period
   pub again : IsAlike (ran chip (turns_of first)) (ran chip (turns_of (first + period)))
+
+-- A chip goes round: it comes back, and the run of a second period has no race.
+pub record GoesRound (chip : Chip) (first period : ℕ) : Type 0 where
+  pub back : ComesBack chip first period
   pub race : HasNoRace chip (turns_of (first + period + period))
 
 -- The counts of steps last for a number of turns: in them no node makes the largest number of steps

@@ -1,5 +1,6 @@
 -- Nodes that spin, and what a run without races shows if some nodes spin at its end.
-use Rattle.std.specs.Prelude.{◌≡◌, ◌≢◌, ℕ, ◌≤◌, ◌<◌, zero, suc, false, List, get_or, ◌⊎◌, Some, None}
+use Rattle.std.specs.Prelude.{◌≡◌, ◌≢◌, ℕ, ◌≤◌, ◌<◌, zero, suc, Bool, true, false, List, get_or, ◌⊎◌, Some, None}
+use Rattle.ga_place.specs.Cell.{name_at}
 use Rattle.ga_place.specs.declared.side.Side.{Side}
 use Rattle.ga_node.specs.State.{State}
 use Rattle.ga_node.specs.Need.{wants}
@@ -47,6 +48,16 @@ pub record IsSpinning (chip : Chip) (name : ℕ) : Type 0 where
 abbrev pub IsResting : Chip → ℕ → Type 0
 IsResting chip name =
     (side : Side) → ((tried chip name side).0 ≢ Moved) × ((tried chip name side).0 ≢ Held)
+
+-- a node rests or spins, by whether it spins
+abbrev pub RestsOrSpins : Chip → ℕ → Bool → Type 0
+RestsOrSpins chip name true = IsSpinning chip name
+RestsOrSpins chip name false = IsResting chip name
+
+-- each node rests or spins, by a list that has for each one, in order of name, whether it spins
+abbrev pub ShowsSpins : Chip → List Bool → Type 0
+ShowsSpins chip spins =
+    (index : ℕ) → index < 144 → RestsOrSpins chip (name_at index) (get_or spins index false)
 
 -- each node rests or spins
 abbrev pub IsRestOrSpins : Chip → Type 0

@@ -1,22 +1,21 @@
 //! How a run ends: at rest, or going round.
-ghost use Rattle.std.specs.Prelude.{◌≡◌, ◌<◌, IfSome, true};
+ghost use Rattle.std.specs.Prelude.{◌≡◌, ◌<◌, ℕ, IfOk, IfSome, true};
+ghost use Rattle.ga_chip.specs.Chip.{Chip};
+ghost use Rattle.ga_chip.specs.Run.{ran, turns_of};
 ghost use Rattle.ga_race.specs.Rounds.{HasNoBreaks};
-ghost use Rattle.ga_race.specs.Spins.{IsRestOrSpins, IsResting, IsSpinning};
-ghost use Rattle.ga_race.specs.inner.Ending.{RestsOrSpins};
-ghost use Rattle.ga_place.specs.Cell.{name_at};
+ghost use Rattle.ga_race.specs.Spins.{RestsOrSpins, ShowsSpins};
+ghost use Rattle.ga_race.specs.inner.Ending.{AreSpinning, IsAgain, IsKept, IsSearch, MadeTwice};
 
 use crate::going::is_resting;
 use crate::spin::is_spinning;
 use ga_chip::Chip;
-use ga_node::NodeState;
 use ga_place::Node;
-use ga_word::Word18;
 use std::alloc::{AllocError, Global};
 
 /// The nodes that spin, if each other node rests; `None` if some node may go on otherwise. At most
 /// `limit` own steps of a node are looked at.
 pub(crate) fn at_rest(chip: &Chip, limit: u64) -> Option<[bool; 144]>
-    ensures { IfSome result (λ spins. HasNoBreaks chip.now → IsRestOrSpins chip.now) }
+    ensures { IfSome result (λ spins. HasNoBreaks chip.now → ShowsSpins chip.now spins) }
 {
     chip.legal();
     if goes_on(chip, limit) {
@@ -24,8 +23,7 @@ pub(crate) fn at_rest(chip: &Chip, limit: u64) -> Option<[bool; 144]>
     }
     let mut spins = [false; 144];
     for index in 0..144 {
-        let spins_here = rests_or_spins(chip, Node::at(index), limit)?;
-        spins[index] = spins_here;
+        spins[index] = rests_or_spins(chip, Node::at(index), limit)?;
     }
     Some(spins)
 }
@@ -41,9 +39,9 @@ fn goes_on(chip: &Chip, limit: u64) -> bool {
     false
 }
 
-/// Whether a node spins, if it spins or rests.
+/// Whether a node spins, if it rests or spins.
 fn rests_or_spins(chip: &Chip, node: Node, limit: u64) -> Option<bool>
-    ensures { IfSome result (λ spins. RestsOrSpins chip.now node) }
+    ensures { IfSome result (λ spins. HasNoBreaks chip.now → RestsOrSpins chip.now node spins) }
 {
     if is_resting(chip, node) {
         return Some(false);
@@ -60,17 +58,20 @@ fn rests_or_spins(chip: &Chip, node: Node, limit: u64) -> Option<bool>
 pub(crate) struct RoundSearch {
     kept: KeptChip,
     kept_after: u64,
-    /// The turns of a round, and after how many turns it was made twice.
-    found: Option<(u64, u64)>,
+    /// The turns of a round that was made once, from the kept chip on.
+    round: Option<u64>,
 }
 
 impl RoundSearch {
     /// A search from a chip on, before the first turn.
-    pub(crate) fn new(alloc: Global, chip: &Chip) -> Result<Self, AllocError> {
+    pub(crate) fn new(alloc: Global, chip: &Chip) -> Result<Self, AllocError>
+        ensures { IfOk result (λ search. IsSearch chip.now search 0) }
+    {
+        chip.legal();
         Ok(RoundSearch {
             kept: KeptChip::new(alloc, chip, 0)?,
             kept_after: 0,
-            found: None,
+            round: None,
         })
     }
 
@@ -80,16 +81,23 @@ impl RoundSearch {
         alloc: Global,
         chip: &Chip,
         turns: u64,
-    ) -> Result<Option<u64>, AllocError> {
+    ) -> Result<Option<u64>, AllocError>
+        ensures search { IfOk result (λ made. (start : Chip) (before : ℕ) → before < turns
+            → IsSearch start self.old before → chip.now ≡ ran start (turns_of turns)
+            → IsSearch start self.new turns) }
+        ensures made { IfOk result (λ made. (start : Chip) (before : ℕ)
+            → IsSearch start self.old before → HasNoBreaks start
+            → IfSome made (MadeTwice start turns)) }
+    {
         if turns % 4 != 0 {
             return Ok(None);
         }
-        if let Some((round, twice)) = self.found {
-            return Ok(if turns >= twice { Some(round) } else { None });
+        if let Some(round) = self.round {
+            let is_twice = turns.saturating_sub(self.kept_after).saturating_sub(round) >= round;
+            return Ok(if is_twice { Some(round) } else { None });
         }
         if self.kept.is_again(chip) {
-            let round = turns.saturating_sub(self.kept_after);
-            self.found = Some((round, turns.saturating_add(round)));
+            self.round = Some(turns.saturating_sub(self.kept_after));
         } else if turns >= self.kept_after.saturating_mul(2) {
             self.kept = KeptChip::new(alloc, chip, turns)?;
             self.kept_after = turns;
@@ -101,42 +109,53 @@ impl RoundSearch {
 /// A chip that was kept at a moment of a run, to see whether it comes back.
 #[derive(Drop)]
 struct KeptChip {
-    states: Vec<NodeState>,
-    pending: Vec<Option<Word18>>,
+    chip: Chip,
     spins: [bool; 144],
 }
 
 impl KeptChip {
     /// A chip as it is. At most `limit` own steps of a node are looked at.
-    fn new(alloc: Global, chip: &Chip, limit: u64) -> Result<Self, AllocError> {
-        let mut states = Vec::with_capacity(alloc, 144)?;
-        let mut spins = [false; 144];
-        for index in 0..144 {
-            let state = chip.state(Node::at(index));
-            states.push(state.copied())?;
-            spins[index] = is_spinning(state, limit);
-        }
-        let mut pending = Vec::new(alloc);
-        pending.extend_from_slice(chip.cells().words())?;
+    fn new(alloc: Global, chip: &Chip, limit: u64) -> Result<Self, AllocError>
+        ensures chip { IfOk result (λ kept. kept.chip ≡ chip.now) }
+        ensures spins { IfOk result (λ kept. AreSpinning kept.chip kept.spins) }
+    {
         Ok(KeptChip {
-            states,
-            pending,
-            spins,
+            chip: chip.copied(alloc)?,
+            spins: spinning(chip, limit),
         })
     }
 
     /// Whether a chip is as it was kept, but for the numbers of steps and the nodes that spin.
-    fn is_again(&self, chip: &Chip) -> bool {
-        for (index, state) in self.states.iter().enumerate() {
-            if index < 144 && !self.spins[index] && !is_kept(chip.state(Node::at(index)), state) {
+    fn is_again(&self, chip: &Chip) -> bool
+        ensures { result ≡ true → IsAgain self.now chip.now }
+    {
+        for index in 0..144 {
+            if !self.spins[index] && !is_kept(chip, &self.chip, Node::at(index)) {
                 return false;
             }
         }
-        self.pending.as_slice() == chip.cells().words()
+        self.chip.cells().words() == chip.cells().words()
     }
 }
 
-/// Whether a node is as it was kept. Without a step since then it is.
-fn is_kept(state: &NodeState, kept: &NodeState) -> bool {
-    state.steps() == kept.steps() || state.is_again(kept)
+/// The nodes that spin. At most `limit` own steps of a node are looked at.
+fn spinning(chip: &Chip, limit: u64) -> [bool; 144]
+    ensures { AreSpinning chip.now result }
+{
+    let mut spins = [false; 144];
+    for index in 0..144 {
+        spins[index] = is_spinning(chip.state(Node::at(index)), limit);
+    }
+    spins
+}
+
+/// Whether a node is as it was kept earlier in a run. Without a step since then it is, and its
+/// stream is if as many words are left.
+fn is_kept(chip: &Chip, kept: &Chip, node: Node) -> bool
+    ensures { result ≡ true → IsKept chip.now kept.now node }
+{
+    let state = chip.state(node);
+    let before = kept.state(node);
+    state.steps() == before.steps()
+        || chip.stream_left(node) == kept.stream_left(node) && state.is_again(before)
 }

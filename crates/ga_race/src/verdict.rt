@@ -1,8 +1,10 @@
 //! The verdict on a chip: whether the schedule decides what it does.
-ghost use Rattle.std.specs.Prelude.{◌≡◌, ◌≢◌, ◌≤◌, IfOk, IfSome, Some, false, length};
+ghost use Rattle.std.specs.Prelude.{◌≡◌, ◌≢◌, ◌≤◌, ◌<◌, ℕ, IfOk, None, Some, false, length};
+ghost use Rattle.ga_chip.specs.Chip.{Chip};
 ghost use Rattle.ga_chip.specs.Run.{moves, ran, turns_of};
+ghost use Rattle.ga_race.specs.Rounds.{HasNoBreaks};
 ghost use Rattle.ga_race.specs.Verdict.{IsSo};
-ghost use Rattle.ga_race.specs.inner.Ending.{IsFound};
+ghost use Rattle.ga_race.specs.inner.Ending.{IfRound, IsFound, IsSearch, MadeTwice};
 
 use crate::counts::counts_fit;
 use crate::ending::{RoundSearch, at_rest};
@@ -88,6 +90,12 @@ fn verdict_at(
     turns: u64,
 ) -> Result<Option<Verdict>, AllocError>
     ensures found { IfOk result (IsFound watch.now.races.race chip.now) }
+    ensures search { IfOk result (λ verdict. verdict ≡ None → (start : Chip) (before : ℕ)
+        → before < turns → IsSearch start search.old before
+        → chip.now ≡ ran start (turns_of turns) → IsSearch start search.new turns) }
+    ensures round { IfOk result (λ verdict. (start : Chip) (before : ℕ)
+        → IsSearch start search.old before → HasNoBreaks start
+        → IfRound verdict (MadeTwice start turns)) }
     ensures not_open { IfOk result (λ verdict. verdict ≢ Some Verdict.Open) }
 {
     if let Some(race) = watch.races.race() {
@@ -111,6 +119,7 @@ fn verdict_at(
 /// The verdict of rest, if the chip is at rest after a number of turns, or another one.
 fn at_rest_or(chip: &Chip, turns: u64, other: Verdict) -> Verdict
     ensures found { IsFound false chip.now (Some other) → IsFound false chip.now (Some result) }
+    ensures round { IfRound (Some result) (λ period. other ≡ Verdict.Round period) }
     ensures open { result ≡ Verdict.Open → other ≡ Verdict.Open }
 {
     match at_rest(chip, turns) {

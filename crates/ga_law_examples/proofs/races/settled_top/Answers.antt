@@ -10,5 +10,5 @@ returns-in-AtRest c =
     let report = c.in-Ok.report in
     let rests = subst (IsSo chip report.turns) c.in-AtRest.is c.in-Ok.ensures.verdict in
     subst (IsSettled chip c.race.new.chip c.args.node) (sym c.t.ensures)
-    (settled chip c.race.new.chip c.args.node report.turns c.state.result.now
+    (settled chip c.race.new.chip c.args.node report.turns c.in-AtRest.spins c.state.result.now
     c.runs.ensures.unfed c.in-Ok.ensures.chip (rests.1 c.requires.breaks) c.state.ensures)

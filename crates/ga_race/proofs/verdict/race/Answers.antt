@@ -6,8 +6,8 @@ use Rattle.ga_observe.specs.Seen.{steps_seen, turns_numbered}
 use Rattle.ga_observe.proofs.Watched.{turns_steps}
 use Rattle.ga_race.specs.Shown.{HasSeenFrom}
 use Rattle.ga_race.specs.Verdict.{IsSo}
-use Rattle.ga_race.specs.inner.Ending.{IsFound}
-use Rattle.ga_race.proofs.Judging.{found_so, kept_finds}
+use Rattle.ga_race.specs.inner.Ending.{IfRound, IsFound, MadeTwice}
+use Rattle.ga_race.proofs.Judging.{found_so, if_round, kept_finds}
 use Rattle.ga_race.proofs.verdict.race.Goals as goal
 
 pub loop-number-init : goal.loop-number-init
@@ -18,6 +18,7 @@ loop-number-init c = record {
   few = omega arith;
   seen = record { start = refl; seen = c.in_ok-watch.ensures.seen };
   quiet = (c.in_ok-watch.ensures.seen (All-nil _)).race;
+  search = c.in_ok-search.ensures;
 }
 
 pub overflow_add-steps : goal.overflow_add-steps
@@ -39,6 +40,10 @@ loop-number-preserved c =
           (steps_seen c.args.chip.now (turns_numbered c.loop-number.number)) so_far.seen);
       quiet = subst (IsFound c.turn.new.observer.races.race c.turn.new.chip) c.in-None.is
           c.in_ok-verdict.ensures.found;
+      search = c.in_ok-verdict.ensures.search c.in-None.is c.args.chip.now c.loop-number.number
+          (omega arith) so_far.search
+          (one_turn c.args.chip.now c.loop-number.chip c.turn.new.chip c.loop-number.number
+          so_far.chip c.turn.ensures.chip);
     }
 
 pub returns-in-Some-clause-chip : goal.returns-in-Some-clause-chip
@@ -74,7 +79,10 @@ returns-in-Some-clause-verdict c =
     let so : IsSo c.args.chip.now turns c.in-Some.verdict =
     found_so c.args.chip.now turns races.race c.in-Some.verdict c.legal.ensures
     (kept_finds c.args.chip.now turns races c.legal.ensures c.counts_fit.ensures
-    (seen.start ∙ c.in_ok-watch.ensures.start) seen.seen) found in
+    (seen.start ∙ c.in_ok-watch.ensures.start) seen.seen) found
+    (λ free. subst (λ v. IfRound v (MadeTwice c.args.chip.now turns)) c.in-Some.is
+    (c.in_ok-verdict.ensures.round c.args.chip.now c.loop-number.number
+    c.loop-number.invariant.search free)) in
     subst (λ n. IsSo c.args.chip.now n c.reported.result.verdict) (sym c.reported.ensures.turns)
     (subst (IsSo c.args.chip.now turns) (sym c.reported.ensures.verdict) so)
 
@@ -90,7 +98,9 @@ returns-clause-verdict c =
     (c.at_rest_or.ensures.found refl) in
     let so : IsSo c.args.chip.now turns c.at_rest_or.result =
     found_so c.args.chip.now turns false c.at_rest_or.result c.legal.ensures
-    (sym so_far.quiet ∙ is) found in
+    (sym so_far.quiet ∙ is) found
+    (λ free. if_round (Some c.at_rest_or.result) _ (MadeTwice c.args.chip.now turns)
+    (λ period e. cc) c.at_rest_or.ensures.round) in
     subst (λ n. IsSo c.args.chip.now n c.reported-2.result.verdict)
     (all ∙ sym c.reported-2.ensures.turns)
     (subst (IsSo c.args.chip.now turns) (sym c.reported-2.ensures.verdict) so)

@@ -2,6 +2,7 @@ use Rattle.std.proofs.Common.{◌≡◌, ◌*◌, ◌≤◌, false, length}
 use Rattle.ga_chip.specs.Run.{moves, ran, turns_of}
 use Rattle.ga_observe.specs.Seen.{steps_seen, turns_numbered}
 use Rattle.ga_race.specs.Shown.{HasSeenFrom}
+use Rattle.ga_race.specs.inner.Ending.{IsSearch}
 use Rattle.ga_race.proofs.verdict.race.Given as goal
 
 -- the turns so far had no race, and the watch has seen their steps
@@ -13,4 +14,5 @@ invariant-loop-number l = record {
   seen : HasSeenFrom l.initial.watch.races l.watch.races
       (steps_seen l.fn.chip (turns_numbered l.number));
   quiet : l.watch.races.race ≡ false;
+  search : IsSearch l.fn.chip l.search l.number;
 }
