@@ -48,6 +48,7 @@ from profiles import (
 from replies import STACKS, agree_in_other_words, agrees, has_form, ledgers, other_words, registers
 from report_page import BOTTLENECK, fault_of_page
 from sessions import Transcript, head_of, text_of
+from testing import drawn
 from text_faults import faults_of
 from vcd import NODES, Session, Waveform, Wrong, commands_of, compare, compare_end, demand
 
@@ -248,11 +249,6 @@ def words_of(text):
     if not 0 < len(words) <= 64:
         raise Fault("words TooLong" if words else "words Empty")
     return [int(word, 16) for word in words]
-
-
-def drawn(text):
-    """A text as it is shown: without what a terminal would obey or not draw."""
-    return re.sub("[\0-\x08\x0b-\x1f\x7f-\x9f\u200b-\u200f\u202a-\u202e\u2066-\u2069]", " ", text)
 
 
 def shown_name(name):

@@ -130,7 +130,7 @@ def fault_from(model, *arguments, **more):
 
 def shown(name):
     """A name as it is shown, without what a terminal would obey."""
-    return re.sub("[\x00-\x08\x0a-\x1f\x7f-\x9f\u202e]", " ", name)
+    return re.sub("[\x00-\x08\x0a-\x1f\x7f-\x9f\u2028\u202e]", " ", name)
 
 
 first_of = functools.lru_cache(maxsize=64)(first_fault)

@@ -19,6 +19,7 @@ wasn't there, `N passed, M failed, K skipped`. The exit status is 0 if nothing f
 command line is wrong.
 """
 import os
+import re
 import subprocess
 import sys
 import tempfile
@@ -26,6 +27,11 @@ import traceback
 
 # No run of the program may take longer.
 SECONDS = 120
+
+
+def drawn(text):
+    """A text as it is shown: without what a terminal would obey or not draw."""
+    return re.sub("[\0-\x08\x0b-\x1f\x7f-\x9f\u061c\u200b-\u200f\u2028-\u202e\u2066-\u2069\ufeff]", " ", text)
 
 
 def excerpts(values, before=100, most=500):

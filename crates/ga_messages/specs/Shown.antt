@@ -18,12 +18,12 @@ whole_line text line = slice_index_or (lines_of text) (line - 1) []
 abbrev pub left_out : ℕ → ℕ
 left_out column = if nat_le column 80 then 0 else column - 41
 
--- A character that isn't drawn: it has no width, or sets the direction of writing. These are U+200B
--- to U+200F, U+202A to U+202E, and U+2066 to U+2069.
+-- A character that isn't drawn: it has no width, ends a line, or sets the direction of writing.
+-- These are U+200B to U+200F, U+2028 to U+202E, U+2066 to U+2069, U+061C and U+FEFF.
 abbrev pub is_undrawn : ℕ → Bool
 is_undrawn c =
-    (nat_le 0x200B c && nat_le c 0x200F)
-    || ((nat_le 0x202A c && nat_le c 0x202E) || (nat_le 0x2066 c && nat_le c 0x2069))
+    (nat_le 0x200B c && nat_le c 0x200F) || ((nat_le 0x2028 c && nat_le c 0x202E)
+    || ((nat_le 0x2066 c && nat_le c 0x2069) || (c == 0x061C || c == 0xFEFF)))
 
 -- a control character other than the tab is shown as a blank, and so is a character that isn't
 -- drawn

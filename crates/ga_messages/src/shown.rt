@@ -151,11 +151,18 @@ pub fn shown_char(c: char) -> char
     }
 }
 
-/// Whether a character has no width, or sets the direction of writing.
+/// Whether a character has no width, ends a line, or sets the direction of writing.
 fn is_undrawn(c: char) -> bool
     ensures { result ≡ is_undrawn c }
 {
-    matches!(c, '\u{200B}'..='\u{200F}' | '\u{202A}'..='\u{202E}' | '\u{2066}'..='\u{2069}')
+    matches!(
+        c,
+        '\u{200B}'..='\u{200F}'
+            | '\u{2028}'..='\u{202E}'
+            | '\u{2066}'..='\u{2069}'
+            | '\u{061C}'
+            | '\u{FEFF}'
+    )
 }
 
 /// The characters of a line that are shown, without the first `skipped` ones.
