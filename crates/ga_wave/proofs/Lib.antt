@@ -7,4 +7,5 @@ pub mod Posting
 pub mod OneMove
 pub mod PortTurns
 pub mod WordsInOrder
+pub mod Identifying
 mod Worked

@@ -13,7 +13,8 @@ use Rattle.ga_wave.specs.declared.signal.Signal.{Signal}
 use Rattle.ga_wave.specs.declared.signal.Signal.TheVariants.{Port}
 use Rattle.ga_wave.specs.declared.value.Value.{Value}
 use Rattle.ga_wave.specs.declared.value.Value.TheVariants.{Bits}
-use Rattle.ga_wave.specs.Change.{is_new}
+use Rattle.ga_wave.specs.Change.{is_new, signal_number}
+use Rattle.ga_wave.specs.Identifier.{identifier}
 use Rattle.ga_wave.specs.Sample.{pending_at}
 use Rattle.ga_wave.specs.Value.{value_of, value_text}
 use Rattle.ga_wave.specs.Wave.{chip_behind, shown_before, shown_in}
@@ -74,3 +75,13 @@ WordsAreInOrder =
     → words_written start name side turn
     ≡ option_to_list (unread_word start name side)
     ++ words_posted name side (steps_seen start (turns_numbered (turn + 1)))
+
+-- ---- identifiers
+
+-- Two signals with the same identifier are the same signal of the same node, so that a reader of
+-- the text can tell the signals apart.
+abbrev pub IdentifiersDiffer : Type 0
+IdentifiersDiffer =
+    (number other : ℕ) (one two : Signal)
+    → identifier (signal_number number one) ≡ identifier (signal_number other two)
+    → (number ≡ other) × (one ≡ two)

@@ -1,5 +1,5 @@
 //! Laws of the definitions. They do nothing when run.
-ghost use Rattle.ga_wave.specs.Laws.{LastValuesAreShown, WordsAreInOrder};
+ghost use Rattle.ga_wave.specs.Laws.{IdentifiersDiffer, LastValuesAreShown, WordsAreInOrder};
 
 /// At each time the last value that a waveform has of a signal is what the turn of that number
 /// shows of it.
@@ -13,4 +13,9 @@ pub fn last_values()
 /// (`Chip::legal`).
 pub fn words_in_order()
     ensures { WordsAreInOrder }
+{}
+
+/// Signals with the same identifier are the same signal of the same node.
+pub fn identifiers()
+    ensures { IdentifiersDiffer }
 {}
