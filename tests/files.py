@@ -258,5 +258,13 @@ def lines(test):
     test.expect("all warnings, not 20 alone", test.run(["list", FILE])[1].count("RunsOff"), 36)
 
 
+def wrong_words(test):
+    """Words of a command line that is refused are shown without what a terminal would obey."""
+    word = "\x1b[31mred\u202e"
+    for words in ([word], ["asm", f"--{word}"], ["race", "--turns", word], ["run", "708", word, "5"], ["dis", "--code", word], ["one", "1", word, word]):
+        status, output, error = test.run(words)
+        test.expect(ascii(words), (status, output, " [31mred " in error, "\x1b" in error or "\u202e" in error), (2, "", True, False))
+
+
 if __name__ == "__main__":
-    main(__doc__, inputs, written, names, standard, sessions, places, lines)
+    main(__doc__, inputs, written, names, standard, sessions, places, lines, wrong_words)

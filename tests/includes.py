@@ -347,6 +347,11 @@ def saves(test):
     saved = [name in test.read("new.gtkw") for name in ("708", "709", "710")]
     test.expect("another name", (status, error, output != "", saved), (0, "", True, [True] * 3))
     test.write("more", "node 708 frob\n")
+    for name in ("wave.vcd", "/dev/stdout"):
+        with open(f"{test.folder}/wave.vcd", "wb") as wave:
+            status, _, error = test.run(["trace", "--save", name, "x/lib"], stdout=wave)
+        test.expect(f"{name} is standard output", (status, error.split("\n")[0], test.read("wave.vcd")),
+                    (2, "error: the save file would replace the waveform, which goes there, too", ""))  # fmt: skip
     told = test.run(["trace", "--save", "newer.gtkw", ALL])
     test.expect("with an error", (*told[:2], os.path.exists(f"{test.folder}/newer.gtkw")), (1, "", False))
 

@@ -87,9 +87,9 @@ class Terminal:
             return None
         return self.screen[since + len(echo):-2].decode().replace("\r\n", "\n")
 
-    def ends(self):
-        """Types the end of the input."""
-        os.write(self.typist, b"\x04")
+    def ends(self, line=b""):
+        """Types the end of the input: behind a line without its end, twice."""
+        os.write(self.typist, line + (b"\x04\x04" if line else b"\x04"))
         ended = self.run.wait(20) == 0
         os.close(self.typist)
         return ended
@@ -134,7 +134,7 @@ def count(program, folder):
     seen = [(terminal.types("watch 708 R") or "\n").splitlines()[-1][:14] for _ in range(5)]
     check("R counts down from 4", seen == [f"0000{n + 1} -> 0000{n}" if n < 4 else "00000 -> 00004" for n in (4, 3, 2, 1, 0)])
     check("it is saved", terminal.types(f"save {folder}/count") == f"saved {folder}/count\n")
-    check("the end of the input ends it", terminal.ends())
+    check("the end of the input ends it, also in a line", terminal.ends(b"breaks"))
     check("the count that was saved is accepted", accepted(program, f"{folder}/count"))
 
 
@@ -288,12 +288,20 @@ def saving(program, folder):
     for mode in (0o644, 0o600, 0o444):
         name = made(f"mode{mode}", mode=mode)
         check(f"a file of mode {mode:o}", says(f"save! {name}", f"saved {name}") and accepted(program, name) and mode_of(name) == mode)
-    name, beside = made("beside"), made("beside.new0")
-    check("a file beside it", says(f"save! {name}", f"saved {name}") and accepted(program, name) and holds(beside, "old"))
-    check("and no other", sorted(file for file in os.listdir(folder) if file.startswith("beside")) == ["beside", "beside.new0"])
-    for number in range(1, 100):
-        made(f"beside.new{number}")
-    check("no name is free", says(f"save! {made('beside')}", "refused Exists") and holds(name, "old"))
+    left, name = made("fresh.ga-bench-unfinished"), f"{folder}/fresh"
+    check("what a killed call left goes", says(f"save {name}", f"saved {name}") and accepted(program, name) and not os.path.exists(left))
+    left = made("fresh.ga-bench-unfinished")
+    check("also by a call that is refused", says(f"save {name}", "refused Exists") and not os.path.exists(left))
+    left = made("fresh.ga-bench-unfinished")
+    check("also if it is replaced", says(f"save! {name}", f"saved {name}") and accepted(program, name) and not os.path.exists(left))
+    name = made("beside")
+    os.mkdir(f"{name}.ga-bench-unfinished")
+    check("no name is free", says(f"save! {name}", "refused Exists") and holds(name, "old"))
+    if os.geteuid() == 0:
+        name = made("another's")
+        os.chown(name, 4321, 4322)
+        check("the owner and the group stay", says(f"save! {name}", f"saved {name}") and accepted(program, name)
+              and (os.stat(name).st_uid, os.stat(name).st_gid) == (4321, 4322))
 
     target, link = made("target", mode=0o640), f"{folder}/link"
     os.symlink("target", link)

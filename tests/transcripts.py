@@ -52,6 +52,11 @@ def worked(test):
     test.expect("what is written", (test.read("other"), test.read("two.source")), (recorded, TWO))
     test.expect("it is accepted", test.run(["check", other]), (0, "same 3\n", ""))
     test.expect("again", test.run(["record", "--write", other]), (0, "other: same\n", ""))
+    test.write("other", HEAD + "> turn 1\nmoved 3\n")
+    with open("/dev/full", "wb") as full:
+        told = test.run(["record", "--write", other], stdout=full)
+    test.expect("a full output", told, (1, "", "ga-bench: other: recorded\nga-bench: write\n"))
+    test.expect("the file is written", test.read("other"), HEAD + "> turn 1\nmoved 2\n")
     status, output, error = test.run(["debug", good], "turn 0\nsave saved\n")
     test.expect("debug", (status, output.split("\n")[0], error), (0, "moved 0", ""))
     test.expect("save", test.read("saved"), f"{WHOLE}{TURN}> turn 0\nmoved 0\n")

@@ -22,7 +22,8 @@ ghost use Rattle.ga_bench.specs.Status.{HasServed, HasStatus};
 use crate::file_text::{FileText, NamedFault, file_text};
 use crate::named::Named;
 use crate::numbers::{numbers_of, opened};
-use crate::reporting::{refuse, refuse_missing, report_on_file, reported, reported_in};
+use crate::reading::{EndsOnce, is_standard_output};
+use crate::reporting::{refuse, refuse_missing, report_on_replaced, reported, reported_in};
 use crate::saved_files::{SavedFiles, put};
 use crate::transcripts::{check_status, rewrite_status, serve_transcript, sourced};
 use clap::error::ErrorKind::{ArgumentConflict, InvalidValue};
@@ -278,8 +279,7 @@ fn trace_status<Rt: AllocGlobal + Print + Eprint + Threads + Clock + Sync + File
     save: &str,
     text: &FileText<'_>,
 ) -> u8 {
-    if text.has_file(rt, save) {
-        let why = "the save file would replace FILE";
+    if let Some(why) = lost_by(rt, save, text) {
         return refuse(rt, refusal(rt.alloc(), ArgumentConflict, why));
     }
     let (waveform, saved) = match traced(rt, job, loading, nodes, text.bytes()) {
@@ -287,11 +287,25 @@ fn trace_status<Rt: AllocGlobal + Print + Eprint + Threads + Clock + Sync + File
         Err(fault) => return reported_of(rt, job, text, &Err(fault)),
     };
     if let Err(fault) = put(rt, save, saved.as_str()) {
-        report_on_file(rt, save, &fault);
-        return status(&Err(fault));
+        return report_on_replaced(rt, save, fault);
     }
     let outcome = waveform.write(rt.alloc(), &mut io::writer(rt), job);
     reported_of(rt, job, text, &outcome)
+}
+
+/// What would be lost if the save file of a waveform had a name.
+fn lost_by<Rt: AllocGlobal + Files>(
+    rt: &Rt,
+    save: &str,
+    text: &FileText<'_>,
+) -> Option<&'static str> {
+    if text.has_file(rt, save) {
+        return Some("the save file would replace FILE");
+    }
+    if is_standard_output(rt, save) {
+        return Some("the save file would replace the waveform, which goes there, too");
+    }
+    None
 }
 
 /// The waveform of a job for its input, and a viewer's save file for it.
@@ -361,7 +375,11 @@ fn talk_about<Rt: AllocGlobal + Print + Files, R: Read + IsTerminal>(
         None => open_file(alloc, loading, input)?,
     };
     let mut conversation = Conversation::new(alloc, live, reader.is_terminal())?;
-    let Ok(mut lines) = BufReader::new(alloc, reader) else {
+    let typed = EndsOnce {
+        reader,
+        has_ended: false,
+    };
+    let Ok(mut lines) = BufReader::new(alloc, typed) else {
         return Err(ServeError::Memory);
     };
     let mut saves = SavedFiles { alloc, files: rt };

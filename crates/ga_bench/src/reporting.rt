@@ -3,12 +3,15 @@ ghost use Rattle.std.specs.Prelude.{◌≡◌};
 ghost use Rattle.ga_jobs.specs.Engine.{status_of};
 ghost use Rattle.ga_bench.specs.Status.{IsStatusOf};
 
+use crate::saved_files::PutFault;
+use clap::Error;
 use clap::error::ErrorKind::InvalidValue;
 use ga_command_line::{LineError, refusal};
 use ga_diagnostics::{Lines, faults_message};
 use ga_input::{ServeError, Writes, write_output};
 use ga_jobs::{Ending, status};
-use ga_messages::{Form, ShownText};
+use ga_messages::{Form, ShownText, shown_lines};
+use std::alloc::AllocError;
 use std::io;
 use std::io::Write;
 
@@ -84,6 +87,26 @@ fn report_alone<Rt: Eprint>(rt: &Rt, fault: &ServeError) {
     let _ = eprintln!(rt; "ga-bench: {fault}");
 }
 
+/// Reports why the file with a name isn't replaced, behind the name. Answers the exit status.
+pub fn report_on_replaced<Rt: AllocGlobal + Eprint>(rt: &Rt, name: &str, fault: PutFault) -> u8 {
+    match fault {
+        PutFault::Fault(fault) => {
+            report_on_file(rt, name, &fault);
+            status(&Err(fault))
+        }
+        PutFault::Write(error) => {
+            let fault = ServeError::Write;
+            match ShownText::of_name(rt.alloc(), name) {
+                Ok(shown) => {
+                    let _ = eprintln!(rt; "ga-bench: {shown}: {fault}, {error}");
+                }
+                Err(_) => report_alone(rt, &fault),
+            }
+            status(&Err(fault))
+        }
+    }
+}
+
 /// Reports the fault of the file with a name, behind the name.
 pub fn report_on_file<Rt: AllocGlobal + Eprint>(rt: &Rt, name: &str, fault: &ServeError) {
     match ShownText::of_name(rt.alloc(), name) {
@@ -98,19 +121,39 @@ pub fn report_on_file<Rt: AllocGlobal + Eprint>(rt: &Rt, name: &str, fault: &Ser
 
 /// Reports why a command line names no job, or prints the help or version that it asks for. Answers
 /// the exit status.
-pub fn refuse<R: Print + Eprint>(rt: &R, error: LineError) -> u8
+pub fn refuse<Rt: AllocGlobal + Print + Eprint>(rt: &Rt, error: LineError) -> u8
     ensures { IsStatusOf error result }
 {
     let fault = match error {
         LineError::Memory => ServeError::Memory,
-        LineError::Parse(error) => match error.print(rt) {
-            _ if error.use_stderr() => return 2,
-            Ok(()) => return 0,
-            Err(_) => ServeError::Write,
-        },
+        LineError::Parse(error) => {
+            if error.use_stderr() {
+                print_refusal(rt, &error);
+                return 2;
+            }
+            match error.print(rt) {
+                Ok(()) => return 0,
+                Err(_) => ServeError::Write,
+            }
+        }
     };
     let _ = eprintln!(rt; "ga-bench: {fault}");
     status(&Err(fault))
+}
+
+/// Prints why a command line is refused. Its words may have characters that a terminal would obey.
+fn print_refusal<Rt: AllocGlobal + Eprint>(rt: &Rt, error: &Error) {
+    let alloc = rt.alloc();
+    let shown = match format!(in alloc; "{error}") {
+        Ok(text) => shown_lines(alloc, text.as_str()),
+        Err(_) => Err(AllocError),
+    };
+    match shown {
+        Ok(text) => {
+            let _ = eprint!(rt; "{text}");
+        }
+        Err(AllocError) => report_alone(rt, &ServeError::Memory),
+    }
 }
 
 /// Refuses a command line with a word that names no file. Answers the exit status.

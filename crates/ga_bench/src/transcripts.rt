@@ -2,8 +2,8 @@
 ghost use Rattle.ga_transcript.specs.Record.{Holds};
 
 use crate::reading::{input_named, opened, regular_input};
-use crate::reporting::report_on_file;
-use crate::saved_files::put;
+use crate::reporting::report_on_replaced;
+use crate::saved_files::{PutFault, put};
 use ga_include::source_path;
 use ga_input::{Reads, ServeError, Writes, read_input, write_output};
 use ga_jobs::{Ending, Job, serve_file, status};
@@ -128,32 +128,41 @@ fn read_report<Rt: AllocGlobal + Files, R: Read>(
 pub fn rewrite_status<Rt: AllocGlobal + Print + Eprint + Files>(rt: &Rt, files: &[String]) -> u8 {
     let mut worst = 0;
     for file in files {
-        if let Err(fault) = rewrite(rt, &mut io::writer(rt), file.as_str()) {
-            report_on_file(rt, file.as_str(), &fault);
-            worst = status(&Err(fault)).max(worst);
-        }
+        let status = match rewrite(rt, file.as_str()) {
+            Ok(line) => print_done(rt, line.as_str()),
+            Err(fault) => report_on_replaced(rt, file.as_str(), fault),
+        };
+        worst = status.max(worst);
     }
     worst
 }
 
-/// Replaces a file by its recording, and writes what was done. A file that is its own recording is
-/// left as it is.
-fn rewrite<Rt: AllocGlobal + Files, W: Write>(
-    rt: &Rt,
-    writer: &mut W,
-    name: &str,
-) -> Result<(), ServeError> {
+/// Prints what was done with a file. Answers the exit status: if standard output can't be written,
+/// that is reported, and what was done all the same.
+fn print_done<Rt: Print + Eprint>(rt: &Rt, line: &str) -> u8 {
+    match write_output(&mut io::writer(rt), line.as_bytes(), &mut Writes::default()) {
+        Ok(()) => 0,
+        Err(fault) => {
+            let _ = eprint!(rt; "ga-bench: {line}");
+            let _ = eprintln!(rt; "ga-bench: {fault}");
+            status(&Err(fault))
+        }
+    }
+}
+
+/// Replaces a file by its recording, and answers the line for what was done. A file that is its own
+/// recording is left as it is.
+fn rewrite<Rt: AllocGlobal + Files>(rt: &Rt, name: &str) -> Result<String, PutFault> {
     let alloc = rt.alloc();
     let shown = ShownText::of_name(alloc, name)?;
     // Before the file is replaced, so that nothing is refused behind it.
     let recorded = format!(in alloc; "{shown}: recorded\n")?;
     let same = format!(in alloc; "{shown}: same\n")?;
-    let line = if replaced(rt, name)? { recorded } else { same };
-    write_output(writer, line.as_bytes(), &mut Writes::default())
+    Ok(if replaced(rt, name)? { recorded } else { same })
 }
 
 /// Replaces a file by its recording. Answers whether it isn't its recording already.
-fn replaced<Rt: AllocGlobal + Files>(rt: &Rt, name: &str) -> Result<bool, ServeError> {
+fn replaced<Rt: AllocGlobal + Files>(rt: &Rt, name: &str) -> Result<bool, PutFault> {
     let alloc = rt.alloc();
     let input = regular_input(rt, name)?;
     match sourced(rt, name, source_named(&input), &input)? {
@@ -170,7 +179,7 @@ fn replaced<Rt: AllocGlobal + Files>(rt: &Rt, name: &str) -> Result<bool, ServeE
 }
 
 /// Replaces a file by a transcript, in one step.
-fn save<Rt: AllocGlobal + Files>(rt: &Rt, name: &str, transcript: &str) -> Result<(), ServeError>
+fn save<Rt: AllocGlobal + Files>(rt: &Rt, name: &str, transcript: &str) -> Result<(), PutFault>
     requires { Holds transcript.now }
 {
     put(rt, name, transcript)
