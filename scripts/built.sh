@@ -21,6 +21,15 @@ say() {
     printf 'ga-bench: %s\n' "$*" >&2
 }
 
+# Whether these commands are on PATH. If one isn't, says so; status 69 then.
+has_commands() {
+    for command; do
+        command -v "$command" >/dev/null 2>&1 && continue
+        say "this needs the command $command, which is not on PATH"
+        return 69
+    done
+}
+
 # One sum over the names and the texts of all that a build reads.
 sources_sum() (
     cd "$root" && command -v sha256sum >/dev/null || exit 1
@@ -227,6 +236,7 @@ unpack() {
 # Makes the program current for a call with these arguments: from the release, or else by a build. Statuses: 69
 # without the toolchain, 70 if the build failed or nothing can be written.
 make_current() {
+    has_commands cat chmod cp cut date mkdir mv rm sed sort touch uname wc xargs || return
     if ! lock; then
         unpack_elsewhere "$@"
         return
