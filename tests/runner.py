@@ -1,13 +1,14 @@
 """Runs the tests of the program, side by side, for the command ./test: python3 tests/runner.py PROGRAM [OPTION] [NAME..]
 
   --list    lists the tests
-  --whole   at full size, with the programs of tests that a build of all crates leaves
+  --whole   at full size, with the programs of tests that a build of all crates leaves, if they are there
 
 Each test prints a line when it ends: its name, how many checks passed, failed or were skipped, and its seconds. The last line of
 a test's own output is `N passed, M failed`, and a line `skipped: needs NAME` is a check that needs more than python3. The output
 is kept in out/tests/NAME.log. The last line is `tests: N passed, M failed, K skipped`, and the status 0 if nothing failed.
 """
 import argparse
+import functools
 import glob
 import os
 import re
@@ -38,9 +39,8 @@ class Test(NamedTuple):
     command: list
     small: list = []
     whole: list = []
-    # what must be on PATH, and whether it runs a program of tests, which a build of all crates leaves
+    # what must be on PATH
     needs: tuple = ()
-    is_built: bool = False
 
 
 class Result(NamedTuple):
@@ -67,23 +67,27 @@ def check(name, about, file):
 
 # Those that take longest come first.
 TESTS = [
-    script("kills", "installations and removals that are killed", file="try_kills", small=["--kills", "8"], whole=["--kills", "100"]),
+    script("kills", "installations and removals that are killed", file="try_kills", small=["4", "new", "there"], whole=["52", "new", "there"]),
+    script("kills_deep", "the same below a new folder, and through a link", file="try_kills",
+           small=["4", "deep", "linked"], whole=["52", "deep", "linked"]),
+    script("install", "installing and uninstalling", file="try_install"),
+    script("prompt", "sessions at the prompt"),
+    script("profiled", "profiles of the worked programs, beside what follows from tries"),
+    script("long_output", "recordings up to the most that is written"),
+    script("saves", "calls that write a file and are killed", small=["--kills", "20"], whole=["--kills", "100"]),
     script("fuzz", "recorded inputs, changed at random", "--seed", "1", small=["--runs", "3000"], whole=["--seconds", "60"]),
     script("memory", "runs with each allocation refused in turn", file="refuse_memory", small=["--every", "20"],
            whole=[REFUSED_CALLS], needs=(os.environ.get("CC", "cc"),)),
     script("cut_texts", "each prefix of some texts", small=["--every", "5"]),
     script("release", "the launcher, with releases of all kinds", file="try_release"),
-    script("install", "installing and uninstalling", file="try_install"),
     script("package", "the Debian package", file="try_package"),
     script("cases", "recorded cases, to the byte", *CASES, file="run_cases"),
     script("vcd", "waveforms, turn by turn beside what tries show"),
-    script("profiled", "profiles of the worked programs, beside what follows from tries"),
     script("counted", "listings with counts, beside what follows from tries"),
     script("workers", "runs of several workers that come to rest"),
-    script("long_output", "recordings up to the most that is written"),
     script("turns", "chips by turns, and by tries one after the other"),
     script("mutants", "wrong programs, which `fuzz` must fail", "--seed", "1", file="fuzz_mutants"),
-    Test("cuts", "boot streams in pieces", [sys.executable, f"{ROOT}/tests/cut_streams.py", CUT_STREAMS, *BOOTS], is_built=True),
+    Test("cuts", "boot streams in pieces", [sys.executable, f"{ROOT}/tests/cut_streams.py", CUT_STREAMS, *BOOTS]),
     script("schedules", "boots of routes and trees in random orders", *BOOTS),
     script("races", "verdicts on races, and the witness of each race"),
     script("report_page", "pages of report, read, and shown by a browser"),
@@ -91,7 +95,6 @@ TESTS = [
     script("pages", "the commands in the pages, with their output"),
     script("examples", "the worked programs, also with other data"),
     script("terminal", "runs at a terminal"),
-    script("prompt", "sessions at the prompt"),
     script("files", "errors, warnings and refusals of a FILE, by each subcommand", whole=["--whole"]),
     script("faults_of_texts", "all errors of a text, what helps, as JSON, and in listings", whole=["--whole"]),
     script("includes", "lines that include a file", whole=["--whole"]),
@@ -105,24 +108,28 @@ TESTS = [
     check("shape", "no line and no function is too long", "scripts/shape"),
     check("links", "the links of the pages lead somewhere", "tests/links.py"),
     check("words", "pages, help and comments use the project's words", "tests/words.py"),
+    Test("edits", "each wrong body changes places that are there", [sys.executable, f"{ROOT}/scripts/wrong_bodies", "--check"]),
 ]
 
 
-def lacking(test, is_whole):
-    """What a test needs that isn't there."""
-    missing = [it for it in test.needs if not shutil.which(it)]
-    if not is_whole and test.is_built:
-        missing.append("the programs of tests, which ./test --prove builds")
-    return missing
+@functools.cache
+def is_built():
+    """Whether the programs of tests are there, and no source has changed since they were built."""
+    built = [CUT_STREAMS, REFUSED_CALLS]
+    sources = [file for part in ("src", "specs", "proofs") for file in glob.glob(f"{ROOT}/crates/*/{part}/**", recursive=True)]
+    return all(map(os.path.exists, built)) and min(map(os.path.getmtime, built)) >= max(map(os.path.getmtime, sources))
 
 
 def run(test, program, is_whole):
     """Runs a test, keeps its output, and counts its checks. One whose last line has no counts is a check itself."""
     began = time.time()
-    if missing := lacking(test, is_whole):
-        return Result(0, 0, 1, 0, [f"skipped: needs {missing[0]}"])
     words = [program if it == "PROGRAM" else it for it in test.command]
     words += test.whole if is_whole else test.small
+    missing = [it for it in test.needs if not shutil.which(it)]
+    if {CUT_STREAMS, REFUSED_CALLS} & {*words} and not is_built():
+        missing.append("the programs of tests, which ./test --prove builds")
+    if missing:
+        return Result(0, 0, 1, 0, [f"skipped: needs {missing[0]}"])
     log = f"{ROOT}/out/tests/{test.name}.log"
     with open(log, "wb") as file:
         try:

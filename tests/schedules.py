@@ -1,13 +1,14 @@
 """Boots the routes of the recorded cases in random orders: python3 tests/schedules.py PROGRAM FILE..
 
-For each case of a FILE (as tests/run_cases.py has them) that writes a boot stream for at most NODES nodes, a session of
-PROGRAM boots its route, or its tree of routes. Tries and turns come in random order, and breakpoints are set, cleared
+For each case of a FILE (as tests/run_cases.py has them) that writes a boot stream for at most NODES nodes, ORDERS sessions
+of PROGRAM boot its route, or its tree of routes. Tries and turns come in random order, and breakpoints are set, cleared
 and passed. At random moments the session asks how far the nodes are. If the first node has then taken the whole load
 part, each node with an image that hasn't started must have it in memory, with zeros behind it. The number of words that
 a node has taken is that of the steps of the first node or of the ledgers, and the number that it is sent follows from
-the lengths of the images. The last line that is printed is 'schedules: N passed, M failed', a case each, and the exit
+the lengths of the images. The last line that is printed is 'schedules: N passed, M failed', a session each, and the exit
 status is 0 if M is 0.
 """
+import itertools
 import json
 import random
 import subprocess
@@ -15,6 +16,7 @@ import sys
 from concurrent.futures import ThreadPoolExecutor
 
 NODES = 10
+ORDERS = 6
 ROUNDS = 60
 SECONDS = 60
 PORTS = {'right': '1D5', 'down': '115', 'left': '175', 'up': '145'}
@@ -124,9 +126,9 @@ def answers(commands, lines):
         raise ValueError(f'{len(lines)} lines instead of {at}')
 
 
-def moments(case, program):
-    """How many nodes had to hold their images, over all moments; a text where one didn't."""
-    chance = random.Random(case['name'])
+def moments(case, program, number):
+    """How many nodes had to hold their images, over all moments of the order with a number; a text where one didn't."""
+    chance = random.Random(f"{case['name']} {number}")
     children = children_of(case['args'][1])
     root = next(iter(children))
     lines = case['stdout'].splitlines()
@@ -162,11 +164,11 @@ def main(program, *files):
             cases += [case for case in map(json.loads, lines) if case['args'][:1] == ['boot'] and case['status'] == 0]
     cases = [case for case in cases if len(children_of(case['args'][1])) <= NODES]
     with ThreadPoolExecutor() as pool:
-        found = list(pool.map(lambda case: moments(case, program), cases))
+        found = list(pool.map(lambda it: moments(it[0], program, it[1]), itertools.product(cases, range(ORDERS))))
     failed = [it for it in found if isinstance(it, str)]
     held = [it for it in found if not isinstance(it, str)]
     # without such a moment in any session the test would show nothing
-    if sum(1 for it in held if it > 0) * 2 < len(cases) or not cases:
+    if sum(1 for it in held if it > 0) * 2 < len(held) or not held:
         failed.append('too few sessions have a moment at which a node had to hold its image')
     print('\n'.join(failed), end='\n' if failed else '')
     print(f'schedules: {len(held)} passed, {len(failed)} failed')

@@ -289,7 +289,7 @@ def of_cases(file):
 def sessions():
     cases = {text: 0 for file in ("cases/debug.jsonl", "cases/trees_debug.jsonl") for text in of_cases(file)}
     races = {text: 0 for text in of_cases("races.jsonl")}
-    return [*of_examples(), *[*cases][::3], *[*races][::20]]
+    return [*of_examples(), *cases, *[*races][::10]]
 
 
 def output_of(program, arguments, text):

@@ -57,6 +57,19 @@ fn a_run_in_two_parts(rt: HostRuntime) -> Result<(), Fail> {
 }
 
 #[test]
+fn two_orders_at_one_side(rt: HostRuntime) -> Result<(), Fail> {
+    let [node_708, node_709] = nodes(&[708, 709])?;
+    let (mut one, mut two) = two_chips(rt.alloc())?;
+    let (w, r) = (right(node_708), right(node_709));
+    let order = [w, w, w, w, w, w, w, r, w];
+    let another = [r, w, w, w, r, w, w, w, w, w, r, w];
+    one_side(&mut one, &mut two, &order, &another);
+    assert!(rt; one.state(node_708).steps() == 8 && two.state(node_708).steps() == 8);
+    assert!(rt; one.state(node_709).steps() == 1 && two.state(node_709).steps() == 1);
+    Ok(())
+}
+
+#[test]
 fn two_plans_of_a_chip_that_spins(rt: HostRuntime) -> Result<(), Fail> {
     let [node_708, node_709] = nodes(&[708, 709])?;
     let together = plan(rt.alloc(), &[&[708, 709]])?;

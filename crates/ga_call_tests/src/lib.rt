@@ -35,3 +35,5 @@ mod streams;
 mod together;
 #[cfg(test)]
 mod values;
+#[cfg(test)]
+mod wrong_streams;

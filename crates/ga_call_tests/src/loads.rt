@@ -1,12 +1,15 @@
 //! Chips of the examples that use the law of booting and the verdict on races.
 use crate::plans::plan;
 use crate::values::{array, node, nodes, word};
+use ga_asm::assemble_text;
 use ga_boot::images_fit;
 use ga_chip::{Chip, Try};
+use ga_debug::placed_chip;
 use ga_group::Open;
 use ga_law_examples::{
-    PlannedRun, assemble_firmware, boot_firmware, leaf_is_loaded, run_firmware, settled_top,
-    sum_chip, watched_tries,
+    PlannedRun, assemble_firmware, boot_firmware, leaf_is_loaded, ring_chip, round_of,
+    run_firmware, settled_top, spinning_chip, spinning_tries, stays_at_rest, sum_chip,
+    watched_tries,
 };
 use ga_place::Side;
 use std::alloc::Global;
@@ -96,5 +99,47 @@ fn the_same_sum_in_every_order(rt: HostRuntime) -> Result<(), Fail> {
     };
     assert!(rt; watched_tries(alloc, &mut watched, &tries) == Some(false));
     assert!(rt; watched.state(node_709).t() == twelve);
+    Ok(())
+}
+
+/// 708 and 710 send to 709, which takes the word that comes first.
+#[test]
+fn a_race_is_found(rt: HostRuntime) -> Result<(), Fail> {
+    let source = "node 708 right a! 1 ! node 710 left a! 2 ! node 709 $1F5 a! @";
+    let mut chip = placed_chip(rt.alloc(), &assemble_text(rt.alloc(), source)?)?;
+    let [node_708, node_709, node_710] = nodes(&[708, 709, 710])?;
+    let mut tries = Vec::new(rt.alloc());
+    for _ in 0..8 {
+        for (node, side) in [(node_708, Side::Right), (node_710, Side::Left)] {
+            tries.push(Try { node, side })?;
+        }
+    }
+    for _ in 0..8 {
+        let (node, side) = (node_709, Side::Right);
+        tries.push(Try { node, side })?;
+    }
+    assert!(rt; watched_tries(rt.alloc(), &mut chip, &tries) == Some(true));
+    Ok(())
+}
+
+/// A word goes round over four nodes: each takes it and posts it, and sees it taken, in 8 turns.
+#[test]
+fn a_ring_goes_round_and_spinners_rest(rt: HostRuntime) -> Result<(), Fail> {
+    let alloc = rt.alloc();
+    let (Some(mut ring), Some(mut still)) = (ring_chip(alloc), ring_chip(alloc)) else {
+        return Err("memory")?;
+    };
+    assert!(rt; round_of(alloc, &mut ring) == Some(8));
+    assert!(rt; !stays_at_rest(alloc, &mut still));
+    let (Ok(mut spins), Ok(mut goes)) = (spinning_chip(alloc), spinning_chip(alloc)) else {
+        return Err("memory")?;
+    };
+    assert!(rt; stays_at_rest(alloc, &mut spins));
+    assert!(rt; round_of(alloc, &mut goes) == None);
+    let tries = tries(alloc, 40)?;
+    let Ok(tried) = spinning_tries(alloc, &tries) else {
+        return Err("memory")?;
+    };
+    assert!(rt; tried.state(node(708)?).steps() == 40);
     Ok(())
 }

@@ -95,7 +95,7 @@ const REPORT: Job = Job::Report {
     file: None,
 };
 
-/// How many bytes are read at a call.
+/// How many bytes are read or, of a short output, written at a call.
 const PIECE: usize = 16;
 
 /// How many calls are made at the most.
@@ -205,9 +205,9 @@ fn fails_at_each_read_of_a_job(rt: HostRuntime) -> Result<(), Fail> {
 #[test]
 fn fails_at_each_write_of_a_job(rt: HostRuntime) -> Result<(), Fail> {
     for (job, input) in &jobs(rt.alloc())? {
-        // two writes or more, and a flush
+        // writes of 16 bytes, or some twenty of a long output, and a flush
         let text = served(&rt, job, input, 65536, None, None).taken;
-        let piece = text.len() / 2 + 1;
+        let piece = PIECE.max(text.len() / 20);
         let whole = served(&rt, job, input, piece, None, None);
         assert!(rt; whole.writes > 1 && whole.writes < MOST);
         for call in 0..whole.writes {

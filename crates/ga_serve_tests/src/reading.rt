@@ -1,6 +1,6 @@
 //! Inputs are read up to the limit, whatever the pieces they come in.
-use crate::streams::{FIVE_TRIES, WORDS, sink_of, source_of};
-use ga_input::{InputFault, Reads, ServeError, read_input};
+use crate::streams::{FIVE_TRIES, Restless, WORDS, sink_of, source_of};
+use ga_input::{InputFault, Reads, ServeError, WordsFault, read_input};
 use ga_jobs::{Ending, serve};
 use std::alloc::{AllocError, Global};
 use std::io::ErrorKind;
@@ -57,5 +57,23 @@ fn counts_reads(rt: HostRuntime) {
         let input = read_input(rt.alloc(), &mut reader, &mut reads);
         assert!(rt; input.is_err() == has_failed && reads.has_failed() == has_failed);
         assert!(rt; reads.calls() == calls);
+    }
+}
+
+/// The last read is allowed to give the end, and no read is made behind it.
+#[test]
+fn reads_so_many_times(rt: HostRuntime) {
+    for (interruptions, expected) in [
+        (2_097_151, Err(ServeError::Words(WordsFault::Empty))),
+        (2_097_152, Err(ServeError::Read)),
+    ] {
+        let mut reader = Restless {
+            interruptions,
+            calls: 0,
+        };
+        let mut writer = sink_of(rt.alloc(), 8192);
+        let outcome = serve(&rt, &mut reader, &mut writer, &FIVE_TRIES);
+        assert!(rt; outcome == expected);
+        assert!(rt; reader.calls == 2_097_152 && writer.calls == 0);
     }
 }

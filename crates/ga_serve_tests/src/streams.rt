@@ -40,6 +40,23 @@ pub fn source_of(bytes: &[u8], most: usize) -> Source<'_> {
     }
 }
 
+/// Is interrupted a number of times, and then gives the end.
+#[derive(Drop)]
+pub struct Restless {
+    pub interruptions: u32,
+    pub calls: u32,
+}
+
+impl Read for Restless {
+    fn read(&mut self, _buf: &mut [u8]) -> io::Result<usize> {
+        self.calls = self.calls.saturating_add(1);
+        if self.calls > self.interruptions {
+            return Ok(0);
+        }
+        Err(ErrorKind::Interrupted.into())
+    }
+}
+
 /// Takes at most a number of bytes at a call, and fails at one call, a write or a flush.
 #[derive(Drop)]
 pub struct Sink {
