@@ -380,7 +380,7 @@ build() {
         fi
         return 69
     fi
-    say 'proving and building the program: this takes minutes, once'
+    say 'proving and building the program: this can take an hour, once'
     while :; do
         begin && python3 "$root/scripts/prove.py" "$root" || return 70
         put_in_place "$root/crates/ga_bench/out/ga_bench"
