@@ -32,7 +32,6 @@ from concurrent.futures import ThreadPoolExecutor
 
 from profiles import NODES, SHARE, STUCK, Move, before_on_path, share, states_of
 from schedules import neighbours
-from testing import drawn
 from vcd import Waveform
 
 ROOT = os.path.dirname(os.path.dirname(os.path.abspath(__file__)))
@@ -373,7 +372,8 @@ def numbered(source):
     """The lines of a source text, each behind its number, as a reader of XML has them."""
     lines = [line.removesuffix("\r") for line in source.removesuffix("\n").split("\n")] if source else []
     shown = "".join(f"{number}\t{line}\n" for number, line in enumerate(lines, 1))
-    return drawn(re.sub("[\ufffe\uffff]", "\ufffd", shown))
+    shown = re.sub("[\x00-\x08\x0b\x0c\x0e-\x1f\ufffe\uffff]", "\ufffd", shown)
+    return shown.replace("\r\n", "\n").replace("\r", "\n")
 
 
 def fault_of_page(text, source, profile, listing, verdict=None, wave=None):
@@ -507,15 +507,6 @@ def made(program, folder, example):
     return name, fault_of_page(text, source, *shown, verdict, Waveform(output(program, "trace", *options, path)))
 
 
-def undrawn(program, folder):
-    """What is wrong with the page of a text with characters that no terminal draws, or None."""
-    with open(f"{folder}/odd.source", "w", encoding="utf-8", newline="") as file:
-        file.write("node 708 . \\ a\x1bb\u202ec\u200bd\x85e\rf\n")
-    text = output(program, "report", f"{folder}/odd.source")
-    is_right = "\\ a b c d e f\n" in text and not re.search("[\x1b\u202e\u200b\x85\r]", text)
-    return None if is_right else "characters that aren't drawn are in it"
-
-
 def tried_by_browser(folder, names, pool):
     """Yields each picture, and what is wrong with it."""
     for name, text in {"with-script": "<script>console.log(1)</script>", "empty": ""}.items():
@@ -539,7 +530,6 @@ def main(program):
             results += tried_by_browser(folder, [name for name, _ in results], pool)
         else:
             print("skipped: needs chromium: pictures of pages")
-        results.append(("undrawn", undrawn(program, folder)))
     failed = [f"FAILED {name}: {fault}\n" for name, fault in results if fault is not None]
     print("".join(failed), end="")
     print(f"pages of report: {len(results) - len(failed)} passed, {len(failed)} failed")
