@@ -1,4 +1,4 @@
-use Rattle.std.proofs.Common.{◌≡◌, ◌≤◌, [], absurd, arith, subst, sym}
+use Rattle.std.proofs.Common.{◌≡◌, ◌≤◌, [], arith, subst, sym}
 use Rattle.ga_chip.specs.Run.{tries_of}
 use Rattle.ga_race.specs.Clocks.{steps_in}
 use Rattle.ga_race.specs.Spins.{IsRestOrSpins}
@@ -7,7 +7,7 @@ use Rattle.ga_law_examples.proofs.Settled.{few_fed, no_race_yet}
 use Rattle.ga_law_examples.proofs.rounds.stays_at_rest.Goals as goal
 
 pub returns-in-AtRest : goal.returns-in-AtRest
-returns-in-AtRest c yes = λ tries node rests.
+returns-in-AtRest c is_so = λ tries node rests.
     let last = c.race.new.chip in
     let so = subst (IsSo c.args.chip.now c.in-Ok.report.turns) c.in-AtRest.is
     c.in-Ok.ensures.verdict in
