@@ -90,7 +90,7 @@ LINES = [
     (["one"], b""),
     (["one", "--help"], b""),
 ]
-# The calls of CALLER: those that borrow values mutably, or that no subcommand makes, and the engine.
+# The calls of CALLER: those that borrow values mutably, or that no subcommand makes.
 CALLS = [
     (["words_text"], b""),
     (["push_words"], b""),
@@ -111,7 +111,6 @@ CALLS = [
         )
     ],
     *[(["reply_into", line], b"") for line in ("try 708 r", "turn 9", "mem 708", "pass 708")],
-    *[(["serve", *words], data) for words, data in RUNS],
 ]  # fmt: skip
 MOST = 10000
 # How far the allocations are from each other that are refused.

@@ -1,6 +1,6 @@
 //! Makes one call between two looks at its borrowed values, so that a test can refuse memory to it.
 //!
-//! The arguments are the name of the call, and its input if it takes one. It writes one line, as
+//! The arguments are the name of the call, and its line if it takes one. It writes one line, as
 //! `Told` has it. The status is 3, and nothing is written, if memory runs out outside the call, and
 //! 2 if there is no call of this name.
 #![tactic(auto)]
@@ -9,7 +9,6 @@ mod boots;
 mod chips;
 mod frames;
 mod runs;
-mod serving;
 mod sessions;
 mod told;
 mod words;
@@ -17,20 +16,18 @@ mod words;
 use crate::boots::boot_told;
 use crate::frames::{feed_told, read_frames_told, write_frame_told};
 use crate::runs::{chip_text_told, run_workers_told};
-use crate::serving::serve_told;
 use crate::sessions::{begin_told, command_told, reply_into_told};
 use crate::told::Told;
 use crate::words::{origin_told, push_words_told, tokens_told, words_text_told};
 use std::alloc::AllocError;
 use std::env;
-use std::io::Read;
 use std::process::ExitCode;
 use std::rt::Env;
 use std::thread::Threads;
 use std::time::Clock;
 
 fn main(rt: HostRuntime) -> ExitCode {
-    match told_of_arguments(&rt, &mut rt.reader()) {
+    match told_of_arguments(&rt) {
         Ok(Some(told)) => {
             let _ = println!(&rt; "{told}");
             ExitCode::from(0)
@@ -41,9 +38,8 @@ fn main(rt: HostRuntime) -> ExitCode {
 }
 
 /// The result of the call that the arguments name.
-fn told_of_arguments<Rt: Env + AllocGlobal + Threads + Clock + Sync, R: Read>(
+fn told_of_arguments<Rt: Env + AllocGlobal + Threads + Clock + Sync>(
     rt: &Rt,
-    reader: &mut R,
 ) -> Result<Option<Told>, AllocError> {
     let Ok(arguments) = env::args(rt) else {
         return Err(AllocError);
@@ -56,17 +52,15 @@ fn told_of_arguments<Rt: Env + AllocGlobal + Threads + Clock + Sync, R: Read>(
     for word in &words {
         texts.push(word.as_str())?;
     }
-    told_of(rt, reader, texts.get(1..).unwrap_or_default())
+    told_of(rt, texts.get(1..).unwrap_or_default())
 }
 
 /// The result of a call, which has a name and may have words behind it.
-fn told_of<Rt: AllocGlobal + Threads + Clock + Sync, R: Read>(
+fn told_of<Rt: AllocGlobal + Threads + Clock + Sync>(
     rt: &Rt,
-    reader: &mut R,
     words: &[&str],
 ) -> Result<Option<Told>, AllocError> {
     let told = match words {
-        ["serve", ..] => serve_told(rt, reader, words)?,
         ["command", line] => command_told(rt.alloc(), line)?,
         ["reply_into", line] => reply_into_told(rt.alloc(), line)?,
         [name] => return told_alone(rt, name),
