@@ -61,6 +61,8 @@ MOST_PROFILED = 300
 HELP = {"-h", "--help", "-V", "--version"}
 # The subcommands of which a word that names no file is a wrong one.
 DEMANDING = {"one", "asm", "dis", "boot", "run", "replay"}
+# Those that read source text and no session.
+SOURCES = {"asm", "boot", "run"}
 # The subcommands that show the line of a fault.
 SHOWING = {"expand", "list", "lint", "race", "map", "profile", "report", "trace", "check", "record"}
 # The subcommands whose faults have no name of FILE.
@@ -833,11 +835,12 @@ def output_of(ask, job, text, answer):
 
 
 def output_of_text(ask, job, text, answer):
-    """The same without warnings. The text of a FILE with a fault of source text, and no session, is read in the larger language."""
+    """The same without warnings. The text of a FILE with a fault of source text is read in the larger language, unless it begins as
+    a session, and the job takes one."""
     try:
         return job.kind.answer(ask, job, text, answer)
     except Fault as fault:
-        is_plain = job.name == "lint" or not job.has_file() or text.startswith("profile")
+        is_plain = job.name == "lint" or not job.has_file() or text.startswith("profile") and job.name not in SOURCES
         if is_plain or not re.match("(source|asm) ", fault.text):
             raise
     pieces = [*expansion(text)]

@@ -339,7 +339,7 @@ def save_faults(program):
                 is_right = (status, errors) == (0, "") and saved and {*saved} <= {*shown} and len({*saved}) == len(saved)
                 is_right = is_right and [it[:4] for it in saved] == sorted(it[:4] for it in saved)
                 yield None if is_right else f"{name} {nodes}: {saved} of {shown}"
-        for name, fault in ((".", ".: input NotAFile"), ("none/it.gtkw", "none/it.gtkw: write")):
+        for name, fault in ((".", ".: input NotAFile"), ("none/it.gtkw", "none/it.gtkw: write, No such file or directory (os error 2)")):
             answer = run(program, folder, "--save", name, "it.source")
             yield None if answer == (1, "", f"ga-bench: {fault}\n") else f"{name}: {answer}"
         # Standard input is no file, so its save file may have any name.

@@ -141,8 +141,9 @@ pub fn refuse<Rt: AllocGlobal + Print + Eprint>(rt: &Rt, error: LineError) -> u8
     status(&Err(fault))
 }
 
-/// Prints why a command line is refused. Its words may have characters that a terminal would obey.
-fn print_refusal<Rt: AllocGlobal + Eprint>(rt: &Rt, error: &Error) {
+/// Prints why a command line is refused. Its words may have characters that a terminal would obey,
+/// which are blanks, if there is memory for that.
+fn print_refusal<Rt: AllocGlobal + Print + Eprint>(rt: &Rt, error: &Error) {
     let alloc = rt.alloc();
     let shown = match format!(in alloc; "{error}") {
         Ok(text) => shown_lines(alloc, text.as_str()),
@@ -152,7 +153,9 @@ fn print_refusal<Rt: AllocGlobal + Eprint>(rt: &Rt, error: &Error) {
         Ok(text) => {
             let _ = eprint!(rt; "{text}");
         }
-        Err(AllocError) => report_alone(rt, &ServeError::Memory),
+        Err(AllocError) => {
+            let _ = error.print(rt);
+        }
     }
 }
 
