@@ -40,7 +40,7 @@ _ga_bench() {
     1dis) options=(--code -h --help) operands=(FILE) ;;
     1boot) options=(-h --help) operands=(ROUTE FILE) ;;
     1run) options=(-h --help) operands=(ROUTE WORKERS TURNS FILE) ;;
-    1debug) options=(--place --route -h --help) operands=(FILE) ;;
+    1debug) options=(--place --route --any-source -h --help) operands=(FILE) ;;
     1replay) options=(-h --help) operands=(FILE) ;;
     1expand) options=(-h --help) operands=(FILE) ;;
     1list) options=(--place --route --turns --labels --counts -h --help) operands=(FILE) ;;
@@ -50,8 +50,8 @@ _ga_bench() {
     1profile) options=(--place --route --turns --from --json -h --help) operands=(FILE) ;;
     1trace) options=(--place --route --turns --nodes --save -h --help) operands=(FILE) ;;
     1report) options=(--place --route --turns --from -h --help) operands=(FILE) ;;
-    1check) options=(-h --help) operands=(FILE...) ;;
-    1record) options=(--write -h --help) operands=(FILE...) ;;
+    1check) options=(--any-source -h --help) operands=(FILE...) ;;
+    1record) options=(--any-source --write -h --help) operands=(FILE...) ;;
     1explain) options=(-h --help) operands=(NAME) ;;
     1help) options=() operands=(COMMAND) ;;
     *) return ;;
@@ -94,16 +94,17 @@ _ga_bench() {
     NAME)
         candidates=(BadToken NumberRange BadNode DuplicateNode DuplicateLabel ReservedLabel OpenBracket
             BadWord NoNode Empty UndefinedLabel OutOfReach UnextAlone TooLong ReservedName
-            DuplicateName OpenDefinition NoNeighbour UnknownBody TooLarge BadInclude
-            IncludeCycle IncludeDepth IncludeCount IncludeSize UnextRepeats SplitLoop
-            RunsOff PushesTooMany PopsTooMany UnusedLabel Unreachable SeveralPorts
-            ReturnsNowhere LeavesExtended OverMemory BadRoute NotEdge NotNeighbour
-            Repeated OtherRoot Unreached BadCommand BadAddress BadSide BadCount BadValue
-            NotHeld BadProfile NoGo Source Asm Route Tree Boot EarlyReply differs read
-            NoFile Folder NotAFile Exists NoName BadText BadCode write Write memory Memory
-            own take post check input stopped Counted IoRead Rom Unmapped MultiWrite carry
-            moved waits held stuck ring race turn place step slot follower profile const
-            body use include to)
+            DuplicateName OpenDefinition NoNeighbour UnknownBody TooLarge MixedSides
+            BadInclude IncludeCycle IncludeDepth IncludeCount IncludeSize UnextRepeats
+            SplitLoop RunsOff PushesTooMany PopsTooMany UnusedLabel Unreachable
+            SeveralPorts ReturnsNowhere LeavesExtended OverMemory IntoData BeginsInData
+            ReadsIo EdgePort BadRoute NotEdge NotNeighbour Repeated OtherRoot Unreached
+            BadCommand BadAddress BadSide BadCount BadValue NotHeld BadProfile NoGo Source
+            Asm Route Tree Boot EarlyReply differs read NoFile Folder NotAFile Outside
+            Exists NoName BadText BadCode write Write memory Memory own take post check
+            input stopped Counted IoRead Rom Unmapped MultiWrite carry moved waits held
+            stuck ring race turn place step slot follower profile const body use include
+            to)
         ;;
     options) candidates=("${options[@]}") ;;
     *) return ;;

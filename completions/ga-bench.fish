@@ -63,6 +63,7 @@ complete -c ga-bench -n '__fish_seen_subcommand_from run; and test (count (comma
 complete -c ga-bench -n '__fish_seen_subcommand_from run; and test (count (commandline -opc)) -ge 5' -F
 complete -c ga-bench -n '__fish_seen_subcommand_from debug' -l place -d 'The input is source text, even if it begins with \'profile\'; its words are placed'
 complete -c ga-bench -n '__fish_seen_subcommand_from debug' -l route -x -a '(__ga_bench_route)' -d 'The input is source text, which boots along this route, or a tree of routes'
+complete -c ga-bench -n '__fish_seen_subcommand_from debug' -l any-source -d 'A source that FILE names may lie anywhere, and not only in its folder or below'
 complete -c ga-bench -n '__fish_seen_subcommand_from debug' -s h -l help -d 'Print help'
 complete -c ga-bench -n '__fish_seen_subcommand_from debug' -F
 complete -c ga-bench -n '__fish_seen_subcommand_from replay' -s h -l help -d 'Print help'
@@ -111,11 +112,13 @@ complete -c ga-bench -n '__fish_seen_subcommand_from report' -l turns -x -d 'How
 complete -c ga-bench -n '__fish_seen_subcommand_from report' -l from -x -d 'Where it begins: with the last node that begins (last, the default), the first (first), or a turn'
 complete -c ga-bench -n '__fish_seen_subcommand_from report' -s h -l help -d 'Print help'
 complete -c ga-bench -n '__fish_seen_subcommand_from report' -F
+complete -c ga-bench -n '__fish_seen_subcommand_from check' -l any-source -d 'A source that FILE names may lie anywhere, and not only in its folder or below'
 complete -c ga-bench -n '__fish_seen_subcommand_from check' -s h -l help -d 'Print help'
 complete -c ga-bench -n '__fish_seen_subcommand_from check' -F
+complete -c ga-bench -n '__fish_seen_subcommand_from record' -l any-source -d 'A source that FILE names may lie anywhere, and not only in its folder or below'
 complete -c ga-bench -n '__fish_seen_subcommand_from record' -l write -d 'Replaces each FILE by its recording'
 complete -c ga-bench -n '__fish_seen_subcommand_from record' -s h -l help -d 'Print help'
 complete -c ga-bench -n '__fish_seen_subcommand_from record' -F
 complete -c ga-bench -n '__fish_seen_subcommand_from explain' -s h -l help -d 'Print help'
-complete -c ga-bench -n '__fish_seen_subcommand_from explain' -a 'BadToken NumberRange BadNode DuplicateNode DuplicateLabel ReservedLabel OpenBracket BadWord NoNode Empty UndefinedLabel OutOfReach UnextAlone TooLong ReservedName DuplicateName OpenDefinition NoNeighbour UnknownBody TooLarge BadInclude IncludeCycle IncludeDepth IncludeCount IncludeSize UnextRepeats SplitLoop RunsOff PushesTooMany PopsTooMany UnusedLabel Unreachable SeveralPorts ReturnsNowhere LeavesExtended OverMemory BadRoute NotEdge NotNeighbour Repeated OtherRoot Unreached BadCommand BadAddress BadSide BadCount BadValue NotHeld BadProfile NoGo Source Asm Route Tree Boot EarlyReply differs read NoFile Folder NotAFile Exists NoName BadText BadCode write Write memory Memory own take post check input stopped Counted IoRead Rom Unmapped MultiWrite carry moved waits held stuck ring race turn place step slot follower profile const body use include to'
+complete -c ga-bench -n '__fish_seen_subcommand_from explain' -a 'BadToken NumberRange BadNode DuplicateNode DuplicateLabel ReservedLabel OpenBracket BadWord NoNode Empty UndefinedLabel OutOfReach UnextAlone TooLong ReservedName DuplicateName OpenDefinition NoNeighbour UnknownBody TooLarge MixedSides BadInclude IncludeCycle IncludeDepth IncludeCount IncludeSize UnextRepeats SplitLoop RunsOff PushesTooMany PopsTooMany UnusedLabel Unreachable SeveralPorts ReturnsNowhere LeavesExtended OverMemory IntoData BeginsInData ReadsIo EdgePort BadRoute NotEdge NotNeighbour Repeated OtherRoot Unreached BadCommand BadAddress BadSide BadCount BadValue NotHeld BadProfile NoGo Source Asm Route Tree Boot EarlyReply differs read NoFile Folder NotAFile Outside Exists NoName BadText BadCode write Write memory Memory own take post check input stopped Counted IoRead Rom Unmapped MultiWrite carry moved waits held stuck ring race turn place step slot follower profile const body use include to'
 complete -c ga-bench -n '__fish_seen_subcommand_from help' -a 'one asm dis boot run debug replay expand list lint race map profile trace report check record explain help'

@@ -489,10 +489,33 @@ def debug(ask, job, text, answer):
 @subcommand("FILE")
 def record(ask, job, text, answer):
     old, new = Transcript(text), transcript_of(answer.output)
-    ask(["check"], answer.output, f"same {len(old.exchanges)}\n")
+    if failed := unmet(answer.output):
+        ask(["check"], answer.output, "", f"ga-bench: check: {failed}\n{first_unmet(answer.output)}")
+    else:
+        ask(["check"], answer.output, f"same {len(old.exchanges)}\n")
     ask(["record"], answer.output, answer.output)
     judge_by_debug(ask, in_other_words(ask, new))
     return old.with_replies([it.reply for it in new.exchanges])
+
+
+def unmet_lines(text):
+    """The numbers of the lines behind `go` that are replies to expectations which aren't met."""
+    lines = text.split("\n")
+    head = lines.index("go") + 1 if "go" in lines else len(lines)
+    return [number for number, line in enumerate(lines, 1) if number > head and line.startswith("expected ")]
+
+
+def unmet(text):
+    """What is reported of them, or nothing."""
+    numbers = unmet_lines(text)
+    if len(numbers) == 1:
+        return f"1 expectation failed, in line {numbers[0]}"
+    return f"{len(numbers)} expectations failed, the first in line {numbers[0]}" if numbers else ""
+
+
+def first_unmet(text):
+    """The first of them, as it is shown, and an empty line in place of a meaning."""
+    return f"  {drawn(text.splitlines()[unmet_lines(text)[0] - 1])}\n\n"
 
 
 def in_other_words(ask, transcript):
@@ -526,6 +549,8 @@ def check(ask, job, text, answer):
         if one.reply != other.reply:
             differing = text_of(one.reply, "-") + text_of(other.reply, "+")
             raise Fault(f"check differs {one.line}", behind=drawn(differing))
+    if failed := unmet(text):
+        raise Fault(f"check: {failed}", behind=first_unmet(text))
     return f"same {len(old.exchanges)}\n"
 
 
@@ -868,7 +893,7 @@ def judge(ask, args, data, answer):
     try:
         text = job.input_of(data) if job.name != "explain" else ""
         output = output_of(ask, job, text, answer)
-        wanted = Answer(status_of(job, output), output, "")
+        wanted = Answer(status_of(job, output), output, error_of(job, output))
     except IncludeFault as fault:
         wanted = refused_with(job, [include_report(fault)])
     except Fault as fault:
@@ -877,7 +902,14 @@ def judge(ask, args, data, answer):
         raise Wrong(f"expected {shortened(wanted)}")
 
 
+def error_of(job, output):
+    failed = unmet(output) if job.name == "record" else ""
+    return f"ga-bench: {failed}\n" if failed else ""
+
+
 def status_of(job, output):
+    if job.name == "record":
+        return int(unmet(output) != "")
     if job.name == "lint":
         return int("deny" in job.options and output != "")
     return int(job.name == "race" and not output.startswith("no race"))
@@ -894,6 +926,8 @@ def wrong(runner, args, data):
         if len(text.encode()) > LIMIT:
             return None
         other = runner.answer(args, text.encode())
+        if args == ["record"] and error == "" and (failed := unmet(other.output)):
+            error = f"ga-bench: {failed}\n"
         is_as_asked = error is None or (other.status, other.error) == (int(error != ""), error)
         if not is_as_asked or output not in (None, other.output):
             raise Wrong(f"{args} with {text[:300]!r} gave {shortened(other)}")

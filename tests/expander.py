@@ -11,8 +11,13 @@ from schedules import PORTS, neighbours, side_to
 Piece = namedtuple("Piece", "text line column")
 # How many parameters it has, and its tokens, each with its number if it is one of them.
 Body = namedtuple("Body", "arity parts")
+Operand = namedtuple("Operand", "number is_ports")
 WORDS = {"const", "body", "end", "use", "include", "to", "north", "east", "south", "west"}
+# Words that are no argument of a `use`.
+DELIMITERS = {"node", "const", "body", "end", "use", "include"}
 SIDES = re.compile(r"(right|down|left|up)(\|(right|down|left|up))+")
+# By its address, which sides a port or several ports have.
+PORTS_BY_ADDRESS = {0x155 ^ bits << 4: bits for bits in range(1, 16)}
 MOST_TOKENS, MOST_BYTES, MOST_BODIES, MOST_PARAMETERS = 262144, 64, 256, 64
 
 
@@ -73,42 +78,57 @@ def split_at_weakest(text):
     return found
 
 
+def joined(piece, left, right):
+    """What `|` makes of two operands: of addresses of ports that of all their ports, of other numbers their bits."""
+    if left.is_ports != right.is_ports:
+        raise fault_at(piece, "MixedSides")
+    if left.is_ports:
+        return Operand(0x155 ^ (PORTS_BY_ADDRESS[left.number] | PORTS_BY_ADDRESS[right.number]) << 4, True)
+    return Operand(left.number | right.number, False)
+
+
 def calculated(piece, sign, left, right):
-    """What an operator makes of two words."""
+    """What an operator but `|` makes of two words."""
     if sign in ("<<", ">>") and right > 17:
         raise fault_at(piece, "NumberRange")
-    number = {"|": left | right, "&": left & right, "<<": left << min(right, 17), ">>": left >> min(right, 17), "+": left + right,
+    number = {"&": left & right, "<<": left << min(right, 17), ">>": left >> min(right, 17), "+": left + right,
               "-": left - right, "*": left * right}[sign]  # fmt: skip
     if not -0x20000 <= number <= 0x3FFFF:
         raise fault_at(piece, "NumberRange")
     return number % 0x40000
 
 
-def value_of(piece, constants, levels=MOST_LEVELS):
+def value_of(piece, constants):
     """The number of a constant's value, which may be an expression."""
+    return operand_of(piece, constants).number
+
+
+def operand_of(piece, constants, levels=MOST_LEVELS):
+    """The value of an expression, and whether it is the address of ports by names, and not by digits or operators but `|`."""
     if levels == 0:
         raise fault_at(piece, "BadToken")
     number = literal_of(piece)
     if number is not None:
-        return number
+        return Operand(number, bool(SIDES.fullmatch(piece.text)))
     parted = split_at_weakest(piece.text) if len(piece.text.encode()) <= MOST_BYTES else None
     if parted:
         sign, *sides = parted
-        left, right = (value_of(piece._replace(text=side), constants, levels - 1) for side in sides)
-        return calculated(piece, sign, left, right)
+        left, right = (operand_of(piece._replace(text=side), constants, levels - 1) for side in sides)
+        if sign == "|":
+            return joined(piece, left, right)
+        return Operand(calculated(piece, sign, left.number, right.number), False)
     if len(piece.text) > 1 and piece.text[0] == "(" and piece.text[-1] == ")":
-        return value_of(piece._replace(text=piece.text[1:-1]), constants, levels - 1)
-    if piece.text in constants:
-        number = constants[piece.text]
-    if number is None and piece.text in NUMBERS:
-        number = NUMBERS[piece.text]
-    if number is None and NUMBER.fullmatch(piece.text):
+        return operand_of(piece._replace(text=piece.text[1:-1]), constants, levels - 1)
+    number = constants.get(piece.text, NUMBERS.get(piece.text))
+    if number is not None:
+        return Operand(number, number in PORTS_BY_ADDRESS)
+    if NUMBER.fullmatch(piece.text):
         number = int(piece.text[1:], 16) if piece.text[0] == "$" else int(piece.text)
     if number is None:
         raise fault_at(piece, "BadToken")
     if number > 0x3FFFF:
         raise fault_at(piece, "NumberRange")
-    return number
+    return Operand(number, False)
 
 
 class Unfolder:
@@ -201,6 +221,8 @@ class Unfolder:
         for _ in range(body.arity):
             piece = self.behind(use, pieces)
             check_length(piece)
+            if piece.line != use.line or piece.text in DELIMITERS:
+                raise fault_at(use, "OpenDefinition")
             arguments.append(self.part(piece))
         return [(it, number) if number is None else arguments[number] for it, number in body.parts]
 
@@ -304,6 +326,8 @@ class Expander:
             self.word(piece)
             self.node = piece.text if NODE.fullmatch(piece.text) else None
             return "item"
+        if stage == "item" and piece.text[-1] == ":" and piece.text[:-1] in self.constants:
+            raise fault_at(piece, "DuplicateName")
         if stage == "item" and piece.text[0] == "&" and is_label(piece.text[1:]):
             self.written += [piece._replace(text=it) for it in ("[", "@p", ".", ".", ".", "]", ",", piece.text[1:])]
             return "item"

@@ -13,8 +13,10 @@ from text_faults import part_at, part_with
 
 # The words that may stand where an opcode may, besides opcodes, constants and bodies; in the order in which they are offered.
 OTHER_WORDS = "node align data use to north east south west right down left up io rdlu warm".split()
-# Words of the larger language that no word there is near to, and the words with which a text may begin, in this order too.
-DEFINING, BEGINNING = {"const", "body", "end", "include"}, ["const", "body", "include", "node"]
+# Words of the larger language that no word is near to, and opcodes that stand only in brackets, in any case.
+ENDING, BRACKETED = {"end", "use", "include"}, {"@p", "!p"}
+# The words with which a text may begin, in the order in which they are offered.
+BEGINNING = ["const", "body", "include", "node"]
 LOWER = str.maketrans(string.ascii_uppercase, string.ascii_lowercase)
 
 
@@ -47,11 +49,11 @@ def behind(pieces, keyword):
 
 
 def nearest_hint(word, names):
-    """The name that may be meant by a word: one that differs in upper and lower case alone, or else the nearest one."""
+    """The name that may be meant by a word: one that differs in upper and lower case alone, or else the nearest longer one."""
     if word in names:
         return None
     alike = (it for it in names if it.translate(LOWER) == word.translate(LOWER))
-    found = next(alike, None) or nearest(word, names)
+    found = next(alike, None) or nearest(word, [it for it in names if len(it.encode()) > 2])
     return None if found is None else f"the nearest name is {found}"
 
 
@@ -85,16 +87,18 @@ def is_literal(piece):
         return True
 
 
-def token_hint(piece, pieces):
-    """What may help with a token that may not stand there, in a part with these tokens."""
+def token_hint(piece, pieces, text, at):
+    """What may help with a token that may not stand there: that of a text with this number, in a part with these tokens."""
     word, bodies, constants = piece.text, behind(pieces, "body"), behind(pieces, "const")
     if word in bodies:
-        return f"{word} is a body: use {word}"
+        return None if at and text[at - 1].text == "use" else f"{word} is a body: use {word}"
     if is_label(word, pieces):
         return f"{word} is a label: call {word}, or &{word} for its address; in data , {word}"
     if parts_of(word) and is_operand(piece, constants):
         return "an expression stands only behind const"
-    if word in DEFINING:
+    if word in ("const", "body"):
+        return "definitions come first"
+    if word in ENDING or word.translate(LOWER) in BRACKETED or word in behind(text, "const") + behind(text, "body"):
         return None
     return nearest_hint(word, [*OPCODES, *OTHER_WORDS, *constants, *bodies])
 
@@ -155,7 +159,7 @@ def hint_of(text, fault):
     if name == "NoNode":
         return nearest_hint(word, BEGINNING)
     if name == "BadToken":
-        return token_hint(pieces[at], [*pieces_of(part_at(text, line))])
+        return token_hint(pieces[at], [*pieces_of(part_at(text, line))], pieces, at)
     if name in ("UndefinedLabel", "TooLong"):
         return layout_hint(name, nodes[0], word, part_with(text, line, nodes[0]))
     return None

@@ -57,6 +57,9 @@ TREES = [
     ({ALL: 'node 709\ninclude "part"\ninclude "part"\n', "part": WORDS}, f"node 709\n{WORDS}{WORDS}"),
     ({ALL: 'node 709\ninclude "part"\nloop: ;\n', "part": ". loop\n"}, "node 709\n. loop\nloop: ;\n"),
     ({ALL: 'include "lib"\nnode 709 SEND\n', "lib": LIBRARY}, f"{LIBRARY}node 709 SEND\n"),
+    ({ALL: 'include "lib"\nnode 709 FIVE: .\n', "lib": LIBRARY}, f"{LIBRARY}node 709 FIVE: .\n"),
+    ({ALL: 'include "lib"\nnode 708 use SEND\ninclude "part"\n', "lib": LIBRARY, "part": "node 709 .\n"},
+     f"{LIBRARY}node 708 use SEND\nnode 709 .\n"),
     ({ALL: 'include "lib"\nnode 709 use GONE\n', "lib": "\\ a note\nbody STAGE\n  .\n"},
      "\\ a note\nbody STAGE\n  .\nnode 709 use GONE\n"),
 ]  # fmt: skip

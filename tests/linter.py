@@ -15,7 +15,7 @@ TAKES = {*NEEDS, "drop"}
 ROOM = 10
 # The opcodes that write by the address that one sets.
 WRITERS = {"b!": {"!b"}, "a!": {"!", "!+"}}
-PORTS = {0x80, 0x40, 0x20, 0x10}
+RIGHT, DOWN, LEFT, UP = PORTS = 0x80, 0x40, 0x20, 0x10
 FILLER = "."
 WARM = 0x29
 EXTENDED = 0x200
@@ -50,7 +50,8 @@ def up_to(ends, ops):
 class Node:
     """What is known of a node: its image, and of each word its opcodes and the address that its destination means."""
 
-    def __init__(self, image):
+    def __init__(self, name, image):
+        self.name = name
         self.image, self.words, self.items = image, image.words, image.items
         self.entry = image.labels.get("main", 0)
         read = [decoded(it.value) if it.kind == "code" else ([], None, 0) for it in self.words]
@@ -68,15 +69,12 @@ class Node:
         width = SLOTS[len(self.ops[at]) - 1][2]
         return p_behind(at, self.ops[at]) >> width << width | self.fields[at]
 
-    def targets_in(self, *kinds):
-        """What destinations reach, if that is of these kinds."""
-        places = [reached(it) for it in self.targets if it is not None]
-        return {at for kind, at in places if kind in kinds}
-
     def found_starts(self):
         """The addresses to which execution may go: the entry, destinations, and labels that an item names."""
         names = {it.name.text for it in self.items if it.name}
-        return {self.entry} | self.targets_in("ram") | {at for name, at in self.image.labels.items() if name in names}
+        places = [reached(it) for it in self.targets if it is not None]
+        aims = {at for kind, at in places if kind == "ram"}
+        return {self.entry} | aims | {at for name, at in self.image.labels.items() if name in names}
 
     def found_comes(self):
         """For each address, and that behind the last word, whether execution comes there from the word before it."""
@@ -110,24 +108,78 @@ class Node:
                     led.add(reached(self.targets[at])[1])
         return found
 
-    def jumps_by_push(self):
-        """Whether a `;` stands behind a `push`, with nothing between that changes R."""
-        runs = [[]]
-        for word, ops in zip(self.words, self.ops):
-            run = up_to(ENDS, ops)
-            runs[-1] += [it for it in run if it in ("push", "pop", "unext") or it in ENDS]
-            if word.kind == "data" or run[-1:] and run[-1] in ENDS:
-                runs.append([])
-        return any(run[-2:] == ["push", ";"] for run in runs)
+    def live(self):
+        """The addresses of the code to which execution comes, as far as it goes by the code alone."""
+        return [at for at in range(len(self.words)) if self.is_code(at) and (at in self.starts or self.comes[at])]
+
+    def may_write_code(self, ops):
+        """Whether the node may write over its code, if these opcodes run."""
+        run = up_to({"a!"} | WRITERS["a!"] | ENDS | {","}, [*self.ops_from(self.entry), ","])
+        by_a = WRITERS["a!"] & ops and (run[-1] != "a!" or self.may_set_ram("a!"))
+        return bool(by_a or WRITERS["b!"] & ops and self.may_set_ram("b!"))
+
+    def may_set_ram(self, setter):
+        """Whether an opcode sets its register to an address in RAM, or to a word that isn't a number of the text."""
+        top = None
+        for at, word in enumerate(self.words[: self.image.code]):
+            run, p = up_to(ENDS, self.ops[at]), at + 1
+            if word.kind == "follower":
+                continue
+            if at in self.starts or "unext" in run:
+                top = None
+            for op in run:
+                if op == setter and (top is None or reached(top)[0] == "ram") or (op, setter) == ("+*", "a!"):
+                    return True
+                number = self.words[p].value if op == "@p" and p < len(self.words) else None
+                top = top if op == FILLER else number
+                p += op in LITERALS
+            if run[-1] in ENDS:
+                top = None
+        return False
+
+    def is_head(self, at):
+        """Whether execution comes to an address by a `call` alone."""
+        led = {op[-1] == "call" for op, target in zip(self.ops, self.targets) if target is not None and reached(target) == ("ram", at)}
+        return led == {True} and at != self.entry and not self.comes[at]
+
+    def strays(self):
+        """Whether a `;` that runs may go elsewhere than behind the `call` of its routine: unless the routine is straight, calls
+        nothing, and has popped what it pushed."""
+        live, depth = {*self.live()}, None
+        for at, word in enumerate(self.words[: self.image.code]):
+            if word.kind == "follower":
+                continue
+            if "unext" in up_to(ENDS, self.ops[at]) and {"push", "pop"} & {*self.ops[at]}:
+                depth = None
+            elif self.is_head(at) or at in self.starts:
+                depth = 0 if self.is_head(at) else None
+            for op in up_to(ENDS, self.ops[at]):
+                if op == ";" and depth != 0 and at in live:
+                    return True
+                if depth is not None:
+                    depth += {"push": 1, "pop": -1, "unext": -1}.get(op, 0)
+                depth = depth if depth in range(9) and op not in ENDS else None
+        return False
+
+    def takes_words(self):
+        """Whether the node may run words that aren't in its text."""
+        live = self.live()
+        ops = {op for at in live for op in self.ops[at]}
+        kinds = [reached(self.targets[at]) for at in live if self.targets[at] is not None]
+        at_ports = any(kind in ("port", "ports") or (kind, at) == ("rom", WARM) for kind, at in kinds)
+        returns = self.strays() and (ops & {"push", "next"} or 0 not in self.starts)
+        return bool(ops & {"ex", "!p"} or at_ports or returns or self.may_write_code(ops))
 
     def is_open(self):
         """Whether execution may come to any word."""
-        pointers = [self.image.labels[it.name.text] for it in self.items if it.kind == "," and it.name]
-        is_led = any("ex" in it for it in self.ops) or self.targets_in("port", "ports") or self.jumps_by_push()
-        return bool(is_led) or any(at < self.image.code for at in pointers)
+        targets = [self.targets[at] for at in self.live() if self.targets[at] is not None]
+        leaves = any(kind == "ram" and not self.is_code(at) for kind, at in map(reached, targets))
+        takes_code = any(repeats({"push"} | LITERALS, self.ops[at]) for at in self.live())
+        runs_off = not self.is_code(self.entry) or self.comes[self.image.code]
+        return leaves or takes_code or runs_off or self.takes_words()
 
     def is_code(self, at):
-        return self.words[at].kind == "code"
+        return at < len(self.words) and self.words[at].kind == "code"
 
     def is_dead(self, at):
         return self.is_code(at) and at not in self.starts and not self.comes[at] and not self.is_open()
@@ -153,16 +205,23 @@ class Node:
         return None
 
 
+# What each rule of the straight run counts: the opcodes by which that rises and falls, and those that are wrong at 0.
+COUNTED = {
+    "PushesTooMany": (PUSHES, TAKES, set()),
+    "PopsTooMany": (PUSHES, TAKES, NEEDS),
+    "ReturnsNowhere": ({"push"}, {"pop"}, {";"}),
+    "ReadsIo": ({"b!"}, set(), {"@b"}),
+}
+
+
 def is_wrong(kind, count, op):
-    if kind == "PushesTooMany":
-        return count == ROOM and op in BRINGS
-    return count == 0 and (op == ";" if kind == "ReturnsNowhere" else op in NEEDS)
+    return kind == "PushesTooMany" and count == ROOM and op in BRINGS or count == 0 and op in COUNTED[kind][2]
 
 
 def count_behind(kind, count, op):
-    """How many words the node has pushed: on the return stack for `;`, and else on the data stack."""
-    more, fewer = ({"push"}, {"pop"}) if kind == "ReturnsNowhere" else (PUSHES, TAKES)
-    return min(ROOM, count + 1) if op in more else max(0, count - 1) if op in fewer else count
+    more, fewer, _ = COUNTED[kind]
+    least = int(op == "or" and more is PUSHES)
+    return min(ROOM, count + 1) if op in more else max(least, count - 1) if op in fewer else count
 
 
 # The rules of words, in their order: whether the word at an address has the warning of this name.
@@ -179,11 +238,15 @@ def has_unext(ops):
     return "unext" in up_to(ENDS, ops)
 
 
+def repeats(repeated, ops):
+    """Whether the rounds of an `unext` run one of these opcodes again."""
+    run = up_to(ENDS | {"unext"}, ops)
+    return run[-1:] == ["unext"] and bool(repeated & {*run})
+
+
 @rule
 def unext_repeats(node, at):
-    repeated = {"push"} | (LITERALS if is_loose(node.words[at].first) else set())
-    run = up_to(ENDS | {"unext"}, node.ops[at])
-    return run[-1:] == ["unext"] and bool(repeated & {*run})
+    return repeats({"push"} | (LITERALS if is_loose(node.words[at].first) else set()), node.ops[at])
 
 
 @rule
@@ -218,11 +281,11 @@ def unreachable(node, at):
     return node.is_dead(at) and is_first and at not in node.image.labels.values()
 
 
-@rule
-def several_ports(node, at):
+def writes_at(node, at, is_refused):
+    """Whether the word sets A or B to the address of ports of this kind, by a number, and the node writes there."""
     run, p = up_to(ENDS, node.ops[at]), at + 1
     for slot, op in enumerate(run):
-        if op == "@p" and p < len(node.words) and reached(node.words[p].value)[0] == "ports":
+        if op == "@p" and p < len(node.words) and is_refused(*reached(node.words[p].value)):
             left = [*node.ops[at][slot + 1 :], *node.ops_from(at + 1)]
             setter, *behind = [it for it in left if it != FILLER] or [None]
             ends = ENDS | WRITERS.get(setter, set()) | {setter}
@@ -230,6 +293,11 @@ def several_ports(node, at):
                 return True
         p += op in LITERALS
     return False
+
+
+@rule
+def several_ports(node, at):
+    return writes_at(node, at, lambda kind, bits: kind == "ports")
 
 
 @rule
@@ -250,8 +318,33 @@ def over_memory(node, at):
     return kind == "ram" and address >= len(node.words) or kind == "rom" and address != WARM
 
 
-def warnings_of_node(image):
-    node = Node(image)
+@rule
+def into_data(node, at):
+    kind, address = reached(node.targets[at]) if node.targets[at] is not None else (None, None)
+    return kind == "ram" and address < len(node.words) and not node.is_code(address) and not node.takes_words()
+
+
+@rule
+def begins_in_data(node, at):
+    return at == node.entry and not node.is_code(at)
+
+
+@rule
+def reads_io(node, at):
+    behind = node.ops[at][node.ops[at].index("@b") + 1 :] if "@b" in node.ops[at] else []
+    goes_on = {*behind} - {FILLER} or any(it.kind == "code" for it in node.words[at + 1 :])
+    return node.wrong_at("ReadsIo") == at and bool(goes_on)
+
+
+@rule
+def edge_port(node, at):
+    row, column = divmod(node.name, 100)
+    missing = {bit for bit, is_edge in ((UP, row in (0, 7)), (LEFT, column in (0, 17))) if is_edge}
+    return writes_at(node, at, lambda kind, bits: kind == "port" and bits in missing)
+
+
+def warnings_of_node(name, image):
+    node = Node(name, image)
     for at, word in enumerate(node.words):
         if node.is_dead(at):
             for item in node.items:
@@ -264,4 +357,4 @@ def warnings_of_node(image):
 
 def warnings_of(text):
     """The warnings about a plain source text, or its Fault."""
-    return [(node, *it) for node, image in images_of(text).items() for it in warnings_of_node(image)]
+    return [(node, *it) for node, image in images_of(text).items() for it in warnings_of_node(node, image)]

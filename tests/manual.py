@@ -33,7 +33,7 @@ COMPLETED = {
     "ga-bench race --p": {"--place"},
     "ga-bench trace --no": {"--nodes"},
     "ga-bench trace --nodes ": set(),
-    "ga-bench record --": {"--write", "--help"},
+    "ga-bench record --": {"--any-source", "--write", "--help"},
     "ga-bench list --c": {"--counts"},
     "ga-bench report --t": {"--turns"},
     "ga-bench lint --d": {"--deny"},

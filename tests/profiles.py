@@ -67,7 +67,7 @@ PROFILE = [
     rf"(?:\d{{3}}(?: +{SHARE}){{4}} \|b*#*\?*!*~*x* *\| +{SHARE}(?: +\d+){{2}}(?: +\d+){{2}}\n|"
     rf"\d{{3}}(?: +{SHARE}){{4}} \|b*#*\?*!*~*x* *\| +{SHARE}(?: +\d+){{2}}      \.     \.\n)*",
     re.escape(LEGEND),
-    rf"(?:{STUCK})?Bottleneck: [^\n]*\n(?:(?:The run gets|Side by side,) [^\n]*\n|(?:ring(?: \d{{3}})+\n)*)",
+    rf"(?:{STUCK})?Bottleneck: [^\n]*\n(?:The run gets [^\n]*\n|(?:ring(?: \d{{3}})+\n)*)",
     rf"{LINES_HEAD}(?: +{SHARE}   \d{{3}}[ +][^\n]*\n){{0,10}}",
     rf"(?:{STACKS_HEAD}(?:\d{{3}}(?: +\d+){{2}}{PASSED.format('data')}{PASSED.format('return')}\n){{1,10}})?",
     r"At the end:\n(?:\d{3} P [^\n]*\n)*(?:idle:(?: \d{3})+\n)?(?:ring(?: \d{3})+\n)*",
@@ -493,40 +493,21 @@ def has_code_of(text, images):
     return node in same and len(same) > int(row["others"] or 0)
 
 
-def bottleneck(uses, on_path, length, rings):
-    """The sentence, by the use of each node in parts per million, and by its turns on the path."""
-    most = max(uses.values())
-    busy = [node for node, used in uses.items() if used and used * 10 >= most * 9]
-    names = " ".join(f"{node:03}" for node in busy)
-    longest = max(on_path.values())
-    spread = sum(turns * 100 >= length * 4 for turns in on_path.values()) >= 3 and longest * 100 < length * 50
+def bottleneck(works, on_path, length, rings):
+    """The sentence, by the turns in which each node works, and by its turns on the path."""
     if rings:
         return "Bottleneck: the deadlock. The nodes of a ring wait for one another for good.\n"
-    if not most:
+    node, waited = max(sorted(on_path.items()), key=lambda it: it[1])
+    if not waited:
         return "Bottleneck: none. No node works in these turns.\n"
-    if most < 660000 and not spread:
-        first = next(node for node, turns in on_path.items() if turns == longest)
-        waits = f"{first:03}. The run waits for it in {per_million(longest, length) // 10000} % of the turns."
-        return f"Bottleneck: {waits}\nThe run gets shorter if this node is done earlier.\n"
-    if most < 660000:
-        gain = 10000000 // most
-        who = "no single node, one after the other. Busiest:"
-        change = f"Side by side, the same work takes up to {gain // 10}.{gain % 10} times fewer turns."
-    elif len(busy) == 1:
-        who, change = "the work of", "The run gets shorter if this node does less."
-    else:
-        who, change = "the work of each of", "The run gets much shorter only if all of them do less."
-    return f"Bottleneck: {who} {names}, in {most // 10000} % of the turns.\n{change}\n"
+    shares = f"in {waited * 100 // length} % of the turns, and it works in {works[node] * 100 // length} %."
+    return f"Bottleneck: {node:03}. The run waits for it {shares}\nThe run gets shorter if this node is done earlier.\n"
 
 
 def stuck_text(nodes):
     """The line of the nodes that wait for good for their words to be read."""
     names = "".join(f" {node:03}" for node in nodes)
     return f"Stuck, since no node reads its word:{names}.\n" if names else ""
-
-
-def per_million(part, whole):
-    return part * 1000000 // whole if whole else 0
 
 
 @dataclass
@@ -578,9 +559,8 @@ def profile_of(run, where="last"):
 
 def bottleneck_of(profile, rings):
     """What a profile says of the bottleneck, with the lines of rings, and of words that are never read."""
-    nodes, length = profile.nodes, profile.length()
-    uses = {node: per_million(*reversed(profile.passes[node] or (length, it.counts["works"]))) for node, it in nodes.items()}
-    text = bottleneck(uses, profile.on_path(), length, rings)
+    works = {node: it.counts["works"] for node, it in profile.nodes.items()}
+    text = bottleneck(works, profile.on_path(), profile.length(), rings)
     return text + "".join(f"{line}\n" for line in rings) if rings else stuck_text(profile.stuck) + text
 
 

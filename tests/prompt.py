@@ -14,6 +14,7 @@ The last line that is printed is 'prompt: N passed, M failed', and the exit stat
 import os
 import pty
 import random
+import re
 import resource
 import select
 import stat
@@ -60,8 +61,9 @@ def session(commands, head=HEAD):
 
 
 def accepted(program, file):
+    """Whether `check` finds no difference. Expectations that aren't met are none."""
     run = subprocess.run([program, "check", file], capture_output=True, timeout=60)
-    return run.returncode == 0
+    return run.returncode == 0 or re.match(rb"ga-bench: check: \d+ expectations? failed, ", run.stderr) is not None
 
 
 class Terminal:
@@ -255,6 +257,16 @@ def hostile(program, folder):
     check("what was undone is shown as other texts are", run.stdout == b"undone turn  [31m \nundone turn\t2\n")
 
 
+def full(program, folder):
+    """A session takes no command by which it would be longer than an input may be, replies apart."""
+    head, command = "profile 2\nplace\nnode 000 .\ngo\n\\ ", "\n> turn 0"
+    for room, replies in (0, "moved 0\nrefused TooLong\nundone turn 0\nmoved 0\n"), (-1, "refused TooLong\n" * 3):
+        with open(f"{folder}/full", "w") as file:
+            file.write(head.ljust(1048576 - len(command) - room, "x"))
+        run = talk(program, [f"{folder}/full"], b"turn 0\nturn 0\nback\nturn 0\n")
+        check(f"a full session, {room}", (run.returncode, run.stdout.decode()) == (0, replies))
+
+
 def saving(program, folder):
     """What has the name already."""
     folder = f"{folder}/saving"
@@ -346,6 +358,7 @@ def main():
         for seed in range(60):
             compare(program, folder, seed)
         hostile(program, folder)
+        full(program, folder)
         saving(program, folder)
     print(f"prompt: {passed} passed, {len(failures)} failed")
     return 1 if failures else 0

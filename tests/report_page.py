@@ -32,6 +32,7 @@ from concurrent.futures import ThreadPoolExecutor
 
 from profiles import NODES, SHARE, STUCK, Move, before_on_path, share, states_of
 from schedules import neighbours
+from testing import drawn
 from vcd import Waveform
 
 ROOT = os.path.dirname(os.path.dirname(os.path.abspath(__file__)))
@@ -62,9 +63,7 @@ ROW = re.compile(rf"^(\d{{3}}) +({SHARE}) +({SHARE}) +({SHARE}) +{SHARE} \|(.{{2
 STUCK = r"Stuck, since no node reads its word:(?: \d{3})+\.\n"
 # The need of a step at a port, by what a waveform shows of it.
 NEEDS = {"posts": "post", "takes": "take", "sees": "check"}
-BOTTLENECK = re.compile(
-    rf"^(?:{STUCK})?Bottleneck: .*\n(?:(?:The run gets|Side by side,) .*\n)?(?:ring(?: \d{{3}})+\n)*", re.M
-)
+BOTTLENECK = re.compile(rf"^(?:{STUCK})?Bottleneck: .*\n(?:The run gets .*\n)?(?:ring(?: \d{{3}})+\n)*", re.M)
 TITLE = re.compile(r"(\d{3}) works in (\d+) turns, waits for a word in (\d+), and for a reader in (\d+)")
 WINDOW = re.compile(r"(\d+) turns from turn (\d+) on\n")
 ENDS = re.compile(r"\d{3} P [^\n]*")
@@ -372,8 +371,7 @@ def numbered(source):
     """The lines of a source text, each behind its number, as a reader of XML has them."""
     lines = [line.removesuffix("\r") for line in source.removesuffix("\n").split("\n")] if source else []
     shown = "".join(f"{number}\t{line}\n" for number, line in enumerate(lines, 1))
-    shown = re.sub("[\x00-\x08\x0b\x0c\x0e-\x1f\ufffe\uffff]", "\ufffd", shown)
-    return shown.replace("\r\n", "\n").replace("\r", "\n")
+    return drawn(re.sub("[\ufffe\uffff]", "\ufffd", shown))
 
 
 def fault_of_page(text, source, profile, listing, verdict=None, wave=None):
@@ -507,6 +505,15 @@ def made(program, folder, example):
     return name, fault_of_page(text, source, *shown, verdict, Waveform(output(program, "trace", *options, path)))
 
 
+def undrawn(program, folder):
+    """What is wrong with the page of a text with characters that no terminal draws, or None."""
+    with open(f"{folder}/odd.source", "w", encoding="utf-8", newline="") as file:
+        file.write("node 708 . \\ a\x1bb\u202ec\u200bd\x85e\rf\n")
+    text = output(program, "report", f"{folder}/odd.source")
+    is_right = "\\ a b c d e f\n" in text and not re.search("[\x1b\u202e\u200b\x85\r]", text)
+    return None if is_right else "characters that aren't drawn are in it"
+
+
 def tried_by_browser(folder, names, pool):
     """Yields each picture, and what is wrong with it."""
     for name, text in {"with-script": "<script>console.log(1)</script>", "empty": ""}.items():
@@ -530,6 +537,7 @@ def main(program):
             results += tried_by_browser(folder, [name for name, _ in results], pool)
         else:
             print("skipped: needs chromium: pictures of pages")
+        results.append(("undrawn", undrawn(program, folder)))
     failed = [f"FAILED {name}: {fault}\n" for name, fault in results if fault is not None]
     print("".join(failed), end="")
     print(f"pages of report: {len(results) - len(failed)} passed, {len(failed)} failed")

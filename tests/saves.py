@@ -94,6 +94,10 @@ def main():
     with tempfile.TemporaryDirectory() as room:
         kills = Kills(os.path.abspath(given.program), f"{room}/folder")
         whole = {kind: kills.whole(kind) for kind in kills.calls}
+        for kind, (wanted, _) in whole.items():
+            if wanted.get("kept") in (None, "", kills.calls[kind][2]):
+                failed += 1
+                print(f"FAILED {kind}: a whole call writes nothing")
         for number in range(given.kills):
             kind = [*kills.calls][number % len(kills.calls)]
             wanted, seconds = whole[kind]

@@ -120,6 +120,36 @@ def several(test):
         test.expect(f"{number}", test.run(["check", *files]), (int(good < len(files)), "\n".join(lines), ""))
 
 
+def expectations(test):
+    """A recorded reply to an expectation that isn't met fails the check, and a recording reports it."""
+    one = "> expect 709 T 5\nexpected 00005, is 00000\n"
+    three = one + "> turn 0\nmoved 0\n> expect 708 T 0\nok\n" + one * 2
+    test.write("two.source", TWO)
+    good = test.write("good", WHOLE + TURN)
+    for head, line in (WHOLE, 11), (HEAD, 6):
+        alone, first = f"1 expectation failed, in line {line}", "  expected 00005, is 00000\n\n"
+        for replies, told in (one, alone), (three, f"3 expectations failed, the first in line {line}"):
+            text, bare = head + replies, head + "".join(it + "\n" for it in replies.splitlines() if it[0] == ">")
+            file, new = test.write("unmet", text), test.write("bare", bare)
+            test.expect(f"check: {told}", test.run(["check", file]), (1, "", f"ga-bench: check: {told}\n{first}"))
+            wanted = f"good: same 1\nunmet: check: {told}\n{first}1 passed, 1 failed\n"
+            test.expect(f"check of two: {told}", test.run(["check", good, file]), (1, wanted, ""))
+            test.expect(f"record: {told}", test.run(["record", new]), (1, text, f"ga-bench: {told}\n"))
+            for what in "recorded", "same":
+                wanted = 1, f"bare: {what}\n", f"ga-bench: bare: {told}\n"
+                test.expect(f"{what}: {told}", test.run(["record", "--write", new]), wanted)
+            test.expect(f"written: {told}", test.read("bare"), text)
+        other = test.write("other", head + one.replace("expected", "ok\nexpected"))
+        test.holds("a line more differs", test.run(["check", other])[2].startswith(f"ga-bench: check differs {line - 1}\n"))
+        told = "-ok\n+expected 00005, is 00000\n"
+        met = test.write("met", head + "> expect 709 T 5\nok\n")
+        wanted = 1, "", f"ga-bench: check differs {line - 1}\n{told}"
+        test.expect("one that isn't recorded differs", test.run(["check", met]), wanted)
+    label = "profile 2\nplace\nnode 708 call\nexpected . expected: ;\ngo\n> turn 0\nmoved 0\n"
+    test.expect("a label is none", test.run(["check"], label), (0, "same 1\n", ""))
+    test.expect("a label is none, recorded", test.run(["record"], label), (0, label, ""))
+
+
 def hostile(test):
     """Files that are missing, folders, too long, no text, without a head have their fault; the others are checked."""
     good = test.write("good", WHOLE + TURN)
@@ -157,12 +187,24 @@ def names(test):
         end = "same 1" if is_good else "input Folder" if name == ".." else "input NoFile"
         wanted = f"good: same 1\n{shown(name)}: {end}\n{1 + is_good} passed, {1 - is_good} failed\n"
         test.expect(f"FILE {name!r}", test.run(["check", "--", good, name])[1], wanted)
-    for file in "two.source", "sub/two.source":
+    for file in "two.source", "sub/two.source", "sub/..x/two.source", "sub/a/two.source":
         test.write(file, TWO)
-    for name in "two.source", "../two.source", f"{test.folder}/two.source", "./two.source", "../sub/two.source":
+    # whether a source of this name lies in the folder of the transcript, or below
+    places = dict.fromkeys(["two.source", "./two.source", "..x/two.source", "a/two.source", "a/./two.source"], True)
+    places |= dict.fromkeys(["../two.source", "../sub/two.source", "a/../two.source", "./../two.source", f"{test.folder}/two.source"], False)
+    for name, is_below in places.items():
         test.write("sub/file", HEAD.replace("two.source", name) + TURN)
         for file, cwd in ("sub/file", test.folder), ("file", f"{test.folder}/sub"), (f"{test.folder}//sub/file", "/"):
-            test.expect(f"the source {name}, {file}", test.run(["check", file], cwd=cwd), (0, "same 1\n", ""))
+            wanted = 0, "same 1\n", ""
+            test.expect(f"any source {name}, {file}", test.run(["check", "--any-source", file], cwd=cwd), wanted)
+            if not is_below:
+                path = name if name[0] == "/" else os.path.dirname(file) + "/" * ("/" in file) + name
+                wanted = 1, "", f"ga-bench: input {path} Outside\n"
+                for words in ["record"], ["debug"]:
+                    test.expect(f"{words} {name}, {file}", test.run([*words, file], "", cwd=cwd), wanted)
+                told = f"ga-bench: {file}: input {path} Outside\n"
+                test.expect(f"written {name}, {file}", test.run(["record", "--write", file], cwd=cwd), (1, "", told))
+            test.expect(f"the source {name}, {file}", test.run(["check", file], cwd=cwd), wanted)
     for name in ["-", "--", *NAMES]:
         file = test.write("sub/odd", HEAD.replace("two.source", name) + TURN)
         test.write(f"sub/{name}", TWO)
@@ -207,11 +249,12 @@ def faults(test):
         for text in right, right.replace("profile 2\nplace", "profile 3\nplac"), right.replace("> ", ""):
             file = test.write("faulty", text)
             what, fault = f"{text!r},", fault.removesuffix("\n") + "\n"
-            test.expect(f"{what} debug", test.run(["debug", file]), (1, "", DEBUGGED.get(name, f"ga-bench: {fault}")))
-            begins(test, ["check", file], "", f"ga-bench: {fault}", what)
-            begins(test, ["record", file], "", f"ga-bench: {fault}", what)
-            begins(test, ["record", "--write", file], "", f"ga-bench: {file}: {fault}", what)
-            begins(test, ["check", file, file], f"{file}: {fault}", "", what)
+            wanted = 1, "", DEBUGGED.get(name, f"ga-bench: {fault}")
+            test.expect(f"{what} debug", test.run(["debug", "--any-source", file]), wanted)
+            begins(test, ["check", "--any-source", file], "", f"ga-bench: {fault}", what)
+            begins(test, ["record", "--any-source", file], "", f"ga-bench: {fault}", what)
+            begins(test, ["record", "--write", "--any-source", file], "", f"ga-bench: {file}: {fault}", what)
+            begins(test, ["check", "--any-source", file, file], f"{file}: {fault}", "", what)
             test.expect(f"{what} left", test.read(file), text)
     test.write("two.source", TWO)
     heads = {"profile 3\nplace": "BadProfile", "profile 2\nplac": "BadRoute", "profile 2\nroute 708,000": "Route"}
@@ -378,7 +421,7 @@ def ends(test):
             test.expect(f"full: {words}", test.run(words, stdout=full), (1, "", "ga-bench: write\n"))
     if os.getuid():
         os.chmod(f"{test.folder}/two.source", 0)
-        test.expect("it may not be read", test.run(["check", file]), (1, "", "ga-bench: read\n"))
+        test.expect("it may not be read", test.run(["check", file]), (1, "", "ga-bench: input two.source read\n"))
         os.chmod(f"{test.folder}/two.source", 0o600)
     else:
         test.skip("a source that may not be read", "a user who isn't root")
@@ -389,4 +432,4 @@ def ends(test):
 
 
 if __name__ == "__main__":
-    main(__doc__, worked, several, hostile, names, faults, plain, sourced, rewriting, firmwares, ends)
+    main(__doc__, worked, several, expectations, hostile, names, faults, plain, sourced, rewriting, firmwares, ends)

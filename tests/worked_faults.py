@@ -9,7 +9,7 @@ HINTS = {
     "near": "the nearest name is {0}",
     "use": "{0} is a body: use {0}",
     "label": "{0} is a label: call {0}, or &{0} for its address; in data , {0}",
-    "expression": "an expression stands only behind const",
+    "expression": "an expression stands only behind const", "first": "definitions come first",
     "open": "the body {0} has no end",
     "words": "it needs {2} words: {0} code, {1} data; {3} over",
 }
@@ -34,7 +34,7 @@ ERRORS = [
     ("node 708,709 frob jump gone\nnode 710 #\n", "1:14", "2:10"), ("node 708\nnode 709 .\n", "1:9 Empty", "2:1 Empty"),
     ("node 708,709 jump gone\nnode 710 #\n", "1:19 UndefinedLabel 708", "2:10"), ("node 709\n\tdup frob\n", "2:6"),
     ("node 999 .\nnode 708 frob\nnode\n", "1:6 BadNode", "2:10", "4:1 BadNode"),
-    ("node 708 .\n\\ node 709 frob\n  \tnode 710 frob\n", "3:13"), ("const A 1\nconst B A+\n", "2:9 near A"),
+    ("node 708 .\n\\ node 709 frob\n  \tnode 710 frob\n", "3:13"), ("const A 1\nconst B A+\n", "2:9"),
     ("node 708 -131073\nnode 709 é\nnode 710 262144\n", "1:10 NumberRange", "2:10", "3:10 NumberRange"),
     ("node 708 frob\r\nnode 709 frob\r\n", "1:10", "2:10"),
     ("node 708\n\n  node 709\n\\ nothing\nnode 710 .\n", "2:1 Empty", "3:3 Empty", "4:10 Empty"),
@@ -55,11 +55,12 @@ MANY = [
 # is near, or the word is known, but in a wrong place; an expression that is no constant's value.
 WORDS = {
     "near dup": ["dupp", "DUP"], "near jump": ["jmp"], "near next": ["nuxt 5"], "near push": ["puhs", "PUSH Dup"],
-    "near unext": ["unxet"], "near !b": ["!bb"], "near -if": ["-fi 5"], "near align": ["alig ."], "near warm": ["wram"],
+    "near unext": ["unxet"], "near @b": ["@B"], "near -if": ["-fi 5"], "near align": ["alig ."], "near warm": ["wram"],
     "near data": ["dtaa , 5"], "near right": ["rihgt b!", "RIGHT b!"], "near east": ["esat b! @b"],
     "near north": ["nort b! !b"], "near over": ["ovre"],
-    "": ["frob", "#", "dddp", "END", "end", "include", "const A 5", "body B", "@p", "my-label", "<<<<<<<", "a/b",
-     "north|east b!"],
+    "": ["frob", "#", "dddp", "END", "end", "include", "@p", "@P a!", "!P", "my-label", "<<<<<<<", "a/b", "!bb", "-A", "//",
+     "for", "north|east b!"],
+    "first": ["const A 5", "body B"],
     "expression": ["2*3", "-5-3", "1<<4", "(1)>>(4)", "(5)", "2*(3)", "'A'+1"],
 }  # fmt: skip
 # What helps with a word in front of the first node: one with which a text may begin; of two that are near the first
@@ -104,9 +105,9 @@ HINTED = [
     ("const SIZE 8\nconst LAST 2*SZIE\nnode 709 .", "2:12"), ("const A LASTT\nconst LAST 5\nnode 709 .", "1:9"),
     ("const SIZE 8\nconst LAST size\nnode 709 .", "2:12 near SIZE"), ("const LAST LAST\nnode 709 .", "1:12"),
     ("const LAST 1\nconst LAST-2 5\nnode 709 .", "2:7"), ("node 709 SPED\nconst SPEED 5", "1:10 near SPEED"),
-    ("node 708 .\nconst LAST 5\nnode 709 LATS", "2:1", "3:10"), ("const COUNT COUNR\nnode 709 .", "1:13"),
-    ("node 708 .\nconst LAST 5\nnode 709 jump LATS", "2:1", "3:15 UndefinedLabel 709"),
-    ("node 708 .\nbody SEND\n  .\nend\nnode 709 SENT", "2:1", "5:10"),
+    ("node 708 .\nconst LAST 5\nnode 709 LATS", "2:1 first", "3:10"), ("const COUNT COUNR\nnode 709 .", "1:13"),
+    ("node 708 .\nconst LAST 5\nnode 709 jump LATS", "2:1 first", "3:15 UndefinedLabel 709"),
+    ("node 708 .\nbody SEND\n  .\nend\nnode 709 SENT", "2:1 first", "5:10"),
     ("const Speed 5\nconst spEED 6\nnode 709 SPEED", "3:10 near Speed"),
     ("const LAS 5\nconst LASTS 5\nnode 709 LASS", "3:10 near LAS"),
     ("const SIZE 8\nconst SIZES SIZ\nnode 709 .", "2:13 near SIZE"),
@@ -147,7 +148,12 @@ HINTED = [
     # a body without `use`, before a label of its name
     ("body GO\n  .\nend\nnode 708 GO: . GO", "4:16 use GO"), ("node 708 STAGE body STAGE", "1:10 use STAGE"),
     ("body B\n  .\nend\nbody TWICE\n  B B\nend\nnode 708 use TWICE", "5:3 use B"),
-    ("node 708 STAGE\nnode 709 body STAGE", "1:10", "2:10"),
+    ("node 708 STAGE\nnode 709 body STAGE", "1:10", "2:10 first"),
+    # behind a label `use` too; the name of a definition behind a node is near to none
+    ("body f\n  dup\nend\nnode 708 call use f", "4:19"), ("body f\n  dup\nend\nnode 708 use: f", "4:15 use f"),
+    ("node 708 .\nconst A 5\nnode 709 A", "2:1 first", "3:10"),
+    ("node 708 .\nbody OVR\n  .\nend\nnode 709 OVR", "2:1 first", "5:10"),
+    ("body B\n const A 5\nend\nnode 709 use B", "2:2 first"),
     # a label without `call`, in front of it or behind it; that of another node is none, unless the word is in a shared
     # body
     ("node 709\nfoo: dup ;\nmain: 5 foo", "3:9 label foo"), ("node 709 main: foo . foo: ;", "1:16 label foo"),
@@ -163,7 +169,7 @@ HINTED = [
     ("const A_ 1\nconst _B 2\nnode 709 . data , A_&_B", "3:19 expression"), ("node 709 . data , A_&_B", "1:19"),
     ("const A 5\nnode 709 [ dup jump A+1 ]", "2:21 expression"), ("node 2*3 .", "1:6 expression"),
     ("body B N\n  N\nend\nnode 709 use B 2*3", "4:16 expression"), ("const A 5/2\nnode 709 .", "1:9"),
-    ("node 708 .\nconst SIZE 8\nnode 709 SIZE-1", "2:1", "3:10"),
+    ("node 708 .\nconst SIZE 8\nnode 709 SIZE-1", "2:1 first", "3:10"),
     # a body without an `end` in front of the next `body`, or of the text's end
     ("body STAGE\n  dup\nnode 708 5 use STAGE", "3:16 UnknownBody open STAGE"), ("body", "1:1 OpenDefinition"),
     ("body STAGE\n  use GONE\nend\nnode 708 use STAGE", "2:7 UnknownBody"), (f"body B\nnode 708 {'x' * 65}", "2:10"),
@@ -176,7 +182,7 @@ HINTED = [
     ("body B\n  node 708 use GONE\nend\nuse B", "2:16 UnknownBody"), ("node 709 use body 5 dup", "1:14 UnknownBody"),
     ("body A\n  use GONE\nend\nbody B\n  .\nnode 709 use B", "2:7 UnknownBody"), ("body B node", "1:8 ReservedName"),
     ("body B\nnode 708 use end\nnode 709 .", "2:10 OpenDefinition"), ("node 709 use", "1:10 OpenDefinition"),
-    ("node 708 body X\nnode 709 use GONE", "1:10", "2:14 UnknownBody open X"),
+    ("node 708 body X\nnode 709 use GONE", "1:10 first", "2:14 UnknownBody open X"),
     ("body STAGE\n  use GONE\nnode 708 .", "2:7 UnknownBody open STAGE"),
     (f"{SEND}body STAGE\n  use SEDN\nnode 708 .", "5:7 UnknownBody near SEND"),
     ("body B\nnode 708 .", "1:1 OpenDefinition open B"), (f"{SEND}body B\n  dup", "4:1 OpenDefinition open B"),

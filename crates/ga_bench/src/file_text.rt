@@ -199,7 +199,7 @@ fn fault_at(
             IncludeRefusal::Line(IncludeFaultKind::IncludeSize)
         }
         ServeError::Input(fault) => IncludeRefusal::File(fault),
-        ServeError::Read => IncludeRefusal::Read,
+        ServeError::Read => IncludeRefusal::File(InputFault::Read),
         _ => return named(alloc, "", fault),
     };
     refused_at(alloc, files, place, refusal)

@@ -25,7 +25,7 @@ use crate::numbers::{numbers_of, opened};
 use crate::reading::{EndsOnce, is_standard_output};
 use crate::reporting::{refuse, refuse_missing, report_on_replaced, reported, reported_in};
 use crate::saved_files::{SavedFiles, put};
-use crate::transcripts::{check_status, rewrite_status, serve_transcript, sourced};
+use crate::transcripts::{Sources, check_status, rewrite_status, serve_transcript, sourced};
 use clap::error::ErrorKind::{ArgumentConflict, InvalidValue};
 use ga_command_line::{LineError, job, refusal};
 use ga_diagnostics::Lines;
@@ -50,7 +50,9 @@ use std::{env, fs, io};
 
 fn main(rt: HostRuntime) -> ExitCode {
     let status = match job_of_arguments(&rt) {
-        Ok(Job::Rewrite { files }) => rewrite_status(&rt, &files),
+        Ok(Job::Rewrite { files, any_source }) => {
+            rewrite_status(&rt, &files, Sources::of_flag(any_source))
+        }
         Ok(job) => job_status(&rt, &mut rt.reader(), &job),
         Err(error) => refuse(&rt, error),
     };
@@ -68,11 +70,13 @@ fn job_status<
             "ga-bench: reads from this terminal, until Ctrl-D at the beginning of a line"
         );
     }
-    if let Job::Talk { loading, file } = job {
+    if let Job::Talk { loading, file, .. } = job {
         return talk_status(rt, reader, job, loading, file.as_str());
     }
     match (job.several_files(), job.file()) {
-        (Some(files), _) => check_status(rt, reader, files),
+        (Some(files), _) => {
+            check_status(rt, reader, files, Sources::of_flag(job.takes_any_source()))
+        }
         (None, Some(name)) if is_wrong_word(rt, name, job) => refuse_missing(rt, name),
         (None, None) if !writes_more(job) => serve_job(rt, reader, &mut io::writer(rt), job),
         (None, name) => named_status(rt, reader, name.unwrap_or("-"), job),
@@ -347,7 +351,8 @@ fn talk_status<Rt: AllocGlobal + Print + Eprint + Files, R: Read + IsTerminal>(
         }
         Err(refused) => return refused_status(rt, name, Form::Text, refused),
     };
-    let outcome = match talk_about(rt, reader, loading, name, text.bytes()) {
+    let sources = Sources::of_flag(job.takes_any_source());
+    let outcome = match talk_about(rt, reader, loading, name, sources, text.bytes()) {
         Ok(()) => Ok(Ending::Done),
         Err(fault) => Err(fault),
     };
@@ -363,6 +368,7 @@ fn talk_about<Rt: AllocGlobal + Print + Files, R: Read + IsTerminal>(
     reader: &mut R,
     loading: &Loading,
     name: &str,
+    sources: Sources,
     input: &[u8],
 ) -> Result<(), ServeError> {
     let alloc = rt.alloc();
@@ -370,7 +376,7 @@ fn talk_about<Rt: AllocGlobal + Print + Files, R: Read + IsTerminal>(
         "-" => None,
         _ => session_source(loading, input),
     };
-    let live = match sourced(rt, name, named, input)? {
+    let live = match sourced(rt, name, named, sources, input)? {
         Some(transcript) => transcript.open_session(alloc)?,
         None => open_file(alloc, loading, input)?,
     };

@@ -15,12 +15,17 @@ use std::alloc::AllocError;
 use std::io;
 use std::io::Write;
 
-/// Reports the fault of an outcome, if it has one. Answers the exit status.
+/// Reports the fault of an outcome, or the expectations that aren't met, if it has some. Answers
+/// the exit status.
 pub fn reported<Rt: Eprint>(rt: &Rt, outcome: &Result<Ending, ServeError>) -> u8
     ensures { result ≡ status_of outcome.now }
 {
-    if let Err(fault) = outcome {
-        report_alone(rt, fault);
+    match outcome {
+        Err(fault) => report_alone(rt, fault),
+        Ok(Ending::Failed(unmet)) => {
+            let _ = eprintln!(rt; "ga-bench: {unmet}");
+        }
+        Ok(_) => {}
     }
     status(outcome)
 }

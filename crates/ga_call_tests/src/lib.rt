@@ -8,6 +8,8 @@
 #[cfg(test)]
 mod boots;
 #[cfg(test)]
+mod equal_frames;
+#[cfg(test)]
 mod frames;
 #[cfg(test)]
 mod gates;

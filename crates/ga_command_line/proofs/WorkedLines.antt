@@ -40,21 +40,22 @@ lint_line = (refl, (refl, (refl, refl, refl)), tt)
 
 check_line : (files : Vec (String Global) Global)
     → map string_bytes files.items ≡ codes "ring" ∷ codes "sum" ∷ []
-    → IsRight (codes "ga-bench" ∷ codes "check" ∷ codes "ring" ∷ codes "sum" ∷ []) (Check files)
+    → IsRight (codes "ga-bench" ∷ codes "check" ∷ codes "ring" ∷ codes "sum" ∷ [])
+    (Check files false)
 unfolding whole_command clap_on_literals
-check_line files is = (refl, (refl, is), tt)
+check_line files is = (refl, (refl, (is, refl)), tt)
 
-record_line : IsRight (codes "ga-bench" ∷ codes "record" ∷ []) (Record None)
+record_line : IsRight (codes "ga-bench" ∷ codes "record" ∷ []) (Record None false)
 unfolding whole_command clap_on_literals
-record_line = (refl, (refl, (refl, refl)), tt)
+record_line = (refl, (refl, (refl, refl, refl)), tt)
 
 rewrite_line : (files : Vec (String Global) Global)
     → map string_bytes files.items ≡ codes "ring" ∷ codes "sum" ∷ [] → 0 < length files.items
     → IsRight
     (codes "ga-bench" ∷ codes "record" ∷ codes "--write" ∷ codes "ring" ∷ codes "sum" ∷ [])
-    (Rewrite files)
+    (Rewrite files false)
 unfolding whole_command clap_on_literals
-rewrite_line files is some = (refl, (refl, (refl, is, some)), tt)
+rewrite_line files is some = (refl, (refl, (refl, is, some, refl)), tt)
 
 names_line : IsRight (codes "ga-bench" ∷ codes "explain" ∷ []) (Explain None)
 unfolding whole_command clap_on_literals

@@ -75,7 +75,7 @@ job_name (Dis code file) = codes "dis"
 job_name (Boot route file) = codes "boot"
 job_name (Run route workers turns file) = codes "run"
 job_name Debug = codes "debug"
-job_name (Talk loading file) = codes "debug"
+job_name (Talk loading file any) = codes "debug"
 job_name (Replay file) = codes "replay"
 job_name (job.Expand file) = codes "expand"
 job_name (job.List labels file) = codes "list"
@@ -86,9 +86,9 @@ job_name (job.Profile loading start json turns file) = codes "profile"
 job_name (job.Trace loading turns nodes save file) = codes "trace"
 job_name (job.Counts loading turns file) = codes "list"
 job_name (job.Report loading start turns file) = codes "report"
-job_name (job.Check files) = codes "check"
-job_name (job.Record file) = codes "record"
-job_name (job.Rewrite files) = codes "record"
+job_name (job.Check files any) = codes "check"
+job_name (job.Record file any) = codes "record"
+job_name (job.Rewrite files any) = codes "record"
 job_name (Explain topic) = codes "explain"
 
 -- the arguments that a job is asked for by
@@ -104,8 +104,9 @@ HasArguments rows (Run route workers turns file) =
     IsRouteAt rows (string_bytes route) × IsNumberAt (codes "WORKERS") rows workers
     × IsNumberAt (codes "TURNS") rows turns × IsFileAt rows (option_map string_bytes file)
 HasArguments rows Debug = IsLoadingAt rows Any × IsFileAt rows None
-HasArguments rows (Talk loading file) =
+HasArguments rows (Talk loading file any) =
     IsLoadingAt rows loading × IsFileAt rows (Some (string_bytes file))
+    × (any ≡ is_set (codes "ANY") rows)
 HasArguments rows (Replay file) = IsFileAt rows (option_map string_bytes file)
 HasArguments rows (job.Expand file) = IsFileAt rows (option_map string_bytes file)
 HasArguments rows (job.List labels file) =
@@ -135,13 +136,15 @@ HasArguments rows (job.Trace loading turns nodes save file) =
 HasArguments rows (job.Report loading start turns file) =
     IsLoadingAt rows loading × IsNumberIfAt (codes "N") rows turns × IsStartAt rows start
     × IsFileAt rows (option_map string_bytes file)
-HasArguments rows (job.Check files) = map string_bytes files.items ≡ files_at rows
-HasArguments rows (job.Record file) =
+HasArguments rows (job.Check files any) =
+    (map string_bytes files.items ≡ files_at rows) × (any ≡ is_set (codes "ANY") rows)
+HasArguments rows (job.Record file any) =
     (is_set (codes "WRITE") rows ≡ false)
     × (files_at rows ≡ option_map_or (λ name. name ∷ []) (option_map string_bytes file) [])
-HasArguments rows (job.Rewrite files) =
+    × (any ≡ is_set (codes "ANY") rows)
+HasArguments rows (job.Rewrite files any) =
     (is_set (codes "WRITE") rows ≡ true) × (map string_bytes files.items ≡ files_at rows)
-    × (0 < length files.items)
+    × (0 < length files.items) × (any ≡ is_set (codes "ANY") rows)
 HasArguments rows (Explain topic) = IsTopicAt rows topic
 
 -- the numbers of a job lie in their ranges, and its topic is one of the table

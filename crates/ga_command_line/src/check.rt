@@ -1,10 +1,11 @@
 ghost use Rattle.std.specs.Prelude.{IfOk, codes};
 ghost use Rattle.clap.specs.Words.{found_of, rows_of};
 ghost use Rattle.ga_command_line.specs.CommandLine.{AsksFor, InRange};
-ghost use Rattle.ga_command_line.specs.File.{files_command};
+ghost use Rattle.ga_command_line.specs.File.{files_command, sourced_command};
 ghost use Rattle.ga_command_line.specs.inner.Command.{IsCommandOf};
 
-use crate::files::files_in;
+use crate::files::{ANY_SOURCE, files_in};
+use crate::flag::flag_in;
 use clap::{Arg, ArgAction, ArgMatches, Command};
 use ga_jobs::Job;
 use std::alloc::{AllocError, Global};
@@ -13,9 +14,11 @@ const HELP: &str = "\
 Reads a transcript from FILE, or from standard input if FILE is left out or is -: a text as debug reads
 it up to the line 'go', and then commands and their replies. A line that begins with '> ' is a command,
 and the lines behind it are its reply. A line that begins with '\\ ' is a comment.
-In a FILE the source text may be one line 'source NAME', which names a file beside it.
+In a FILE the source text may be one line 'source NAME', which names a file beside it or in a folder below;
+with --any-source it may lie anywhere.
 Writes 'same' and the number of commands if each has the reply in the text. If not, it reports the line
-of the first command that differs, the expected lines with '-', and the actual lines with '+'.
+of the first command that differs, the expected lines with '-', and the actual lines with '+'. If none
+differs, a reply 'expected ..' fails, too.
 With two or more FILEs it checks each, and names it: it reports all commands that differ, with at most
 ten lines of each reply, and then writes the numbers of files that passed and failed. The exit status is
 1 if one failed.
@@ -26,7 +29,7 @@ hex digits, LABEL of its node, or LABEL+N.
 Example: printf 'profile 2\\nplace\\nnode 000 .\\ngo\\n> turn 4\\nmoved 4\\n' | ga-bench check
 More: Transcripts in docs/FORMATS.md";
 
-/// The subcommand `check [FILE]..`.
+/// The subcommand `check [--any-source] [FILE]..`.
 #[tactic(auto, unfolding(crate::specs::File::files_command))]
 pub fn command<'a>(alloc: Global) -> Result<Command<'a>, AllocError>
     ensures { IfOk result (IsCommandOf (files_command (codes "check"))) }
@@ -34,10 +37,23 @@ pub fn command<'a>(alloc: Global) -> Result<Command<'a>, AllocError>
     let files = Arg::new(alloc, "FILE")
         .action(ArgAction::Append)
         .help("The transcripts; standard input by default or for -");
-    Command::new(alloc, "check")
+    let command = sourced_command(alloc)?;
+    command.arg(files)
+}
+
+/// The subcommand without FILE.
+#[tactic(auto, unfolding(crate::specs::File::sourced_command))]
+fn sourced_command<'a>(alloc: Global) -> Result<Command<'a>, AllocError>
+    ensures { IfOk result (IsCommandOf (sourced_command (codes "check"))) }
+{
+    let any_source = Arg::new(alloc, "ANY")
+        .long("any-source")
+        .action(ArgAction::SetTrue)
+        .help(ANY_SOURCE);
+    let command = Command::new(alloc, "check")
         .about("Runs the commands of a transcript, and compares the replies with those in it")
-        .after_help(HELP)
-        .arg(files)
+        .after_help(HELP);
+    command.arg(any_source)
 }
 
 /// The job for the arguments of `check`.
@@ -46,5 +62,6 @@ pub fn job_of(alloc: Global, found: &ArgMatches<'_>) -> Result<Job, AllocError>
     ensures asked { IfOk result (AsksFor (codes "check", rows_of (found_of found.now))) }
 {
     let files = files_in(alloc, found)?;
-    Ok(Job::Check { files })
+    let any_source = flag_in(found, "ANY");
+    Ok(Job::Check { files, any_source })
 }

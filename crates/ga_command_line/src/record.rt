@@ -1,11 +1,11 @@
 ghost use Rattle.std.specs.Prelude.{◌≡◌, IfErr, IfOk, codes};
 ghost use Rattle.clap.specs.Words.{found_of, rows_of};
 ghost use Rattle.ga_command_line.specs.CommandLine.{AsksFor, InRange};
-ghost use Rattle.ga_command_line.specs.File.{writing_command};
+ghost use Rattle.ga_command_line.specs.File.{sourced_command, writing_command, written_command};
 ghost use Rattle.ga_command_line.specs.inner.Command.{IsCommandOf};
 
 use crate::command_line::{LineError, refusal};
-use crate::files::files_in;
+use crate::files::{ANY_SOURCE, files_in};
 use crate::flag::flag_in;
 use clap::error::ErrorKind;
 use clap::{Arg, ArgAction, ArgMatches, Command};
@@ -17,27 +17,49 @@ Reads a transcript, as check does, and writes it with the actual replies in plac
 commands, each behind '> ', record them, read the replies, and keep the output as a test for check.
 In a FILE the source text may be one line 'source NAME', as for check; the recording keeps that line.
 With --write each FILE is replaced by its recording, in one step, or left as it is.
+The exit status is 1 if a reply is 'expected ..'; it is recorded all the same.
 
 Example: printf 'profile 2\\nplace\\nnode 000 .\\ngo\\n> turn 4\\n' | ga-bench record
 More: Transcripts in docs/FORMATS.md";
 
-/// The subcommand `record [--write] [FILE]..`.
+/// The subcommand `record [--write] [--any-source] [FILE]..`.
 #[tactic(auto, unfolding(crate::specs::File::writing_command))]
 pub fn command<'a>(alloc: Global) -> Result<Command<'a>, AllocError>
     ensures { IfOk result (IsCommandOf (writing_command (codes "record"))) }
+{
+    let files = Arg::new(alloc, "FILE").action(ArgAction::Append).help(
+        "The transcript; without --write standard input by default or if it is -",
+    );
+    let command = written_command(alloc)?;
+    command.arg(files)
+}
+
+/// The subcommand without FILE.
+#[tactic(auto, unfolding(crate::specs::File::written_command))]
+fn written_command<'a>(alloc: Global) -> Result<Command<'a>, AllocError>
+    ensures { IfOk result (IsCommandOf (written_command (codes "record"))) }
 {
     let write = Arg::new(alloc, "WRITE")
         .long("write")
         .action(ArgAction::SetTrue)
         .help("Replaces each FILE by its recording");
-    let files = Arg::new(alloc, "FILE").action(ArgAction::Append).help(
-        "The transcript; without --write standard input by default or if it is -",
-    );
+    let command = sourced_command(alloc)?;
+    command.arg(write)
+}
+
+/// The subcommand without `--write` and FILE.
+#[tactic(auto, unfolding(crate::specs::File::sourced_command))]
+fn sourced_command<'a>(alloc: Global) -> Result<Command<'a>, AllocError>
+    ensures { IfOk result (IsCommandOf (sourced_command (codes "record"))) }
+{
+    let any_source = Arg::new(alloc, "ANY")
+        .long("any-source")
+        .action(ArgAction::SetTrue)
+        .help(ANY_SOURCE);
     let command = Command::new(alloc, "record")
         .about("Runs the commands of a transcript, and writes it with their replies")
-        .after_help(HELP)
-        .arg(write)?;
-    command.arg(files)
+        .after_help(HELP);
+    command.arg(any_source)
 }
 
 /// The job for the arguments of `record`.
@@ -49,6 +71,7 @@ pub fn job_of(alloc: Global, found: &ArgMatches<'_>) -> Result<Job, LineError>
         → error ≡ LineError.Memory) }
 {
     let mut files = files_in(alloc, found)?;
+    let any_source = flag_in(found, "ANY");
     if flag_in(found, "WRITE") {
         return match files.len() {
             0 => Err(refusal(
@@ -56,11 +79,14 @@ pub fn job_of(alloc: Global, found: &ArgMatches<'_>) -> Result<Job, LineError>
                 ErrorKind::MissingRequiredArgument,
                 "--write needs a FILE",
             )),
-            _ => Ok(Job::Rewrite { files }),
+            _ => Ok(Job::Rewrite { files, any_source }),
         };
     }
     match files.len() {
-        0 | 1 => Ok(Job::Record { file: files.pop() }),
+        0 | 1 => Ok(Job::Record {
+            file: files.pop(),
+            any_source,
+        }),
         _ => Err(refusal(
             alloc,
             ErrorKind::TooManyValues,

@@ -415,19 +415,19 @@ pub(crate) fn show(
     let node = given.node;
     let images = images_of(program);
     let mut text = match view {
-        View::Regs => chip.state(node).line(alloc)?,
-        View::Mem => memory_shown(alloc, chip.state(node), given.address, given.count)?,
-        View::Ports => ledger_text(alloc, chip, node)?,
-        View::Node => node_text(alloc, chip.state(node))?,
-        View::Code => code_text(alloc, chip.state(node), images, given.from)?,
-        View::Sides => sides_text(alloc, chip, node)?,
-        View::Depth => depth_shown(alloc, chip, program, node)?,
-        View::Expect => expected_text(alloc, chip, node, given.what, &given.values)?,
-        View::Breaks => breaks_text(alloc, chip, images)?,
-        View::Where => waits(alloc, chip, images)?,
-        View::Nodes => nodes(alloc, chip, images)?,
-        View::Map => map(alloc, chip, images)?,
-    };
+        View::Regs => chip.state(node).line(alloc),
+        View::Mem => memory_shown(alloc, chip.state(node), given.address, given.count),
+        View::Ports => ledger_text(alloc, chip, node),
+        View::Node => node_text(alloc, chip.state(node)),
+        View::Code => code_text(alloc, chip.state(node), images, given.from),
+        View::Sides => sides_text(alloc, chip, node),
+        View::Depth => depth_shown(alloc, chip, program, node),
+        View::Expect => expected_text(alloc, chip, node, given.what, &given.values),
+        View::Breaks => breaks_text(alloc, chip, images),
+        View::Where => waits(alloc, chip, images),
+        View::Nodes => nodes(alloc, chip, images),
+        View::Map => map(alloc, chip, images),
+    }?;
     drop_line_end(&mut text);
     Ok(text)
 }

@@ -14,7 +14,7 @@ use Rattle.ga_expand.specs.declared.piece.Piece as written
 use Rattle.ga_pack.specs.Model.Text.{Place}
 use Rattle.ga_expand.specs.declared.error.ExpandErrorKind.TheVariants.{TooLarge}
 use Rattle.ga_expand.specs.Error.{Fault}
-use Rattle.ga_expand.specs.Bodies.{Arguments, Draft, Part, Reading, SharedBody, Tokens, Unfolding, begun, behind, behind_all, body_named, failed, filled, missing, unless_ended, use_of, used, with_parts}
+use Rattle.ga_expand.specs.Bodies.{Arguments, Draft, Part, Reading, SharedBody, Tokens, Unfolding, begun, behind, behind_all, body_named, failed, filled, missing, use_of, used, with_parts}
 use Rattle.ga_expand.specs.Constants.{is_among}
 use Rattle.ga_expand.specs.Expanding.{Body, Piece, Stage}
 use Rattle.ga_expand.specs.inner.Bodies.{body_in, filled_in, part_in, texts_in}
@@ -256,11 +256,9 @@ begun_by now next place one parts arguments left less same none =
     (record now { left = now.left - length (map part_in one.parts.items) }) place one.arity
     (map part_in one.parts.items) (map part_in ps)) none
 
--- ---- the end of a body
+-- ---- arguments
 
-pub uncut : {X : Type 0} (f : X → Draft) (o : Option X) (draft : Option Draft) (place : Place)
-    (next : Result Unfolding Fault) → option_map f o ≡ draft → is_some o ≡ false
-    → unless_ended draft place next ≡ next
-uncut f None draft place next e some =
-    ap (λ (d : Option Draft). unless_ended d place next) (sym e)
-uncut f (Some x) draft place next e some = absurd (cc)
+pub argument_taken : (b : Bool) (next other : Result Unfolding Fault) → b ≡ true
+    → (if b then next else other) ≡ next
+argument_taken true next other e = refl
+argument_taken false next other e = absurd (cc)

@@ -3,12 +3,11 @@ use Rattle.std.proofs.Common.{◌≡◌, ◌∙◌, ◌/◌, ◌%◌, ℕ, Bool,
 use Rattle.std.specs.Prelude.{◌==◌, ◌&&◌, ◌^◌, codes, nat_le, nat_lt, if◌then◌else◌}
 use Rattle.std.specs.Char.{is_digit}
 use Rattle.std.specs.List.{find, list_all, list_any}
-use Rattle.std.specs.Option.{option_map, option_map_or, option_or, unwrap_or}
+use Rattle.std.specs.Option.{is_some, option_map, option_map_or, option_or, unwrap_or}
 use Rattle.std.specs.Str.{bytes_eq}
 use Rattle.std.specs.Str.Parse.{digits_value}
 use Rattle.std.proofs.lemmas.Bool.{and_from, and_parts, not-true}
 use Rattle.std.proofs.lemmas.Bool.Decides.{nat_tests}
-use Rattle.std.proofs.lemmas.List.{map-append}
 use Rattle.std.proofs.lemmas.List.Folds.{list_all-append}
 use Rattle.std.proofs.lemmas.Slice.Eq.{bytes_eq-Decides}
 use Rattle.ga_word.specs.Op.{name_of, opcodes, takes_dest}
@@ -24,7 +23,7 @@ use Rattle.ga_pack.specs.Slots.{dest_bound, op_fits}
 use Rattle.ga_place.specs.Node.{node_named}
 use Rattle.ga_pack.specs.Model.Token as model
 use Rattle.ga_pack.specs.Model.Token.{Token, as_fixed, as_hex, as_label, as_name, as_node, as_op, fixed, is_letter, is_letter_or_digit, is_name, is_node, is_reserved, label_from, meaning_at, meaning_of, meanings, number_named}
-use Rattle.ga_expand.specs.Constants.{Constants, constant_named}
+use Rattle.ga_expand.specs.Constants.{Constants, constant_named, is_taken_label, label_defined}
 use Rattle.ga_expand.specs.Expanding.{Body, Head, Naming, NodeName, Piece, Scope, Stage, Towards, Value, Valuing, expansion_from, further, is_ascii, is_const, is_to, item_at, label_in, number_text, onto, piece_at, pieces_of, same_or, stage_by, start, step_at, word_at, word_of, word_step}
 use Rattle.ga_expand.specs.Bodies as bodies
 use Rattle.ga_expand.specs.Bodies.{Tokens, Unfolding, first, is_body, is_use, read_at, unfolded, unfolded_from}
@@ -425,6 +424,15 @@ no_address (c ∷ cs) good = by (c == 38) refl
         ap (λ (d : ℕ). is_bad (meaning_of (d ∷ cs))) (eqb-true c 38 is) ∙ malformed cs in
         absurd (cc)
 
+-- no constant is defined, so none has the name of a label
+no_taken_label : (text : List ℕ) → is_taken_label [] text ≡ false
+no_taken_label text = by (label_defined text)
+  where
+    by : (o : Option (List ℕ))
+        → option_map_or (λ name. is_some (constant_named [] name)) o false ≡ false
+    by None = refl
+    by (Some name) = ap is_some (none_named name)
+
 name_is_good : (t : Token) → is_node_name t ≡ true → (is_bad t ≡ false) × (is_node t ≡ false)
 name_is_good (model.node_name n) e = (refl, refl)
 name_is_good (model.bad k) e = absurd (cc)
@@ -502,7 +510,7 @@ pieces_stay at Body (piece ∷ pieces) h =
     let two = and_parts (not (is_name_token t) && not (is_bad t))
     (all_placed (stage_by t) (meanings (is_node t) (texts_in pieces))) h in
     let one = and_parts (not (is_name_token t)) (not (is_bad t)) two.0 in
-    rw (no_address piece.text (not-true (is_bad t) one.1))
+    rw (no_taken_label piece.text, no_address piece.text (not-true (is_bad t) one.1))
     (item_stay at piece pieces (not-true (is_name_token t) one.0) (not-true (is_bad t) one.1)
     two.1 (pieces_stay at (stage_by t) pieces))
 pieces_stay at Value (piece ∷ pieces) h =

@@ -23,7 +23,7 @@ use Rattle.ga_expand.specs.declared.error.ExpandError.{ExpandError}
 use Rattle.ga_expand.specs.declared.expander.Expander.{Expander}
 use Rattle.ga_expand.specs.declared.expansion.Expansion.{Expansion}
 use Rattle.ga_expand.specs.Error.{Fault, fault_of}
-use Rattle.ga_expand.specs.Constants.{Constants, constant_named, is_kept, number_of}
+use Rattle.ga_expand.specs.Constants.{Constants, constant_named, is_kept, is_taken_label, number_of}
 use Rattle.ga_expand.specs.Expression.{value_of}
 use Rattle.ga_expand.specs.Expanding.{Body, Head, Naming, NodeName, Piece, Scope, Stage, Step, Towards, Value, Valuing, address_texts, addressed, all_at, directed, ended, expansion_from, further, in_node, is_ascii, is_const, is_to, item_at, label_in, number_step, number_text, onto, plain_at, same_or, silent, stage_by, start, step_at, valued, with_constant, with_stage, word_at, word_by, word_of, word_step}
 use Rattle.ga_expand.specs.Places.{direction_named, port_named, port_towards}
@@ -289,6 +289,14 @@ sound_addressed scope piece made (Some label) some is e =
       fresh = tt;
     })
 
+sound_item_token : (scope : Scope) (piece : Piece) (made : Step) (b : Bool)
+    → is_token piece.text ≡ true
+    → (if b then Err DuplicateName else addressed scope piece (label_in piece.text)) ≡ Ok made
+    → Sound made
+sound_item_token scope piece made true is e = absurd (cc)
+sound_item_token scope piece made false is e =
+    sound_addressed scope piece made (label_in piece.text) refl is e
+
 sound_step : (scope : Scope) (piece : Piece) (stage : Stage) (made : Step)
     → is_token piece.text ≡ true → step_at scope piece stage ≡ Ok made → Sound made
 unfolding step_at
@@ -298,7 +306,7 @@ sound_step scope piece (Naming place) made is e =
 sound_step scope piece (Valuing name place) made is e =
     sound_valued scope name (value_of scope.constants piece.text) made e
 sound_step scope piece Body made is e =
-    sound_addressed scope piece made (label_in piece.text) refl is e
+    sound_item_token scope piece made (is_taken_label scope.constants piece.text) is e
 sound_step scope piece NodeName made is e =
     sound_at (in_node scope (node_named piece.text)) piece made tt is e
 sound_step scope piece Value made is e = sound_plain scope piece made is e

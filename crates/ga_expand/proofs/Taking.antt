@@ -1,14 +1,15 @@
 -- What the tokens of a definition change.
 use Rattle.std.proofs.Common.{◌≡◌, ◌∙◌, ℕ, Bool, true, false, List, [], ◌++◌, Option, Some, None, refl, sym, ap, subst, append-nil, ◌∷◌}
-use Rattle.std.specs.Prelude.{Ok, if◌then◌else◌}
+use Rattle.std.specs.Prelude.{Err, Ok, if◌then◌else◌}
 use Rattle.std.specs.Option.{is_some}
 use Rattle.std.proofs.lemmas.Bool.{and_parts}
 use Rattle.ga_pack.specs.Model.Text.{Place}
 use Rattle.ga_pack.specs.Model.Token.{is_name}
+use Rattle.ga_expand.specs.declared.error.ExpandErrorKind.TheVariants.{DuplicateName}
 use Rattle.ga_expand.specs.declared.expander.Expander.{Expander}
 use Rattle.ga_expand.specs.declared.writing.Writer.{Writer}
-use Rattle.ga_expand.specs.Constants.{is_kept, number_of}
-use Rattle.ga_expand.specs.Expanding.{Head, Naming, Piece, Scope, Step, Valuing, Towards, is_const, is_to, item_at, named, plain_at, silent, step_at, with_stage, word_at, word_of, word_step}
+use Rattle.ga_expand.specs.Constants.{is_kept, is_taken_label, number_of}
+use Rattle.ga_expand.specs.Expanding.{Body, Head, Naming, Piece, Scope, Step, Valuing, Towards, addressed, is_const, is_to, item_at, label_in, named, plain_at, silent, step_at, with_stage, word_at, word_of, word_step}
 use Rattle.ga_expand.specs.inner.Plain.{is_written}
 use Rattle.ga_expand.specs.inner.Scope.{HasMade, HasWritten, scope_of}
 use Rattle.ga_expand.specs.inner.Writing.{Written}
@@ -45,6 +46,18 @@ pub begins_none : (scope : Scope) (piece : Piece) → is_const piece.text ≡ fa
     → step_at scope piece Head ≡ plain_at scope piece
 unfolding step_at
 begins_none scope piece e = rw e refl
+
+pub taken_label : (scope : Scope) (piece : Piece)
+    → is_taken_label scope.constants piece.text ≡ true
+    → step_at scope piece Body ≡ Err DuplicateName
+unfolding step_at
+taken_label scope piece e = rw e refl
+
+pub free_label : (scope : Scope) (piece : Piece)
+    → is_taken_label scope.constants piece.text ≡ false
+    → step_at scope piece Body ≡ addressed scope piece (label_in piece.text)
+unfolding step_at
+free_label scope piece e = rw e refl
 
 -- a token is written, and then the scope changes
 pub word_taken : (before after : Expander) (piece : Piece) (next : Scope)

@@ -1,10 +1,9 @@
 -- Tokens that stay as they are: those without shared bodies, and those without lists of nodes.
-use Rattle.std.proofs.Common.{◌≡◌, ◌∙◌, ℕ, Bool, true, false, not, List, [], ◌∷◌, ◌++◌, map, refl, sym, ap, append-nil, append_assoc, Ok, None}
+use Rattle.std.proofs.Common.{◌≡◌, ◌∙◌, ℕ, Bool, true, false, not, List, [], ◌∷◌, ◌++◌, refl, sym, ap, append-nil, append_assoc, Ok}
 use Rattle.std.specs.Prelude.{◌||◌, codes, if◌then◌else◌}
 use Rattle.std.specs.List.{list_all}
 use Rattle.std.specs.Str.{bytes_eq}
 use Rattle.std.proofs.lemmas.Bool.{and_parts}
-use Rattle.std.proofs.lemmas.List.{map-append}
 use Rattle.ga_expand.specs.Bodies.{ConstantName, ConstantValue, Definitions, Reading, Tokens, Unfolding, behind, first, is_body, is_use, most_unfolded, read_at, unfolded, unfolded_from}
 use Rattle.ga_expand.specs.Expanding.{Body, Piece, Stage, is_const}
 use Rattle.ga_expand.specs.NodeLists.{NoList, NodeNext, Section, Spreading, begins_section, in_section, is_list, spread, spread_from, with_piece}

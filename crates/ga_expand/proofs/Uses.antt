@@ -1,5 +1,5 @@
 -- What a `use` stands for is added to the body that is being defined, or else to the text.
-use Rattle.std.proofs.Common.{◌≡◌, ◌∙◌, ◌++◌, Bool, true, false, List, Option, Some, None, Result, Ok, Err, map, refl, ap, subst}
+use Rattle.std.proofs.Common.{◌≡◌, ◌∙◌, ◌++◌, true, false, List, Option, Some, None, Result, Ok, Err, map, refl, ap}
 use Rattle.std.specs.Prelude.{IfOk, OnOk, option_map}
 use Rattle.std.specs.Option.{is_some}
 use Rattle.ga_expand.specs.Bodies.{Draft, behind_all, used}

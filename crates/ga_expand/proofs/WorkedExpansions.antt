@@ -7,9 +7,9 @@ use Rattle.ga_pack.specs.Model.Text.{lexemes}
 use Rattle.ga_pack.specs.Model.Token.{is_reserved, meaning_of}
 use Rattle.ga_place.specs.Side.{North}
 use Rattle.ga_expand.specs.declared.error.ExpandErrorKind.{ExpandErrorKind}
-use Rattle.ga_expand.specs.declared.error.ExpandErrorKind.TheVariants.{BadNode, BadToken, DuplicateName, NoNeighbour, NumberRange, OpenDefinition, ReservedName, TooLarge, UnknownBody}
+use Rattle.ga_expand.specs.declared.error.ExpandErrorKind.TheVariants.{BadNode, BadToken, DuplicateName, MixedSides, NoNeighbour, NumberRange, OpenDefinition, ReservedName, TooLarge, UnknownBody}
 use Rattle.ga_expand.specs.Constants.{Constants}
-use Rattle.ga_expand.specs.Expression.{inside, left_of, made_by, parted, right_of, value_of}
+use Rattle.ga_expand.specs.Expression.{inside, left_of, made_by, operand_in, parted, right_of, value_of}
 use Rattle.ga_expand.specs.Error.{Fault}
 use Rattle.ga_expand.specs.Expanding.{Piece, expansion_from, pieces_of, step_at, word_of}
 use Rattle.ga_expand.specs.Bodies.{Part, SharedBody, Unfolding, first, name_error, read_at, unfolded_from, use_of}
@@ -66,37 +66,71 @@ some_constants = (codes "SIZE", 8) ∷ (codes "M", 0x3FFFF) ∷ []
 
 -- `*` binds before `+`, and operators that bind alike go from left to right
 products_first : ◌≡◌ {A = Value} (value_of some_constants (codes "1+SIZE*2-3-4")) (Ok 10)
-unfolding value_of literal_of parted inside left_of right_of made_by
+unfolding value_of operand_in literal_of parted inside left_of right_of made_by
 products_first = refl
 
 in_parentheses : ◌≡◌ {A = Value} (value_of [] (codes "(1+2)*(3+4)")) (Ok 21)
-unfolding value_of literal_of parted inside left_of right_of made_by
+unfolding value_of operand_in literal_of parted inside left_of right_of made_by
 in_parentheses = refl
 
 shifts_and_masks : ◌≡◌ {A = Value} (value_of some_constants (codes "1<<SIZE|$F0&M>>4")) (Ok 0x1F0)
-unfolding value_of literal_of parted inside left_of right_of made_by
+unfolding value_of operand_in literal_of parted inside left_of right_of made_by
 shifts_and_masks = refl
 
 -- signs between quotes, and a sign without an operand in front of it, are no operators
 quoted_sign : ◌≡◌ {A = Value} (value_of [] (codes "'+'+'('*-131072")) (Err NumberRange)
-unfolding value_of literal_of parted inside left_of right_of made_by
+unfolding value_of operand_in literal_of parted inside left_of right_of made_by
 quoted_sign = refl
 
 less_than_none : ◌≡◌ {A = Value} (value_of some_constants (codes "5-SIZE")) (Ok 0x3FFFD)
-unfolding value_of literal_of parted inside left_of right_of made_by
+unfolding value_of operand_in literal_of parted inside left_of right_of made_by
 less_than_none = refl
 
 over_a_word : ◌≡◌ {A = Value} (value_of some_constants (codes "M+1")) (Err NumberRange)
-unfolding value_of literal_of parted inside left_of right_of made_by
+unfolding value_of operand_in literal_of parted inside left_of right_of made_by
 over_a_word = refl
 
 no_operand : ◌≡◌ {A = Value} (value_of [] (codes "5+")) (Err BadToken)
-unfolding value_of literal_of parted inside left_of right_of made_by
+unfolding value_of operand_in literal_of parted inside left_of right_of made_by
 no_operand = refl
 
 not_closed : ◌≡◌ {A = Value} (value_of [] (codes "(5+6")) (Err BadToken)
-unfolding value_of literal_of parted inside left_of right_of made_by
+unfolding value_of operand_in literal_of parted inside left_of right_of made_by
 not_closed = refl
+
+-- ---- `|` and sides
+
+abbrev some_sides : Constants
+some_sides = (codes "P", 0x1D5) ∷ (codes "RL", 0x1F5) ∷ (codes "MASK", 0x111) ∷ []
+
+constant_and_side : ◌≡◌ {A = Value} (value_of some_sides (codes "P|down")) (Ok 0x195)
+unfolding value_of operand_in literal_of parted inside left_of right_of made_by
+constant_and_side = refl
+
+several_and_side : ◌≡◌ {A = Value} (value_of some_sides (codes "RL|up")) (Ok 0x1E5)
+unfolding value_of operand_in literal_of parted inside left_of right_of made_by
+several_and_side = refl
+
+sides_in_parentheses : ◌≡◌ {A = Value} (value_of [] (codes "(right|left)|rdlu")) (Ok 0x1A5)
+unfolding value_of operand_in literal_of parted inside left_of right_of made_by
+sides_in_parentheses = refl
+
+number_in_front : ◌≡◌ {A = Value} (value_of [] (codes "5|right|down")) (Err MixedSides)
+unfolding value_of operand_in literal_of parted inside left_of right_of made_by
+number_in_front = refl
+
+number_behind : ◌≡◌ {A = Value} (value_of some_sides (codes "P|MASK")) (Err MixedSides)
+unfolding value_of operand_in literal_of parted inside left_of right_of made_by
+number_behind = refl
+
+-- a number in digits, or one that another operator makes, is no address of ports
+digits : ◌≡◌ {A = Value} (value_of [] (codes "$115|$145")) (Ok 0x155)
+unfolding value_of operand_in literal_of parted inside left_of right_of made_by
+digits = refl
+
+computed : ◌≡◌ {A = Value} (value_of some_sides (codes "P+0|down")) (Err MixedSides)
+unfolding value_of operand_in literal_of parted inside left_of right_of made_by
+computed = refl
 
 -- ---- ports: east is right in even columns, north is down in even rows
 
@@ -140,7 +174,7 @@ constant_and_neighbour : ◌≡◌ {A = Expansion} (expansion (codes "const A 'A
     (Ok (at (codes "node") 1 13 ∷ at (codes "708") 1 18 ∷ at (codes "$00041") 1 22
     ∷ at (codes "$001D5") 1 24 ∷ at (codes "b!") 1 31 ∷ []))
 unfolding expansion unfolded_from read_at spread_from expansion_from pieces_of lexemes step_at
-    word_of literal_of value_of parted inside meaning_of is_reserved hex_digits at
+    word_of literal_of value_of operand_in parted inside meaning_of is_reserved hex_digits at
 constant_and_neighbour = refl
 
 -- behind an opcode that takes a destination, and behind `,`, `to` and `east` are names of labels
@@ -155,7 +189,7 @@ labels_stay = refl
 open_definition : ◌≡◌ {A = Expansion} (expansion (codes "const A 1 const B"))
     (failed OpenDefinition 1 11)
 unfolding expansion unfolded_from read_at spread_from expansion_from pieces_of lexemes step_at
-    literal_of value_of parted inside is_reserved meaning_of failed
+    literal_of value_of operand_in parted inside is_reserved meaning_of failed
 open_definition = refl
 
 reserved_name : ◌≡◌ {A = Expansion} (expansion (codes "const dup 1")) (failed ReservedName 1 7)
@@ -166,12 +200,18 @@ reserved_name = refl
 duplicate_name : ◌≡◌ {A = Expansion} (expansion (codes "const A 1 const A 2"))
     (failed DuplicateName 1 17)
 unfolding expansion unfolded_from read_at spread_from expansion_from pieces_of lexemes step_at
-    literal_of value_of parted inside is_reserved meaning_of failed
+    literal_of value_of operand_in parted inside is_reserved meaning_of failed
 duplicate_name = refl
+
+label_of_a_constant : ◌≡◌ {A = Expansion} (expansion (codes "const A 1 node 708 A: dup"))
+    (failed DuplicateName 1 20)
+unfolding expansion unfolded_from read_at spread_from expansion_from pieces_of lexemes step_at
+    word_of literal_of value_of operand_in parted inside is_reserved meaning_of failed
+label_of_a_constant = refl
 
 no_value : ◌≡◌ {A = Expansion} (expansion (codes "const A B")) (failed BadToken 1 9)
 unfolding expansion unfolded_from read_at spread_from expansion_from pieces_of lexemes step_at
-    literal_of value_of parted inside is_reserved meaning_of failed
+    literal_of value_of operand_in parted inside is_reserved meaning_of failed
 no_value = refl
 
 no_neighbour : ◌≡◌ {A = Expansion} (expansion (codes "node 708 dup to 710"))
@@ -233,6 +273,17 @@ open_use : ◌≡◌ {A = Expansion} (expansion (codes "body A X\nX end node 708
     (failed OpenDefinition 2 16)
 unfolding expansion unfolded_from read_at pieces_of lexemes meaning_of is_reserved failed
 open_use = refl
+
+-- an argument is on the line of its `use`, and no word with which another part begins
+argument_on_the_next_line : ◌≡◌ {A = Expansion}
+    (expansion (codes "body A X\nX end node 708 use A\n5")) (failed OpenDefinition 2 16)
+unfolding expansion unfolded_from read_at pieces_of lexemes meaning_of is_reserved failed
+argument_on_the_next_line = refl
+
+node_for_an_argument : ◌≡◌ {A = Expansion}
+    (expansion (codes "body A X\nX end node 708 use A node 709 5")) (failed OpenDefinition 2 16)
+unfolding expansion unfolded_from read_at pieces_of lexemes meaning_of is_reserved failed
+node_for_an_argument = refl
 
 -- `end` is no argument
 cut_use : ◌≡◌ {A = Expansion} (expansion (codes "body A X\nX end body B\nuse A end"))
@@ -322,7 +373,7 @@ address_of_a_label : ◌≡◌ {A = Expansion} (expansion (codes "const A 1 node
     ∷ at (codes "@p") 1 20 ∷ at (codes ".") 1 20 ∷ at (codes ".") 1 20 ∷ at (codes ".") 1 20
     ∷ at (codes "]") 1 20 ∷ at (codes ",") 1 20 ∷ at (codes "A") 1 20 ∷ []))
 unfolding expansion unfolded_from read_at spread_from expansion_from pieces_of lexemes step_at
-    word_of literal_of value_of parted inside meaning_of is_reserved at
+    word_of literal_of value_of operand_in parted inside meaning_of is_reserved at
 address_of_a_label = refl
 
 -- no name, and one that is reserved

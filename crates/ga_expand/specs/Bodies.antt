@@ -7,7 +7,7 @@ use Rattle.ga_pack.specs.Model.Text.{Place}
 use Rattle.ga_pack.specs.Model.Token.{is_name, meaning_of}
 use Rattle.ga_expand.specs.declared.error.ExpandErrorKind.{ExpandErrorKind}
 use Rattle.ga_expand.specs.declared.error.ExpandErrorKind.TheVariants.{BadToken, DuplicateName, OpenDefinition, ReservedName, TooLarge, UnknownBody}
-use Rattle.ga_expand.specs.Constants.{is_among, is_kept}
+use Rattle.ga_expand.specs.Constants.{is_among, is_kept, words_of_definitions}
 use Rattle.ga_expand.specs.Error.{Fault}
 use Rattle.ga_expand.specs.Expanding.{Body, NodeName, Piece, Stage, is_const, stage_by}
 
@@ -230,6 +230,16 @@ abbrev pub unless_ended : Option Draft → Place → Result Unfolding Fault → 
 unless_ended (Some draft) place next = failed OpenDefinition place
 unless_ended None place next = next
 
+-- ---- arguments
+
+-- a word with which a definition, a `use`, an include or a section begins, or a body ends
+abbrev pub is_delimiter : List ℕ → Bool
+is_delimiter text = is_among words_of_definitions text || bytes_eq text (codes "node")
+
+-- whether a token may be an argument of a `use` on a line: it is on this line, and no such word
+abbrev pub is_argument : ℕ → Piece → Bool
+is_argument line piece = (piece.place.line == line) && not (is_delimiter piece.text)
+
 -- ---- all tokens
 
 unfoldable pub read_at : Unfolding → Piece → Reading → Result Unfolding Fault
@@ -256,8 +266,9 @@ read_at now piece (UseName place) =
     unless_ended (ends now.draft piece.text) place
     (use_of now place piece.place (body_named now.bodies piece.text))
 read_at now piece (Arguments place more parts arguments) =
-    unless_ended (ends now.draft piece.text) place
-    (Ok (missing now place more parts (arguments ++ part_at now piece ∷ [])))
+    if is_argument place.line piece
+    then Ok (missing now place more parts (arguments ++ part_at now piece ∷ []))
+    else failed OpenDefinition place
 
 -- whether the next token is one of a body, or an argument
 abbrev pub is_repeated : Option Draft → Reading → Bool

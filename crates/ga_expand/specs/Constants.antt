@@ -1,12 +1,13 @@
 -- Constants, the names that they may have, and the values that tokens write.
-use Rattle.std.specs.Prelude.{◌||◌, ◌==◌, ◌^◌, ℕ, Bool, List, [], ◌∷◌, codes, nat_lt, Option, Some, None, Result, Ok, Err, if◌then◌else◌}
+use Rattle.std.specs.Prelude.{◌||◌, ◌==◌, ◌-◌, ◌^◌, ℕ, Bool, false, List, [], ◌∷◌, codes, length, nat_lt, slice_index_or, take, Option, Some, None, Result, Ok, Err, if◌then◌else◌}
 use Rattle.std.specs.List.{list_any}
-use Rattle.std.specs.Option.{option_or}
+use Rattle.std.specs.Option.{is_some, option_map_or, option_or}
 use Rattle.std.specs.Str.{bytes_eq}
 use Rattle.ga_pack.specs.Model.Token.{is_name, is_reserved, number_named}
 use Rattle.ga_expand.specs.declared.error.ExpandErrorKind.{ExpandErrorKind}
 use Rattle.ga_expand.specs.declared.error.ExpandErrorKind.TheVariants.{BadToken, NumberRange}
 use Rattle.ga_expand.specs.Literal.{numeral}
+use Rattle.ga_expand.specs.Sides.{are_ports}
 
 -- names and their numbers
 abbrev pub Constants : Type 0
@@ -20,6 +21,17 @@ number_of (constant ∷ constants) text =
 -- the number of the constant that a token names
 abbrev pub constant_named : Constants → List ℕ → Option ℕ
 constant_named constants text = if is_name text then number_of constants text else None
+
+-- the label that a token defines: what is in front of the colon with which it ends
+abbrev pub label_defined : List ℕ → Option (List ℕ)
+label_defined text =
+    if slice_index_or text (length text - 1) 0 == 58 then Some (take (length text - 1) text)
+    else None
+
+-- whether a token defines a label with the name of a constant
+abbrev pub is_taken_label : Constants → List ℕ → Bool
+is_taken_label constants text =
+    option_map_or (λ name. is_some (constant_named constants name)) (label_defined text) false
 
 -- The words of the larger language. Some are kept for what it is to have.
 abbrev pub words_of_definitions : List (List ℕ)
@@ -57,3 +69,9 @@ in_range (Some n) = if nat_lt n (2 ^ 18) then Ok n else Err NumberRange
 abbrev pub plain_value_of : Constants → List ℕ → Result ℕ ExpandErrorKind
 plain_value_of constants text =
     in_range (option_or (constant_named constants text) (as_number text))
+
+-- whether a token is a name, of a constant or of the plain language, whose number is the address of
+-- ports
+abbrev pub names_ports : Constants → List ℕ → Bool
+names_ports constants text =
+    option_map_or are_ports (option_or (constant_named constants text) (number_named text)) false

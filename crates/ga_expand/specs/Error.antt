@@ -4,11 +4,12 @@ use Rattle.std.specs.Fmt.{decimal}
 use Rattle.ga_pack.specs.Model.Text.{Place}
 use Rattle.ga_expand.specs.declared.error.ExpandError as written
 use Rattle.ga_expand.specs.declared.error.ExpandErrorKind.{ExpandErrorKind}
-use Rattle.ga_expand.specs.declared.error.ExpandErrorKind.TheVariants.{BadToken, NumberRange, ReservedName, DuplicateName, OpenDefinition, UnknownBody, TooLarge, BadNode, NoNeighbour, Memory}
+use Rattle.ga_expand.specs.declared.error.ExpandErrorKind.TheVariants.{BadToken, NumberRange, MixedSides, ReservedName, DuplicateName, OpenDefinition, UnknownBody, TooLarge, BadNode, NoNeighbour, Memory}
 
 abbrev pub kind_name : ExpandErrorKind → List ℕ
 kind_name BadToken = codes "BadToken"
 kind_name NumberRange = codes "NumberRange"
+kind_name MixedSides = codes "MixedSides"
 kind_name ReservedName = codes "ReservedName"
 kind_name DuplicateName = codes "DuplicateName"
 kind_name OpenDefinition = codes "OpenDefinition"

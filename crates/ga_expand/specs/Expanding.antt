@@ -11,7 +11,7 @@ use Rattle.ga_place.specs.Side.{Direction}
 use Rattle.ga_word.specs.Op.{takes_dest}
 use Rattle.ga_expand.specs.declared.error.ExpandErrorKind.{ExpandErrorKind}
 use Rattle.ga_expand.specs.declared.error.ExpandErrorKind.TheVariants.{BadNode, BadToken, DuplicateName, OpenDefinition, ReservedName}
-use Rattle.ga_expand.specs.Constants.{Constants, constant_named, is_kept, number_of}
+use Rattle.ga_expand.specs.Constants.{Constants, constant_named, is_kept, is_taken_label, number_of}
 use Rattle.ga_expand.specs.Expression.{value_of}
 use Rattle.ga_expand.specs.Error.{Fault}
 use Rattle.ga_expand.specs.Literal.{literal_of}
@@ -190,7 +190,9 @@ step_at scope piece Head =
 step_at scope piece (Naming place) = named scope piece.text place
 step_at scope piece (Valuing name place) =
     valued scope name (value_of scope.constants piece.text)
-step_at scope piece Body = addressed scope piece (label_in piece.text)
+step_at scope piece Body =
+    if is_taken_label scope.constants piece.text then Err DuplicateName
+    else addressed scope piece (label_in piece.text)
 step_at scope piece NodeName = word_at (in_node scope (node_named piece.text)) piece
 step_at scope piece Value = plain_at scope piece
 step_at scope piece (Towards name place) =

@@ -1,13 +1,15 @@
 -- The values of expressions: numbers and names of constants, operators between them, and
 -- parentheses. An expression is one token.
-use Rattle.std.specs.Prelude.{◌==◌, ◌&&◌, ℕ, zero, suc, ◌+◌, ◌-◌, ◌*◌, ◌/◌, ◌^◌, true, false, List, [], ◌∷◌, bit_and, drop, length, nat_le, nat_lt, not, slice_index_or, Option, Some, None, Result, Ok, Err, take, if◌then◌else◌}
+use Rattle.std.specs.Prelude.{◌==◌, ◌&&◌, ℕ, Bool, zero, suc, ◌+◌, ◌-◌, ◌*◌, ◌/◌, ◌^◌, true, false, List, [], ◌∷◌, bit_and, drop, length, nat_le, nat_lt, not, slice_index_or, Option, Some, None, Result, Ok, Err, take, if◌then◌else◌}
 use Rattle.std.specs.Int.Bits.{bit_or}
 use Rattle.std.specs.Option.{is_some}
-use Rattle.ga_expand.specs.Constants.{Constants, plain_value_of}
+use Rattle.ga_expand.specs.Constants.{Constants, names_ports, plain_value_of}
 use Rattle.ga_expand.specs.Literal.{literal_of}
+use Rattle.ga_expand.specs.Sides.{as_sides, ports_of_both}
 use Rattle.ga_expand.specs.declared.error.ExpandErrorKind.{ExpandErrorKind}
-use Rattle.ga_expand.specs.declared.error.ExpandErrorKind.TheVariants.{BadToken, NumberRange}
+use Rattle.ga_expand.specs.declared.error.ExpandErrorKind.TheVariants.{BadToken, MixedSides, NumberRange}
 use Rattle.ga_expand.specs.declared.expression.Before.{Before}
+use Rattle.ga_expand.specs.declared.expression.Operand.{Operand}
 use Rattle.ga_expand.specs.declared.expression.Operator.{Operator}
 use Rattle.ga_expand.specs.declared.expression.Operator.TheVariants.{Or, And, ShiftLeft, ShiftRight, Plus, Minus, Times}
 use Rattle.ga_expand.specs.declared.expression.Parting.{Parting}
@@ -64,6 +66,30 @@ made_by ShiftRight left right =
 made_by Plus left right = as_word (left + right)
 made_by Minus left right = difference left right
 made_by Times left right = as_word (left * right)
+
+-- ---- operands
+
+-- An operand is a number, and whether it is written as the address of ports: by names, and not as a
+-- number in digits or as the result of another operator.
+abbrev pub operand_of : Bool → Result ℕ ExpandErrorKind → Result Operand ExpandErrorKind
+operand_of is_ports (Ok n) = Ok (record { word = n; is_ports = is_ports })
+operand_of is_ports (Err kind) = Err kind
+
+-- What `|` makes of two numbers, by whether each is the address of ports: of two addresses that of
+-- all their ports, and of two other numbers the bits that one of them has. It doesn't join an
+-- address and another number.
+abbrev pub joined_by : Bool → Bool → ℕ → ℕ → Result Operand ExpandErrorKind
+joined_by true true left right = operand_of true (as_word (ports_of_both left right))
+joined_by false false left right = operand_of false (made_by Or left right)
+joined_by one other left right = Err MixedSides
+
+abbrev pub joined : Operand → Operand → Result Operand ExpandErrorKind
+joined left right = joined_by left.is_ports right.is_ports left.word right.word
+
+-- what an operator makes of two operands
+abbrev pub combined : Operator → Operand → Operand → Result Operand ExpandErrorKind
+combined Or left right = joined left right
+combined o left right = operand_of false (made_by o left.word right.word)
 
 -- ---- where an expression is parted
 
@@ -122,35 +148,50 @@ inside (c ∷ rest) =
 
 -- ---- values
 
-abbrev pub applied : Operator → Result ℕ ExpandErrorKind → Result ℕ ExpandErrorKind
-    → Result ℕ ExpandErrorKind
-applied o (Ok left) (Ok right) = made_by o left right
+abbrev pub applied : Operator → Result Operand ExpandErrorKind → Result Operand ExpandErrorKind
+    → Result Operand ExpandErrorKind
+applied o (Ok left) (Ok right) = combined o left right
 applied o (Ok left) (Err kind) = Err kind
 applied o (Err kind) right = Err kind
 
+-- a number, or the name of a constant
+abbrev pub plain_operand : Constants → List ℕ → Result Operand ExpandErrorKind
+plain_operand constants text =
+    operand_of (names_ports constants text) (plain_value_of constants text)
+
 -- The value of a text by those of its parts: of the two beside an operator, or of what is in
 -- parentheses. A text without parts is a number of the plain language, or the name of a constant.
-abbrev pub by_parts : Constants → List ℕ → (List ℕ → Result ℕ ExpandErrorKind) → Option Parting
-    → Option (List ℕ) → Result ℕ ExpandErrorKind
+abbrev pub by_parts : Constants → List ℕ → (List ℕ → Result Operand ExpandErrorKind)
+    → Option Parting → Option (List ℕ) → Result Operand ExpandErrorKind
 by_parts constants text value (Some parting) within =
     applied parting.operator (value (left_of text parting)) (value (right_of text parting))
 by_parts constants text value None (Some within) = value within
-by_parts constants text value None None = plain_value_of constants text
+by_parts constants text value None None = plain_operand constants text
 
-abbrev pub unless_literal : Result (Option ℕ) ExpandErrorKind → Result ℕ ExpandErrorKind
-    → Result ℕ ExpandErrorKind
-unless_literal (Err kind) composed = Err kind
-unless_literal (Ok (Some n)) composed = Ok n
-unless_literal (Ok None) composed = composed
+-- a number of a form that the plain language lacks: of those, several sides are an address of ports
+abbrev pub unless_literal : List ℕ → Result (Option ℕ) ExpandErrorKind
+    → Result Operand ExpandErrorKind → Result Operand ExpandErrorKind
+unless_literal text (Err kind) composed = Err kind
+unless_literal text (Ok (Some n)) composed =
+    Ok (record { word = n; is_ports = is_some (as_sides text) })
+unless_literal text (Ok None) composed = composed
 
 -- the value of an expression of at most this many levels
-abbrev pub value_within : ℕ → Constants → List ℕ → Result ℕ ExpandErrorKind
+abbrev pub value_within : ℕ → Constants → List ℕ → Result Operand ExpandErrorKind
 value_within zero constants text = Err BadToken
 value_within (suc levels) constants text =
-    unless_literal (literal_of text) (by_parts constants text (value_within levels constants)
-    (parted text) (inside text))
+    unless_literal text (literal_of text) (by_parts constants text
+    (value_within levels constants) (parted text) (inside text))
+
+-- an expression has at most 64 levels
+unfoldable pub operand_in : Constants → List ℕ → Result Operand ExpandErrorKind
+operand_in constants text = value_within 64 constants text
+
+abbrev pub number_in : Result Operand ExpandErrorKind → Result ℕ ExpandErrorKind
+number_in (Ok operand) = Ok operand.word
+number_in (Err kind) = Err kind
 
 -- The number that a token writes: in a form of either language, as the name of a constant, or as an
--- expression. It has at most 64 levels.
+-- expression.
 unfoldable pub value_of : Constants → List ℕ → Result ℕ ExpandErrorKind
-value_of constants text = value_within 64 constants text
+value_of constants text = number_in (operand_in constants text)

@@ -1,5 +1,5 @@
 -- Which tokens are expressions.
-use Rattle.std.specs.Prelude.{◌&&◌, ◌||◌, ℕ, zero, suc, Bool, true, false, List, Option, Some, None, Result, Ok, Err}
+use Rattle.std.specs.Prelude.{◌&&◌, ◌||◌, ℕ, zero, suc, Bool, true, false, List, Option, Some, None, Result, Ok}
 use Rattle.std.specs.Option.{is_some}
 use Rattle.ga_expand.specs.Constants.{as_number, is_among}
 use Rattle.ga_expand.specs.Expression.{inside, left_of, parted, right_of}

@@ -6,13 +6,14 @@ ghost use Rattle.std.specs.Str.{bytes_eq};
 ghost use Rattle.ga_pack.specs.Model.Token as plain;
 ghost use Rattle.ga_pack.specs.Model.Token.{is_name};
 ghost use Rattle.ga_expand.specs.Constants as model;
-ghost use Rattle.ga_expand.specs.Expression.{value_of, value_within};
+ghost use Rattle.ga_expand.specs.Expression.{operand_in, plain_operand, value_of, value_within};
 ghost use Rattle.ga_expand.specs.declared.error.ExpandErrorKind.TheVariants.{Memory};
 ghost use Rattle.ga_expand.specs.inner.Constants.{are_free, constants_in};
 
 use crate::error::ExpandErrorKind;
-use crate::expression::{inside, parted};
+use crate::expression::{Operand, as_operand, inside, parted};
 use crate::literal::{literal, numeral};
+use crate::sides::{are_ports, sides};
 use ga_source::Name;
 use ga_word::{Op, Word18};
 use indexmap::IndexMap;
@@ -60,6 +61,16 @@ impl Constants {
         self.number_of(name).is_some()
     }
 
+    /// Whether a token defines a label with the name of a constant.
+    pub(crate) fn has_label(&self, text: &[u8]) -> bool
+        ensures { result ≡ model.is_taken_label (constants_in self.now.values.entries) text.now }
+    {
+        match label_defined(text) {
+            Some(name) => self.named(name).is_some(),
+            None => false,
+        }
+    }
+
     /// Adds a constant.
     pub(crate) fn define(&mut self, name: Name, value: Word18) -> Result<(), ExpandErrorKind>
         requires new { model.number_of (constants_in self.old.values.entries) name.bytes ≡ None }
@@ -78,18 +89,30 @@ impl Constants {
     pub(crate) fn value(&self, text: &[u8]) -> Result<Word18, ExpandErrorKind>
         ensures { result ≡ value_of (constants_in self.now.values.entries) text.now }
     {
+        let operand = self.operand_in(text)?;
+        Ok(operand.word)
+    }
+
+    /// The value of an expression of at most 64 levels.
+    #[tactic(auto, unfolding(crate::specs::Expression::operand_in))]
+    fn operand_in(&self, text: &[u8]) -> Result<Operand, ExpandErrorKind>
+        ensures { result ≡ operand_in (constants_in self.now.values.entries) text.now }
+    {
         self.value_within(64, text)
     }
 
-    /// The number of an expression of at most this many levels.
-    fn value_within(&self, levels: u32, text: &[u8]) -> Result<Word18, ExpandErrorKind>
+    /// The value of an expression of at most this many levels.
+    fn value_within(&self, levels: u32, text: &[u8]) -> Result<Operand, ExpandErrorKind>
         ensures { result ≡ value_within levels (constants_in self.now.values.entries) text.now }
     {
         if levels == 0 {
             return Err(ExpandErrorKind::BadToken);
         }
         match literal(text) {
-            Ok(Some(number)) => Ok(number),
+            Ok(Some(word)) => Ok(Operand {
+                word,
+                is_ports: sides(text).is_some(),
+            }),
             Ok(None) => match parted(text) {
                 Some(parting) => {
                     let left = self.value_within(levels - 1, parting.left_of(text));
@@ -98,10 +121,31 @@ impl Constants {
                 }
                 None => match inside(text) {
                     Some(within) => self.value_within(levels - 1, within),
-                    None => self.plain_value(text),
+                    None => self.plain_operand(text),
                 },
             },
             Err(kind) => Err(kind),
+        }
+    }
+
+    /// The value of a number, or of the name of a constant.
+    fn plain_operand(&self, text: &[u8]) -> Result<Operand, ExpandErrorKind>
+        ensures { result ≡ plain_operand (constants_in self.now.values.entries) text.now }
+    {
+        as_operand(self.plain_value(text), self.names_ports(text))
+    }
+
+    /// Whether a token is a name, of a constant or of the plain language, whose number is the
+    /// address of ports.
+    fn names_ports(&self, text: &[u8]) -> bool
+        ensures { result ≡ model.names_ports (constants_in self.now.values.entries) text.now }
+    {
+        if let Some(number) = self.named(text) {
+            return are_ports(number.get());
+        }
+        match address_named(text) {
+            Some(number) => are_ports(number),
+            None => false,
         }
     }
 
@@ -117,6 +161,14 @@ impl Constants {
             None => Err(ExpandErrorKind::BadToken),
         }
     }
+}
+
+/// The label that a token defines: what is in front of the colon with which it ends.
+fn label_defined(text: &[u8]) -> Option<&[u8]>
+    ensures { option_map (λ name. name.now) result ≡ model.label_defined text.now }
+{
+    let (last, name) = text.split_last()?;
+    if *last == b':' { Some(name) } else { None }
 }
 
 /// The number that a token writes in the plain language.
@@ -228,7 +280,8 @@ fn is_fixed(name: &[u8]) -> bool
     )
 }
 
-fn is_of_definitions(name: &[u8]) -> bool
+/// Whether a token is a word that belongs to definitions.
+pub(crate) fn is_of_definitions(name: &[u8]) -> bool
     ensures { result ≡ model.is_among model.words_of_definitions name.now }
 {
     matches!(name, b"const" | b"body" | b"end" | b"use") || is_include(name)

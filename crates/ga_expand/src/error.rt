@@ -15,12 +15,15 @@ pub enum ExpandErrorKind {
     BadToken,
     /// A number that a word of 18 bits can't hold.
     NumberRange,
+    /// In an expression `|` between the address of sides and another number.
+    MixedSides,
     /// A name of an opcode or of a number, or a word of the language, for a constant, a body or a
     /// parameter.
     ReservedName,
-    /// A name that a constant, a body or a parameter has already.
+    /// A name that a constant, a body or a parameter has already, or a label with the name of a
+    /// constant.
     DuplicateName,
-    /// A definition at which the text ends, or a `use` at which the text or its body ends.
+    /// A definition at which the text ends, or a `use` without its name or an argument on its line.
     OpenDefinition,
     /// A name behind `use` that no body before it has.
     UnknownBody,
@@ -44,6 +47,7 @@ impl ExpandErrorKind {
         match self {
             ExpandErrorKind::BadToken => "BadToken",
             ExpandErrorKind::NumberRange => "NumberRange",
+            ExpandErrorKind::MixedSides => "MixedSides",
             ExpandErrorKind::ReservedName => "ReservedName",
             ExpandErrorKind::DuplicateName => "DuplicateName",
             ExpandErrorKind::OpenDefinition => "OpenDefinition",

@@ -114,8 +114,19 @@ impl Expander {
         self.take_plain(text, place)
     }
 
-    /// The address of a label, or another token where an item may begin.
+    /// A token where an item may begin. No label has the name of a constant.
     fn take_body(&mut self, text: &[u8], place: Place) -> Result<(), ExpandErrorKind>
+        ensures { Took self.old self.new (model.step_at (scope_of self.old)
+            (piece_here text.now place) model.Body) result }
+    {
+        if self.constants.has_label(text) {
+            return Err(ExpandErrorKind::DuplicateName);
+        }
+        self.take_address(text, place)
+    }
+
+    /// The address of a label, or another token where an item may begin.
+    fn take_address(&mut self, text: &[u8], place: Place) -> Result<(), ExpandErrorKind>
         ensures { Took self.old self.new (model.addressed (scope_of self.old)
             (piece_here text.now place) (model.label_in text.now)) result }
     {

@@ -1,8 +1,10 @@
 //! Expressions: operators between numbers, and parentheses.
 ghost use Rattle.std.specs.Prelude.{◌≡◌, ◌+◌, ◌^◌, ◌<◌, ◌≤◌, IfSome, None, length, option_map};
 ghost use Rattle.ga_expand.specs.Expression as model;
+ghost use Rattle.ga_expand.specs.Sides.{ports_of_both};
 
 use crate::error::ExpandErrorKind;
+use crate::sides::ports_of_both;
 use ga_word::Word18;
 
 /// An operator between two numbers.
@@ -58,15 +60,25 @@ impl Operator {
         }
     }
 
-    /// What it makes of two words, or why there is none, or no word to begin with.
+    /// What it makes of two operands, or why there is no result, or no operand to begin with.
     pub(crate) fn applied(
         self,
-        left: Result<Word18, ExpandErrorKind>,
-        right: Result<Word18, ExpandErrorKind>,
-    ) -> Result<Word18, ExpandErrorKind>
+        left: Result<Operand, ExpandErrorKind>,
+        right: Result<Operand, ExpandErrorKind>,
+    ) -> Result<Operand, ExpandErrorKind>
         ensures { result ≡ model.applied self left right }
     {
-        self.apply(left?, right?)
+        self.combined(left?, right?)
+    }
+
+    /// What it makes of two operands.
+    fn combined(self, left: Operand, right: Operand) -> Result<Operand, ExpandErrorKind>
+        ensures { result ≡ model.combined self left right }
+    {
+        match self {
+            Operator::Or => joined(left, right),
+            _ => as_operand(self.apply(left.word, right.word), false),
+        }
     }
 
     /// What it makes of two words.
@@ -88,6 +100,45 @@ impl Operator {
             Operator::Times => as_word(left * right),
         }
     }
+}
+
+/// A value beside an operator.
+#[derive(Clone, Copy)]
+pub(crate) struct Operand {
+    pub(crate) word: Word18,
+    /// It is written as the address of ports: by names, and not as a number in digits or as the
+    /// result of another operator.
+    pub(crate) is_ports: bool,
+}
+
+/// A word as an operand, if there is one.
+pub(crate) fn as_operand(
+    word: Result<Word18, ExpandErrorKind>,
+    is_ports: bool,
+) -> Result<Operand, ExpandErrorKind>
+    ensures { result ≡ model.operand_of is_ports word }
+{
+    let word = word?;
+    Ok(Operand { word, is_ports })
+}
+
+/// What `|` makes of two operands: of two addresses of ports that of all their ports, and of two
+/// other numbers the bits that one of them has.
+fn joined(left: Operand, right: Operand) -> Result<Operand, ExpandErrorKind>
+    ensures { result ≡ model.joined left right }
+{
+    match (left.is_ports, right.is_ports) {
+        (true, true) => as_operand(joined_ports(left.word, right.word), true),
+        (false, false) => as_operand(Operator::Or.apply(left.word, right.word), false),
+        _ => Err(ExpandErrorKind::MixedSides),
+    }
+}
+
+/// The address of the ports of two addresses.
+fn joined_ports(left: Word18, right: Word18) -> Result<Word18, ExpandErrorKind>
+    ensures { result ≡ model.as_word (ports_of_both left right) }
+{
+    as_word(u64::from(ports_of_both(left.get(), right.get())))
 }
 
 /// A number as a word.

@@ -20,6 +20,20 @@ pub(crate) fn sides(text: &[u8]) -> Option<Word18>
     Word18::new(0x155 ^ bits)
 }
 
+/// Whether a number is the address of the ports of one or more sides.
+pub(crate) fn are_ports(number: u32) -> bool
+    ensures { result ≡ model.are_ports number }
+{
+    number != 0x155 && (0x155 ^ number) | 0xF0 == 0xF0
+}
+
+/// The address of the ports that one or the other of two addresses has.
+pub(crate) fn ports_of_both(one: u32, other: u32) -> u32
+    ensures { result ≡ model.ports_of_both one other }
+{
+    0x155 ^ ((0x155 ^ one) | (0x155 ^ other))
+}
+
 fn has_bar(text: &[u8]) -> bool
     ensures { result ≡ list_any (λ c. c == 124) text.now }
 {

@@ -14,7 +14,7 @@ ghost use Rattle.ga_expand.specs.inner.Pieces.{left_in};
 ghost use Rattle.ga_expand.specs.inner.Role.{role_stage};
 
 use crate::bodies::{Part, SharedBody, behind, body_named, push_filled, push_pieces};
-use crate::constants::{is_kept, is_name};
+use crate::constants::{is_kept, is_name, is_of_definitions};
 use crate::error::{ExpandError, ExpandErrorKind};
 use crate::expander::error_at;
 use crate::piece::Piece;
@@ -368,7 +368,7 @@ impl<'a> Unfolder<'a> {
         self.await_arguments(start, arity)
     }
 
-    /// An argument.
+    /// An argument, or a token that is none.
     #[tactic(auto, unfolding(crate::specs::Bodies::read_at))]
     fn take_argument(
         &mut self,
@@ -380,7 +380,7 @@ impl<'a> Unfolder<'a> {
             (model.Arguments (place_of start) more (map part_in self.old.used.items)
             (map part_in self.old.arguments.items))) result }
     {
-        if self.ending(piece.text).is_some() {
+        if !is_argument(start.line, piece) {
             return Err(error_at(ExpandErrorKind::OpenDefinition, start));
         }
         let part = self.part_at(piece);
@@ -478,6 +478,20 @@ fn index_of(names: &[&[u8]], text: &[u8]) -> Option<usize>
     ensures { result ≡ position (λ name. bytes_eq name.now text.now) names.now }
 {
     names.iter().position(|name| *name == text)
+}
+
+/// Whether a token may be an argument of a `use` on a line.
+fn is_argument(line: usize, piece: Piece<'_>) -> bool
+    ensures { result ≡ model.is_argument line (piece_in piece.entry) }
+{
+    piece.place.line == line && !is_delimiter(piece.text)
+}
+
+/// Whether a definition, a `use`, an include or a section begins with a token, or a body ends.
+fn is_delimiter(text: &[u8]) -> bool
+    ensures { result ≡ model.is_delimiter text.now }
+{
+    is_of_definitions(text) || text == b"node".as_slice()
 }
 
 /// Whether a token is the word `use`.

@@ -4,12 +4,12 @@ use Rattle.std.specs.Prelude.{◌∷◌, ◌++◌, [], List, codes, fold}
 use Rattle.ga_explain.specs.Topic.{Entry}
 use Rattle.ga_explain.specs.declared.source.TheConstants.{BAD_TOKEN, NUMBER_RANGE, BAD_NODE, DUPLICATE_NODE, DUPLICATE_LABEL, RESERVED_LABEL, OPEN_BRACKET, BAD_WORD, NO_NODE, EMPTY}
 use Rattle.ga_explain.specs.declared.layout.TheConstants.{UNDEFINED_LABEL, OUT_OF_REACH, UNEXT_ALONE, TOO_LONG}
-use Rattle.ga_explain.specs.declared.larger.TheConstants.{RESERVED_NAME, DUPLICATE_NAME, OPEN_DEFINITION, NO_NEIGHBOUR, UNKNOWN_BODY, TOO_LARGE}
+use Rattle.ga_explain.specs.declared.larger.TheConstants.{RESERVED_NAME, DUPLICATE_NAME, OPEN_DEFINITION, NO_NEIGHBOUR, UNKNOWN_BODY, TOO_LARGE, MIXED_SIDES}
 use Rattle.ga_explain.specs.declared.includes.TheConstants.{BAD_INCLUDE, INCLUDE_CYCLE, INCLUDE_DEPTH, INCLUDE_COUNT, INCLUDE_SIZE}
-use Rattle.ga_explain.specs.declared.warnings.TheConstants.{UNEXT_REPEATS, SPLIT_LOOP, RUNS_OFF, PUSHES_TOO_MANY, POPS_TOO_MANY, UNUSED_LABEL, UNREACHABLE, SEVERAL_PORTS, RETURNS_NOWHERE, LEAVES_EXTENDED, OVER_MEMORY}
+use Rattle.ga_explain.specs.declared.warnings.TheConstants.{UNEXT_REPEATS, SPLIT_LOOP, RUNS_OFF, PUSHES_TOO_MANY, POPS_TOO_MANY, UNUSED_LABEL, UNREACHABLE, SEVERAL_PORTS, RETURNS_NOWHERE, LEAVES_EXTENDED, OVER_MEMORY, INTO_DATA, BEGINS_IN_DATA, READS_IO, EDGE_PORT}
 use Rattle.ga_explain.specs.declared.routes.TheConstants.{BAD_ROUTE, NOT_EDGE, NOT_NEIGHBOUR, REPEATED, OTHER_ROOT, UNREACHED}
 use Rattle.ga_explain.specs.declared.sessions.TheConstants.{BAD_COMMAND, BAD_ADDRESS, BAD_SIDE, BAD_COUNT, BAD_VALUE, NOT_HELD, BAD_PROFILE, NO_GO, SOURCE, ASM, ROUTE, TREE, BOOT, EARLY_REPLY, DIFFERS}
-use Rattle.ga_explain.specs.declared.input.TheConstants.{READ, NO_FILE, FOLDER, NOT_A_FILE, EXISTS, NO_NAME, BAD_TEXT, BAD_CODE, WRITE, REFUSED_WRITE, MEMORY, REFUSED_MEMORY}
+use Rattle.ga_explain.specs.declared.input.TheConstants.{READ, NO_FILE, FOLDER, NOT_A_FILE, OUTSIDE, EXISTS, NO_NAME, BAD_TEXT, BAD_CODE, WRITE, REFUSED_WRITE, MEMORY, REFUSED_MEMORY}
 use Rattle.ga_explain.specs.declared.needs.TheConstants.{OWN, TAKE, POST, CHECK, INPUT, STOPPED, COUNTED, IO_READ, ROM, UNMAPPED, MULTI_WRITE}
 use Rattle.ga_explain.specs.declared.language.TheConstants.{CONST, BODY, USE, INCLUDE, TO}
 use Rattle.ga_explain.specs.declared.terms.TheConstants.{CARRY, MOVED, WAITS, HELD, STUCK, RING, RACE, TURN, PLACE, STEP, SLOT, FOLLOWER, PROFILE}
@@ -85,6 +85,10 @@ larger_entries = (
       codes "TooLarge",
       codes "over 256 bodies, 64 parameters, or 262,144 tokens of all 'use' or all lists",
       TOO_LARGE.now,
+    ) ∷ (
+      codes "MixedSides",
+      codes "a '|' that joins the address of sides and another number",
+      MIXED_SIDES.now,
     ) ∷
     []
 
@@ -156,6 +160,22 @@ warnings_entries = (
   codes "OverMemory",
   codes "a destination where the node has no word to run",
   OVER_MEMORY.now,
+) ∷ (
+  codes "IntoData",
+  codes "a destination at a number or at data, which is run as code",
+  INTO_DATA.now,
+) ∷ (
+  codes "BeginsInData",
+  codes "the node begins at a number or at data, which is run as code",
+  BEGINS_IN_DATA.now,
+) ∷ (
+  codes "ReadsIo",
+  codes "an '@b' before any 'b!' reads io, which stops the node",
+  READS_IO.now,
+) ∷ (
+  codes "EdgePort",
+  codes "a side without a neighbour, to which the node writes: it waits for ever",
+  EDGE_PORT.now,
 ) ∷
     []
 
@@ -211,7 +231,11 @@ input_entries =
     (codes "read", codes "the file can't be opened or read", READ.now) ∷
     (codes "NoFile", codes "no file has this name", NO_FILE.now) ∷
     (codes "Folder", codes "the name of a folder, not of a file", FOLDER.now) ∷
-    (codes "NotAFile", codes "the name of something that isn't a regular file", NOT_A_FILE.now) ∷
+    (codes "NotAFile", codes "the name of something that isn't a regular file", NOT_A_FILE.now) ∷ (
+      codes "Outside",
+      codes "a source that isn't in the folder of the file that names it, or below",
+      OUTSIDE.now,
+    ) ∷
     (codes "Exists", [], EXISTS.now) ∷
     (codes "NoName", [], NO_NAME.now) ∷
     (codes "BadText", codes "a text that isn't UTF-8", BAD_TEXT.now) ∷

@@ -6,7 +6,7 @@ use crate::topic::{Topic, topic};
 
 /// The faults of the input and of the output, in the order of the pages.
 #[tactic(auto, unfolding(crate::specs::Table::input_entries))]
-pub fn topics() -> [Topic; 12]
+pub fn topics() -> [Topic; 13]
     ensures { map entry_of result ≡ input_entries }
 {
     [
@@ -17,6 +17,11 @@ pub fn topics() -> [Topic; 12]
             "NotAFile",
             "the name of something that isn't a regular file",
             NOT_A_FILE
+        ),
+        topic!(
+            "Outside",
+            "a source that isn't in the folder of the file that names it, or below",
+            OUTSIDE
         ),
         topic!("Exists", "", EXISTS),
         topic!("NoName", "", NO_NAME),
@@ -81,6 +86,21 @@ Fixed, with the name of a file, or one that is free:
 
   $ echo 'save! my.transcript' | ga-bench debug my.source
   saved my.transcript
+";
+
+const OUTSIDE: &str = "\
+Outside: a transcript names a source by a name that begins with / or has a part
+'..', so it may lead out of the transcript's folder. A fault shows a line of a
+source: a transcript of somebody else could show one of any file. If you trust
+it, the flag --any-source of check, record and debug allows such a name.
+
+  $ printf 'profile 2\\nplace\\nsource ../my.source\\ngo\\n' >t; ga-bench check t
+  ga-bench: input ../my.source Outside
+
+Fixed, with a source in the transcript's folder:
+
+  $ printf 'profile 2\\nplace\\nsource my.source\\ngo\\n' >t; ga-bench check t
+  same 0
 ";
 
 const EXISTS: &str = "\

@@ -22,15 +22,14 @@ const CONST: &str = "\
 const: in a FILE, 'const NAME VALUE' before the first node gives a number a
 name. VALUE is one token without blanks: a number, a constant before it, or an
 expression with + - * & | << >> and ( ). An expression can't stand elsewhere, so
-give its value a name. A constant hides a label of the same name, except in
-&NAME.
+give its value a name. No label has the name of a constant.
 
   $ printf '%s\\n' 'const SIZE 8' 'const LAST SIZE-1' 'node 708 LAST push' |
     ga-bench expand
   node 708 $00007 push
 
-In an expression the name of a side is its number, and | joins bits. But
-'right|left' by itself is the address of both ports.
+In an expression 'right|left' is the address of both ports, also with constants
+that are addresses of sides. Other operators take the number of a side.
 ";
 
 const BODY: &str = "\
@@ -48,9 +47,9 @@ body are those of the node that uses it, so a node uses such a body once.
 
 const USE: &str = "\
 use: in a FILE, 'use NAME ARGUMENTS' stands for the tokens of the body NAME,
-with an argument in place of each parameter. The arguments are the next tokens,
-on this line or behind it, as many as the body has parameters. 'to 709' and
-'[ dup ]' are several tokens.
+with an argument in place of each parameter. The arguments are the next tokens
+of this line, as many as the body has parameters. 'to 709' and '[ dup ]' are
+several tokens.
 
   $ printf '%s\\n' 'body add A B' '  A B . +' end 'node 708 use add 3 4 ;' |
     ga-bench expand

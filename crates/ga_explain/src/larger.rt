@@ -6,7 +6,7 @@ use crate::topic::{Topic, topic};
 
 /// The faults of texts of the larger language, in the order of the pages.
 #[tactic(auto, unfolding(crate::specs::Table::larger_entries))]
-pub fn topics() -> [Topic; 6]
+pub fn topics() -> [Topic; 7]
     ensures { map entry_of result ≡ larger_entries }
 {
     [
@@ -40,6 +40,11 @@ pub fn topics() -> [Topic; 6]
             "over 256 bodies, 64 parameters, or 262,144 tokens of all 'use' or all lists",
             TOO_LARGE,
         ),
+        topic!(
+            "MixedSides",
+            "a '|' that joins the address of sides and another number",
+            MIXED_SIDES,
+        ),
     ]
 }
 
@@ -63,8 +68,8 @@ Fixed:
 
 const DUPLICATE_NAME: &str = "\
 DuplicateName: a definition before this one has the name. Constants and bodies
-can't share a name; nor can two parameters of a body. A file that two others
-include is there twice, with its definitions.
+can't share a name; nor can two parameters of a body, or a label and a constant.
+A file that two others include is there twice, with its definitions.
 
   $ printf 'const A 1 const A 2\\nnode 709 A\\n' | ga-bench expand
   ga-bench: expand 1:17 DuplicateName
@@ -80,8 +85,9 @@ Fixed:
 
 const OPEN_DEFINITION: &str = "\
 OpenDefinition: the text ends in a definition: 'const' needs a name and a value,
-'body' a name and 'end', and 'use' a name and one token for each parameter. So
-'to 709' is two arguments.
+and 'body' a name and 'end'. Or a 'use' lacks its name, or an argument: it needs
+a token for each parameter, on its line. 'node', 'const', 'body', 'end', 'use'
+and 'include' are no arguments.
 
   $ printf 'const A 1 const B\\n' | ga-bench expand
   ga-bench: expand 1:11 OpenDefinition
@@ -154,4 +160,24 @@ Fixed:
   1
   2
   3
+";
+
+const MIXED_SIDES: &str = "\
+MixedSides: in an expression '|' joins the addresses of sides to that of all of
+them, or the bits of other numbers, but not an address and another number. An
+address is the name of a side, 'rdlu', or a constant with an address. A number
+in digits is none, nor is the result of another operator.
+
+  $ printf 'const P right\\nconst BOTH P|$115\\nnode 709 BOTH b!\\n' |
+    ga-bench expand
+  ga-bench: expand 2:12 MixedSides
+    const BOTH P|$115
+               ^
+  a '|' that joins the address of sides and another number
+
+Fixed:
+
+  $ printf 'const P right\\nconst BOTH P|down\\nnode 709 BOTH b!\\n' |
+    ga-bench expand
+  node 709 $00195 b!
 ";

@@ -7,7 +7,7 @@ use crate::topic::{Topic, topic};
 /// The warnings of `lint`, in the order of the pages.
 // long: a row for each warning
 #[tactic(auto, unfolding(crate::specs::Table::warnings_entries))]
-pub fn topics() -> [Topic; 11]
+pub fn topics() -> [Topic; 15]
     ensures { map entry_of result ≡ warnings_entries }
 {
     [
@@ -65,6 +65,26 @@ pub fn topics() -> [Topic; 11]
             "OverMemory",
             "a destination where the node has no word to run",
             OVER_MEMORY,
+        ),
+        topic!(
+            "IntoData",
+            "a destination at a number or at data, which is run as code",
+            INTO_DATA,
+        ),
+        topic!(
+            "BeginsInData",
+            "the node begins at a number or at data, which is run as code",
+            BEGINS_IN_DATA,
+        ),
+        topic!(
+            "ReadsIo",
+            "an '@b' before any 'b!' reads io, which stops the node",
+            READS_IO,
+        ),
+        topic!(
+            "EdgePort",
+            "a side without a neighbour, to which the node writes: it waits for ever",
+            EDGE_PORT,
         ),
     ]
 }
@@ -151,32 +171,36 @@ Fixed:
 
 const UNUSED_LABEL: &str = "\
 UnusedLabel: no item names the label, and execution doesn't come to it from the
-word before. So the code behind it never runs.
+word before. So the code behind it never runs. A node that may run words of its
+neighbours, as at 'warm', or others than its code has no such warning.
 
-  $ printf 'node 708 right b! jump warm send: 5 !b jump warm' | ga-bench lint
-  -:1:29: warning: UnusedLabel: a label that no item names, at code that never
+  $ printf 'node 708 right b! end: jump end send: 5 !b jump end' |
+    ga-bench lint
+  -:1:33: warning: UnusedLabel: a label that no item names, at code that never
    runs (node 708)
-    node 708 right b! jump warm send: 5 !b jump warm
-                                ^
+    node 708 right b! end: jump end send: 5 !b jump end
+                                    ^
 
 Fixed:
 
-  $ printf 'node 708 right b! jump send send: 5 !b jump warm' | ga-bench lint
+  $ printf 'node 708 right b! jump send end: jump end send: 5 !b jump end' |
+    ga-bench lint
 ";
 
 const UNREACHABLE: &str = "\
 Unreachable: the code stands behind a jump, a ';' or an 'ex', and no destination
-leads to it. So it never runs.
+leads to it. So it never runs. A node that may run words of its neighbours, as
+at 'warm', or others than its code has no such warning.
 
-  $ printf 'node 708 right b! jump warm 5 !b jump warm' | ga-bench lint
-  -:1:29: warning: Unreachable: code that never runs: nothing leads to it
+  $ printf 'node 708 right b! end: jump end 5 !b jump end' | ga-bench lint
+  -:1:33: warning: Unreachable: code that never runs: nothing leads to it
    (node 708)
-    node 708 right b! jump warm 5 !b jump warm
-                                ^
+    node 708 right b! end: jump end 5 !b jump end
+                                    ^
 
 Fixed:
 
-  $ printf 'node 708 right b! 5 !b jump warm' | ga-bench lint
+  $ printf 'node 708 right b! 5 !b end: jump end' | ga-bench lint
 ";
 
 const SEVERAL_PORTS: &str = "\
@@ -238,4 +262,68 @@ there, or zeros. Addresses 040 to 07F are those from 000 on again. Those from
 Fixed:
 
   $ printf 'node 708 5 jump 0' | ga-bench lint
+";
+
+const INTO_DATA: &str = "\
+IntoData: the destination is a number in the code, or data, which is run there
+as code. A node that may write over its words, or whose neighbours may do so,
+has no such warning.
+
+  $ printf 'node 708 jump table data table: , 5' | ga-bench lint
+  -:1:10: warning: IntoData: a destination at a number or at data, which is run
+   as code (node 708)
+    node 708 jump table data table: , 5
+             ^
+
+Fixed:
+
+  $ printf 'node 708 [ @p a! @ . ] , table end: jump end data table: , 5' |
+    ga-bench lint
+";
+
+const BEGINS_IN_DATA: &str = "\
+BeginsInData: a node begins at 'main', or else at its first word. A number or
+data there is run as code.
+
+  $ printf 'node 708 data main: , 5' | ga-bench lint
+  -:1:21: warning: BeginsInData: the node begins at a number or at data, which
+   is run as code (node 708)
+    node 708 data main: , 5
+                        ^
+
+Fixed:
+
+  $ printf 'node 708 main: jump main data table: , 5' | ga-bench lint
+";
+
+const READS_IO: &str = "\
+ReadsIo: B is the address of io until 'b!' sets it, and a read of io stops the
+node: the bench has no pins. Only what a node runs first is looked at, up to a
+loop or a jump. An '@b' at the end of the code is meant to stop the node.
+
+  $ printf 'node 708 @b jump warm' | ga-bench lint
+  -:1:10: warning: ReadsIo: an '@b' before any 'b!' reads io, which stops the
+   node (node 708)
+    node 708 @b jump warm
+             ^
+
+Fixed:
+
+  $ printf 'node 708 right b! @b jump warm' | ga-bench lint
+";
+
+const EDGE_PORT: &str = "\
+EdgePort: the node has no neighbour at this side, so nobody takes the word. Rows
+0 and 7 lack up, and columns 0 and 17 lack left. A read there has no such
+warning: on the chip, which has more than the bench runs, it may wait for a pin.
+
+  $ printf 'node 708 up b! 5 !b jump warm' | ga-bench lint
+  -:1:10: warning: EdgePort: a side without a neighbour, to which the node
+   writes: it waits for ever (node 708)
+    node 708 up b! 5 !b jump warm
+             ^
+
+Fixed:
+
+  $ printf 'node 708 right b! 5 !b jump warm' | ga-bench lint
 ";

@@ -1,13 +1,15 @@
 -- The faults of a text.
-use Rattle.std.proofs.Common.{rules, ◌≡◌, ◌≢◌, ◌||◌, ◌∙◌, ◌+◌, ◌<◌, ◌≤◌, ◌++◌, ℕ, suc, Bool, true, false, List, [], ◌∷◌, Option, Some, None, length, map, get_or, refl, sym, ap, subst, take, arith}
-use Rattle.std.specs.Prelude.{Contains, fold}
+use Rattle.std.proofs.Common.{rules, ◌≡◌, ◌≢◌, ◌⊎◌, ◌||◌, ◌∙◌, ◌+◌, ◌<◌, ◌≤◌, ◌++◌, ℕ, suc, Bool, true, false, List, [], ◌∷◌, Option, Some, None, length, map, get_or, refl, sym, ap, subst, take, arith}
+use Rattle.std.specs.Prelude.{Contains, fold, slice_get, unwrap_or}
 use Rattle.std.specs.Bool.{Decides, if◌then◌else◌}
 use Rattle.std.specs.List.{AllPairs, AllZip, IsDistinct, list_any}
 use Rattle.std.proofs.lemmas.List.{length-take, map_more, take-map}
 use Rattle.std.proofs.lemmas.List.Sorted.{Contains-permutation, length_permutation}
 use Rattle.std.proofs.lemmas.List.Sums.{fold-append}
 use Rattle.std.proofs.lemmas.Map.Made.{AllPairs-from_IsDistinct}
-use Rattle.ga_faults.specs.Faults.{AreFaults, AreFirstFaults, HasFirst, IsFirstFault, distinct, is_same, with_first, with_new}
+use Rattle.ga_pack.specs.Model.Text.{lines_of}
+use Rattle.ga_faults.specs.Faults.{AreFaults, AreFirstFaults, ArePartFaults, HasFirst, IsFirstFault, distinct, is_same, with_first, with_new}
+use Rattle.ga_faults.specs.Sections.{part_in, parts_of, section_starts, sections_at}
 use Rattle.ga_faults.specs.declared.fault.Fault.{Fault}
 use Rattle.ga_faults.specs.declared.sections.Section.{Section}
 use Rattle.ga_faults.proofs.Moved.{pairs_moved}
@@ -44,6 +46,26 @@ faults_more part sections index other faults new text found inside so_far is fir
       pushed ∙ ap (λ fs. with_new fs found) so_far.2
           ∙ sym (fold-append with_new [] so_far.0 (found ∷ [])),
     )
+
+-- the parts of the sections that the code has
+pub the_parts : (text : List ℕ) (lines : List (List ℕ)) (starts : List ℕ) (sections : List Section)
+    (head : ℕ) → lines ≡ lines_of text → starts ≡ section_starts text
+    → head ≡ unwrap_or (slice_get starts 0) 0
+    → sections ≡ take 144 (sections_at (section_starts text))
+    → map (part_in lines head) sections ≡ parts_of text
+the_parts text lines starts sections head all begin first some =
+    ap (λ ls. map (part_in ls head) sections) all
+    ∙ ap (λ n. map (part_in (lines_of text) n) sections)
+    (first ∙ ap (λ ls. unwrap_or (slice_get ls 0) 0) begin)
+    ∙ ap (map (part_in (lines_of text) (unwrap_or (slice_get (section_starts text) 0) 0))) some
+
+-- those of the parts up to one, if there is none behind it or there are enough
+pub part_faults : (text : List ℕ) (texts : List (List ℕ)) (index : ℕ) (faults : List Fault)
+    → texts ≡ parts_of text → AreFirstFaults (take index texts) faults
+    → ((length texts ≤ index) ⊎ (20 ≤ length faults)) → ArePartFaults text faults
+part_faults text texts index faults are some enough =
+    subst (λ (ps : List (List ℕ)). (count : ℕ) × AreFirstFaults (take count ps) faults
+    × ((length ps ≤ count) ⊎ (20 ≤ length faults))) are (index, some, enough)
 
 -- ---- laws
 
@@ -84,14 +106,14 @@ pub faults_once : (text : List ℕ) (first : Fault) (faults : List Fault)
     → AreFaults text (Some first) faults → AllPairs (λ one other. one ≢ other) faults
 unfolding IsDistinct
 faults_once text first faults are =
-    let found = are.1.0 in
+    let found = are.1.1.0 in
     let all = with_first first (take 20 are.0) in
     let once : IsDistinct is_same (with_first first (take 20 (distinct found))) =
     with_first_distinct first (take 20 (distinct found))
     (distinct_take is_same 20 (distinct found) (all_distinct [] found tt)) in
     pairs_moved all faults are.2.same
     (AllPairs-from_IsDistinct same_decides all (subst (IsDistinct is_same)
-    (ap (λ l. with_first first (take 20 l)) (sym are.1.2)) once))
+    (ap (λ l. with_first first (take 20 l)) (sym are.1.1.2)) once))
 
 at_most : (n : ℕ) (faults : List Fault) → length (take n faults) ≤ n
 at_most n faults = omega (arith, length-take n faults)

@@ -1,5 +1,5 @@
 -- The faults of a text.
-use Rattle.std.specs.Prelude.{◌≡◌, ℕ, Bool, List, [], ◌∷◌, ◌++◌, Contains, fold, take, string_bytes, Option, Some, None, Err, if◌then◌else◌}
+use Rattle.std.specs.Prelude.{◌≡◌, ◌≤◌, ◌⊎◌, ℕ, Bool, List, [], ◌∷◌, ◌++◌, Contains, fold, length, take, string_bytes, Option, Some, None, Err, if◌then◌else◌}
 use Rattle.std.specs.List.{AllZip, list_any}
 use Rattle.ga_asm.specs.Image.{ImageView}
 use Rattle.ga_asm.specs.Text.{HasImages, IsTextFault}
@@ -59,13 +59,16 @@ abbrev pub AreFirstFaults : List (List ℕ) → List Fault → Type 0
 AreFirstFaults texts faults =
     (found : List (Option Fault)) × AllZip IsFirstFault texts found × (faults ≡ distinct found)
 
--- the first faults of the parts of a text
-abbrev pub ArePartFaults : List ℕ → List Fault → Type 0
-ArePartFaults text faults = AreFirstFaults (parts_of text) faults
-
 -- at most 20 faults are reported
 abbrev pub most_faults : ℕ
 most_faults = 20
+
+-- The first faults of the parts of a text, from the first part on: those of all parts, or of the
+-- first ones if these have 20 faults.
+abbrev pub ArePartFaults : List ℕ → List Fault → Type 0
+ArePartFaults text faults =
+    (count : ℕ) × AreFirstFaults (take count (parts_of text)) faults
+    × ((length (parts_of text) ≤ count) ⊎ (most_faults ≤ length faults))
 
 -- the first fault of a text in front of the others, if it isn't among them
 abbrev pub with_first : Fault → List Fault → List Fault

@@ -57,7 +57,7 @@ fn push_first(faults: &mut Vec<Fault>, first: Fault) -> Result<(), AllocError>
     Ok(())
 }
 
-/// The first faults of the parts of a text, each once.
+/// The first faults of the parts of a text, each once, until there are as many as are reported.
 fn part_faults(alloc: Global, text: &str) -> Result<Vec<Fault>, AllocError>
     ensures { IfOk result (λ faults. ArePartFaults text.now faults.items) }
 {
@@ -68,6 +68,9 @@ fn part_faults(alloc: Global, text: &str) -> Result<Vec<Fault>, AllocError>
     sections.truncate(MOST_SECTIONS);
     let mut faults = Vec::new(alloc);
     for section in &sections {
+        if faults.len() >= MOST_FAULTS {
+            return Ok(faults);
+        }
         let part = part_text(alloc, &lines, head, *section)?;
         push_new(&mut faults, first_fault(alloc, part.as_str())?)?;
     }

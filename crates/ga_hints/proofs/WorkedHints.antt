@@ -1,12 +1,12 @@
 -- Names that may be meant and hints, each worked out by hand.
-use Rattle.std.proofs.Common.{◌≡◌, false, [], ◌∷◌, Some, None, refl}
+use Rattle.std.proofs.Common.{◌≡◌, ◌-◌, ℕ, false, List, [], ◌∷◌, Option, Some, None, length, refl, take}
 use Rattle.std.specs.Prelude.{codes}
 use Rattle.std.specs.Fmt.{digits}
 use Rattle.ga_pack.specs.Model.Text.{lexemes, texts_of}
 use Rattle.ga_expand.specs.Expression.{inside, left_of, parted, right_of}
 use Rattle.ga_expand.specs.Literal.{literal_of}
 use Rattle.ga_expand.specs.Operand.{is_operand}
-use Rattle.ga_hints.specs.Hints.{Body, Expression, Label, bad_token_hint, is_label, label_in}
+use Rattle.ga_hints.specs.Hints.{Body, Definition, Expression, Hint, Label, bad_token_hint, is_label, label_in}
 use Rattle.ga_hints.specs.Names.{bodies_in, constants_in, names_from, word_at}
 use Rattle.ga_hints.specs.Nearest.{nearest_of}
 use Rattle.ga_hints.specs.Size.{size_text}
@@ -41,27 +41,52 @@ label_of_address = refl
 not_another : nearest_of (codes "drop") (codes "dro" ∷ codes "drop" ∷ []) ≡ None
 not_another = refl
 
+-- a name of two letters is near only by case
+short_name : nearest_of (codes "for") (codes "or" ∷ codes "if" ∷ []) ≡ None
+short_name = refl
+
 -- a word that differs from a name in the case of its letters alone is meant as that name, although
 -- another one comes before it
 recased : nearest_of (codes "Size") (codes "SIZ" ∷ codes "SIZE" ∷ codes "size" ∷ [])
     ≡ Some (codes "SIZE")
 recased = refl
 
+-- what may help with the last word of a text that is one part
+hint_for_last : List ℕ → List ℕ → Option Hint
+hint_for_last text word =
+    let tokens = texts_of text in
+    bad_token_hint tokens (take (length tokens - 1) tokens) tokens word
+
 -- a word that means nothing is the name of a body, or else that of a label, or else an expression
-body_word : bad_token_hint (texts_of (codes "body ab 5 end\nnode 1\n ab: ab")) (codes "ab")
+body_word : hint_for_last (codes "body ab 5 end\nnode 1\n ab: ab") (codes "ab")
     ≡ Some (Body (codes "ab"))
-unfolding names_from texts_of lexemes
+unfolding hint_for_last names_from texts_of lexemes
 body_word = refl
 
-label_word : bad_token_hint (texts_of (codes "node 1\n foo: 5\n foo")) (codes "foo")
+-- behind `use` the name of a body is used already, even if `use` is the name of a label
+used_word : hint_for_last (codes "body ab 5 end\nnode 1 call use ab") (codes "ab") ≡ None
+unfolding hint_for_last names_from texts_of lexemes
+used_word = refl
+
+label_word : hint_for_last (codes "node 1\n foo: 5\n foo") (codes "foo")
     ≡ Some (Label (codes "foo"))
-unfolding names_from texts_of lexemes
+unfolding hint_for_last names_from texts_of lexemes
 label_word = refl
 
-sum_word : bad_token_hint (texts_of (codes "const SIZE 5\nnode 1\n SIZE+1")) (codes "SIZE+1")
+sum_word : hint_for_last (codes "const SIZE 5\nnode 1\n SIZE+1") (codes "SIZE+1")
     ≡ Some Expression
-unfolding names_from texts_of lexemes is_operand literal_of parted inside left_of right_of
+unfolding hint_for_last names_from texts_of lexemes is_operand literal_of parted
+    inside left_of right_of
 sum_word = refl
+
+definition_word : hint_for_last (codes "node 1 dup\nconst") (codes "const") ≡ Some Definition
+unfolding hint_for_last names_from texts_of lexemes parted inside
+definition_word = refl
+
+-- an opcode that stands only in brackets is none of those that are near
+bracketed_word : hint_for_last (codes "node 1 @P") (codes "@P") ≡ None
+unfolding hint_for_last names_from texts_of lexemes parted inside
+bracketed_word = refl
 
 -- what can't be the name of a label
 no_name : is_label (texts_of (codes "node 1\n my-loop ; my-loop: .")) (codes "my-loop") ≡ false

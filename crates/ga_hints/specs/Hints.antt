@@ -15,7 +15,7 @@ use Rattle.ga_source.specs.Program.{sections_in}
 use Rattle.ga_source.specs.declared.error.SourceError.{SourceError}
 use Rattle.ga_asm.specs.Error as assembly
 use Rattle.ga_asm.specs.declared.error.AsmError.{AsmError}
-use Rattle.ga_expand.specs.Constants.{is_among, words_of_definitions}
+use Rattle.ga_expand.specs.Constants.{is_among}
 use Rattle.ga_expand.specs.Error as expansion
 use Rattle.ga_expand.specs.Operand.{is_expression}
 use Rattle.ga_expand.specs.Texts.{IsExpansion}
@@ -26,7 +26,7 @@ use Rattle.ga_faults.specs.Sections.{part_at, part_of}
 use Rattle.ga_faults.specs.declared.fault.Fault.{Fault}
 use Rattle.ga_faults.specs.declared.fault.Fault.TheVariants.{Asm, Expand, Source}
 use Rattle.ga_hints.specs.Bodies.{first_open}
-use Rattle.ga_hints.specs.Names.{bodies_in, constants_in, first_words, language_words, names_for_expand, names_for_label, names_for_source, word_at, words_before}
+use Rattle.ga_hints.specs.Names.{begins_definition, bodies_in, constants_in, first_words, is_known, is_use, language_words, last_of, names_for_expand, names_for_label, names_for_source, word_at, words_before}
 use Rattle.ga_hints.specs.Nearest.{nearest_of}
 use Rattle.ga_hints.specs.Size.{size_of, size_text}
 use Rattle.ga_hints.specs.declared.hint_kind.Hint as written
@@ -40,6 +40,7 @@ pub data Hint : Type 0 where
   Body : List ℕ → Hint
   Label : List ℕ → Hint
   Expression : Hint
+  Definition : Hint
   OpenBody : List ℕ → Hint
 
 abbrev pub hint_of : written.Hint → Hint
@@ -48,6 +49,7 @@ hint_of (hint.Needs size) = Needs size
 hint_of (hint.Body name) = Body (string_bytes name)
 hint_of (hint.Label name) = Label (string_bytes name)
 hint_of hint.Expression = Expression
+hint_of hint.Definition = Definition
 hint_of (hint.OpenBody name) = OpenBody (string_bytes name)
 
 -- ---- a name that may have been meant
@@ -121,25 +123,36 @@ abbrev pub is_label : List (List ℕ) → List ℕ → Bool
 is_label tokens word =
     is_name word && not (is_among language_words word) && is_among tokens (label_of word)
 
--- what may help with a word that means nothing, in a part with these tokens
-abbrev pub bad_token_hint : List (List ℕ) → List ℕ → Option Hint
-bad_token_hint tokens word =
-    if is_among (bodies_in tokens) word then Some (Body word)
+-- a body is used by `use` in front of its name, unless that is there already
+abbrev pub body_hint : Option (List ℕ) → List ℕ → Option Hint
+body_hint front word = if is_use front then None else Some (Body word)
+
+-- What may help with a word that means nothing, behind some tokens of a text and in a part with
+-- these tokens.
+abbrev pub bad_token_hint : List (List ℕ) → List (List ℕ) → List (List ℕ) → List ℕ → Option Hint
+bad_token_hint all before tokens word =
+    if is_among (bodies_in tokens) word then body_hint (last_of before) word
     else if is_label tokens word then Some (Label word)
     else if is_expression (constants_in tokens) word then Some Expression
-    else if is_among words_of_definitions word then None
+    else if begins_definition word then Some Definition
+    else if is_known all word then None
     else nearest_hint (names_for_source tokens) word
 
 -- the same at a fault of a kind, with the part that has its line
-abbrev pub source_word_hint : SourceErrorKind → List ℕ → List ℕ → Option Hint
-source_word_hint source_kind.BadToken part word = bad_token_hint (texts_of part) word
-source_word_hint source_kind.NoNode part word = nearest_hint first_words word
-source_word_hint kind part word = None
+abbrev pub source_word_hint : SourceErrorKind → List (List ℕ) → List (List ℕ) → List ℕ → List ℕ
+    → Option Hint
+source_word_hint source_kind.BadToken all before part word =
+    bad_token_hint all before (texts_of part) word
+source_word_hint source_kind.NoNode all before part word = nearest_hint first_words word
+source_word_hint kind all before part word = None
 
 abbrev pub source_hint : List ℕ → SourceError → Option Hint
 source_hint text error =
-    option_and_then (source_word_hint error.kind (part_at text error.line))
-    (word_at text (source.error_place error))
+    let place = source.error_place error in
+    option_and_then
+    (source_word_hint error.kind (texts_of text) (words_before text place)
+    (part_at text error.line))
+    (word_at text place)
 
 -- ---- a fault of the definitions
 
@@ -188,4 +201,5 @@ hint_text (hint.Label name) =
     string_bytes name ++ codes " is a label: call " ++ string_bytes name ++ codes ", or &"
     ++ string_bytes name ++ codes " for its address; in data , " ++ string_bytes name
 hint_text hint.Expression = codes "an expression stands only behind const"
+hint_text hint.Definition = codes "definitions come first"
 hint_text (hint.OpenBody name) = codes "the body " ++ string_bytes name ++ codes " has no end"

@@ -2,12 +2,12 @@
 use Rattle.std.specs.Prelude.{ℕ, ◌-◌, ◌||◌, Bool, false, List, [], ◌∷◌, ◌++◌, codes, length, map, slice_get, take, unwrap_or, Option, Some, None, if◌then◌else◌}
 use Rattle.std.specs.List.{position}
 use Rattle.std.specs.Option.{option_and_then}
-use Rattle.std.specs.Str.{bytes_eq}
+use Rattle.std.specs.Str.{bytes_eq, str_eq_ignore_ascii_case}
 use Rattle.ga_word.specs.Op.{name_of, opcodes}
 use Rattle.ga_pack.specs.Model.Layout.{names_in}
 use Rattle.ga_pack.specs.Model.Source.{Item}
 use Rattle.ga_pack.specs.Model.Text.{Place, lexemes, texts_of}
-use Rattle.ga_expand.specs.Constants.{is_among}
+use Rattle.ga_expand.specs.Constants.{is_among, words_of_definitions}
 use Rattle.ga_expand.specs.Texts.{is_at}
 use Rattle.ga_expand.specs.declared.error.ExpandErrorKind.{ExpandErrorKind}
 use Rattle.ga_expand.specs.declared.error.ExpandErrorKind.TheVariants as expand_kind
@@ -55,14 +55,36 @@ bodies_in tokens = names_from (codes "body") false tokens
 unfoldable pub names_for_source : List (List ℕ) → List (List ℕ)
 names_for_source tokens = language_words ++ constants_in tokens ++ bodies_in tokens
 
+-- a word with which a definition begins
+abbrev pub begins_definition : List ℕ → Bool
+begins_definition word = bytes_eq word (codes "const") || bytes_eq word (codes "body")
+
+-- an opcode that stands only in brackets, but for the case of its letters
+abbrev pub is_bracketed : List ℕ → Bool
+is_bracketed word =
+    str_eq_ignore_ascii_case word (codes "@p") || str_eq_ignore_ascii_case word (codes "!p")
+
+-- Whether a word isn't meant as another one, although it means nothing where it stands: it is a
+-- word of definitions, an opcode that stands only in brackets, or the name of a constant or a body
+-- of a text with these tokens.
+abbrev pub is_known : List (List ℕ) → List ℕ → Bool
+is_known all word =
+    is_among words_of_definitions word || is_bracketed word || is_among (bodies_in all) word
+    || is_among (constants_in all) word
+
 -- what a text may begin with: a definition, the line of another file, or a section
 abbrev pub first_words : List (List ℕ)
 first_words = codes "const" ∷ codes "body" ∷ codes "include" ∷ codes "node" ∷ []
 
 -- behind a token the name of a constant or a body is defined
 abbrev pub defines : Option (List ℕ) → Bool
-defines (Some token) = bytes_eq token (codes "const") || bytes_eq token (codes "body")
+defines (Some token) = begins_definition token
 defines None = false
+
+-- behind a token the name of a body is used
+abbrev pub is_use : Option (List ℕ) → Bool
+is_use (Some token) = bytes_eq token (codes "use")
+is_use None = false
 
 abbrev pub last_of : List (List ℕ) → Option (List ℕ)
 last_of tokens = slice_get tokens (length tokens - 1)

@@ -18,6 +18,8 @@ pub enum Hint {
     Label(String),
     /// The token is an expression.
     Expression,
+    /// The token begins a definition.
+    Definition,
     /// The name of a body that has no `end`.
     OpenBody(String),
 }
@@ -39,6 +41,7 @@ impl fmt::Display for Hint {
                 )
             }
             Hint::Expression => f.write_str("an expression stands only behind const"),
+            Hint::Definition => f.write_str("definitions come first"),
             Hint::OpenBody(name) => write!(f, "the body {name} has no end"),
         }
     }

@@ -5,7 +5,7 @@ ghost use Rattle.ga_word.specs.Op.{name_of, opcodes};
 ghost use Rattle.ga_pack.specs.Model.Text.{texts_of};
 ghost use Rattle.ga_source.specs.Token.{place_of};
 ghost use Rattle.ga_expand.specs.Constants.{is_among};
-ghost use Rattle.ga_hints.specs.Names.{bodies_in, constants_in, bodies_before_open, defined_constants, defines, item_words, language_words, last_of, names_for_expand, names_for_source, names_from, word_at, words_before};
+ghost use Rattle.ga_hints.specs.Names.{begins_definition, bodies_in, constants_in, bodies_before_open, defined_constants, defines, is_use, item_words, language_words, last_of, names_for_expand, names_for_source, names_from, word_at, words_before};
 
 use crate::bodies::first_open;
 use crate::nearest::is_among;
@@ -208,9 +208,26 @@ fn defines(before: &[&str]) -> bool
     ensures { result ≡ defines (last_of (map (λ word. word.now) before.now)) }
 {
     match word_with(before, before.len().saturating_sub(1)) {
-        Some(word) => word == "const" || word == "body",
+        Some(word) => begins_definition(word),
         None => false,
     }
+}
+
+/// Whether the name of a body is used behind these tokens.
+pub(crate) fn is_behind_use(before: &[&str]) -> bool
+    ensures { result ≡ is_use (last_of (map (λ word. word.now) before.now)) }
+{
+    match word_with(before, before.len().saturating_sub(1)) {
+        Some(word) => word == "use",
+        None => false,
+    }
+}
+
+/// Whether a definition begins with a word.
+pub(crate) fn begins_definition(word: &str) -> bool
+    ensures { result ≡ begins_definition word.now }
+{
+    word == "const" || word == "body"
 }
 
 /// The tokens of a text in front of the first one at a place.

@@ -3,9 +3,9 @@ ghost use Rattle.std.specs.Prelude.{◌≡◌, IfOk, fold, map, option_map};
 ghost use Rattle.std.specs.List.{find, list_any};
 ghost use Rattle.std.specs.Str.{bytes_eq, str_eq_ignore_ascii_case};
 ghost use Rattle.ga_expand.specs.Constants.{is_among};
-ghost use Rattle.ga_nearest.specs.Nearest.{nearer, nothing_near};
+ghost use Rattle.ga_nearest.specs.Nearest.{nothing_near};
 ghost use Rattle.ga_hints.specs.Hints.{hint_of, nearest_hint};
-ghost use Rattle.ga_hints.specs.Nearest.{nearest_of};
+ghost use Rattle.ga_hints.specs.Nearest.{nearer_name, nearest_of};
 
 use crate::hint_kind::Hint;
 use ga_nearest::Nearest;
@@ -45,18 +45,20 @@ fn nearest_of<'a>(
     nearest_by_edits(alloc, word, names)
 }
 
-/// The name to which the fewest edits of a word lead, if one is near.
+/// The name to which the fewest edits of a word lead, if one is near. None of one or two bytes is.
 fn nearest_by_edits<'a>(
     alloc: Global,
     word: &'a str,
     names: &[&'a str],
 ) -> Result<Option<&'a str>, AllocError>
     ensures { IfOk result (λ name. option_map (λ name. name.now) name
-        ≡ (fold nearer (nothing_near word.now) (map (λ name. name.now) names.now)).name) }
+        ≡ (fold nearer_name (nothing_near word.now) (map (λ name. name.now) names.now)).name) }
 {
     let mut nearest = Nearest::to(word);
     for name in names {
-        nearest.offer(alloc, *name)?;
+        if name.len() > 2 {
+            nearest.offer(alloc, *name)?;
+        }
     }
     Ok(nearest.name())
 }
@@ -70,7 +72,7 @@ fn recased<'a>(names: &[&'a str], word: &str) -> Option<&'a str>
 }
 
 /// Whether a word is a name but for the case of ASCII letters.
-fn is_recased(word: &str, name: &str) -> bool
+pub(crate) fn is_recased(word: &str, name: &str) -> bool
     ensures { result ≡ str_eq_ignore_ascii_case word.now name.now }
 {
     word.eq_ignore_ascii_case(name)

@@ -1,10 +1,12 @@
 -- The first part of a text that is cut, and the others.
-use Rattle.std.proofs.Common.{◌≡◌, ◌∙◌, ℕ, ◌<◌, ◌==◌, Bool, List, [], ◌∷◌, ◌++◌, append_assoc, arith, length, refl, ap}
-use Rattle.std.specs.List.{slice_split}
+use Rattle.std.proofs.Common.{◌≡◌, ◌∙◌, ℕ, ◌<◌, ◌==◌, Bool, true, false, List, [], ◌∷◌, ◌++◌, append_assoc, arith, length, refl, ap}
+use Rattle.std.specs.List.{list_any, slice_split}
+use Rattle.std.specs.Prelude.{◌||◌, codes}
+use Rattle.std.specs.Str.{bytes_eq}
 use Rattle.std.proofs.lemmas.List.Splits.{length-slice_split}
 use Rattle.ga_pack.specs.Model.Text.{lines_of}
 use Rattle.ga_include.specs.Including.{ended_lines, last_line}
-use Rattle.ga_include.specs.Path.{folder_of, parts_of}
+use Rattle.ga_include.specs.Path.{folder_of, leads_up, parts_of}
 
 pub some_parts : (p : ℕ → Bool) (text : List ℕ) → 0 < length (slice_split p text)
 some_parts p text = let count = length-slice_split p text in omega (arith, count)
@@ -43,3 +45,30 @@ pub last_first : (rest line behind : List ℕ) → lines_of rest ≡ line ∷ li
     → last_line (lines_of rest) ≡ last_line (lines_of behind)
 last_first rest line behind cut =
     ap last_line cut ∙ last_more line (lines_of behind) (some_parts (λ c. c == 10) behind)
+
+-- ---- parts that lead up
+
+abbrev is_up : List ℕ → Bool
+is_up part = bytes_eq part (codes "..")
+
+-- the first part does
+pub part_up : (name part behind : List ℕ) → parts_of name ≡ part ∷ parts_of behind
+    → bytes_eq part (codes "..") ≡ true → leads_up name ≡ true
+part_up name part behind first e =
+    ap (list_any is_up) first ∙ ap (λ b. b || list_any is_up (parts_of behind)) e
+
+-- or doesn't
+pub next_up : (name part behind : List ℕ) → parts_of name ≡ part ∷ parts_of behind
+    → bytes_eq part (codes "..") ≡ false → leads_up name ≡ leads_up behind
+next_up name part behind first e =
+    ap (list_any is_up) first ∙ ap (λ b. b || list_any is_up (parts_of behind)) e
+
+-- the only part
+pub last_up : {name : List ℕ} → parts_of name ≡ name ∷ []
+    → leads_up name ≡ bytes_eq name (codes "..")
+last_up {name = name} one = ap (list_any is_up) one ∙ by (bytes_eq name (codes "..")) refl
+  where
+    by : (b : Bool) → bytes_eq name (codes "..") ≡ b
+        → (bytes_eq name (codes "..") || false) ≡ bytes_eq name (codes "..")
+    by true e = rw (e) refl
+    by false e = rw (e) refl

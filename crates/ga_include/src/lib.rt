@@ -11,4 +11,4 @@ pub use error::{IncludeError, IncludeFaultKind, IncludePlace};
 pub use file::{LineOrigin, SourceFile};
 pub use including::{Included, expand_includes};
 pub use line::has_includes;
-pub use path::source_path;
+pub use path::{is_below, source_path};

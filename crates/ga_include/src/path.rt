@@ -1,5 +1,5 @@
 ghost use Rattle.std.specs.Prelude.{◌≡◌, ◌++◌, IfOk, OnOk, string_bytes};
-ghost use Rattle.ga_include.specs.Path.{folder_of, is_absolute, parts_of, source_path};
+ghost use Rattle.ga_include.specs.Path.{folder_of, is_absolute, is_below, leads_up, parts_of, source_path};
 
 use std::alloc::{AllocError, Global};
 
@@ -14,6 +14,28 @@ pub fn source_path(alloc: Global, file: &str, name: &str) -> Result<String, Allo
     }
     path.push_str(name)?;
     Ok(path)
+}
+
+/// Whether a name in a file means a file in its folder, or below: it doesn't begin with `/`, and no
+/// part of it is `..`. (Profile.)
+pub fn is_below(name: &str) -> bool
+    ensures { result ≡ is_below name.now }
+{
+    !is_absolute(name) && !leads_up(name)
+}
+
+/// Whether a part of a file's name is `..`.
+fn leads_up(name: &str) -> bool
+    ensures { result ≡ leads_up name.now }
+{
+    let mut rest = name;
+    while let Some((part, behind)) = rest.split_once('/') {
+        if part == ".." {
+            return true;
+        }
+        rest = behind;
+    }
+    rest == ".."
 }
 
 /// Adds the parts of a file's name before the last one, each with `/` behind it.

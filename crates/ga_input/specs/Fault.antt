@@ -11,7 +11,6 @@ use Rattle.ga_path.specs.declared.error.TreeError.{TreeError}
 use Rattle.ga_path.specs.declared.error.TreeError.TheVariants as tree
 use Rattle.ga_input.specs.declared.fault.IncludeRefusal.{IncludeRefusal}
 use Rattle.ga_input.specs.declared.fault.IncludeRefusal.TheVariants.{File, Line}
-use Rattle.ga_input.specs.declared.fault.IncludeRefusal.TheVariants as refusal
 use Rattle.ga_input.specs.declared.fault.InputFault.{InputFault}
 use Rattle.ga_input.specs.declared.fault.InputFault.TheVariants as input
 use Rattle.ga_input.specs.declared.fault.ServeError.{ServeError}
@@ -45,12 +44,13 @@ input_name input.BadText = codes "BadText"
 input_name input.NoFile = codes "NoFile"
 input_name input.Folder = codes "Folder"
 input_name input.NotAFile = codes "NotAFile"
+input_name input.Read = codes "read"
+input_name input.Outside = codes "Outside"
 
 -- why an include line was refused
 abbrev pub refusal_name : IncludeRefusal → List ℕ
 refusal_name (Line kind) = include.kind_name kind
 refusal_name (File fault) = input_name fault
-refusal_name refusal.Read = codes "read"
 
 -- What a function answers that reads nothing and writes nothing is right, a value seen through a
 -- view, unless memory ran out.

@@ -1,5 +1,5 @@
 -- The fault of a transcript with what is shown of it.
-use Rattle.std.specs.Prelude.{◌==◌, ◌&&◌, ℕ, ◌+◌, ◌-◌, ◌^◌, Bool, List, None, codes, length, nat_lt, if◌then◌else◌}
+use Rattle.std.specs.Prelude.{[], ◌==◌, ◌&&◌, ℕ, ◌+◌, ◌-◌, ◌^◌, Bool, List, None, codes, length, nat_lt, if◌then◌else◌}
 use Rattle.std.specs.Str.{bytes_eq, chars}
 use Rattle.std.specs.Str.Lines.{lines}
 use Rattle.ga_source.specs.declared.error.SourceError.{SourceError}
@@ -12,7 +12,7 @@ use Rattle.ga_explain.specs.Output.{meaning_of}
 use Rattle.ga_input.specs.declared.fault.ServeError.{ServeError}
 use Rattle.ga_input.specs.declared.fault.ServeError.TheVariants.{Output, Shown, Memory}
 use Rattle.ga_input.specs.declared.fault.OutputFault.TheVariants.{TooLong}
-use Rattle.ga_input.specs.declared.fault.TextFault.TheVariants.{Replay, EarlyReply, Differs}
+use Rattle.ga_input.specs.declared.fault.TextFault.TheVariants.{Replay, EarlyReply, Differs, Failed}
 use Rattle.ga_input.specs.Meaning.{head_meaning}
 use Rattle.ga_messages.specs.Shown.{numbered_line, shown_lines, shown_text, whole_line}
 use Rattle.ga_input.specs.TextFault.{shown_fault}
@@ -66,5 +66,7 @@ shown_transcript_fault text (transcript.EarlyReply line) =
     Shown (EarlyReply line) (shown_text text line None (meaning_of (codes "EarlyReply")))
 shown_transcript_fault text (transcript.Differs line lines) =
     Shown (Differs line) (shown_lines lines)
+shown_transcript_fault text (transcript.Failed unmet) =
+    Shown (Failed unmet) (shown_text text unmet.first None [])
 shown_transcript_fault text transcript.TooLong = Output TooLong
 shown_transcript_fault text transcript.Memory = Memory

@@ -16,6 +16,7 @@ use ga_messages::ShownText;
 use ga_path::{BootError, NamesError, RouteError, TreeError};
 use ga_place::Node;
 use ga_source::SourceError;
+use ga_transcript::Unmet;
 use ga_word::WordsError;
 use std::alloc::{AllocError, AllocFailed};
 use std::fmt;
@@ -39,6 +40,12 @@ pub enum InputFault {
     /// The name is that of a pipe or a device, which can't be replaced.
     #[error("NotAFile")]
     NotAFile,
+    /// It can't be opened or read.
+    #[error("read")]
+    Read,
+    /// The name of a source leads out of the folder of the file that names it.
+    #[error("Outside")]
+    Outside,
 }
 
 impl InputFault {
@@ -55,6 +62,8 @@ impl InputFault {
             InputFault::NoFile => "NoFile",
             InputFault::Folder => "Folder",
             InputFault::NotAFile => "NotAFile",
+            InputFault::Read => "read",
+            InputFault::Outside => "Outside",
         }
     }
 }
@@ -66,8 +75,6 @@ pub enum IncludeRefusal {
     Line(IncludeFaultKind),
     /// The file that it names was refused.
     File(InputFault),
-    /// The file that it names couldn't be opened or read.
-    Read,
 }
 
 impl IncludeRefusal {
@@ -81,7 +88,6 @@ impl IncludeRefusal {
         match self {
             IncludeRefusal::Line(kind) => kind.name(),
             IncludeRefusal::File(fault) => fault.name(),
-            IncludeRefusal::Read => "read",
         }
     }
 }
@@ -172,6 +178,9 @@ pub enum TextFault {
     /// The command of this line of a transcript has another reply than the lines behind it.
     #[error("check differs {0}")]
     Differs(u64),
+    /// Replies of a transcript to expectations that aren't met.
+    #[error("check: {0}")]
+    Failed(Unmet),
 }
 
 /// Why a job was not served. Its `Display` is the text that the program prints.

@@ -35,6 +35,11 @@ pub fn shown_transcript_fault(
             let shown = ShownText::of_lines(alloc, &lines)?;
             Ok(ServeError::Shown { fault, shown })
         }
+        TranscriptError::Failed(unmet) => {
+            let fault = TextFault::Failed(unmet);
+            let shown = ShownText::new(alloc, text, unmet.first as usize, None, "")?;
+            Ok(ServeError::Shown { fault, shown })
+        }
         TranscriptError::TooLong => Ok(ServeError::Output(OutputFault::TooLong)),
         TranscriptError::Memory => Ok(ServeError::Memory),
     }

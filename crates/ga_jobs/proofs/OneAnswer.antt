@@ -62,7 +62,7 @@ one_output (Run route workers turns file) input =
       alone = λ single. within_limit (Run route workers turns file) input (runs.alone single);
     }
 one_output (Race loading turns witness file) input = tt
-one_output (Talk loading file) input = tt
+one_output (Talk loading file any) input = tt
 one_output (Expand file) input = tt
 one_output (Lint deny json file) input = tt
 one_output (Map loading turns file) input = tt

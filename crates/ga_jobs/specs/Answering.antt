@@ -27,7 +27,7 @@ HasOneOutput (Run route workers turns file) input =
 -- the text of `race` behind its first words is free
 HasOneOutput (Race loading turns witness file) input = Unit {0}
 -- the faults of a session that is opened aren't compared
-HasOneOutput (Talk loading file) input = Unit {0}
+HasOneOutput (Talk loading file any) input = Unit {0}
 -- the lines of an expansion are free, and warnings are those about one
 HasOneOutput (Expand file) input = Unit {0}
 HasOneOutput (Lint deny json file) input = Unit {0}

@@ -43,10 +43,12 @@ abbrev pub ServesFile : Job → List ℕ → Option (List ℕ) → Option (List 
 ServesFile job input old new answer =
     WritesAnswer (IsOfFile (IsOutput job) input) job old new answer
 
--- 3 when out of memory, 1 for a race, for warnings that are denied and for every other fault
+-- 3 when out of memory, 1 for a race, for warnings that are denied, for expectations that aren't
+-- met, and for every other fault
 abbrev pub status_of : Result Ending ServeError → ℕ
 status_of (Ok ending.Done) = 0
 status_of (Ok ending.Race) = 1
 status_of (Ok ending.Denied) = 1
+status_of (Ok (ending.Failed unmet)) = 1
 status_of (Err Memory) = 3
 status_of (Err fault) = 1

@@ -38,16 +38,16 @@ IsJobOutput (job.Boot route file) input answer = IsBootOutput (string_bytes rout
 IsJobOutput (job.Run route workers turns file) input answer =
     IsRunOutput (string_bytes route) workers turns input answer
 IsJobOutput job.Debug input answer = IsDebugOutput input answer
-IsJobOutput (job.Talk loading file) input answer = IsSessionOutput loading input answer
+IsJobOutput (job.Talk loading file any) input answer = IsSessionOutput loading input answer
 IsJobOutput (job.Replay file) input answer = IsReplayOutput input answer
 IsJobOutput (job.Expand file) input answer = IsExpandOutput input answer
 IsJobOutput (job.List labels file) input answer = IsListOutput labels input answer
 IsJobOutput (job.Lint deny json file) input answer =
     IsLintOutput (origins_in (file_name (option_map string_bytes file))) (form_of json) input
     answer
-IsJobOutput (job.Check files) input answer = IsCheckOutput input answer
-IsJobOutput (job.Record file) input answer = IsRecordOutput input answer
-IsJobOutput (job.Rewrite files) input answer = IsRecordOutput input answer
+IsJobOutput (job.Check files any) input answer = IsCheckOutput input answer
+IsJobOutput (job.Record file any) input answer = IsRecordOutput input answer
+IsJobOutput (job.Rewrite files any) input answer = IsRecordOutput input answer
 IsJobOutput (job.Race loading turns witness file) input answer =
     IsRaceOutput loading turns witness input answer
 IsJobOutput (job.Map loading turns file) input answer = IsMapOutput loading turns input answer
@@ -94,22 +94,30 @@ file_of (job.Replay file) = given_file file
 file_of (job.Expand file) = given_file file
 file_of (job.List labels file) = given_file file
 file_of (job.Lint deny json file) = given_file file
-file_of (job.Check files) = only_file files.items
-file_of (job.Record file) = given_file file
+file_of (job.Check files any) = only_file files.items
+file_of (job.Record file any) = given_file file
 file_of (job.Race loading turns witness file) = given_file file
 file_of (job.Map loading turns file) = given_file file
 file_of (job.Profile loading start json turns file) = given_file file
 file_of (job.Trace loading turns nodes save file) = given_file file
 file_of (job.Counts loading turns file) = given_file file
 file_of (job.Report loading start turns file) = given_file file
-file_of (job.Talk loading file) = named_file file
+file_of (job.Talk loading file any) = named_file file
 file_of job = None
 
 -- the files of a job that names two or more
 abbrev pub several_files_of : Job → Option (List (List ℕ))
-several_files_of (job.Check files) =
+several_files_of (job.Check files any) =
     if nat_lt 1 (length files.items) then Some (map string_bytes files.items) else None
 several_files_of job = None
+
+-- a source that a transcript of the job names may lie outside its folder
+abbrev pub takes_any_source : Job → Bool
+takes_any_source (job.Talk loading file any) = any
+takes_any_source (job.Check files any) = any
+takes_any_source (job.Record file any) = any
+takes_any_source (job.Rewrite files any) = any
+takes_any_source job = false
 
 -- the job that is handed the means to start threads
 abbrev pub needs_threads : Job → Bool

@@ -10,6 +10,7 @@ ghost use Rattle.ga_jobs.specs.Engine.{Serves, status_of};
 use crate::Job;
 use crate::outputs::output_of;
 use ga_input::{Reads, ServeError, read_input};
+use ga_transcript::{Unmet, find_unmet};
 use std::io::{Read, Write};
 use std::thread::Threads;
 use std::time::Clock;
@@ -22,6 +23,8 @@ pub enum Ending {
     Race,
     /// The output has warnings, which are denied.
     Denied,
+    /// The output has replies to expectations that aren't met.
+    Failed(Unmet),
 }
 
 /// Serves a job, the engine under every subcommand: reads the whole input, makes the whole output,
@@ -85,25 +88,29 @@ fn respond<Rt: AllocGlobal + Threads + Clock + Sync, W: Write>(
 }
 
 /// How a job ended, by the text that it wrote.
-pub(crate) fn ending_of(job: &Job, text: &str) -> Ending
+pub fn ending_of(job: &Job, text: &str) -> Ending
     ensures { result ≡ ending_of job.now text.now }
 {
     match job {
+        Job::Record { .. } => match find_unmet(text) {
+            Some(unmet) => Ending::Failed(unmet),
+            None => Ending::Done,
+        },
         Job::Race { .. } if !text.starts_with("no race") => Ending::Race,
         Job::Lint { deny: true, .. } if !text.is_empty() => Ending::Denied,
         _ => Ending::Done,
     }
 }
 
-/// The exit status of the program: 0 for an output that was written, 1 for one that reports a race
-/// or warnings that are denied, for a refused input, and for a read or a write that failed, and 3
-/// when out of memory.
+/// The exit status of the program: 0 for an output that was written, 1 for one that reports a race,
+/// warnings that are denied, or expectations that aren't met, for a refused input, and for a read
+/// or a write that failed, and 3 when out of memory.
 pub fn status(outcome: &Result<Ending, ServeError>) -> u8
     ensures { result ≡ status_of outcome.now }
 {
     match outcome {
         Ok(Ending::Done) => 0,
         Err(ServeError::Memory) => 3,
-        Ok(Ending::Race | Ending::Denied) | Err(_) => 1,
+        Ok(Ending::Race | Ending::Denied | Ending::Failed(_)) | Err(_) => 1,
     }
 }

@@ -4,7 +4,7 @@
 #![tactic(auto)]
 
 ghost use Rattle.std.specs.Prelude.{◌≡◌, IfSome, is_some, map, not, option_map, string_bytes};
-ghost use Rattle.ga_jobs.specs.{IsJobOutput, file_of, given_file, named_file, needs_threads, only_file, reads_input, several_files_of};
+ghost use Rattle.ga_jobs.specs.{IsJobOutput, file_of, given_file, named_file, needs_threads, only_file, reads_input, several_files_of, takes_any_source};
 ghost use Rattle.ga_input.specs.Fault.{Answers};
 
 mod answering;
@@ -14,7 +14,7 @@ mod larger;
 mod outputs;
 
 pub use crate::answering::{answer, answer_alone};
-pub use crate::engine::{Ending, serve, status};
+pub use crate::engine::{Ending, ending_of, serve, status};
 pub use crate::larger::{open_file, output_of_file, serve_file};
 pub use crate::outputs::{Output, output_of};
 use ga_diagnostics::lint;
@@ -63,6 +63,7 @@ pub enum Job {
     Talk {
         loading: Loading,
         file: String,
+        any_source: bool,
     },
     /// How many stated outcomes of a replay text hold.
     Replay {
@@ -89,6 +90,7 @@ pub enum Job {
     /// [`FileReport`](ga_replays::FileReport) has what is reported of each.
     Check {
         files: Vec<String>,
+        any_source: bool,
     },
     /// The listing of a program, after the commands of its session, with how often each word is
     /// fetched and the opcode in each slot run in turns until rest.
@@ -100,11 +102,13 @@ pub enum Job {
     /// A transcript with the replies that come.
     Record {
         file: Option<String>,
+        any_source: bool,
     },
     /// Each file has a transcript, and is replaced by its recording. As a job it has the bytes of
     /// one of them, and its output is what replaces them.
     Rewrite {
         files: Vec<String>,
+        any_source: bool,
     },
     /// What one run of a chip shows of all its runs, by a session or source text.
     Race {
@@ -166,8 +170,21 @@ impl Job {
             ≡ several_files_of self.now }
     {
         match self {
-            Job::Check { files } if files.len() > 1 => Some(files.as_slice()),
+            Job::Check { files, .. } if files.len() > 1 => Some(files.as_slice()),
             _ => None,
+        }
+    }
+
+    /// Whether a source that a transcript of the job names may lie outside its folder.
+    pub fn takes_any_source(&self) -> bool
+        ensures { result ≡ takes_any_source self.now }
+    {
+        match self {
+            Job::Talk { any_source, .. }
+            | Job::Check { any_source, .. }
+            | Job::Record { any_source, .. }
+            | Job::Rewrite { any_source, .. } => *any_source,
+            _ => false,
         }
     }
 
@@ -186,7 +203,7 @@ impl Job {
             | Job::Expand { file }
             | Job::List { file, .. }
             | Job::Lint { file, .. }
-            | Job::Record { file }
+            | Job::Record { file, .. }
             | Job::Race { file, .. }
             | Job::Map { file, .. }
             | Job::Profile { file, .. }
@@ -194,7 +211,7 @@ impl Job {
             | Job::Counts { file, .. }
             | Job::Report { file, .. } => given_file(file),
             Job::Talk { file, .. } => named_file(file),
-            Job::Check { files } => only_file(files),
+            Job::Check { files, .. } => only_file(files),
             Job::Debug | Job::Rewrite { .. } | Job::Explain { .. } => None,
         }
     }

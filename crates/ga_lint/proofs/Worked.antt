@@ -3,19 +3,22 @@ use Rattle.std.proofs.Common.{◌≡◌, ℕ, List, [], ◌∷◌, ◌++◌, Som
 use Rattle.std.specs.Prelude.{Option, codes, map}
 use Rattle.std.specs.Fmt.{digits}
 use Rattle.ga_asm.specs.Image.{ImageView}
-use Rattle.ga_disasm.specs.Disassembling.{ItemView, Code, Follower}
+use Rattle.ga_disasm.specs.Disassembling.{ItemView, Code, Follower, Data}
+use Rattle.ga_lint.specs.DataRuns.{begins_in_data, into_data}
+use Rattle.ga_lint.specs.DeadCode.{is_dead}
 use Rattle.ga_lint.specs.LeavesExtended.{leaves_extended}
 use Rattle.ga_lint.specs.NodeView.{NodeView}
 use Rattle.ga_lint.specs.NodeWarnings.{by_address, node_warnings}
 use Rattle.ga_lint.specs.OverMemory.{over_memory}
+use Rattle.ga_lint.specs.PortWrites.{writes_refused_at}
 use Rattle.ga_lint.specs.RunsOff.{runs_off}
-use Rattle.ga_lint.specs.SeveralPorts.{several_ports}
 use Rattle.ga_lint.specs.SplitLoop.{split_loop}
 use Rattle.ga_lint.specs.StraightRun.{is_first_wrong}
 use Rattle.ga_lint.specs.UnextRepeats.{unext_repeats}
 use Rattle.ga_lint.specs.Unreachable.{unreachable}
 use Rattle.ga_lint.specs.Warning.{warning_text}
-use Rattle.ga_lint.specs.declared.warning.WarningKind.TheVariants.{UnextRepeats, PushesTooMany, PopsTooMany, UnusedLabel, Unreachable, ReturnsNowhere, OverMemory}
+use Rattle.ga_lint.specs.declared.port_writes.Refused.TheVariants.{Several, Edge}
+use Rattle.ga_lint.specs.declared.warning.WarningKind.TheVariants.{UnextRepeats, PushesTooMany, PopsTooMany, UnusedLabel, Unreachable, ReturnsNowhere, OverMemory, ReadsIo}
 use Rattle.ga_pack.specs.Model.Layout.{Labels}
 use Rattle.ga_pack.specs.Model.Source.{Item, Instruction, Literal, Here, Word}
 use Rattle.ga_pack.specs.Model.Text.{Place}
@@ -127,39 +130,105 @@ behind_jump labels items = record {
 
 without_a_label : node_warnings 708 (behind_jump [] [])
     ≡ record { node = 708; line = 1; column = 30; kind = Unreachable } ∷ []
-unfolding node_warnings by_address
+unfolding node_warnings by_address is_dead
 without_a_label = refl
 
 with_a_label : node_warnings 708
     (behind_jump ((codes "sub", 1) ∷ []) (Instruction op.Nop ∷ Here (codes "sub") ∷ []))
     ≡ record { node = 708; line = 1; column = 20; kind = UnusedLabel } ∷ []
-unfolding node_warnings by_address
+unfolding node_warnings by_address is_dead
 with_a_label = refl
 
--- `2 push` and `;`, with or without words between, and code behind that
-abbrev behind_pushed : List Op → List ItemView → NodeView
-behind_pushed ops others =
-    node_with (code ops None ∷ Follower 2
-    ∷ others ++ code (op.Dup ∷ op.Return ∷ op.Nop ∷ op.Nop ∷ []) None ∷ []) []
+-- code behind these words, which doesn't run if they don't lead there
+abbrev behind : List ItemView → List ℕ → NodeView
+behind words numbers =
+    node_with (words ++ code (op.Dup ∷ op.Return ∷ op.Nop ∷ op.Nop ∷ []) None ∷ []) numbers
 
-a_computed_jump :
-    unreachable (behind_pushed (op.FetchP ∷ op.Push ∷ op.Return ∷ op.Nop ∷ []) []) 2 ≡ false
+-- `jump warm`, or a jump to a port: a neighbour may lead the node there
+waits_for_words : unreachable (behind (code (op.Jump ∷ []) (Some 0xA9) ∷ []) []) 1 ≡ false
+unfolding is_dead
+waits_for_words = refl
+
+runs_words_of_a_port : unreachable (behind (code (op.Jump ∷ []) (Some 0x1D5) ∷ []) []) 1 ≡ false
+unfolding is_dead
+runs_words_of_a_port = refl
+
+-- at 155, io and 080 a fetch stops the node
+stops_at_155 : unreachable (behind (code (op.Jump ∷ []) (Some 0x155) ∷ []) []) 1 ≡ true
+unfolding is_dead
+stops_at_155 = refl
+
+stops_at_io : unreachable (behind (code (op.Jump ∷ []) (Some 0x15D) ∷ []) []) 1 ≡ true
+unfolding is_dead
+stops_at_io = refl
+
+stops_in_rom : unreachable (behind (code (op.Jump ∷ []) (Some 0x80) ∷ []) []) 1 ≡ true
+unfolding is_dead
+stops_in_rom = refl
+
+-- a number that is run as code may lead anywhere
+runs_a_number : unreachable (behind (code (op.FetchP ∷ op.Jump ∷ []) (Some 1) ∷ Follower 5 ∷ []) [])
+    2 ≡ false
+unfolding is_dead
+runs_a_number = refl
+
+-- `2 push ;` goes to 002; `[ @p push pop ; ]` goes to 000, but no `call` leads there
+a_computed_jump : unreachable
+    (behind (code (op.FetchP ∷ op.Push ∷ op.Return ∷ op.Nop ∷ []) None ∷ Follower 2 ∷ []) []) 2
+    ≡ false
+unfolding is_dead
 a_computed_jump = refl
 
-over_a_copy :
-    unreachable (behind_pushed (op.FetchP ∷ op.Push ∷ op.Dup ∷ op.Return ∷ []) []) 2 ≡ false
-over_a_copy = refl
+over_a_pop : unreachable
+    (behind (code (op.FetchP ∷ op.Push ∷ op.Pop ∷ op.Return ∷ []) None ∷ Follower 2 ∷ []) []) 2
+    ≡ false
+unfolding is_dead
+over_a_pop = refl
 
-over_fillers_of_two_words :
-    unreachable (behind_pushed (op.FetchP ∷ op.Push ∷ op.Nop ∷ op.Nop ∷ [])
-    (code (op.Nop ∷ op.Return ∷ op.Nop ∷ op.Nop ∷ []) None ∷ [])) 3 ≡ false
-over_fillers_of_two_words = refl
+-- behind a `call` its `;` comes back, and R is 0 before
+comes_back : unreachable (behind (code (op.Call ∷ []) (Some 2) ∷ code (op.Jump ∷ []) (Some 1)
+    ∷ code (op.Return ∷ op.Nop ∷ op.Nop ∷ op.Nop ∷ []) None ∷ []) []) 3 ≡ true
+unfolding is_dead
+comes_back = refl
 
--- behind `push pop` the `;` goes where the caller was
-not_a_computed_jump :
-    unreachable (behind_pushed (op.FetchP ∷ op.Push ∷ op.Pop ∷ op.Nop ∷ [])
-    (code (op.Return ∷ op.Nop ∷ op.Nop ∷ op.Nop ∷ []) None ∷ [])) 3 ≡ true
-not_a_computed_jump = refl
+-- `call 2` and `jump 1`, and at 002 a routine with these opcodes
+abbrev calls_002 : List Op → NodeView
+calls_002 ops =
+    behind (code (op.Call ∷ []) (Some 2) ∷ code (op.Jump ∷ []) (Some 1) ∷ code ops None ∷ []) []
+
+pops_what_it_pushed : unreachable (calls_002 (op.Push ∷ op.Pop ∷ op.Return ∷ op.Nop ∷ [])) 3 ≡ true
+unfolding is_dead
+pops_what_it_pushed = refl
+
+returns_to_what_it_pushed : unreachable (calls_002 (op.Push ∷ op.Return ∷ op.Nop ∷ op.Nop ∷ [])) 3
+    ≡ false
+unfolding is_dead
+returns_to_what_it_pushed = refl
+
+-- rounds that take words of the code as numbers go on behind them
+takes_code : unreachable (behind (code (op.FetchP ∷ op.Micronext ∷ op.Nop ∷ op.Nop ∷ []) None
+    ∷ Follower 2 ∷ code (op.Jump ∷ []) (Some 2) ∷ []) []) 3 ≡ false
+unfolding is_dead
+takes_code = refl
+
+-- `!` writes at 000, the address in A after reset; `$1D5 a! !` writes to the port right, and
+-- `1 a! !` over the code
+writes_at_once : unreachable (behind (code (op.Store ∷ op.Jump ∷ []) (Some 0) ∷ []) []) 1 ≡ false
+unfolding is_dead
+writes_at_once = refl
+
+abbrev writes_by_a : ℕ → NodeView
+writes_by_a address =
+    behind (code (op.FetchP ∷ op.AStore ∷ op.Store ∷ op.Nop ∷ []) None ∷ Follower address
+    ∷ code (op.Jump ∷ []) (Some 0) ∷ []) (0 ∷ address ∷ [])
+
+writes_to_a_port : unreachable (writes_by_a 0x1D5) 3 ≡ true
+unfolding is_dead
+writes_to_a_port = refl
+
+writes_over_code : unreachable (writes_by_a 1) 3 ≡ false
+unfolding is_dead
+writes_over_code = refl
 
 -- ---- the straight run
 
@@ -172,7 +241,7 @@ eleven_words : is_first_wrong PushesTooMany (node_with (literals ∷ literals �
 eleven_words = refl
 
 adds_nothing : is_first_wrong PopsTooMany
-    (node_with (code (op.Dup ∷ op.Or ∷ op.Plus ∷ op.Nop ∷ []) None ∷ []) []) 0 ≡ true
+    (node_with (code (op.Dup ∷ op.Plus ∷ op.Plus ∷ op.Nop ∷ []) None ∷ []) []) 0 ≡ true
 adds_nothing = refl
 
 -- `drop` and `dup` may clear and fill the stack
@@ -190,6 +259,21 @@ jumps_by_return : is_first_wrong ReturnsNowhere
     ≡ false
 jumps_by_return = refl
 
+-- `dup or` makes 0, a word of the node
+makes_zero : is_first_wrong PopsTooMany
+    (node_with (code (op.Dup ∷ op.Or ∷ op.StoreB ∷ op.Nop ∷ []) None ∷ []) []) 0 ≡ false
+makes_zero = refl
+
+-- `@b` before `b!`, and behind it
+reads_at_once : is_first_wrong ReadsIo
+    (node_with (code (op.FetchB ∷ op.Nop ∷ op.Nop ∷ op.Nop ∷ []) None ∷ []) []) 0 ≡ true
+reads_at_once = refl
+
+reads_behind : is_first_wrong ReadsIo
+    (node_with (code (op.FetchP ∷ op.BStore ∷ op.FetchB ∷ op.Nop ∷ []) None ∷ Follower 0x1D5 ∷ [])
+    []) 0 ≡ false
+reads_behind = refl
+
 -- ---- ports
 
 -- `[ @p b! @p !b ]` with an address as its first follower
@@ -198,32 +282,42 @@ writes_to address =
     node_with (code (op.FetchP ∷ op.BStore ∷ op.FetchP ∷ op.StoreB ∷ []) None ∷ Follower address
     ∷ Follower 7 ∷ []) (0 ∷ address ∷ 7 ∷ [])
 
-to_right_and_left : several_ports (writes_to 0x1F5) 0 ≡ true
+to_right_and_left : writes_refused_at Several (writes_to 0x1F5) 0 ≡ true
 to_right_and_left = refl
 
-to_right : several_ports (writes_to 0x1D5) 0 ≡ false
+to_right : writes_refused_at Several (writes_to 0x1D5) 0 ≡ false
 to_right = refl
 
 -- the address is taken in slot 3, and the next word begins with `a!`
-in_the_next_word : several_ports
+in_the_next_word : writes_refused_at Several
     (node_with (code (op.Nop ∷ op.Nop ∷ op.Nop ∷ op.FetchP ∷ []) None ∷ Follower 0x1F5
     ∷ code (op.AStore ∷ op.Store ∷ op.Nop ∷ op.Nop ∷ []) None ∷ []) (0 ∷ 0x1F5 ∷ 0 ∷ [])) 0
     ≡ true
 in_the_next_word = refl
 
 -- `$1F5 .` at the end of a word, and `. b! !b` behind it: fillers change nothing
-over_fillers : several_ports
+over_fillers : writes_refused_at Several
     (node_with (code (op.Dup ∷ op.Dup ∷ op.FetchP ∷ op.Nop ∷ []) None ∷ Follower 0x1F5
     ∷ code (op.Nop ∷ op.BStore ∷ op.StoreB ∷ op.Nop ∷ []) None ∷ []) (0 ∷ 0x1F5 ∷ 0 ∷ [])) 0
     ≡ true
 over_fillers = refl
 
 -- `$1F5 $1D5 .`: B is set to the address of one side
-below_another : several_ports
+below_another : writes_refused_at Several
     (node_with (code (op.Dup ∷ op.FetchP ∷ op.FetchP ∷ op.Nop ∷ []) None ∷ Follower 0x1F5
     ∷ Follower 0x1D5 ∷ code (op.Nop ∷ op.BStore ∷ op.StoreB ∷ op.Nop ∷ []) None ∷ [])
     (0 ∷ 0x1F5 ∷ 0x1D5 ∷ 0 ∷ [])) 0 ≡ false
 below_another = refl
+
+-- a node of row 0 has no neighbour up, and one of column 0 none left
+up_from_the_edge : writes_refused_at (Edge 8) (writes_to 0x145) 0 ≡ true
+up_from_the_edge = refl
+
+left_from_the_edge : writes_refused_at (Edge 700) (writes_to 0x175) 0 ≡ true
+left_from_the_edge = refl
+
+up_inside : writes_refused_at (Edge 108) (writes_to 0x145) 0 ≡ false
+up_inside = refl
 
 -- ---- destinations
 
@@ -300,6 +394,26 @@ to_warm = refl
 to_warm_again : over_memory (node_with (code (op.Jump ∷ []) (Some 0xE9) ∷ []) []) 0 ≡ false
 to_warm_again = refl
 
+-- `jump 1`, and behind it `, 5`, a number or data; then one that a neighbour may write
+abbrev to_001 : ItemView → List ItemView → NodeView
+to_001 word others = node_with (code (op.Jump ∷ []) (Some 1) ∷ word ∷ others) []
+
+into_a_number : into_data (to_001 (Follower 5) []) 0 ≡ true
+into_a_number = refl
+
+into_a_table : into_data (to_001 (Data 5) []) 0 ≡ true
+into_a_table = refl
+
+to_code : into_data (to_001 (code (op.Jump ∷ []) (Some 0)) []) 0 ≡ false
+to_code = refl
+
+may_be_written : into_data (node_with (code (op.If ∷ []) (Some 2)
+    ∷ code (op.Jump ∷ []) (Some 0x1D5) ∷ Data 5 ∷ []) []) 0 ≡ false
+may_be_written = refl
+
+of_data_alone : begins_in_data (node_with (Data 5 ∷ []) []) 0 ≡ true
+of_data_alone = refl
+
 -- `. main:`: the node begins at 001, and has one word
 begins_behind : node_warnings 708 (record {
   items = Instruction op.Nop ∷ Here (codes "main") ∷ [];
@@ -308,7 +422,7 @@ begins_behind : node_warnings 708 (record {
   words = code (op.Jump ∷ []) (Some 0) ∷ [];
   word_places = map column (10 ∷ []);
 }) ≡ record { node = 708; line = 1; column = 20; kind = OverMemory } ∷ []
-unfolding node_warnings by_address
+unfolding node_warnings by_address is_dead
 begins_behind = refl
 
 -- ---- how a warning is written

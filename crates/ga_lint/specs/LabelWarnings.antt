@@ -3,8 +3,8 @@ use Rattle.std.specs.Prelude.{◌==◌, ◌&&◌, ℕ, suc, Bool, false, List, [
 use Rattle.std.specs.List.{position_from}
 use Rattle.std.specs.Option.{option_map_or}
 use Rattle.std.specs.Str.{bytes_eq}
+use Rattle.ga_lint.specs.DeadCode.{is_dead}
 use Rattle.ga_lint.specs.NodeView.{NodeView}
-use Rattle.ga_lint.specs.Reaching.{is_dead}
 use Rattle.ga_lint.specs.StraightRun.{is_same}
 use Rattle.ga_lint.specs.Warning.{warning_at}
 use Rattle.ga_lint.specs.declared.warning.Warning.{Warning}

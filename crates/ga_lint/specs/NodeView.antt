@@ -59,3 +59,8 @@ dest_at node address = option_and_then (dest_in address) (slice_get node.words a
 -- what an address reaches, by its low nine bits
 abbrev pub lands : ℕ → Where
 lands address = where_is (address % 0x200)
+
+-- the only word of ROM that can be run, by its index: that at 0A9, by which a node goes to its idle
+-- address
+abbrev pub is_warm : ℕ → Bool
+is_warm at = at == 0x29

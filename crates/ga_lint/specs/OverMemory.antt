@@ -1,15 +1,14 @@
 -- A destination in memory at which the node has no word to run.
-use Rattle.std.specs.Prelude.{◌==◌, ℕ, Bool, false, length, nat_le, not}
+use Rattle.std.specs.Prelude.{ℕ, Bool, false, length, nat_le, not}
 use Rattle.std.specs.Option.{option_map_or}
-use Rattle.ga_lint.specs.NodeView.{NodeView, dest_at, lands}
+use Rattle.ga_lint.specs.NodeView.{NodeView, dest_at, is_warm, lands}
 use Rattle.ga_place.specs.declared.address.Where.{Where}
 use Rattle.ga_place.specs.declared.address.Where.TheVariants.{Ram, Rom}
 
--- A word of RAM behind the first ones, or one of ROM, which has only one that can be run: that at
--- 0A9, by which a node waits for its neighbours.
+-- a word of RAM behind the first ones, or one of ROM that can't be run
 abbrev pub is_missing : ℕ → Where → Bool
 is_missing words (Ram at) = nat_le words at
-is_missing words (Rom at) = not (at == 0x29)
+is_missing words (Rom at) = not (is_warm at)
 is_missing words where_it_is = false
 
 -- the word at an address goes where its node has no word

@@ -1,15 +1,13 @@
--- Which words of a node its execution can come to, as far as the text shows.
-use Rattle.std.specs.Prelude.{◌==◌, ◌&&◌, ◌||◌, ℕ, suc, Bool, true, false, not, List, [], ◌∷◌, nat_lt, take}
+-- Which words of a node its execution comes to by its own code.
+use Rattle.std.specs.Prelude.{◌==◌, ◌&&◌, ◌||◌, ℕ, suc, Bool, true, false, not, List, [], ◌∷◌, take}
 use Rattle.std.specs.List.{list_any, slice_get}
 use Rattle.std.specs.Option.{option_map_or}
 use Rattle.std.specs.Str.{bytes_eq}
 use Rattle.ga_disasm.specs.Disassembling.{ItemView, Code, Follower, Data}
-use Rattle.ga_lint.specs.ComputedJump.{has_computed_jump}
 use Rattle.ga_lint.specs.NodeView.{NodeView, dest_in, lands}
-use Rattle.ga_pack.specs.Model.Layout.{address_of}
 use Rattle.ga_pack.specs.Model.Source.{Value, Number, Label, Item, Transfer, WordTo, Plain}
 use Rattle.ga_place.specs.declared.address.Where.{Where}
-use Rattle.ga_place.specs.declared.address.Where.TheVariants.{Ram, Ports}
+use Rattle.ga_place.specs.declared.address.Where.TheVariants.{Ram}
 use Rattle.ga_word.specs.declared.op.Op.{Op}
 use Rattle.ga_word.specs.declared.op.Op.TheVariants.{Return, Execute, Jump, FetchB, BStore}
 use Rattle.ga_word.specs.Op.{ends_word}
@@ -91,41 +89,6 @@ abbrev pub comes_on : NodeView → ℕ → Bool
 comes_on node address =
     comes_behind node (list_any sets_b_in node.words) false 0 (take address node.words)
 
--- ---- nodes of which the text doesn't show it
-
-abbrev pub is_execute : Op → Bool
-is_execute Execute = true
-is_execute o = false
-
-abbrev pub is_ports : Where → Bool
-is_ports (Ports sides) = true
-is_ports reached = false
-
-abbrev pub executes : ItemView → Bool
-executes (Code reading) = list_any is_execute reading.ops
-executes item = false
-
--- one of these words, the first of which has this address, goes to a port, or anywhere by `ex`
-abbrev pub goes_out : ℕ → List ItemView → Bool
-goes_out at [] = false
-goes_out at (item ∷ items) =
-    executes item || option_map_or (λ dest. is_ports (lands dest)) (dest_in at item) false
-    || goes_out (suc at) items
-
--- a plain word is the address of a word of code: the node may go there through the return stack, or
--- send the words there to a neighbour
-abbrev pub points_to_code : NodeView → Item → Bool
-points_to_code node (Plain (Label s)) =
-    option_map_or (λ at. nat_lt at node.image.code_len) (address_of node.image.labels s) false
-points_to_code node item = false
-
--- Execution may come to any word of the node: neighbours may lead there, or `ex`, or addresses that
--- the node computes, or has as plain words.
-abbrev pub is_open : NodeView → Bool
-is_open node =
-    goes_out 0 node.words || has_computed_jump false node.words
-    || list_any (points_to_code node) node.items
-
 -- ---- code
 
 abbrev pub is_code : ItemView → Bool
@@ -134,9 +97,3 @@ is_code item = false
 
 abbrev pub is_code_at : NodeView → ℕ → Bool
 is_code_at node address = option_map_or is_code (slice_get node.words address) false
-
--- the word at an address is code to which no execution comes
-abbrev pub is_dead : NodeView → ℕ → Bool
-is_dead node address =
-    is_code_at node address && not (is_start node address) && not (comes_on node address)
-    && not (is_open node)

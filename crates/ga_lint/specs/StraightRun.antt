@@ -1,11 +1,12 @@
 -- The straight run of a node: what it runs from its entry on, word by word, up to the first opcode
 -- behind which it may go elsewhere. What is wrong there is wrong whenever the node runs.
-use Rattle.std.specs.Prelude.{◌==◌, ◌&&◌, ◌||◌, ℕ, suc, ◌+◌, ◌-◌, Bool, true, false, List, [], ◌∷◌, Option, Some, None, drop, min, if◌then◌else◌}
+use Rattle.std.specs.Prelude.{◌==◌, ◌&&◌, ◌||◌, ℕ, suc, ◌+◌, ◌-◌, Bool, true, false, List, [], ◌∷◌, Option, Some, None, drop, max, min, if◌then◌else◌}
 use Rattle.ga_disasm.specs.Disassembling.{ItemView, Code, Follower, Data}
 use Rattle.ga_lint.specs.NodeView.{NodeView}
+use Rattle.ga_lint.specs.PortWrites.{sets}
 use Rattle.ga_lint.specs.UnextRepeats.{is_push}
 use Rattle.ga_lint.specs.declared.warning.WarningKind.{WarningKind}
-use Rattle.ga_lint.specs.declared.warning.WarningKind.TheVariants.{PushesTooMany, PopsTooMany, ReturnsNowhere}
+use Rattle.ga_lint.specs.declared.warning.WarningKind.TheVariants.{PushesTooMany, PopsTooMany, ReturnsNowhere, ReadsIo}
 use Rattle.ga_pack.specs.Model.Layout.{is_unext}
 use Rattle.ga_word.specs.declared.op.Op.{Op}
 use Rattle.ga_word.specs.declared.op.Op.TheVariants.{Return, FetchP, FetchPlus, FetchB, Fetch, StoreP, StorePlus, StoreB, Store, Plus, And, Or, Drop, Dup, Pop, Over, A, Push, BStore, AStore}
@@ -52,29 +53,41 @@ abbrev pub is_pop : Op → Bool
 is_pop Pop = true
 is_pop o = false
 
--- how many words are on a stack behind an opcode that pushes one, or takes one; a stack has room
--- for ten at most
+-- a count behind an opcode by which it rises, or falls; it is ten at most, as a stack has room for
 abbrev pub changed : ℕ → Bool → Bool → ℕ
 changed count more fewer = if more then min 10 (count + 1) else if fewer then count - 1 else count
 
 -- ---- the rules
 
--- how many words a node has pushed since its entry: on the return stack for the rule of `;`, and
--- else on the data stack
+-- how many words a node has pushed on the data stack since its entry; `or` leaves one, since
+-- `dup or` makes 0 of any word
+abbrev pub words_behind : ℕ → Op → ℕ
+words_behind count Or = max (count - 1) 1
+words_behind count o = changed count (pushes o) (takes o)
+
+-- What a rule counts from the entry on: for that of `;` words that were pushed on the return stack,
+-- for that of `@b` how often B was set, and else words on the data stack.
 abbrev pub count_behind : WarningKind → ℕ → Op → ℕ
 count_behind ReturnsNowhere count o = changed count (is_push o) (is_pop o)
-count_behind kind count o = changed count (pushes o) (takes o)
+count_behind ReadsIo count o = changed count (sets true o) false
+count_behind kind count o = words_behind count o
 
 abbrev pub is_return : Op → Bool
 is_return Return = true
 is_return o = false
 
+abbrev pub is_fetch_b : Op → Bool
+is_fetch_b FetchB = true
+is_fetch_b o = false
+
 -- An opcode is wrong with this number of words pushed: a new word has no room beside ten; an opcode
--- needs a word, and there is none; `;` returns, and nothing was pushed.
+-- needs a word, and there is none; `;` returns, and nothing was pushed. And `@b` is wrong if B
+-- wasn't set: it is the address of io after reset, and a read there stops the node.
 abbrev pub is_wrong : WarningKind → ℕ → Op → Bool
 is_wrong PushesTooMany count o = (count == 10) && brings o
 is_wrong PopsTooMany count o = (count == 0) && needs o
 is_wrong ReturnsNowhere count o = (count == 0) && is_return o
+is_wrong ReadsIo count o = (count == 0) && is_fetch_b o
 is_wrong kind count o = false
 
 -- ---- the run

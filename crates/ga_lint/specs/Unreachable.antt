@@ -3,8 +3,8 @@ use Rattle.std.specs.Prelude.{◌==◌, ◌&&◌, ℕ, suc, Bool, false, not, Li
 use Rattle.std.specs.List.{list_any}
 use Rattle.std.specs.Option.{option_map_or}
 use Rattle.ga_disasm.specs.Disassembling.{ItemView, Code}
+use Rattle.ga_lint.specs.DeadCode.{is_dead}
 use Rattle.ga_lint.specs.NodeView.{NodeView}
-use Rattle.ga_lint.specs.Reaching.{is_dead}
 
 -- the address of the last word of code among words, of which the first has an address, or one that
 -- was found before

@@ -3,7 +3,7 @@ use Rattle.std.specs.Prelude.{ℕ, List, ◌++◌, codes}
 use Rattle.std.specs.Fmt.{decimal}
 use Rattle.ga_lint.specs.declared.warning.Warning as written
 use Rattle.ga_lint.specs.declared.warning.WarningKind.{WarningKind}
-use Rattle.ga_lint.specs.declared.warning.WarningKind.TheVariants.{UnextRepeats, SplitLoop, RunsOff, PushesTooMany, PopsTooMany, UnusedLabel, Unreachable, SeveralPorts, ReturnsNowhere, LeavesExtended, OverMemory}
+use Rattle.ga_lint.specs.declared.warning.WarningKind.TheVariants.{UnextRepeats, SplitLoop, RunsOff, PushesTooMany, PopsTooMany, UnusedLabel, Unreachable, SeveralPorts, ReturnsNowhere, LeavesExtended, OverMemory, IntoData, BeginsInData, ReadsIo, EdgePort}
 use Rattle.ga_pack.specs.Model.Text.{Place}
 use Rattle.ga_place.specs.Node.{node_text}
 
@@ -20,6 +20,10 @@ kind_name SeveralPorts = codes "SeveralPorts"
 kind_name ReturnsNowhere = codes "ReturnsNowhere"
 kind_name LeavesExtended = codes "LeavesExtended"
 kind_name OverMemory = codes "OverMemory"
+kind_name IntoData = codes "IntoData"
+kind_name BeginsInData = codes "BeginsInData"
+kind_name ReadsIo = codes "ReadsIo"
+kind_name EdgePort = codes "EdgePort"
 
 -- the node, a space, the line, a colon, the column, a space, and the kind
 abbrev pub warning_text : written.Warning → List ℕ

@@ -3,21 +3,24 @@ ghost use Rattle.std.specs.Prelude.{◌≡◌, ◌<◌};
 ghost use Rattle.ga_lint.specs.NodeWarnings as spec;
 ghost use Rattle.ga_lint.specs.inner.NodeText.{node_of};
 
+use crate::data_runs::{begins_in_data, into_data};
 use crate::leaves_extended::leaves_extended;
 use crate::node_text::NodeText;
 use crate::over_memory::over_memory;
+use crate::port_writes::{Refused, writes_refused_at};
+use crate::reads_io::reads_io;
 use crate::runs_off::runs_off;
-use crate::several_ports::several_ports;
 use crate::split_loop::split_loop;
 use crate::straight_run::is_first_wrong;
 use crate::unext_repeats::unext_repeats;
 use crate::unreachable::unreachable;
 use crate::warning::WarningKind;
+use ga_place::Node;
 
-/// Whether a warning of this kind applies to the word at an address.
-pub(crate) fn applies(kind: WarningKind, node: &NodeText<'_>, address: usize) -> bool
+/// Whether a warning of this kind applies to the word at an address of a node with this name.
+pub(crate) fn applies(kind: WarningKind, name: Node, node: &NodeText<'_>, address: usize) -> bool
     requires { address < 64 }
-    ensures { result ≡ spec.applies kind (node_of node.now) address }
+    ensures { result ≡ spec.applies kind name (node_of node.now) address }
 {
     match kind {
         WarningKind::UnextRepeats => unext_repeats(node, address),
@@ -28,8 +31,12 @@ pub(crate) fn applies(kind: WarningKind, node: &NodeText<'_>, address: usize) ->
         }
         WarningKind::UnusedLabel => false,
         WarningKind::Unreachable => unreachable(node, address),
-        WarningKind::SeveralPorts => several_ports(node, address),
+        WarningKind::SeveralPorts => writes_refused_at(&Refused::Several, node, address),
         WarningKind::LeavesExtended => leaves_extended(node, address),
         WarningKind::OverMemory => over_memory(node, address),
+        WarningKind::IntoData => into_data(node, address),
+        WarningKind::BeginsInData => begins_in_data(node, address),
+        WarningKind::ReadsIo => reads_io(node, address),
+        WarningKind::EdgePort => writes_refused_at(&Refused::Edge(name), node, address),
     }
 }

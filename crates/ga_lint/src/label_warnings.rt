@@ -6,8 +6,8 @@ ghost use Rattle.ga_lint.specs.LabelWarnings.{entry_warnings, label_warnings, un
 ghost use Rattle.ga_lint.specs.inner.NodeText.{node_of};
 ghost use Rattle.ga_source.specs.Item.{item_of};
 
+use crate::dead_code::is_dead;
 use crate::node_text::NodeText;
-use crate::reaching::is_dead;
 use crate::warning::{Warning, WarningKind};
 use ga_place::Node;
 use ga_source::Item;

@@ -111,6 +111,13 @@ pub(crate) fn land(address: u32) -> Where
     locate((address % 0x200) as u16)
 }
 
+/// Whether a word of ROM can be run, by its index: only that at 0A9 can, `warm` of source text.
+pub(crate) fn is_warm(at: u8) -> bool
+    ensures { result ≡ spec.is_warm at }
+{
+    at == 0x29
+}
+
 /// The address that a destination of the word at an address means: it replaces the low bits of P.
 fn target(address: usize, packed: &Packed, dest: u16) -> u32
     requires { address < 64 }

@@ -11,7 +11,7 @@ use ga_place::Node;
 use std::alloc::AllocError;
 
 /// The kinds of warnings about words, in their order.
-const WORD_KINDS: [WarningKind; 10] = [
+const WORD_KINDS: [WarningKind; 14] = [
     WarningKind::UnextRepeats,
     WarningKind::SplitLoop,
     WarningKind::RunsOff,
@@ -22,6 +22,10 @@ const WORD_KINDS: [WarningKind; 10] = [
     WarningKind::ReturnsNowhere,
     WarningKind::LeavesExtended,
     WarningKind::OverMemory,
+    WarningKind::IntoData,
+    WarningKind::BeginsInData,
+    WarningKind::ReadsIo,
+    WarningKind::EdgePort,
 ];
 
 /// Adds the warnings about a node.
@@ -83,7 +87,7 @@ fn push_kinds(
 {
     let place = node.word_place(address);
     for kind in kinds {
-        if applies(*kind, node, address) {
+        if applies(*kind, name, node, address) {
             warnings.push(Warning::new(name, place, *kind))?;
         }
     }

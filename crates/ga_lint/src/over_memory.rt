@@ -2,12 +2,9 @@ ghost use Rattle.std.specs.Prelude.{◌≡◌};
 ghost use Rattle.ga_lint.specs.OverMemory as spec;
 ghost use Rattle.ga_lint.specs.inner.NodeText.{node_of};
 
-use crate::lookups::land;
+use crate::lookups::{is_warm, land};
 use crate::node_text::NodeText;
 use ga_place::Where;
-
-/// The only word of ROM that can be run, by its index: that at 0A9, `warm` of source text.
-const WARM: u8 = 0x29;
 
 /// Whether the destination of the word at an address is in memory, where the node has no word.
 pub(crate) fn over_memory(node: &NodeText<'_>, address: usize) -> bool
@@ -25,7 +22,7 @@ fn is_missing(words: usize, reached: Where) -> bool
 {
     match reached {
         Where::Ram(at) => words <= usize::from(at),
-        Where::Rom(at) => at != WARM,
+        Where::Rom(at) => !is_warm(at),
         _ => false,
     }
 }

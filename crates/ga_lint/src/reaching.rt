@@ -1,4 +1,4 @@
-//! Which words of a node its execution can come to, as far as the text shows.
+//! Which words of a node its execution comes to by its own code.
 ghost use Rattle.std.specs.Prelude.{◌≡◌, ◌==◌, ◌&&◌, ◌||◌, ◌<◌, ◌≤◌, false, length, map, take};
 ghost use Rattle.std.specs.List.{list_any};
 ghost use Rattle.std.specs.Option.{option_map_or};
@@ -9,7 +9,6 @@ ghost use Rattle.ga_lint.specs.Reaching as spec;
 ghost use Rattle.ga_lint.specs.inner.NodeText.{node_of};
 ghost use Rattle.ga_source.specs.Item.{item_of, value_of};
 
-use crate::computed_jump::has_computed_jump;
 use crate::lookups::{dest_in, land};
 use crate::node_text::NodeText;
 use ga_disasm::Item as Word;
@@ -18,16 +17,7 @@ use ga_source::{Item, Value};
 use ga_word::Op;
 use indexmap::IndexMap;
 
-/// Whether the word at an address is code to which no execution comes.
-pub(crate) fn is_dead(node: &NodeText<'_>, address: usize) -> bool
-    ensures { result ≡ spec.is_dead (node_of node.now) address }
-{
-    is_code_at(node, address)
-        && !is_start(node, address)
-        && !comes_on(node, address)
-        && !is_open(node)
-}
-
+/// Whether the word at an address is code.
 pub(crate) fn is_code_at(node: &NodeText<'_>, address: usize) -> bool
     ensures { result ≡ spec.is_code_at (node_of node.now) address }
 {
@@ -35,7 +25,7 @@ pub(crate) fn is_code_at(node: &NodeText<'_>, address: usize) -> bool
 }
 
 /// Whether execution begins at an address, or may go to it by a destination or a used label.
-fn is_start(node: &NodeText<'_>, address: usize) -> bool
+pub(crate) fn is_start(node: &NodeText<'_>, address: usize) -> bool
     ensures { result ≡ spec.is_start (node_of node.now) address }
 {
     usize::from(node.image.entry()) == address
@@ -143,7 +133,7 @@ pub(crate) fn comes_on(node: &NodeText<'_>, address: usize) -> bool
 }
 
 /// Whether one of these words sets B.
-fn sets_b(words: &[Word]) -> bool
+pub(crate) fn sets_b(words: &[Word]) -> bool
     ensures { result ≡ list_any spec.sets_b_in (map item_view words.now) }
 {
     for word in words {
@@ -175,7 +165,7 @@ fn has_b_store(ops: &[Op]) -> bool
 }
 
 /// Whether execution goes on behind a word with these opcodes.
-fn goes_on(has_b: bool, ops: &[Op]) -> bool
+pub(crate) fn goes_on(has_b: bool, ops: &[Op]) -> bool
     ensures { result ≡ spec.goes_on has_b ops.now }
 {
     for op in ops {
@@ -196,81 +186,5 @@ fn is_last(has_b: bool, op: Op) -> bool
         Op::Return | Op::Execute | Op::Jump => true,
         Op::FetchB => !has_b,
         _ => false,
-    }
-}
-
-/// Whether execution may come to any word of the node, which its text doesn't show.
-fn is_open(node: &NodeText<'_>) -> bool
-    ensures { result ≡ spec.is_open (node_of node.now) }
-{
-    goes_out(node.words) || has_computed_jump(node.words) || has_pointer(node)
-}
-
-/// Whether one of these words goes to a port, or anywhere by `ex`.
-fn goes_out(words: &[Word]) -> bool
-    requires { length words.now ≤ 64 }
-    ensures { result ≡ spec.goes_out 0 (map item_view words.now) }
-{
-    for (at, word) in words.iter().enumerate() {
-        if executes(word) || goes_to_ports(at, word) {
-            return true;
-        }
-    }
-    false
-}
-
-fn executes(word: &Word) -> bool
-    ensures { result ≡ spec.executes (item_view word.now) }
-{
-    match word {
-        Word::Code(packed) => has_execute(packed.ops.as_slice()),
-        _ => false,
-    }
-}
-
-fn has_execute(ops: &[Op]) -> bool
-    ensures { result ≡ list_any spec.is_execute ops.now }
-{
-    for op in ops {
-        if matches!(op, Op::Execute) {
-            return true;
-        }
-    }
-    false
-}
-
-fn goes_to_ports(at: usize, word: &Word) -> bool
-    requires { at < 64 }
-    ensures { result ≡ option_map_or (λ dest. spec.is_ports (view.lands dest))
-        (view.dest_in at (item_view word.now)) false }
-{
-    match dest_in(at, word) {
-        Some(dest) => matches!(land(dest), Where::Ports(_)),
-        None => false,
-    }
-}
-
-/// Whether a plain word of the node is the address of a word of code.
-fn has_pointer(node: &NodeText<'_>) -> bool
-    ensures { result ≡ list_any (spec.points_to_code (node_of node.now))
-        (node_of node.now).items }
-{
-    for item in node.items {
-        if points_to_code(node, item) {
-            return true;
-        }
-    }
-    false
-}
-
-fn points_to_code(node: &NodeText<'_>, item: &Item) -> bool
-    ensures { result ≡ spec.points_to_code (node_of node.now) (item_of item.now) }
-{
-    let Item::Plain(Value::Label(name)) = item else {
-        return false;
-    };
-    match node.image.address_of(name.as_str()) {
-        Some(at) => usize::from(at) < node.image.code_len(),
-        None => false,
     }
 }

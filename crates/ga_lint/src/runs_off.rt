@@ -19,7 +19,7 @@ pub(crate) fn runs_off(node: &NodeText<'_>, address: usize) -> bool
 }
 
 /// Whether the word at an address is code, and none behind it is.
-fn is_last_code(node: &NodeText<'_>, address: usize) -> bool
+pub(crate) fn is_last_code(node: &NodeText<'_>, address: usize) -> bool
     requires { address < 64 }
     ensures { result ≡ spec.is_last_code (node_of node.now) address }
 {

@@ -5,6 +5,7 @@ ghost use Rattle.ga_lint.specs.StraightRun as spec;
 ghost use Rattle.ga_lint.specs.inner.NodeText.{node_of};
 
 use crate::node_text::NodeText;
+use crate::port_writes::sets;
 use crate::warning::WarningKind;
 use ga_disasm::Item;
 use ga_word::Op;
@@ -63,7 +64,7 @@ fn has_wrong(kind: WarningKind, pushed: u8, ops: &[Op]) -> bool
     false
 }
 
-/// How many words were pushed behind these opcodes, if the run goes on.
+/// What the rule counts behind these opcodes, if the run goes on.
 fn count_after(kind: WarningKind, pushed: u8, ops: &[Op]) -> Option<u8>
     requires { pushed ≤ 10 }
     ensures count { result ≡ spec.count_after kind pushed ops.now }
@@ -94,11 +95,12 @@ fn is_wrong(kind: WarningKind, count: u8, op: Op) -> bool
         WarningKind::PushesTooMany => count == MOST && brings(op),
         WarningKind::PopsTooMany => count == 0 && needs(op),
         WarningKind::ReturnsNowhere => count == 0 && matches!(op, Op::Return),
+        WarningKind::ReadsIo => count == 0 && matches!(op, Op::FetchB),
         _ => false,
     }
 }
 
-/// How many words are pushed behind an opcode.
+/// What the rule counts behind an opcode.
 fn count_behind(kind: WarningKind, count: u8, op: Op) -> u8
     requires { count ≤ 10 }
     ensures count { result ≡ spec.count_behind kind count op }
@@ -108,6 +110,19 @@ fn count_behind(kind: WarningKind, count: u8, op: Op) -> u8
         WarningKind::ReturnsNowhere => {
             changed(count, matches!(op, Op::Push), matches!(op, Op::Pop))
         }
+        WarningKind::ReadsIo => changed(count, sets(true, op), false),
+        _ => words_behind(count, op),
+    }
+}
+
+/// How many words are pushed on the data stack behind an opcode.
+fn words_behind(count: u8, op: Op) -> u8
+    requires { count ≤ 10 }
+    ensures count { result ≡ spec.words_behind count op }
+    ensures most { result ≤ 10 }
+{
+    match op {
+        Op::Or => count.saturating_sub(1).max(1),
         _ => changed(count, pushes(op), takes(op)),
     }
 }

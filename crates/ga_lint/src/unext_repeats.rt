@@ -28,7 +28,7 @@ fn repeats_in(packed: bool, word: &Item) -> bool
 }
 
 /// Whether such an opcode runs before an `unext`.
-fn repeats(packed: bool, ops: &[Op]) -> bool
+pub(crate) fn repeats(packed: bool, ops: &[Op]) -> bool
     ensures { result ≡ spec.repeats packed ops.now }
 {
     for (index, op) in ops.iter().enumerate() {

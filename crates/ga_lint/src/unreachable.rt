@@ -5,8 +5,8 @@ ghost use Rattle.ga_disasm.specs.Disassembling.{item_view};
 ghost use Rattle.ga_lint.specs.Unreachable as spec;
 ghost use Rattle.ga_lint.specs.inner.NodeText.{node_of};
 
+use crate::dead_code::is_dead;
 use crate::node_text::NodeText;
-use crate::reaching::is_dead;
 use ga_disasm::Item;
 use indexmap::IndexMap;
 

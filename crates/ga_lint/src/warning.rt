@@ -31,6 +31,14 @@ pub enum WarningKind {
     LeavesExtended,
     /// A destination is in memory, where the node has no word to run.
     OverMemory,
+    /// A destination is a number or data of the node.
+    IntoData,
+    /// The node begins at a number or at data.
+    BeginsInData,
+    /// An `@b` reads io, since no `b!` ran before it.
+    ReadsIo,
+    /// A word is written to the port of a side at which the node has no neighbour.
+    EdgePort,
 }
 
 impl WarningKind {
@@ -50,6 +58,10 @@ impl WarningKind {
             WarningKind::ReturnsNowhere => "ReturnsNowhere",
             WarningKind::LeavesExtended => "LeavesExtended",
             WarningKind::OverMemory => "OverMemory",
+            WarningKind::IntoData => "IntoData",
+            WarningKind::BeginsInData => "BeginsInData",
+            WarningKind::ReadsIo => "ReadsIo",
+            WarningKind::EdgePort => "EdgePort",
         }
     }
 }

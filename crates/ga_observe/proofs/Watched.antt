@@ -92,7 +92,7 @@ pub turn_done : (turn index : ℕ) → 144 ≤ index → turn_rest turn index �
 turn_done turn index reached = ap (numbered turn) (turn_end (side_of_turn turn) index reached)
 
 -- the steps of a run, and of one behind it
-steps-append : (chip : Chip) (events more : List (ℕ × Event)) → steps_seen chip (events ++ more)
+pub steps-append : (chip : Chip) (events more : List (ℕ × Event)) → steps_seen chip (events ++ more)
     ≡ steps_seen chip events ++ steps_seen (ran chip (events_in events)) more
 steps-append chip [] more = refl
 steps-append chip (next ∷ events) more =

@@ -1,5 +1,5 @@
 -- The definitions at worked values.
-use Rattle.std.proofs.Common.{◌≡◌, ℕ, ◌+◌, ◌*◌, true, false, List, [], ◌∷◌, Some, refl}
+use Rattle.std.proofs.Common.{◌≡◌, ℕ, ◌+◌, ◌*◌, true, List, [], ◌∷◌, Some, refl}
 use Rattle.std.specs.Prelude.{codes, None}
 use Rattle.std.specs.Fmt.{digits}
 use Rattle.ga_word.specs.Op.{op_with}
@@ -13,7 +13,6 @@ use Rattle.ga_observe.specs.declared.step.Deed.{Deed}
 use Rattle.ga_observe.specs.declared.step.Deed.TheVariants as did
 use Rattle.ga_observe.specs.declared.step.Step.{Step}
 use Rattle.ga_trace.specs.At.{at_word}
-use Rattle.ga_profile.specs.declared.bottleneck.Bottleneck.TheVariants as found
 use Rattle.ga_profile.specs.declared.node_turns.NodeTurns.{NodeTurns}
 use Rattle.ga_profile.specs.declared.node_turns.TurnCounts.{TurnCounts}
 use Rattle.ga_profile.specs.declared.node_turns.Wait.TheVariants as wait
@@ -21,7 +20,7 @@ use Rattle.ga_profile.specs.declared.passes.Passes.{Passes}
 use Rattle.ga_profile.specs.declared.share.Share.TheVariants as share
 use Rattle.ga_profile.specs.declared.window.WindowStart.TheVariants.{FirstNode, LastNode, Turn}
 use Rattle.ga_profile.specs.Bar.{bar}
-use Rattle.ga_profile.specs.Bottleneck.{busy_text, is_spread, judge, most_on_path, path_text, sentence, times_text, use_of}
+use Rattle.ga_profile.specs.Bottleneck.{DEADLOCK, most_on_path, node_sentence, sentence_at, waited_text, whole_percent, with_rings, works_text}
 use Rattle.ga_profile.specs.NodePass.{pass_of}
 use Rattle.ga_profile.specs.NodeTurns.{NO_TURNS, after_step, turns_between, turns_in}
 use Rattle.ga_profile.specs.Passes.{passes_in, place_of}
@@ -154,49 +153,42 @@ window_line : window_text (record { first = 12; end = 40 })
 unfolding digits
 window_line = refl
 
--- the bottleneck, by the use of the busiest
-one_node : judge 660000 false 4 true ≡ found.OneNode
-one_node = refl
-
-two_nodes : judge 660000 false 8 true ≡ found.EachNode
-two_nodes = refl
-
-too_few : judge 659999 false 4 true ≡ found.NoNode
-too_few = refl
-
-on_path : judge 659999 false 4 false ≡ found.OnPath
-on_path = refl
-
-a_ring : judge 660000 true 4 true ≡ found.Deadlock
-a_ring = refl
-
--- three nodes have 4 % of the path, and none has half
-one_after_other : is_spread (40 ∷ 30 ∷ 26 ∷ 4 ∷ []) 0 100 ≡ true
-one_after_other = refl
-
-half_of_path : is_spread (50 ∷ 46 ∷ 4 ∷ []) 0 100 ≡ false
-half_of_path = refl
-
-two_on_path : is_spread (49 ∷ 48 ∷ 3 ∷ []) 0 100 ≡ false
-two_on_path = refl
-
+-- the bottleneck
 first_of_most : most_on_path (3 ∷ 7 ∷ 7 ∷ 5 ∷ []) 4 ≡ 1
 first_of_most = refl
 
-of_709 : sentence found.OneNode (codes " 709") 866000 []
-    ≡ codes "Bottleneck: the work of 709, in 86 % of the turns.\nThe run gets shorter if this node does less.\n"
-unfolding sentence busy_text digits
+-- 709 has 13 of 18 turns on the path, and works in 11 of them: 72.2 and 61.1 %
+waited_and_works : (whole_percent 13 18 ≡ 72) × (whole_percent 11 18 ≡ 61)
+waited_and_works = (refl, refl)
+
+of_709 : node_sentence 709 72 61
+    ≡ codes "Bottleneck: 709. The run waits for it in 72 % of the turns, and it works in 61 %.\nThe run gets shorter if this node is done earlier.\n"
+unfolding node_sentence waited_text works_text digits
 of_709 = refl
 
-of_several : sentence found.NoNode (codes " 709 710") 137000 []
-    ≡ codes "Bottleneck: no single node, one after the other. Busiest: 709 710, in 13 % of the turns.\nSide by side, the same work takes up to 7.2 times fewer turns.\n"
-unfolding sentence busy_text times_text digits
-of_several = refl
+-- node 000 works in 6 of 24 turns, and has 12 on the path
+of_000 : sentence_at (line_708 ∷ []) (12 ∷ []) 24 0 ≡ node_sentence 0 50 25
+unfolding sentence_at
+of_000 = refl
 
-of_708 : sentence found.OnPath [] 520000 (path_text 708 850000)
-    ≡ codes "Bottleneck: 708. The run waits for it in 85 % of the turns.\nThe run gets shorter if this node is done earlier.\n"
-unfolding sentence path_text digits
-of_708 = refl
+no_turn_on_path : sentence_at (line_708 ∷ []) (0 ∷ []) 24 0
+    ≡ codes "Bottleneck: none. No node works in these turns.\n"
+unfolding sentence_at
+no_turn_on_path = refl
+
+no_turns : sentence_at (line_708 ∷ []) (12 ∷ []) 0 0
+    ≡ codes "Bottleneck: none. No node works in these turns.\n"
+unfolding sentence_at
+no_turns = refl
+
+-- a ring comes before all else
+a_ring : with_rings (codes "ring 708 709\n") (codes "Stuck") (codes "Bottleneck: none. ")
+    ≡ codes "Bottleneck: the deadlock. The nodes of a ring wait for one another for good.\nring 708 709\n"
+unfolding DEADLOCK
+a_ring = refl
+
+no_ring : with_rings [] (codes "Stuck. ") (codes "Bottleneck") ≡ codes "Stuck. Bottleneck"
+no_ring = refl
 
 -- ---- passes
 
@@ -242,14 +234,6 @@ their_mean = refl
 no_mean : pass_of (record four_times { count = 3 }) ≡ None
 unfolding four_times
 no_mean = refl
-
--- a node with a pass works in 70 % of its turns, whatever it works in all
-its_use : use_of 5 (Some (record { turns = 10; works = 7 })) 100 ≡ 700000
-its_use = refl
-
--- one step in a million turns is a use
-least_use : use_of 1 None 1000000 ≡ 1
-least_use = refl
 
 means_of_pass : means (record { turns = 10; works = 7 }) ≡ codes "     10     7\n"
 unfolding means cell digits

@@ -1,5 +1,5 @@
 -- Texts that are written part by part.
-use Rattle.std.proofs.Common.{◌≡◌, ◌∙◌, ℕ, suc, ◌+◌, ◌<◌, arith, max, List, ◌++◌, ap, get_or, length}
+use Rattle.std.proofs.Common.{◌≡◌, ◌∙◌, ℕ, ◌<◌, List, ◌++◌, ap, get_or, length}
 use Rattle.std.specs.Prelude.{Option, None}
 use Rattle.std.proofs.lemmas.List.{get_or_default}
 pub use Rattle.ga_waits.proofs.Writing.{item_more, part_more}
@@ -11,7 +11,7 @@ use Rattle.ga_trace.specs.declared.depth.StackDepths.{StackDepths}
 use Rattle.ga_profile.specs.declared.node_turns.NodeTurns.{NodeTurns}
 use Rattle.ga_profile.specs.declared.window.Window.{Window}
 use Rattle.ga_profile.specs.declared.node_pass.NodePass.{NodePass}
-use Rattle.ga_profile.specs.Bottleneck.{most_use, use_at, use_of}
+use Rattle.ga_profile.specs.Bottleneck.{works_at}
 use Rattle.ga_profile.specs.NodeTurns.{NO_TURNS}
 use Rattle.ga_profile.specs.Profile.{with_end}
 use Rattle.ga_profile.specs.Rank.{ranked}
@@ -36,26 +36,14 @@ row_read nodes passes path turns index name other pass text new within in_passes
     (get_or_default passes index pass None in_passes)
     ∙ ap (λ n. text ++ row_if did.began n did (get_or passes index None) on_path turns) named
 
--- and how much of its turns it works
-pub use_read : (nodes : List NodeTurns) (passes : List (Option NodePass)) (turns index : ℕ)
-    (other : NodeTurns) (pass : Option NodePass) (new : ℕ) → index < length nodes
-    → index < length passes
-    → new ≡ use_of (get_or nodes index other).counts.works (get_or passes index pass) turns
-    → new ≡ use_at nodes passes turns index
-use_read nodes passes turns index other pass new within in_passes is =
+-- and in how many turns it works
+pub works_read : (nodes : List NodeTurns) (index new : ℕ) (other : NodeTurns)
+    → index < length nodes → new ≡ (get_or nodes index other).counts.works
+    → new ≡ works_at nodes index
+works_read nodes index new other within is =
     is
-    ∙ ap (λ (one : NodeTurns). use_of one.counts.works (get_or passes index pass) turns)
+    ∙ ap (λ (one : NodeTurns). one.counts.works)
     (get_or_default nodes index other NO_TURNS within)
-    ∙ ap (λ (p : Option NodePass). use_of (get_or nodes index NO_TURNS).counts.works p turns)
-    (get_or_default passes index pass None in_passes)
-
--- the most of one number more
-pub most_use_more : (uses : ℕ → ℕ) (count most used new : ℕ) → most ≡ most_use uses count
-    → used ≡ uses count → new ≡ max most used → new ≡ most_use uses (count + 1)
-most_use_more uses count most used new so_far is wrote =
-    let one : suc count ≡ count + 1 = omega arith in
-    wrote ∙ ap (λ m. max m used) so_far ∙ ap (λ u. max (most_use uses count) u) is
-    ∙ ap (most_use uses) one
 
 -- and the turns of a node with those behind its last step
 pub end_read : (window : Window) (nodes : List NodeTurns) (index name : ℕ) (other : NodeTurns)

@@ -27,6 +27,6 @@ unfoldable pub profile_text : List (ℕ × ImageView) → Window → List NodeTu
     → List (Option NodePass) → List ℕ → List ℕ → List StackDepths → Chip → List ℕ
 profile_text images window nodes passes path lines depths chip =
     concat (window_text window ∷ HEAD ∷ rows nodes passes path (length_of window) ∷ LEGEND
-    ∷ bottleneck_text chip nodes passes path (length_of window)
+    ∷ bottleneck_text chip nodes path (length_of window)
     ∷ groups_text images (path_groups images path lines) (length_of window)
     ∷ stacks_text images nodes depths ∷ [])

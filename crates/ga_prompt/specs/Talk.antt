@@ -1,5 +1,5 @@
 -- What is shown at the prompt.
-use Rattle.std.specs.Prelude.{◌≡◌, ◌⊎◌, ℕ, Bool, true, false, List, [], ◌∷◌, ◌++◌, MatchBool, codes, drop, length, map, Option, Result, Ok, Err}
+use Rattle.std.specs.Prelude.{◌≡◌, ◌⊎◌, ℕ, Bool, true, false, List, [], ◌∷◌, ◌++◌, MatchBool, codes, drop, length, map, nat_lt, Option, Result, Ok, Err}
 use Rattle.std.specs.Io.KnownBytes.{Appends}
 use Rattle.std.specs.List.{flat_map}
 use Rattle.std.specs.Str.{chars, encode_utf8_all}
@@ -33,13 +33,19 @@ abbrev pub undone_text : List ℕ → List ℕ → List ℕ
 undone_text text left =
     ended (map undone_line (commands_in (drop (length (pieces 10 left)) (pieces 10 text))))
 
+-- with one more command a session would have more bytes than an input may have
+abbrev pub is_full : LiveView → List ℕ → Bool
+is_full live command = nat_lt 1048576 (length (said command live).text)
+
 -- What a request shows, and the session afterwards, if memory is there. The text of `help` is free,
 -- and so is what is behind the name of a bad command, and why a session isn't saved.
 abbrev pub IsDone : LiveView → Request → LiveView → List ℕ → Type 0
 IsDone live Nothing next text = (next ≡ live) × (text ≡ [])
--- the reply, as a transcript has it
+-- the reply, as a transcript has it, unless the session is full
 IsDone live (Say command) next text =
-    (next ≡ said command live) × (text ≡ ended (step_of live.program command live.chip).0)
+    MatchBool (is_full live command)
+    ((next ≡ live) × (text ≡ codes "refused TooLong\n"))
+    ((next ≡ said command live) × (text ≡ ended (step_of live.program command live.chip).0))
 IsDone live (Help name) next text = next ≡ live
 IsDone live (Back count) next text =
     IsBack count live next × (text ≡ undone_text live.text next.text)

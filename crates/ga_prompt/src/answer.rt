@@ -5,7 +5,7 @@ ghost use Rattle.std.specs.String.{string_capacity};
 ghost use Rattle.ga_prompt.specs.Conversation.{WriteFails};
 ghost use Rattle.ga_prompt.specs.Request.{Save, request_in};
 ghost use Rattle.ga_prompt.specs.Saving.{IsSaved, SavesNone, refused_text, saved_text};
-ghost use Rattle.ga_prompt.specs.Talk.{IsReply, WritesSo, is_quit};
+ghost use Rattle.ga_prompt.specs.Talk.{IsReply, WritesSo, is_full, is_quit};
 ghost use Rattle.ga_prompt.specs.inner.Request.{request};
 ghost use Rattle.ga_prompt.specs.inner.Talk.{IsTold};
 
@@ -19,8 +19,8 @@ use ga_transcript::{Live, TranscriptError};
 use std::alloc::{AllocError, Global};
 use std::io::Write;
 
-/// The most bytes of a session that is saved, as of every input.
-const SAVED_LIMIT: usize = 1_048_576;
+/// The most bytes of a session, with its replies if it is saved, as of every input.
+const SESSION_LIMIT: usize = 1_048_576;
 
 /// Whether a line asks for the end.
 pub(crate) fn is_quit(line: &[u8]) -> bool
@@ -48,6 +48,9 @@ pub(crate) fn answer<W: Write, S: Saves>(
 {
     match request_in(line) {
         Request::Nothing | Request::Quit => write_text(writer, "", writes),
+        Request::Say(command) if is_full(live, command) => {
+            write_text(writer, "refused TooLong\n", writes)
+        }
         Request::Say(command) => match live.say(alloc, reply, command) {
             Ok(()) => write_reply(writer, reply.as_str(), writes),
             Err(AllocError) => write_text(writer, "refused Memory\n", writes),
@@ -61,6 +64,14 @@ pub(crate) fn answer<W: Write, S: Saves>(
             Err(AllocError) => write_text(writer, "refused Memory\n", writes),
         },
     }
+}
+
+/// Whether a session with one more command would be too long.
+fn is_full(live: &Live, command: &str) -> bool
+    ensures { result ≡ is_full live.now command.now }
+{
+    let kept = live.text().len();
+    kept.saturating_add(command.len()).saturating_add(3) > SESSION_LIMIT
 }
 
 /// Replaces a text by the reply to a request that leaves the session as it is.
@@ -109,7 +120,7 @@ fn save<S: Saves>(
         Err(TranscriptError::Memory) => return Err(AllocError),
         Err(_) => return push_refused(reply, "TooLong"),
     };
-    if text.len() > SAVED_LIMIT {
+    if text.len() > SESSION_LIMIT {
         return push_refused(reply, "TooLong");
     }
     // Before the file is written, so that nothing is refused behind it.

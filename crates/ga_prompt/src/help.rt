@@ -6,7 +6,7 @@ use std::alloc::AllocError;
 const OWN_HELP: &str = "\
 help [COMMAND]            this, or what one command does
 back [K]                  undoes the last K commands, or the last one; the chip is as it was before them
-save FILE                 writes the session into a new file, as a transcript that check accepts
+save FILE                 writes the session into a new file, as a transcript with its replies
 save! FILE                the same, and replaces a file that is there
 quit                      ends the session, as the end of the input does
 ";

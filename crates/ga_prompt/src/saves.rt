@@ -27,7 +27,7 @@ pub trait Saves {
     /// replaced in one step; without, it is refused as [`SaveFault::Exists`]. A fault leaves all
     /// files as they were.
     fn save(&mut self, name: &str, transcript: &str, replaces: bool) -> Result<(), SaveFault>
-        // `check` accepts it
+        // each command has the reply behind it
         requires { Holds transcript.now }
         ensures { SavesOne (saved self.old) (saved self.new)
             (saved_file replaces name.now transcript.now) result };

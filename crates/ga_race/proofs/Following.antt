@@ -1,10 +1,10 @@
 -- The watch over the steps of a run finds the races that the track along its moves finds. The
 -- clocks of the track count from the start of the run, and those of the watch count the steps
 -- before it too.
-use Rattle.std.proofs.Common.{◌≡◌, ℕ, ◌+◌, ◌≤◌, ◌<◌, ◌==◌, Bool, true, false, List, [], ◌∷◌, ◌++◌, ◌⊎◌, inl, inr, length, Option, Some, None, refl, sym, ap, ap₂, ◌∙◌, subst, append-nil, append_assoc, arith}
+use Rattle.std.proofs.Common.{◌≡◌, ℕ, ◌+◌, ◌≤◌, ◌<◌, ◌==◌, Bool, true, false, List, [], ◌∷◌, ◌++◌, ◌⊎◌, inl, inr, Option, Some, None, refl, sym, ap, ap₂, ◌∙◌, subst, append-nil, append_assoc, arith}
 use Rattle.std.specs.Prelude.{◌/◌, ◌%◌, ◌&&◌, ◌||◌, not, nat_lt, max, if◌then◌else◌, is_some, option_map}
 use Rattle.std.specs.List.{flat_map, list_any}
-use Rattle.std.specs.Option.{option_map_or}
+use Rattle.std.specs.Option.{option_map_or, option_to_list}
 use Rattle.std.proofs.lemmas.Bool.{cases_eq, cases_lt, eq-eqb, eqb-true, ne_eqb}
 use Rattle.std.proofs.lemmas.Grind.{common_steps}
 use Rattle.std.proofs.lemmas.Option.{same_Some}
@@ -27,15 +27,15 @@ use Rattle.ga_chip.specs.Stuck.{is_full}
 use Rattle.ga_chip.specs.Run.{Event, Move, happened, move_in, moves, posted_by, ran, taken_by}
 use Rattle.ga_chip.proofs.Kept.{has_name, legal_ran}
 use Rattle.ga_chip.proofs.Parts.{Fits, Passes}
-use Rattle.ga_chip.proofs.Runs.{part_first, ran-append, stand_ran}
+use Rattle.ga_chip.proofs.Runs.{flow_ran, part_first, ran-append, stand_ran}
 use Rattle.ga_observe.specs.declared.step.Step.{Step}
 use Rattle.ga_observe.specs.Laws.{events_in}
 use Rattle.ga_observe.specs.Seen.{deed_of, step_of, steps_by, steps_in, steps_seen}
 use Rattle.ga_race.specs.Clocks as run
-use Rattle.ga_race.specs.Clocks.{Clock, Clocks, cause_of, clock_of, clocks, no_clocks, post_clocks, take_clocks}
-use Rattle.ga_race.specs.Watch.{Watch, cause_by, cell_posted, cell_taken, clock_after, count_of, finds_race, first_watch, is_early, is_early_by, kept_for, leaves_cell, leaves_side, leaves_word, put_for, reads_cell, watch_on, watch_step}
+use Rattle.ga_race.specs.Clocks.{Clock, cause_of, clock_of, clocks, no_clocks, post_clocks, take_clocks}
+use Rattle.ga_race.specs.Watch.{Watch, cause_by, cell_posted, cell_taken, clock_after, count_of, finds_race, first_watch, is_early, is_early_by, kept_for, leaves_cell, leaves_side, leaves_word, put_for, reads_cell, watch_on, watch_step, word_posted}
 use Rattle.ga_race.proofs.Tracks.{Track, first_track, is_move_early, move_leaves, move_leaves_cell, move_leaves_out, move_leaves_word, track_finds, track_on, tracked_all, tracked_by}
-use Rattle.ga_race.proofs.Prefixes.{One, flow_counts, full, one_at_most, one_or_none, took, took_one, wrote, wrote_one}
+use Rattle.ga_race.proofs.Prefixes.{One, one_or_none, posts_one, takes_one}
 use Rattle.ga_race.proofs.Causes.{IsBehind, cause_below, fits_made, is_behind}
 use Rattle.ga_race.proofs.Watching.{at_cell as found_cell, own_steps, right_true, some_side, track-append, track_clocks}
 
@@ -47,7 +47,7 @@ steps_before chip name = option_map_or (λ (s : State). s.steps) (state_of chip 
 abbrev pub counted : ℕ → ℕ → ℕ
 counted before k = if k == 0 then 0 else k + before
 
-counted_some : (before k : ℕ) → 1 ≤ k → counted before k ≡ k + before
+pub counted_some : (before k : ℕ) → 1 ≤ k → counted before k ≡ k + before
 counted_some before k h =
     ap (λ b. if b then 0 else k + before) (ne_eqb k 0 (λ e. absurd (omega arith)))
 
@@ -114,16 +114,16 @@ counted_lt before j k = by (cases_lt j k)
 
 -- how the watch and the track agree at a moment of a run
 pub record Follows (chip now : Chip) (t : Track) (w : Watch) : Type 0 where
-  nodes : (name x : ℕ)
+  pub nodes : (name x : ℕ)
       → w.clocks.nodes name x ≡ counted (steps_before chip x) (t.clocks.nodes name x)
-  posts : (cell x : ℕ)
+  pub posts : (cell x : ℕ)
       → w.clocks.posts cell x ≡ counted (steps_before chip x) (t.clocks.posts cell x)
-  takes : (cell x : ℕ)
+  pub takes : (cell x : ℕ)
       → w.clocks.takes cell x ≡ counted (steps_before chip x) (t.clocks.takes cell x)
-  full : (cell : ℕ) → w.full cell ≡ is_some (pending now cell)
-  left_at : (name cell : ℕ) (side : Side) → IsNodeName name → read_cell name side ≡ Some cell
+  pub words : (cell : ℕ) → w.words cell ≡ pending now cell
+  pub left_at : (name cell : ℕ) (side : Side) → IsNodeName name → read_cell name side ≡ Some cell
       → w.left_at cell ≡ counted (steps_before chip name) (t.left_at cell)
-  race : w.race ≡ t.race
+  pub race : w.race ≡ t.race
 
 -- A take of one side leaves out no other.
 alone : (only side : Side)
@@ -234,18 +234,25 @@ leaves_by need.Input name part chosen side found e p = by part.stream
     by (Some (word ∷ rest)) = refl
 leaves_by (need.Stopped stop) name part chosen side found e p = refl
 
--- whether a word is pending, by the number of pending words
-is_full_one : (word : Option ℕ) → full word ≡ 1 → is_some word ≡ true
-is_full_one (Some word) e = refl
-is_full_one None e = absurd (omega arith)
+-- what a cell holds behind an event, by the words that flow through it
+same_word : (one two : Option ℕ) → option_to_list one ++ [] ≡ option_to_list two → one ≡ two
+same_word None None e = refl
+same_word None (Some two) e = cc
+same_word (Some one) None e = cc
+same_word (Some one) (Some two) e = cc
 
-is_full_none : (word : Option ℕ) → full word ≡ 0 → is_some word ≡ false
-is_full_none (Some word) e = absurd (omega arith)
-is_full_none None e = refl
+posted_word : (one two : Option ℕ) (word : ℕ)
+    → option_to_list one ++ word ∷ [] ≡ option_to_list two → Some word ≡ two
+posted_word None None word e = cc
+posted_word None (Some two) word e = cc
+posted_word (Some one) None word e = cc
+posted_word (Some one) (Some two) word e = cc
 
-same_full : (one two : Option ℕ) → full one ≡ full two → is_some one ≡ is_some two
-same_full one None e = is_full_none one e
-same_full one (Some word) e = is_full_one one e
+taken_word : (one two : Option ℕ) (word : ℕ)
+    → option_to_list one ++ [] ≡ word ∷ option_to_list two → None ≡ two
+taken_word one None word e = refl
+taken_word None (Some two) word e = cc
+taken_word (Some one) (Some two) word e = cc
 
 pub eq_sym : (a b : ℕ) → (a == b) ≡ (b == a)
 eq_sym a b = by (cases_eq a b)
@@ -319,7 +326,7 @@ module _ (chip : Chip) (done : List Event) (turn : ℕ) (event : Event) (w : Wat
       (cause_below m.asked (clocks chip done) m.node (run.steps_in chip done m.node)
       (λ side cell e. behind.posts cell m.node) (λ side cell e. behind.takes cell m.node))
 
-  number : part.state.steps ≡ before m.node + run.steps_in chip done m.node
+  pub number : part.state.steps ≡ before m.node + run.steps_in chip done m.node
   number =
       let first = part_first chip done m.node part legal o.makes.there in
       let s = stand_ran chip done m.node first.0 legal first.1 in
@@ -359,7 +366,7 @@ module _ (chip : Chip) (done : List Event) (turn : ℕ) (event : Event) (w : Wat
       by (Feed word) g = refl
       by (Post side cell word) g = refl
 
-  clock : (x : ℕ) → clock_after it w.clocks x ≡ counted (before x) (clock_of m t.clocks x)
+  pub clock : (x : ℕ) → clock_after it w.clocks x ≡ counted (before x) (clock_of m t.clocks x)
   clock x = by (x == m.node) refl
     where
       joins : max (w.clocks.nodes m.node x) (cause_by m.node it.deed w.clocks x)
@@ -436,19 +443,20 @@ module _ (chip : Chip) (done : List Event) (turn : ℕ) (event : Event) (w : Wat
       by (Post side at word) g = f.takes cell x
       by (Check side at) g = f.takes cell x
 
-  -- which cells hold a word
-  flow : (cell : ℕ) → full (pending (ran chip done) cell) + length (posted_by cell m.asked)
-      ≡ length (taken_by cell m.asked m.found)
-      + full (pending (happened (ran chip done) event) cell)
+  -- which words the cells hold
+  flow : (cell : ℕ) → option_to_list (pending (ran chip done) cell) ++ posted_by cell m.asked
+      ≡ taken_by cell m.asked m.found
+      ++ option_to_list (pending (happened (ran chip done) event) cell)
   flow cell =
-      let e = flow_counts (ran chip done) (event ∷ []) cell legal_now in
-      let a = wrote_one (ran chip done) event m cell o.made in
-      let b = took_one (ran chip done) event m cell o.made in
-      omega arith
+      let now = option_to_list (pending (ran chip done) cell) in
+      let later = option_to_list (pending (happened (ran chip done) event) cell) in
+      ap (λ l. now ++ l) (sym (posts_one (ran chip done) event m cell o.made))
+      ∙ flow_ran (ran chip done) (event ∷ []) cell legal_now
+      ∙ ap (λ l. l ++ later) (takes_one (ran chip done) event m cell o.made)
 
-  full_next : (cell : ℕ)
-      → (watch_step w it).full cell ≡ is_some (pending (happened (ran chip done) event) cell)
-  full_next cell = by m.asked fits o.makes.passed (flow cell)
+  words_next : (cell : ℕ)
+      → (watch_step w it).words cell ≡ pending (happened (ran chip done) event) cell
+  words_next cell = by m.asked fits o.makes.passed (flow cell)
     where
       now : Option ℕ
       now = pending (ran chip done) cell
@@ -456,40 +464,37 @@ module _ (chip : Chip) (done : List Event) (turn : ℕ) (event : Event) (w : Wat
       later : Option ℕ
       later = pending (happened (ran chip done) event) cell
 
-      stays : full now + 0 ≡ 0 + full later → w.full cell ≡ is_some later
-      stays e =
-          let same : full now ≡ full later = omega arith in f.full cell ∙ same_full now later same
+      stays : option_to_list now ++ [] ≡ option_to_list later → w.words cell ≡ later
+      stays e = f.words cell ∙ same_word now later e
 
       by_post : (at : ℕ) (word : ℕ) (b : Bool)
-          → full now + length (if b then word ∷ [] else []) ≡ 0 + full later
-          → (if b then true else w.full cell) ≡ is_some later
-      by_post at word true e =
-          let some : full later ≡ 1 =
-          omega (arith, one_at_most later) in sym (is_full_one later some)
+          → option_to_list now ++ (if b then word ∷ [] else []) ≡ option_to_list later
+          → (if b then Some word else w.words cell) ≡ later
+      by_post at word true e = posted_word now later word e
       by_post at word false e = stays e
 
       by_take : (word : ℕ) (b : Bool)
-          → full now + 0 ≡ length (if b then word ∷ [] else []) + full later
-          → (if b then false else w.full cell) ≡ is_some later
-      by_take word true e =
-          let none : full later ≡ 0 =
-          omega (arith, one_at_most now) in sym (is_full_none later none)
+          → option_to_list now ++ [] ≡ (if b then word ∷ [] else []) ++ option_to_list later
+          → (if b then None else w.words cell) ≡ later
+      by_take word true e = taken_word now later word e
       by_take word false e = stays e
 
       by : (q : Asks) → Fits q (need_of part.state) m.node → Passes q m.found
-          → full now + length (posted_by cell q) ≡ length (taken_by cell q m.found) + full later
-          → put_for (cell_posted m.node (deed_of (need_of part.state) q m.found)) true
-          (put_for (cell_taken m.node (deed_of (need_of part.state) q m.found)) false w.full) cell
-          ≡ is_some later
+          → option_to_list now ++ posted_by cell q
+          ≡ taken_by cell q m.found ++ option_to_list later
+          → put_for (cell_posted m.node (deed_of (need_of part.state) q m.found))
+          (word_posted (deed_of (need_of part.state) q m.found))
+          (put_for (cell_taken m.node (deed_of (need_of part.state) q m.found)) None w.words) cell
+          ≡ later
       by (Post side at word) g p e =
-          ap (λ at. put_for at true w.full cell) g.0
-          ∙ by_post at word (cell == at) (ap (λ b. full now + length (if b then word ∷ [] else []))
-          (eq_sym cell at) ∙ e)
+          ap (λ at. put_for at (Some word) w.words cell) g.0
+          ∙ by_post at word (cell == at)
+          (ap (λ b. option_to_list now ++ (if b then word ∷ [] else [])) (eq_sym cell at) ∙ e)
       by (Take side at) g p e =
-          ap (λ at. put_for at false w.full cell) g.1
-          ∙ by_take p.0 (cell == at) (e ∙ ap (λ n. n + full later)
-          (ap (λ v. length (taken_by cell (Take side at) v)) p.1
-          ∙ ap (λ b. length (if b then p.0 ∷ [] else [])) (eq_sym at cell)))
+          ap (λ at. put_for at None w.words cell) g.1
+          ∙ by_take p.0 (cell == at) (e ∙ ap (λ l. l ++ option_to_list later)
+          (ap (λ v. taken_by cell (Take side at) v) p.1
+          ∙ ap (λ b. if b then p.0 ∷ [] else []) (eq_sym at cell)))
       by (Nothing outcome) g p e = stays e
       by Own g p e = stays e
       by (Feed word) g p e = stays e
@@ -515,16 +520,18 @@ module _ (chip : Chip) (done : List Event) (turn : ℕ) (event : Event) (w : Wat
       (λ side. move_leaves (ran chip done) m side && reads_cell m.node cell side)
       (λ side. ap (λ b. b && reads_cell m.node cell side) (leaves_same side))
 
-  word_same : leaves_word it w.full ≡ move_leaves_word (ran chip done) m
+  word_same : leaves_word it w.words ≡ move_leaves_word (ran chip done) m
   word_same =
-      any_same (λ side. leaves_side it.deed side && kept_for false w.full (read_cell m.node side))
+      any_same (λ side. leaves_side it.deed side
+      && is_some (kept_for None w.words (read_cell m.node side)))
       (λ side. move_leaves (ran chip done) m side
       && is_full (ran chip done).cells (read_cell m.node side))
       (λ side. ap₂ (λ a b. a && b) (leaves_same side) (full_at (read_cell m.node side)))
     where
-      full_at : (o : Option ℕ) → kept_for false w.full o ≡ is_full (ran chip done).cells o
+      full_at : (o : Option ℕ)
+          → is_some (kept_for None w.words o) ≡ is_full (ran chip done).cells o
       full_at None = refl
-      full_at (Some cell) = f.full cell
+      full_at (Some cell) = ap is_some (f.words cell)
 
   left_next : (name cell : ℕ) (side : Side) → IsNodeName name → read_cell name side ≡ Some cell
       → (watch_step w it).left_at cell
@@ -580,7 +587,7 @@ module _ (chip : Chip) (done : List Event) (turn : ℕ) (event : Event) (w : Wat
     nodes = nodes_next;
     posts = posts_next;
     takes = takes_next;
-    full = full_next;
+    words = words_next;
     left_at = left_next;
     race = ap₂ (λ a b. a || b) f.race (ap₂ (λ a b. a || b) word_same early_same);
   }
@@ -616,15 +623,15 @@ follows_next chip done turn event w legal f = by (one_or_none (ran chip done) ev
         (subst (Follows chip (happened (ran chip done) event) u) g is))
 
     same_words : move_in (ran chip done) event ≡ [] → (cell : ℕ)
-        → full (pending (ran chip done) cell) ≡ full (pending (happened (ran chip done) event) cell)
+        → pending (ran chip done) cell ≡ pending (happened (ran chip done) event) cell
     same_words none cell =
-        let e = flow_counts (ran chip done) (event ∷ []) cell (legal_ran chip done legal) in
-        let a : wrote (ran chip done) (event ∷ []) cell ≡ 0 =
-        ap (λ l. length (flat_map (λ (move : Move). posted_by cell move.asked) (l ++ []))) none in
-        let b : took (ran chip done) (event ∷ []) cell ≡ 0 =
-        ap (λ l. length (flat_map (λ (move : Move). taken_by cell move.asked move.found)
-        (l ++ []))) none in
-        omega arith
+        let now = pending (ran chip done) cell in
+        let later = pending (happened (ran chip done) event) cell in
+        same_word now later (ap (λ l. option_to_list now
+        ++ flat_map (λ (move : Move). posted_by cell move.asked) (l ++ [])) (sym none)
+        ∙ flow_ran (ran chip done) (event ∷ []) cell (legal_ran chip done legal)
+        ∙ ap (λ l. flat_map (λ (move : Move). taken_by cell move.asked move.found) (l ++ [])
+        ++ option_to_list later) none)
 
     still : move_in (ran chip done) event ≡ []
         → Follows chip (happened (ran chip done) event) t w
@@ -632,7 +639,7 @@ follows_next chip done turn event w legal f = by (one_or_none (ran chip done) ev
       nodes = f.nodes;
       posts = f.posts;
       takes = f.takes;
-      full = λ cell. f.full cell ∙ same_full _ _ (same_words none cell);
+      words = λ cell. f.words cell ∙ same_words none cell;
       left_at = f.left_at;
       race = f.race;
     }
@@ -656,29 +663,36 @@ watch-append w (step ∷ steps) more = watch-append (watch_step w step) steps mo
 
 follows_on : (chip : Chip) (done : List Event) (w : Watch) (rest : List (ℕ × Event))
     → IsLegal chip → FollowsRun chip done w
-    → (watch_on w (steps_seen (ran chip done) rest)).race
-    ≡ track_finds chip (done ++ events_in rest)
-follows_on chip done w [] legal f = f.race ∙ ap (track_finds chip) (sym (append-nil done))
+    → FollowsRun chip (done ++ events_in rest) (watch_on w (steps_seen (ran chip done) rest))
+follows_on chip done w [] legal f =
+    subst (λ (es : List Event). FollowsRun chip es w) (sym (append-nil done)) f
 follows_on chip done w (next ∷ rest) legal f =
     let more = next.1 ∷ [] in
     let seen = steps_in next.0 (ran chip done) next.1 in
-    ap (λ (v : Watch). v.race)
-    (watch-append w seen (steps_seen (happened (ran chip done) next.1) rest))
-    ∙ ap (λ c. (watch_on (watch_on w seen) (steps_seen c rest)).race)
-    (sym (ran-append chip done more))
-    ∙ follows_on chip (done ++ more) (watch_on w seen) rest legal
-    (follows_next chip done next.0 next.1 w legal f)
-    ∙ ap (track_finds chip) (append_assoc done more (events_in rest))
+    subst (FollowsRun chip (done ++ events_in (next ∷ rest)))
+    (ap (λ c. watch_on (watch_on w seen) (steps_seen c rest)) (ran-append chip done more)
+    ∙ sym (watch-append w seen (steps_seen (happened (ran chip done) next.1) rest)))
+    (subst (λ es. FollowsRun chip es
+    (watch_on (watch_on w seen) (steps_seen (ran chip (done ++ more)) rest)))
+    (append_assoc done more (events_in rest))
+    (follows_on chip (done ++ more) (watch_on w seen) rest legal
+    (follows_next chip done next.0 next.1 w legal f)))
 
--- so both find the same
-pub finds_same : (chip : Chip) (events : List (ℕ × Event)) → IsLegal chip
-    → finds_race chip events ≡ track_finds chip (events_in events)
-finds_same chip events legal =
+-- the watch over the steps of a run follows the track
+pub follows_run : (chip : Chip) (events : List (ℕ × Event)) → IsLegal chip
+    → Follows chip (ran chip (events_in events)) (track_on chip first_track (events_in events))
+    (watch_on (first_watch chip.cells) (steps_seen chip events))
+follows_run chip events legal =
     follows_on chip [] (first_watch chip.cells) events legal (record {
       nodes = λ name x. refl;
       posts = λ cell x. refl;
       takes = λ cell x. refl;
-      full = λ cell. refl;
+      words = λ cell. refl;
       left_at = λ name cell side is_name reads. refl;
       race = refl;
     })
+
+-- so both find the same
+pub finds_same : (chip : Chip) (events : List (ℕ × Event)) → IsLegal chip
+    → finds_race chip events ≡ track_finds chip (events_in events)
+finds_same chip events legal = (follows_run chip events legal).race

@@ -1,5 +1,6 @@
 -- The verdict after some turns is so.
-use Rattle.std.proofs.Common.{◌≡◌, ◌∙◌, ◌+◌, ℕ, Bool, true, false, List, Option, Some, None, ap, subst, sym}
+use Rattle.std.proofs.Common.{◌≡◌, ◌∙◌, ◌+◌, ℕ, false, List, Option, Some, None, ap, refl, subst, sym}
+use Rattle.std.specs.Prelude.{is_some}
 use Rattle.ga_chip.specs.Chip.{Chip}
 use Rattle.ga_chip.specs.Run.{Event, ran, turns_of, words_fed}
 use Rattle.ga_chip.specs.Legal.{IsLegal}
@@ -8,19 +9,21 @@ use Rattle.ga_observe.specs.Laws.{events_in}
 use Rattle.ga_observe.specs.Seen.{steps_seen, turns_numbered}
 use Rattle.ga_observe.proofs.Watched.{plain_turns}
 use Rattle.ga_race.specs.Clocks.{steps_in}
-use Rattle.ga_race.specs.Differs.{HasRace}
+use Rattle.ga_race.specs.Found.{IsAmong}
 use Rattle.ga_race.specs.Races.{HasNoRace, IsDeterminateWithin}
 use Rattle.ga_race.specs.Shown.{HasSeen, Kept}
 use Rattle.ga_race.specs.Verdict.{AgreesFor, IsSo}
 use Rattle.ga_race.specs.Watch.{CountsFit, finds_race, first_watch, watch_on}
+use Rattle.ga_race.specs.declared.found.Race.{Race}
 use Rattle.ga_race.specs.declared.verdict.Verdict.{Verdict}
 use Rattle.ga_race.specs.declared.verdict.Verdict.TheVariants as verdict
 use Rattle.ga_race.specs.Rounds.{HasNoBreaks}
 use Rattle.ga_race.specs.inner.Ending.{IfRound, IsFound, MadeTwice}
-use Rattle.ga_race.proofs.Deciding.{quiet_within, watch_finds}
+use Rattle.ga_race.proofs.Deciding.{quiet_within}
 use Rattle.ga_race.proofs.Differs.{race_differs}
 use Rattle.ga_race.proofs.EndingAll.{all_names}
 use Rattle.ga_race.proofs.Fair.{breaks_kept}
+use Rattle.ga_race.proofs.Finding.{race_shown}
 use Rattle.ga_race.proofs.Fitting.{steps_are_counted}
 use Rattle.ga_race.proofs.Following.{finds_same}
 use Rattle.ga_race.proofs.Rounds.{turns_front}
@@ -31,11 +34,25 @@ use Rattle.ga_race.proofs.Watching.{finds_all}
 -- what a watch keeps is whether its run has a race
 pub kept_finds : (chip : Chip) (turns : ℕ) (kept : Kept) → IsLegal chip → CountsFit chip
     → kept.start ≡ chip.cells → HasSeen kept (steps_seen chip (turns_numbered turns))
-    → kept.race ≡ finds_race chip (turns_numbered turns)
+    → is_some kept.race ≡ finds_race chip (turns_numbered turns)
 kept_finds chip turns kept legal fits start seen =
-    (seen (steps_are_counted chip (turns_numbered turns) legal fits)).race
+    (seen (steps_are_counted chip (turns_numbered turns) legal fits)).shows.race
     ∙ ap (λ cells. (watch_on (first_watch cells) (steps_seen chip (turns_numbered turns))).race)
     start
+
+-- and a race that it keeps is one of the run's steps
+pub kept_race : (chip : Chip) (turns : ℕ) (kept : Kept) → IsLegal chip → CountsFit chip
+    → kept.start ≡ chip.cells → HasSeen kept (steps_seen chip (turns_numbered turns))
+    → (race : Race) → kept.race ≡ Some race
+    → IsAmong chip.cells (steps_seen chip (turns_numbered turns)) race
+kept_race chip turns kept legal fits start seen race is =
+    subst (λ cells. IsAmong cells (steps_seen chip (turns_numbered turns)) race) start
+    ((seen (steps_are_counted chip (turns_numbered turns) legal fits)).recalls.race race is)
+
+-- a watch without a race keeps none
+pub none_kept : (race : Option Race) → is_some race ≡ false → race ≡ None
+none_kept None e = refl
+none_kept (Some race) e = cc
 
 -- without a race two runs agree for these turns
 pub agrees_for : (chip : Chip) (turns : ℕ) → IsLegal chip
@@ -52,12 +69,6 @@ no_race_in chip turns legal quiet =
     (finds_all chip (events_in (turns_numbered turns)) legal
     (sym (finds_same chip (turns_numbered turns) legal) ∙ quiet))
 
-race_in : (chip : Chip) (turns : ℕ) → IsLegal chip
-    → finds_race chip (turns_numbered turns) ≡ true → HasRace chip (turns_of turns)
-race_in chip turns legal found =
-    subst (HasRace chip) (plain_turns turns)
-    (watch_finds chip (turns_numbered turns) legal found)
-
 -- what is true for the turns of a round implies another thing
 pub if_round : (v : Option Verdict) (one two : ℕ → Type 0)
     → ((period : ℕ) → one period → two period) → IfRound v one → IfRound v two
@@ -68,15 +79,17 @@ if_round (Some verdict.Open) one two implies holds = tt
 if_round None one two implies holds = tt
 
 -- what is found after some turns is so
-pub found_so : (chip : Chip) (turns : ℕ) (race : Bool) (v : Verdict) → IsLegal chip
-    → race ≡ finds_race chip (turns_numbered turns)
+pub found_so : (chip : Chip) (turns : ℕ) (race : Option Race) (v : Verdict) → IsLegal chip
+    → is_some race ≡ finds_race chip (turns_numbered turns)
+    → ((one : Race) → race ≡ Some one
+    → IsAmong chip.cells (steps_seen chip (turns_numbered turns)) one)
     → IsFound race (ran chip (turns_of turns)) (Some v)
     → (HasNoBreaks chip → IfRound (Some v) (MadeTwice chip turns)) → IsSo chip turns v
-found_so chip turns race (verdict.Race details) legal is found made =
-    let one = race_in chip turns legal (sym is ∙ found) in
-    (one, (race_differs chip (turns_of turns) legal one).0)
-found_so chip turns race (verdict.AtRest spins) legal is found made =
-    let quiet = sym is ∙ found.0 in (
+found_so chip turns race (verdict.Race details) legal is among found made =
+    let one = race_shown chip turns details legal (among details found) in
+    (one.0, one.1, (race_differs chip (turns_of turns) legal one.0).0)
+found_so chip turns race (verdict.AtRest spins) legal is among found made =
+    let quiet = sym is ∙ ap is_some found.0 in (
       agrees_for chip turns legal quiet,
       λ free.
           let shown = found.1 (breaks_kept chip (turns_of turns) (turns_tries turns) legal free) in
@@ -86,8 +99,8 @@ found_so chip turns race (verdict.AtRest spins) legal is found made =
           (no_race_in chip turns legal quiet) rest in
           record { shown = shown; rest = rest; determinate = all.0; most = all.1 },
     )
-found_so chip turns race (verdict.Round period) legal is found made =
-    let quiet = sym is ∙ found in (
+found_so chip turns race (verdict.Round period) legal is among found made =
+    let quiet = sym is ∙ ap is_some found in (
       agrees_for chip turns legal quiet,
       λ free. let twice = made free in record {
         first = twice.first;
@@ -99,5 +112,5 @@ found_so chip turns race (verdict.Round period) legal is found made =
         };
       },
     )
-found_so chip turns race verdict.Open legal is found made =
-    agrees_for chip turns legal (sym is ∙ found)
+found_so chip turns race verdict.Open legal is among found made =
+    agrees_for chip turns legal (sym is ∙ ap is_some found)

@@ -16,10 +16,14 @@ use Rattle.ga_observe.specs.declared.step.Deed.{Deed}
 use Rattle.ga_observe.specs.declared.step.Deed.TheVariants as did
 use Rattle.ga_observe.specs.declared.step.Step.{Step}
 use Rattle.ga_race.specs.Clocks.{Clock, joined, no_clock, with_clock}
+use Rattle.ga_race.specs.Found.{IsPending, IsTake}
 use Rattle.ga_race.specs.declared.found.MultiportTake.{MultiportTake}
+use Rattle.ga_race.specs.declared.found.Race.{Race}
+use Rattle.ga_race.specs.inner.Adds.{Adds, EarlyBy, PostedBy}
 use Rattle.ga_race.specs.Shown.{HasSeen, Kept, Shows, ShowsClock}
-use Rattle.ga_race.specs.Watch.{AreCounted, Watch, count_of, first_watch, is_early_by, kept_for, put_for, reads_cell, watch_on, watch_step, with_count}
-use Rattle.ga_race.specs.inner.Parts.{all_left, full_put, is_left, left_put, post_joined, post_kept, race_put, side_left, take_joined, take_kept, ticked}
+use Rattle.ga_race.specs.Watch.{AreCounted, Watch, cause_by, clock_after, count_of, first_watch, is_early_by, kept_for, put_for, reads_cell, watch_on, watch_step, with_count}
+use Rattle.ga_race.specs.inner.Parts.{all_left, is_left, left_put, post_joined, post_kept, race_put, side_left, take_joined, take_kept, ticked, word_put}
+use Rattle.ga_race.proofs.Details.{recalls_next}
 use Rattle.ga_race.proofs.Following.{eq_sym, watch-append}
 
 -- the row that code reads
@@ -120,13 +124,13 @@ input_is w step count word n e =
     ∙ ap (at_deed w step) (sym e)
 
 -- a post, by its cell
-posted_at : Watch → ℕ → Side → Clock → Clock → Option ℕ → Watch
-posted_at w name side own clock cell = record {
+posted_at : Watch → ℕ → Side → ℕ → Clock → Clock → Option ℕ → Watch
+posted_at w name side word own clock cell = record {
   clocks = record w.clocks {
     nodes = with_clock name own w.clocks.nodes;
     posts = put_for cell clock w.clocks.posts;
   };
-  full = put_for cell true w.full;
+  words = put_for cell (Some word) w.words;
   left_at = w.left_at;
   race = w.race || is_early_by cell (neighbour_of name side) clock w.left_at;
 }
@@ -134,21 +138,61 @@ posted_at w name side own clock cell = record {
 pub post_is : (w : Watch) (step : Step) (count cell word : ℕ) (side : Side)
     → count ≡ count_of step → step.deed ≡ did.Posted side word
     → cell_of step.node side ≡ Some cell
-    → full_put cell true (post_kept step.node cell (race_put (is_early_by (Some cell)
+    → word_put cell (Some word) (post_kept step.node cell (race_put (is_early_by (Some cell)
     (neighbour_of step.node side) ((ticked step.node count w).clocks.nodes step.node) w.left_at)
     (ticked step.node count w))) ≡ watch_step w step
 unfolding at_deed posted_at
 post_is w step count cell word side n e there =
-    ap (λ k. posted_at w step.node side (with_count step.node k (w.clocks.nodes step.node))
+    ap (λ k. posted_at w step.node side word (with_count step.node k (w.clocks.nodes step.node))
     (with_clock step.node (with_count step.node k (w.clocks.nodes step.node)) w.clocks.nodes
     step.node) (Some cell)) n
-    ∙ ap (λ c. posted_at w step.node side
+    ∙ ap (λ c. posted_at w step.node side word
     (with_count step.node (count_of step) (w.clocks.nodes step.node)) c (Some cell))
     (here step.node (with_count step.node (count_of step) (w.clocks.nodes step.node))
     w.clocks.nodes)
-    ∙ ap₂ (λ c o. posted_at w step.node side c c o) (own_clock step.node (count_of step) w)
+    ∙ ap₂ (λ c o. posted_at w step.node side word c c o) (own_clock step.node (count_of step) w)
     (sym there)
     ∙ ap (at_deed w step) (sym e)
+
+-- a post adds a race, or nothing
+pub posted_adds : (w : Watch) (old one two new : Kept) (step : Step) (count cell word : ℕ)
+    (side : Side) → count ≡ count_of step → step.deed ≡ did.Posted side word
+    → cell_of step.node side ≡ Some cell → one.left ≡ old.left → one.race ≡ old.race
+    → two.left ≡ one.left → ((race : Race) → two.race ≡ Some race → (one.race ≡ Some race)
+    ⊎ EarlyBy (ticked step.node count w) one step.node side cell word race)
+    → new.left ≡ two.left → new.race ≡ two.race → Adds w old new step
+posted_adds w old one two new step count cell word side n is writes left race left' found left''
+    race' = record {
+      left = λ at take e. inl (ap (λ l. get_or l at None)
+          (sym left ∙ sym left' ∙ sym left'') ∙ e);
+      race = λ it e. by it (found it (sym race' ∙ e));
+    }
+  where
+    clock : (ticked step.node count w).clocks.nodes step.node ≡ clock_after step w.clocks
+    clock =
+        here step.node (with_count step.node count (w.clocks.nodes step.node)) w.clocks.nodes
+        ∙ ap (λ k. with_count step.node k (w.clocks.nodes step.node)) n
+        ∙ own_clock step.node (count_of step) w
+        ∙ ap (λ d. with_count step.node (count_of step) (joined (w.clocks.nodes step.node)
+        (cause_by step.node d w.clocks))) (sym is)
+
+    by : (it : Race)
+        → (one.race ≡ Some it) ⊎ EarlyBy (ticked step.node count w) one step.node side cell word it
+        → (old.race ≡ Some it) ⊎ ((IsTake step it.take × IsPending w.words it)
+        ⊎ PostedBy w old step it)
+    by it (inl was) = inl (sym race ∙ was)
+    by it (inr e) = inr (inr (record {
+      cell = cell;
+      left = ap (λ l. get_or l cell None) (sym left) ∙ e.left;
+      posted = record {
+        deed = is ∙ ap₂ did.Posted (sym e.side) (sym e.word);
+        writer = sym e.writer;
+        writes = ap (cell_of step.node) e.side ∙ writes;
+        reader = e.reader;
+        next = ap (neighbour_of step.node) e.side ∙ e.next;
+        early = subst (λ (c : Clock). c e.reader < it.take.number + 1) clock e.early;
+      };
+    }))
 
 pub post_none : (w : Watch) (step : Step) (count word : ℕ) (side : Side)
     → count ≡ count_of step → step.deed ≡ did.Posted side word → cell_of step.node side ≡ None
@@ -158,7 +202,7 @@ post_none w step count word side n e none =
     ap (λ k. ticked step.node k w) n
     ∙ ap₂ (λ c r. with_node step.node c r w) (own_clock step.node (count_of step) w)
     (sym (or_false w.race))
-    ∙ ap (λ o. posted_at w step.node side
+    ∙ ap (λ o. posted_at w step.node side word
     (with_count step.node (count_of step) (joined (w.clocks.nodes step.node) no_clock))
     (with_count step.node (count_of step) (joined (w.clocks.nodes step.node) no_clock)) o)
     (sym none)
@@ -215,7 +259,7 @@ check_none w step count side n e none =
 took_at : Watch → ℕ → (ℕ → Clock) → Clock → Option ℕ → Bool → Watch
 took_at v name nodes clock cell race = record v {
   clocks = record v.clocks { nodes = nodes; takes = put_for cell clock v.clocks.takes };
-  full = put_for cell false v.full;
+  words = put_for cell None v.words;
   race = race;
 }
 
@@ -232,12 +276,12 @@ or_last a b = ap (λ c. a || c) (sym (or_false b))
 pub take_is : (w : Watch) (step : Step) (count cell word : ℕ) (side : Side) (sides : Sides)
     → count ≡ count_of step → step.deed ≡ did.Took side sides word
     → read_cell step.node side ≡ Some cell
-    → full_put cell false (take_kept step.node cell (ticked step.node count
+    → word_put cell None (take_kept step.node cell (ticked step.node count
     (post_joined step.node cell (all_left step.node sides side (count_of step) w))))
     ≡ watch_step w step
 unfolding at_deed took_at took_by
 take_is w step count cell word side sides n e there =
-    ap (λ k. full_put cell false (take_kept step.node cell (ticked step.node k
+    ap (λ k. word_put cell None (take_kept step.node cell (ticked step.node k
     (post_joined step.node cell v)))) n
     ∙ ap (λ c. took_at v step.node (with_clock step.node ticks joins) c (Some cell) v.race)
     (here step.node ticks joins)
@@ -247,7 +291,7 @@ take_is w step count cell word side sides n e there =
     (here step.node (joined (w.clocks.nodes step.node) (w.clocks.posts cell)) w.clocks.nodes))
     ∙ ap₂ (λ o r. took_by w v step.node (count_of step) o r) (sym there)
     (or_last w.race (list_any (λ at. is_left sides side at
-    && kept_for false w.full (read_cell step.node at)) SIDES))
+    && is_some (kept_for None w.words (read_cell step.node at))) SIDES))
     ∙ ap (at_deed w step) (sym e)
   where
     v : Watch
@@ -264,7 +308,7 @@ take_is w step count cell word side sides n e there =
 left_by : Watch → ℕ → Bool → Option ℕ → Watch
 left_by w count is cell = record w {
   left_at = λ at. if is && option_map_or (λ a. a == at) cell false then count else w.left_at at;
-  race = w.race || (is && kept_for false w.full cell);
+  race = w.race || (is && is_some (kept_for None w.words cell));
 }
 
 with_left : (ℕ → ℕ) → Bool → Watch → Watch
@@ -276,7 +320,8 @@ same_left w cell count =
     λ i. λ at. (ap (λ b. if b then count else w.left_at at) (eq_sym at cell)) i
 
 pub left_word : (w : Watch) (name count cell : ℕ) (sides : Sides) (taken side : Side)
-    → is_left sides taken side ≡ true → read_cell name side ≡ Some cell → w.full cell ≡ true
+    → is_left sides taken side ≡ true → read_cell name side ≡ Some cell
+    → is_some (w.words cell) ≡ true
     → race_put true (left_put cell count w) ≡ side_left name sides taken count side w
 unfolding left_by with_left
 left_word w name count cell sides taken side is reads full =
@@ -284,7 +329,8 @@ left_word w name count cell sides taken side is reads full =
     ∙ ap₂ (λ b o. left_by w count b o) (sym is) (sym reads)
 
 pub left_empty : (w : Watch) (name count cell : ℕ) (sides : Sides) (taken side : Side)
-    → is_left sides taken side ≡ true → read_cell name side ≡ Some cell → w.full cell ≡ false
+    → is_left sides taken side ≡ true → read_cell name side ≡ Some cell
+    → is_some (w.words cell) ≡ false
     → left_put cell count w ≡ side_left name sides taken count side w
 unfolding left_by with_left
 left_empty w name count cell sides taken side is reads full =
@@ -340,7 +386,7 @@ four_is w name count sides taken =
     leaves side cell = is_left sides taken side && reads_cell name cell side
 
     word : Side → Bool
-    word side = is_left sides taken side && kept_for false w.full (read_cell name side)
+    word side = is_left sides taken side && is_some (kept_for None w.words (read_cell name side))
 
 -- the take that is kept is that of the step
 pub sides_left : (w : Watch) (one : MultiportTake) (name number : ℕ) (sides : Sides) (taken : Side)
@@ -366,10 +412,10 @@ take_none w step count word side sides n e none =
     ap (λ k. ticked step.node k v) n
     ∙ ap₂ (λ c r. with_node step.node c r v) (own_clock step.node (count_of step) v)
     (or_last w.race (list_any (λ at. is_left sides side at
-    && kept_for false w.full (read_cell step.node at)) SIDES))
+    && is_some (kept_for None w.words (read_cell step.node at))) SIDES))
     ∙ ap (λ o. took_by w v step.node (count_of step) o (w.race || (list_any (λ at.
-    is_left sides side at && kept_for false w.full (read_cell step.node at)) SIDES || false)))
-    (sym none)
+    is_left sides side at && is_some (kept_for None w.words (read_cell step.node at))) SIDES
+    || false))) (sym none)
     ∙ ap (at_deed w step) (sym e)
   where
     v : Watch
@@ -391,9 +437,15 @@ counted_last steps step all =
     (all (length steps) step (omega arith))
 
 pub seen_next : (kept next : Kept) (steps : List Step) (step : Step)
-    → ((w : Watch) → Shows kept w → Shows next (watch_step w step)) → next.start ≡ kept.start
+    → ((w : Watch) → Shows kept w → Shows next (watch_step w step))
+    → ((w : Watch) → Shows kept w → Adds w kept next step) → next.start ≡ kept.start
     → HasSeen kept steps → HasSeen next (steps ++ step ∷ [])
-seen_next kept next steps step shows start seen counted =
-    subst (λ first. Shows next (watch_on (first_watch first) (steps ++ step ∷ []))) (sym start)
-    (subst (Shows next) (sym (watch-append (first_watch kept.start) steps (step ∷ [])))
-    (shows (watch_on (first_watch kept.start) steps) (seen (counted_before steps step counted))))
+seen_next kept next steps step shows adds start seen counted =
+    let so_far = seen (counted_before steps step counted) in
+    let w = watch_on (first_watch kept.start) steps in
+    record {
+      shows = subst (λ first. Shows next (watch_on (first_watch first) (steps ++ step ∷ [])))
+          (sym start) (subst (Shows next)
+          (sym (watch-append (first_watch kept.start) steps (step ∷ []))) (shows w so_far.shows));
+      recalls = recalls_next kept next steps step start (adds w so_far.shows) so_far.recalls;
+    }

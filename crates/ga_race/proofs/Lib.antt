@@ -26,6 +26,7 @@ pub mod Following
 pub mod Deciding
 pub mod Fitting
 pub mod Rows
+pub mod Details
 pub mod Keeping
 mod Worked
 mod WorkedSpins
@@ -33,4 +34,6 @@ pub mod Spun
 pub mod Resting
 pub mod EndingAll
 pub mod Returning
+pub mod Finding
 pub mod Judging
+pub mod Reading

@@ -189,17 +189,24 @@ took_append chip done more cell =
     (taken_words (ran chip done) more cell)
 
 -- by one event
+pub posts_one : (chip : Chip) (event : Event) (m : Move) (cell : ℕ) → move_in chip event ≡ m ∷ []
+    → written_words chip (event ∷ []) cell ≡ posted_by cell m.asked
+posts_one chip event m cell e =
+    ap (posts cell) (append-nil (move_in chip event) ∙ e) ∙ append-nil (posted_by cell m.asked)
+
+pub takes_one : (chip : Chip) (event : Event) (m : Move) (cell : ℕ) → move_in chip event ≡ m ∷ []
+    → taken_words chip (event ∷ []) cell ≡ taken_by cell m.asked m.found
+takes_one chip event m cell e =
+    ap (takes cell) (append-nil (move_in chip event) ∙ e)
+    ∙ append-nil (taken_by cell m.asked m.found)
+
 pub wrote_one : (chip : Chip) (event : Event) (m : Move) (cell : ℕ) → move_in chip event ≡ m ∷ []
     → wrote chip (event ∷ []) cell ≡ length (posted_by cell m.asked)
-wrote_one chip event m cell e =
-    ap (λ l. length (posts cell l)) (append-nil (move_in chip event) ∙ e)
-    ∙ ap (λ l. length l) (append-nil (posted_by cell m.asked))
+wrote_one chip event m cell e = ap (λ l. length l) (posts_one chip event m cell e)
 
 pub took_one : (chip : Chip) (event : Event) (m : Move) (cell : ℕ) → move_in chip event ≡ m ∷ []
     → took chip (event ∷ []) cell ≡ length (taken_by cell m.asked m.found)
-took_one chip event m cell e =
-    ap (λ l. length (takes cell l)) (append-nil (move_in chip event) ∙ e)
-    ∙ ap (λ l. length l) (append-nil (taken_by cell m.asked m.found))
+took_one chip event m cell e = ap (λ l. length l) (takes_one chip event m cell e)
 
 -- if the writer's moves are a prefix, no more words are written; if the reader's are, no more are
 -- taken

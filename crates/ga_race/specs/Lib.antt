@@ -4,7 +4,10 @@ pub mod Spins
 pub mod Rounds
 pub mod Differs
 pub mod Watch
+pub mod Reads
+pub mod Found
 pub mod Decides
+pub mod Details
 pub mod Verdict
 pub mod Shown
 pub mod inner

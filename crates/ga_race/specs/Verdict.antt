@@ -3,6 +3,7 @@ use Rattle.std.specs.Prelude.{ℕ, ◌+◌, ◌≤◌, Bool, List}
 use Rattle.ga_chip.specs.Chip.{Chip}
 use Rattle.ga_chip.specs.Run.{Event, ran, turns_of, words_fed}
 use Rattle.ga_race.specs.Clocks.{steps_in}
+use Rattle.ga_race.specs.Details.{IsRaceOf}
 use Rattle.ga_race.specs.Differs.{GoesTwoWays, HasRace}
 use Rattle.ga_race.specs.Races.{IsDeterminate, IsDeterminateWithin, IsFed}
 use Rattle.ga_race.specs.Rounds.{GoesRound, HasNoBreaks}
@@ -30,12 +31,13 @@ pub record EndsRound (chip : Chip) (turns period : ℕ) : Type 0 where
   pub twice : first + period + period ≤ turns
   pub round : GoesRound chip first period
 
--- A verdict after some turns is so. A race: within the steps of these turns the chip can go two
--- ways. Else any two runs agree in which no node makes more steps, and if no node has a breakpoint,
--- the run ends at rest, or behind two rounds.
+-- A verdict after some turns is so. A race: these turns have the one that is shown, and within
+-- their steps the chip can go two ways. Else any two runs agree in which no node makes more steps,
+-- and if no node has a breakpoint, the run ends at rest, or behind two rounds.
 abbrev pub IsSo : Chip → ℕ → Verdict → Type 0
 IsSo chip turns (verdict.Race race) =
-    (found : HasRace chip (turns_of turns)) × GoesTwoWays chip (turns_of turns) found
+    (found : HasRace chip (turns_of turns)) × IsRaceOf chip (turns_of turns) found race
+    × GoesTwoWays chip (turns_of turns) found
 IsSo chip turns (verdict.AtRest spins) =
     AgreesFor chip turns
     × (HasNoBreaks chip → EndsAtRest chip (turns_of turns) spins)

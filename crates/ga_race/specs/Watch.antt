@@ -1,5 +1,5 @@
 -- A watch over the steps of a run, which finds the run's races by clocks.
-use Rattle.std.specs.Prelude.{◌≡◌, ◌↔◌, ℕ, ◌+◌, ◌<◌, ◌^◌, ◌==◌, Bool, true, false, ◌&&◌, ◌||◌, not, nat_lt, List, [], ◌∷◌, All, Option, Some, None, is_some, if◌then◌else◌}
+use Rattle.std.specs.Prelude.{◌≡◌, ◌↔◌, ℕ, ◌+◌, ◌<◌, ◌^◌, ◌==◌, Bool, false, ◌&&◌, ◌||◌, not, nat_lt, List, [], ◌∷◌, All, Option, Some, None, is_some, if◌then◌else◌}
 use Rattle.std.specs.List.{list_any}
 use Rattle.std.specs.Option.{option_map_or}
 use Rattle.ga_place.specs.Cell.{cell_of, read_cell}
@@ -21,8 +21,8 @@ use Rattle.ga_race.specs.Races.{HasNoRace}
 -- step's own count is its number plus 1; 0 means that no step of the run comes before.
 pub record Watch : Type 0 where
   pub clocks : Clocks
-  -- whether each cell holds a word
-  pub full : ℕ → Bool
+  -- the word pending in each cell
+  pub words : ℕ → Option ℕ
   -- for each cell, the count of the last multiport take that left it out, or 0
   pub left_at : ℕ → ℕ
   -- whether a race was found
@@ -32,7 +32,7 @@ pub record Watch : Type 0 where
 abbrev pub first_watch : List (Option ℕ) → Watch
 first_watch cells = record {
   clocks = no_clocks;
-  full = λ cell. is_some (pending_in cells cell);
+  words = λ cell. pending_in cells cell;
   left_at = λ cell. 0;
   race = false;
 }
@@ -93,11 +93,19 @@ clocks_after step clocks = record {
   takes = put_for (cell_taken step.node step.deed) (clock_after step clocks) clocks.takes;
 }
 
--- a post fills its cell, and a take empties it
-abbrev pub full_after : Step → (ℕ → Bool) → ℕ → Bool
-full_after step full =
-    put_for (cell_posted step.node step.deed) true
-    (put_for (cell_taken step.node step.deed) false full)
+-- the word that a step posts
+abbrev pub word_posted : Deed → Option ℕ
+word_posted (did.Posted side word) = Some word
+word_posted did.Own = None
+word_posted (did.Took side sides word) = None
+word_posted (did.SawRead side) = None
+word_posted (did.TookInput word) = None
+
+-- a post puts its word into its cell, and a take empties it
+abbrev pub words_after : Step → (ℕ → Option ℕ) → ℕ → Option ℕ
+words_after step words =
+    put_for (cell_posted step.node step.deed) (word_posted step.deed)
+    (put_for (cell_taken step.node step.deed) None words)
 
 -- a step takes a word at one of several sides, and leaves out this one
 abbrev pub leaves_side : Deed → Side → Bool
@@ -117,10 +125,10 @@ abbrev pub leaves_cell : Step → ℕ → Bool
 leaves_cell step cell =
     list_any (λ side. leaves_side step.deed side && reads_cell step.node cell side) SIDES
 
-abbrev pub leaves_word : Step → (ℕ → Bool) → Bool
-leaves_word step full =
+abbrev pub leaves_word : Step → (ℕ → Option ℕ) → Bool
+leaves_word step words =
     list_any (λ side. leaves_side step.deed side
-    && kept_for false full (read_cell step.node side)) SIDES
+    && is_some (kept_for None words (read_cell step.node side))) SIDES
 
 -- a post doesn't come after the last multiport take of its cell's reader that left the cell out, by
 -- causes
@@ -142,9 +150,9 @@ is_early name (did.TookInput word) clock left_at = false
 abbrev pub watch_step : Watch → Step → Watch
 watch_step watch step = record {
   clocks = clocks_after step watch.clocks;
-  full = full_after step watch.full;
+  words = words_after step watch.words;
   left_at = λ cell. if leaves_cell step cell then count_of step else watch.left_at cell;
-  race = watch.race || (leaves_word step watch.full
+  race = watch.race || (leaves_word step watch.words
       || is_early step.node step.deed (clock_after step watch.clocks) watch.left_at);
 }
 

@@ -1,3 +1,5 @@
 pub mod Parts
 pub mod Going
 pub mod Ending
+pub mod Watched
+pub mod Adds

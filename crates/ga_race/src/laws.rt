@@ -3,6 +3,7 @@ ghost use Rattle.ga_race.specs.Races.{NoChoiceNoRace, NoRace, NoRaceAtRest};
 ghost use Rattle.ga_race.specs.Rounds.{NoRaceRound, RoundIsDeterminate};
 ghost use Rattle.ga_race.specs.Spins.{NoRaceSpinning, StillSpins};
 ghost use Rattle.ga_race.specs.Decides.{WatchDecides, WatchFindsRaces};
+ghost use Rattle.ga_race.specs.Details.{WatchShows};
 ghost use Rattle.ga_race.specs.Differs.{RaceDiffers, TriesDiffer};
 ghost use Rattle.ga_race.specs.Watch.{StepsAreCounted, WatchFinds};
 
@@ -20,12 +21,14 @@ pub fn no_choice()
     ensures { NoChoiceNoRace }
 {}
 
-/// The watch over the steps of a run finds a race exactly if the run has one. And the counts of
-/// these steps have at most 64 bits, if the chip's counts have.
+/// The watch over the steps of a run finds a race exactly if the run has one, and the race that it
+/// shows is one of the run. And the counts of these steps have at most 64 bits, if the chip's
+/// counts have.
 pub fn watch()
     ensures finds { WatchFinds }
     ensures races { WatchFindsRaces }
     ensures decides { WatchDecides }
+    ensures shows { WatchShows }
     ensures counted { StepsAreCounted }
 {}
 

@@ -1,10 +1,14 @@
-ghost use Rattle.std.specs.Prelude.{◌≡◌, ℕ, ◌+◌, ◌<◌, Bool, true, false, IfOk, IfSome, List, [], None, Some, is_some, replicate};
+ghost use Rattle.std.specs.Prelude.{◌≡◌, ◌⊎◌, ℕ, ◌+◌, ◌<◌, true, IfOk, IfSome, List, [], None, Some, get_or, is_some, replicate, unwrap_or};
 ghost use Rattle.ga_place.specs.Side.{neighbour_of};
 ghost use Rattle.ga_observe.specs.declared.step.Step.{Step as step};
 ghost use Rattle.ga_observe.specs.declared.step.Deed.TheVariants.{Posted, SawRead, Took};
+ghost use Rattle.ga_race.specs.Found.{IsTake};
 ghost use Rattle.ga_race.specs.Shown.{HasSeen, HasSeenFrom, Kept, Shows};
 ghost use Rattle.ga_race.specs.Watch.{AreCounted, CountsFit, Watch, count_of, first_watch, is_early_by, watch_on, watch_step};
-ghost use Rattle.ga_race.specs.inner.Parts.{all_left, full_put, left_put, post_joined, post_kept, race_put, side_left, take_joined, take_kept, ticked};
+ghost use Rattle.ga_race.specs.declared.found.MultiportTake.{MultiportTake as multiport_take};
+ghost use Rattle.ga_race.specs.declared.found.Race.{Race as race};
+ghost use Rattle.ga_race.specs.inner.Adds.{Adds, EarlyBy, TakeAdds};
+ghost use Rattle.ga_race.specs.inner.Parts.{all_left, left_put, post_joined, post_kept, race_put, side_left, take_joined, take_kept, ticked, word_put};
 
 use crate::clock::Clock;
 use crate::found::{MultiportTake, Post, Race, SideWord};
@@ -37,7 +41,7 @@ pub struct RaceWatch {
 }
 
 impl Model for RaceWatch {
-    ghost use Rattle.std.specs.Prelude.{◌≡◌, is_some, length, vec_items};
+    ghost use Rattle.std.specs.Prelude.{◌≡◌, length, vec_items};
     ghost use Rattle.ga_observe.specs.declared.step.Deed.TheVariants.{Posted, SawRead, Took};
     ghost use Rattle.ga_race.specs.Shown.{Kept};
 
@@ -49,7 +53,7 @@ impl Model for RaceWatch {
       takes = vec_items watch.takes;
       words = vec_items watch.words;
       left = vec_items watch.left;
-      race = is_some watch.race;
+      race = watch.race;
       start = vec_items watch.start;
     } };
 
@@ -85,7 +89,7 @@ impl RaceWatch {
 
     /// Whether the steps that were seen have a race.
     pub fn found(&self) -> bool
-        ensures kept { result ≡ self.now.race }
+        ensures kept { result ≡ is_some self.now.race }
         ensures race { (steps : List step) → HasSeen self.now steps → AreCounted steps
             → result ≡ (watch_on (first_watch self.now.start) steps).race }
     {
@@ -100,7 +104,7 @@ impl RaceWatch {
 
     /// The first race that was found.
     pub fn race(&self) -> Option<Race>
-        ensures { is_some result ≡ self.now.race }
+        ensures { result ≡ self.now.race }
     {
         self.race
     }
@@ -138,6 +142,7 @@ impl RaceWatch {
         requires { count ≡ count_of step.now }
         ensures shows { (w : Watch) → Shows self.old w → Shows self.new (watch_step w step.now) }
         ensures start { self.new.start ≡ self.old.start }
+        ensures adds { (w : Watch) → Shows self.old w → Adds w self.old self.new step.now }
     {
         self.act(step, count);
         self.fetch(step);
@@ -157,6 +162,7 @@ impl RaceWatch {
         requires { count ≡ count_of step.now }
         ensures shows { (w : Watch) → Shows self.old w → Shows self.new (watch_step w step.now) }
         ensures start { self.new.start ≡ self.old.start }
+        ensures adds { (w : Watch) → Shows self.old w → Adds w self.old self.new step.now }
     {
         match step.deed {
             Deed::Own => self.tick(step.node, count),
@@ -174,6 +180,7 @@ impl RaceWatch {
         requires deed { step.now.deed ≡ Posted side word }
         ensures shows { (w : Watch) → Shows self.old w → Shows self.new (watch_step w step.now) }
         ensures start { self.new.start ≡ self.old.start }
+        ensures adds { (w : Watch) → Shows self.old w → Adds w self.old self.new step.now }
     {
         let node = step.node;
         self.tick(node, count);
@@ -193,6 +200,7 @@ impl RaceWatch {
         requires deed { step.now.deed ≡ Took side of word }
         ensures shows { (w : Watch) → Shows self.old w → Shows self.new (watch_step w step.now) }
         ensures start { self.new.start ≡ self.old.start }
+        ensures adds { (w : Watch) → Shows self.old w → Adds w self.old self.new step.now }
     {
         let node = step.node;
         self.choose(step, side, of, word);
@@ -212,6 +220,7 @@ impl RaceWatch {
         requires deed { step.now.deed ≡ SawRead side }
         ensures shows { (w : Watch) → Shows self.old w → Shows self.new (watch_step w step.now) }
         ensures start { self.new.start ≡ self.old.start }
+        ensures adds { (w : Watch) → Shows self.old w → Adds w self.old self.new step.now }
     {
         let node = step.node;
         let Some(cell) = cell(node, side) else {
@@ -226,6 +235,8 @@ impl RaceWatch {
     fn tick(&mut self, node: Node, count: u64)
         ensures shows { (w : Watch) → Shows self.old w → Shows self.new (ticked node count w) }
         ensures start { self.new.start ≡ self.old.start }
+        ensures left { self.new.left ≡ self.old.left }
+        ensures race { self.new.race ≡ self.old.race }
     {
         let index = node.index();
         self.nodes[index].put(index, count);
@@ -235,6 +246,8 @@ impl RaceWatch {
     fn join_post(&mut self, node: Node, cell: CellId)
         ensures shows { (w : Watch) → Shows self.old w → Shows self.new (post_joined node cell w) }
         ensures start { self.new.start ≡ self.old.start }
+        ensures left { self.new.left ≡ self.old.left }
+        ensures race { self.new.race ≡ self.old.race }
     {
         self.nodes[node.index()].join(&self.posts[cell.index()]);
     }
@@ -243,6 +256,8 @@ impl RaceWatch {
     fn join_take(&mut self, node: Node, cell: CellId)
         ensures shows { (w : Watch) → Shows self.old w → Shows self.new (take_joined node cell w) }
         ensures start { self.new.start ≡ self.old.start }
+        ensures left { self.new.left ≡ self.old.left }
+        ensures race { self.new.race ≡ self.old.race }
     {
         self.nodes[node.index()].join(&self.takes[cell.index()]);
     }
@@ -251,6 +266,8 @@ impl RaceWatch {
     fn keep_post(&mut self, node: Node, cell: CellId)
         ensures shows { (w : Watch) → Shows self.old w → Shows self.new (post_kept node cell w) }
         ensures start { self.new.start ≡ self.old.start }
+        ensures left { self.new.left ≡ self.old.left }
+        ensures race { self.new.race ≡ self.old.race }
     {
         self.posts[cell.index()] = self.nodes[node.index()];
     }
@@ -259,22 +276,25 @@ impl RaceWatch {
     fn keep_take(&mut self, node: Node, cell: CellId)
         ensures shows { (w : Watch) → Shows self.old w → Shows self.new (take_kept node cell w) }
         ensures start { self.new.start ≡ self.old.start }
+        ensures left { self.new.left ≡ self.old.left }
+        ensures race { self.new.race ≡ self.old.race }
     {
         self.takes[cell.index()] = self.nodes[node.index()];
     }
 
     /// Keeps which word is pending in a cell.
     fn put_word(&mut self, cell: CellId, word: Option<Word18>)
-        ensures shows { (w : Watch) → Shows self.old w
-            → Shows self.new (full_put cell (is_some word) w) }
+        ensures shows { (w : Watch) → Shows self.old w → Shows self.new (word_put cell word w) }
         ensures start { self.new.start ≡ self.old.start }
+        ensures left { self.new.left ≡ self.old.left }
+        ensures race { self.new.race ≡ self.old.race }
     {
         self.words[cell.index()] = word;
     }
 
     /// The word pending in a cell.
     fn pending(&self, cell: CellId) -> Option<Word18>
-        ensures { (w : Watch) → Shows self.now w → is_some result ≡ w.full cell }
+        ensures { (w : Watch) → Shows self.now w → result ≡ w.words cell }
     {
         let index = cell.index();
         self.words[index]
@@ -302,6 +322,9 @@ impl RaceWatch {
         ensures shows { (w : Watch) → Shows self.old w → Shows self.new (race_put
             (is_early_by (Some cell) (neighbour_of node side) (w.clocks.nodes node) w.left_at) w) }
         ensures start { self.new.start ≡ self.old.start }
+        ensures left { self.new.left ≡ self.old.left }
+        ensures race { (w : Watch) → Shows self.old w → (race : race) → self.new.race ≡ Some race
+            → (self.old.race ≡ Some race) ⊎ EarlyBy w self.old node side cell word race }
     {
         if let Some(take) = self.early(node, side, cell) {
             let left_out = SideWord {
@@ -316,7 +339,9 @@ impl RaceWatch {
 
     /// The multiport take after which a post should come by causes, and doesn't.
     fn early(&self, node: Node, side: Side, cell: CellId) -> Option<MultiportTake>
-        ensures { (w : Watch) → Shows self.now w → is_some result
+        ensures kept { IfSome result (λ take. get_or self.now.left cell None ≡ Some take) }
+        ensures bound { IfSome result (λ take. cell < 524) }
+        ensures early { (w : Watch) → Shows self.now w → is_some result
             ≡ is_early_by (Some cell) (neighbour_of node side) (w.clocks.nodes node) w.left_at }
     {
         let reader = neighbour(node, side)?;
@@ -331,6 +356,9 @@ impl RaceWatch {
     fn find(&mut self, take: &MultiportTake, left_out: SideWord)
         ensures shows { (w : Watch) → Shows self.old w → Shows self.new (race_put true w) }
         ensures start { self.new.start ≡ self.old.start }
+        ensures left { self.new.left ≡ self.old.left }
+        ensures race { self.new.race
+            ≡ Some (unwrap_or self.old.race (record { take = take.now; left_out = left_out })) }
     {
         if self.race.is_none() {
             self.race = Some(Race {
@@ -342,9 +370,11 @@ impl RaceWatch {
 
     /// Keeps which cells a take leaves out, if it is a multiport take.
     fn choose(&mut self, step: &Step, side: Side, of: Sides, word: Word18)
+        requires { step.now.deed ≡ Took side of word }
         ensures shows { (w : Watch) → Shows self.old w
             → Shows self.new (all_left step.now.node of side (count_of step.now) w) }
         ensures start { self.new.start ≡ self.old.start }
+        ensures adds { (w : Watch) → Shows self.old w → Adds w self.old self.new step.now }
     {
         if of.only() == Some(side) {
             return;
@@ -362,6 +392,8 @@ impl RaceWatch {
             (side_left take.now.reader take.now.sides take.now.taken.side (take.now.number + 1)
             side w) }
         ensures start { self.new.start ≡ self.old.start }
+        ensures adds { (w : Watch) → Shows self.old w
+            → TakeAdds w.words self.old self.new take.now }
     {
         if !is_left(take.sides, take.taken.side, side) {
             return;
@@ -381,16 +413,21 @@ impl RaceWatch {
         ensures shows { (w : Watch) → Shows self.old w
             → Shows self.new (left_put cell (take.now.number + 1) w) }
         ensures start { self.new.start ≡ self.old.start }
+        ensures left { (at : ℕ) (one : multiport_take) → get_or self.new.left at None ≡ Some one
+            → (get_or self.old.left at None ≡ Some one) ⊎ ((at ≡ cell) × (one ≡ take.now)) }
+        ensures race { self.new.race ≡ self.old.race }
     {
         self.left[cell.index()] = Some(*take);
     }
 
     /// A take of a word at one of several sides.
     fn multiport_take(&self, step: &Step, side: Side, of: Sides, word: Word18) -> MultiportTake
+        requires { step.now.deed ≡ Took side of word }
         ensures reader { result.reader ≡ step.now.node }
         ensures number { result.number ≡ step.now.number }
         ensures sides { result.sides ≡ of }
         ensures taken { result.taken.side ≡ side }
+        ensures is { IsTake step.now result }
     {
         MultiportTake {
             reader: step.node,
@@ -406,7 +443,9 @@ impl RaceWatch {
 
     /// A word at a side of a node.
     fn side_word(&self, node: Node, side: Side, word: Word18) -> SideWord
-        ensures { result.side ≡ side }
+        ensures side { result.side ≡ side }
+        ensures word { result.word ≡ word }
+        ensures writer { result.writer ≡ unwrap_or (neighbour_of node side) node }
     {
         // A side at which a word is has a neighbour that wrote it.
         let writer = neighbour(node, side).unwrap_or(node);

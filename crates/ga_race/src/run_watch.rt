@@ -1,5 +1,6 @@
 //! What a verdict has to know of a run beside its races.
-ghost use Rattle.std.specs.Prelude.{◌≡◌, [], IfOk};
+ghost use Rattle.std.specs.Prelude.{◌≡◌, ◌+◌, ◌-◌, ◌^◌, [], IfOk, cond, min};
+ghost use Rattle.ga_race.specs.Reads.{is_multiport};
 ghost use Rattle.ga_race.specs.Shown.{HasSeen};
 
 use crate::race_watch::RaceWatch;
@@ -22,6 +23,7 @@ impl RunWatch {
     pub(crate) fn new(alloc: Global, chip: &Chip) -> Result<Self, AllocError>
         ensures start { IfOk result (λ watch. watch.races.start ≡ chip.now.cells) }
         ensures seen { IfOk result (λ watch. HasSeen watch.races []) }
+        ensures reads { IfOk result (λ watch. watch.multiport_reads ≡ 0) }
     {
         Ok(RunWatch {
             races: RaceWatch::new(alloc, chip)?,
@@ -37,23 +39,38 @@ impl RunWatch {
 
     /// Counts a step.
     fn count(&mut self, step: &Step)
-        ensures { self.new.races ≡ self.old.races }
+        ensures races { self.new.races ≡ self.old.races }
+        ensures reads { self.new.multiport_reads ≡ min
+            (self.old.multiport_reads + cond (is_multiport step.now.deed) 1 0) (2 ^ 64 - 1) }
     {
+        self.last_shared = self.shared_after(step);
+        let more = u64::from(is_multiport(step.deed));
+        self.multiport_reads = self.multiport_reads.saturating_add(more);
+    }
+
+    /// The number of turns up to the last step that wasn't a node's own work, after one more step.
+    fn shared_after(&self, step: &Step) -> u64 {
         match step.deed {
-            Deed::Own => return,
-            Deed::Took { of, .. } if of.only().is_none() => {
-                self.multiport_reads = self.multiport_reads.saturating_add(1);
-            }
-            _ => {}
+            Deed::Own => self.last_shared,
+            _ => step.turn.saturating_add(1),
         }
-        self.last_shared = step.turn.saturating_add(1);
+    }
+}
+
+/// Whether a node took a word at one of several sides.
+fn is_multiport(deed: Deed) -> bool
+    ensures { result ≡ is_multiport deed }
+{
+    match deed {
+        Deed::Took { of, .. } => of.only().is_none(),
+        _ => false,
     }
 }
 
 impl Observer for RunWatch {
-    ghost use Rattle.ga_race.specs.Shown.{HasSeenFrom};
+    ghost use Rattle.ga_race.specs.inner.Watched.{HasWatched};
 
-    ghost has_seen = { λ begun watch steps. HasSeenFrom begun.races watch.races steps };
+    ghost has_seen = { λ begun watch steps. HasWatched begun watch steps };
 
     fn see(&mut self, step: Step) {
         self.count(&step);

@@ -1,7 +1,9 @@
 //! The verdict on a chip: whether the schedule decides what it does.
-ghost use Rattle.std.specs.Prelude.{◌≡◌, ◌≢◌, ◌≤◌, ◌<◌, ℕ, IfOk, None, Some, false, length};
+ghost use Rattle.std.specs.Prelude.{◌≡◌, ◌≢◌, ◌≤◌, ◌<◌, ℕ, IfOk, None, Some, length};
 ghost use Rattle.ga_chip.specs.Chip.{Chip};
 ghost use Rattle.ga_chip.specs.Run.{moves, ran, turns_of};
+ghost use Rattle.ga_observe.specs.Seen.{steps_seen, turns_numbered};
+ghost use Rattle.ga_race.specs.Reads.{multiport_takes};
 ghost use Rattle.ga_race.specs.Rounds.{HasNoBreaks};
 ghost use Rattle.ga_race.specs.Verdict.{IsSo};
 ghost use Rattle.ga_race.specs.inner.Ending.{IfRound, IsFound, IsSearch, MadeTwice};
@@ -46,6 +48,8 @@ pub fn race(alloc: Global, chip: &mut Chip, turns: u32) -> Result<Report, AllocE
     ensures chip { IfOk result (λ report. chip.new ≡ ran chip.old (turns_of report.turns)) }
     ensures steps { IfOk result (λ report.
         report.steps ≡ length (moves chip.old (turns_of report.turns))) }
+    ensures reads { IfOk result (λ report. report.multiport_reads
+        ≡ multiport_takes (steps_seen chip.old (turns_numbered report.turns))) }
     ensures verdict { IfOk result (λ report. IsSo chip.old report.turns report.verdict) }
     // without another verdict all turns are made
     ensures open { IfOk result (λ report. report.verdict ≡ Verdict.Open → report.turns ≡ turns) }
@@ -72,6 +76,7 @@ fn reported(verdict: Verdict, turns: u64, steps: u64, watch: &RunWatch) -> Repor
     ensures verdict { result.verdict ≡ verdict }
     ensures turns { result.turns ≡ turns }
     ensures steps { result.steps ≡ steps }
+    ensures reads { result.multiport_reads ≡ watch.now.multiport_reads }
 {
     Report {
         verdict,
@@ -118,7 +123,7 @@ fn verdict_at(
 
 /// The verdict of rest, if the chip is at rest after a number of turns, or another one.
 fn at_rest_or(chip: &Chip, turns: u64, other: Verdict) -> Verdict
-    ensures found { IsFound false chip.now (Some other) → IsFound false chip.now (Some result) }
+    ensures found { IsFound None chip.now (Some other) → IsFound None chip.now (Some result) }
     ensures round { IfRound (Some result) (λ period. other ≡ Verdict.Round period) }
     ensures open { result ≡ Verdict.Open → other ≡ Verdict.Open }
 {

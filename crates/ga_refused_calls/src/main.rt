@@ -76,18 +76,18 @@ fn told_alone<Rt: AllocGlobal + Threads + Clock + Sync>(
 ) -> Result<Option<Told>, AllocError> {
     let alloc = rt.alloc();
     let told = match name {
-        "words_text" => words_text_told(alloc)?,
-        "begin" => begin_told(alloc),
-        "push_words" => push_words_told(alloc)?,
-        "tokens" => tokens_told(alloc)?,
-        "origin" => origin_told(alloc)?,
-        "write_frame" => write_frame_told(alloc)?,
-        "read_frames" => read_frames_told(alloc)?,
-        "feed" => feed_told(alloc)?,
-        "boot" => boot_told(alloc)?,
-        "chip_text" => chip_text_told(alloc)?,
-        "run_workers" => run_workers_told(rt, alloc)?,
+        "words_text" => words_text_told(alloc),
+        "begin" => Ok(begin_told(alloc)),
+        "push_words" => push_words_told(alloc),
+        "tokens" => tokens_told(alloc),
+        "origin" => origin_told(alloc),
+        "write_frame" => write_frame_told(alloc),
+        "read_frames" => read_frames_told(alloc),
+        "feed" => feed_told(alloc),
+        "boot" => boot_told(alloc),
+        "chip_text" => chip_text_told(alloc),
+        "run_workers" => run_workers_told(rt, alloc),
         _ => return Ok(None),
-    };
+    }?;
     Ok(Some(told))
 }

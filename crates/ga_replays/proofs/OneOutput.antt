@@ -4,9 +4,9 @@ use Rattle.ga_asm.specs.Text.{AtMostOne}
 use Rattle.ga_debug.specs.Beginning.{Start}
 use Rattle.ga_debug.specs.Replaying.{IsReplayed}
 use Rattle.ga_debug.proofs.OneReplay.{one_loaded, one_replayed}
-use Rattle.ga_transcript.specs.Check.{IsChecked}
+use Rattle.ga_transcript.specs.Check.{IsPassed}
 use Rattle.ga_transcript.specs.Record.{IsRecorded}
-use Rattle.ga_transcript.proofs.OneTranscript.{one_checked, one_recorded}
+use Rattle.ga_transcript.proofs.OneTranscript.{one_passed, one_recorded}
 use Rattle.ga_input.proofs.OneInput.{one_in}
 use Rattle.ga_input.specs.Fault.{fault_of_replay}
 use Rattle.ga_input.specs.TranscriptFault.{shown_transcript_fault}
@@ -43,8 +43,8 @@ one_replay_output input =
 
 pub one_check_output : (input : List ℕ) → AtMostOne (IsCheckOutput input)
 one_check_output input =
-    one_in shown_transcript_fault (λ text. IsSame (IsChecked text))
-    (λ text. one_same (IsChecked text) (one_checked text)) input
+    one_in shown_transcript_fault (λ text. IsSame (IsPassed text))
+    (λ text. one_same (IsPassed text) (one_passed text)) input
 
 pub one_record_output : (input : List ℕ) → AtMostOne (IsRecordOutput input)
 one_record_output input = one_in shown_transcript_fault IsRecorded one_recorded input

@@ -1,7 +1,7 @@
 -- What `check` of several files reports of one of them.
 use Rattle.std.specs.Prelude.{◌≡◌, ◌⊎◌, ◌==◌, ℕ, List, [], ◌++◌, codes, false, string_bytes, Result, Ok, Err, if◌then◌else◌}
 use Rattle.std.specs.Fmt.{decimal}
-use Rattle.ga_transcript.specs.Compare.{IsCompared, View}
+use Rattle.ga_transcript.specs.Compare.{IsComparedIfMet, View}
 use Rattle.ga_input.specs.declared.fault.ServeError.{ServeError}
 use Rattle.ga_replays.specs.declared.file_report.FileReport.{FileReport}
 use Rattle.ga_messages.specs.Shown.{shown_lines, shown_name}
@@ -11,7 +11,7 @@ use Rattle.ga_input.specs.TranscriptFault.{shown_transcript_fault}
 
 -- what is found of all commands of an input in a file of this name, or the input's first fault
 abbrev pub IsComparedIn : List ℕ → List ℕ → Result View ServeError → Type 0
-IsComparedIn name input answer = IsInText shown_transcript_fault (IsCompared name) input answer
+IsComparedIn name input answer = IsInText shown_transcript_fault (IsComparedIfMet name) input answer
 
 -- a line with the number of commands, if none differs; or the report on those that differ, and how
 -- many they are

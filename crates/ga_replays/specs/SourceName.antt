@@ -2,8 +2,9 @@
 use Rattle.std.specs.Prelude.{◌&&◌, ℕ, List, Option, Some, None, codes, drop, length, nat_eq, nat_lt, if◌then◌else◌}
 use Rattle.std.specs.List.{starts_with}
 use Rattle.std.specs.Str.{bytes_eq, is_utf8}
+use Rattle.ga_input.specs.declared.fault.InputFault.TheVariants as input
 use Rattle.ga_input.specs.declared.fault.ServeError.{ServeError}
-use Rattle.ga_input.specs.declared.fault.ServeError.TheVariants.{Input, InputOf, Shown}
+use Rattle.ga_input.specs.declared.fault.ServeError.TheVariants.{Input, InputOf, Read, Shown}
 use Rattle.ga_input.specs.declared.fault.TextFault.{TextFault}
 use Rattle.ga_input.specs.declared.fault.TextFault.TheVariants.{Asm, AsmOf, Source, SourceOf}
 use Rattle.ga_input.specs.declared.loading.Loading.{Loading}
@@ -44,5 +45,6 @@ text_fault_in_source name fault = fault
 -- the fault of a source with the name of its file
 abbrev pub fault_in_source : List ℕ → ServeError → ServeError
 fault_in_source name (Input fault) = InputOf name fault
+fault_in_source name Read = InputOf name input.Read
 fault_in_source name (Shown fault shown) = Shown (text_fault_in_source name fault) shown
 fault_in_source name fault = fault

@@ -13,7 +13,7 @@ use Rattle.ga_input.specs.declared.fault.OutputFault.TheVariants as OutputFault
 use Rattle.ga_input.specs.declared.fault.ServeError.TheVariants.{Input, Output, Shown}
 use Rattle.ga_input.specs.declared.fault.InputFault.TheVariants.{TooLong}
 use Rattle.ga_input.specs.declared.fault.TextFault.{TextFault}
-use Rattle.ga_input.specs.declared.fault.TextFault.TheVariants.{Differs, EarlyReply}
+use Rattle.ga_input.specs.declared.fault.TextFault.TheVariants.{Differs, EarlyReply, Failed}
 use Rattle.ga_input.specs.Session.{ended_lines}
 use Rattle.ga_messages.specs.Shown.{whole_line}
 use Rattle.ga_replays.specs.SourceName.{fault_in_source}
@@ -79,6 +79,8 @@ line_in_file count line = line - (count - 1)
 abbrev pub text_fault_in_file : ℕ → TextFault → TextFault
 text_fault_in_file count (EarlyReply line) = EarlyReply (line_in_file count line)
 text_fault_in_file count (Differs line) = Differs (line_in_file count line)
+text_fault_in_file count (Failed unmet) =
+    Failed (record unmet { first = line_in_file count unmet.first })
 text_fault_in_file count fault = fault
 
 abbrev pub fault_in_file : ℕ → ServeError → ServeError

@@ -29,7 +29,7 @@ pub fn output(alloc: Global, input: &[u8]) -> Result<String, ServeError>
 pub fn replacement(alloc: Global, input: &[u8]) -> Result<Option<String>, ServeError>
     ensures replacement { Answers (λ text. option_map string_bytes text)
         (IsReplacement input.now) result }
-    // `check` accepts it
+    // each command has the reply behind it
     ensures holds { IfOk result (λ text. IfSome text (λ text. Holds (string_bytes text))) }
 {
     let recording = output(alloc, input)?;

@@ -3,7 +3,7 @@ ghost use Rattle.std.specs.Prelude.{◌≡◌, IfOk, option_map};
 ghost use Rattle.ga_messages.specs.Shown.{shown_name};
 ghost use Rattle.ga_replays.specs.SourceName.{fault_in_source, name_in_line, session_source, session_source_in, source_named, source_named_in, text_fault_in_source};
 
-use ga_input::{Loading, ServeError, TextFault, is_head};
+use ga_input::{InputFault, Loading, ServeError, TextFault, is_head};
 use ga_messages::{ShownText, whole_line};
 use std::alloc::{AllocError, Global};
 use std::str;
@@ -72,6 +72,10 @@ pub fn fault_in_source(
         ServeError::Input(fault) => Ok(ServeError::InputOf(
             ShownText::of_name(alloc, path)?,
             fault,
+        )),
+        ServeError::Read => Ok(ServeError::InputOf(
+            ShownText::of_name(alloc, path)?,
+            InputFault::Read,
         )),
         ServeError::Shown { fault, shown } => {
             let fault = text_fault_in_source(alloc, path, fault)?;

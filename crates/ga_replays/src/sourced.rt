@@ -19,7 +19,7 @@ use ga_input::{
     push_lines, shown_fault,
 };
 use ga_messages::whole_line;
-use ga_transcript::{Live, without_line_end};
+use ga_transcript::{Live, Unmet, without_line_end};
 use std::alloc::{AllocError, Global};
 use std::fmt::Write;
 use std::marker::Model;
@@ -141,6 +141,10 @@ impl Sourced {
         match fault {
             TextFault::EarlyReply(line) => TextFault::EarlyReply(self.line_in_file(line)),
             TextFault::Differs(line) => TextFault::Differs(self.line_in_file(line)),
+            TextFault::Failed(unmet) => TextFault::Failed(Unmet {
+                count: unmet.count,
+                first: self.line_in_file(unmet.first),
+            }),
             _ => fault,
         }
     }

@@ -1,12 +1,14 @@
 -- Escaped texts have no signs of XML.
 use Rattle.std.proofs.Common.{◌≡◌, ◌∙◌, ℕ, ◌+◌, ◌/◌, ◌≤◌, arith, ◌==◌, Bool, true, false, ◌&&◌, List, [], ◌∷◌, ap, ap₂, refl}
-use Rattle.std.specs.Prelude.{not, nat_lt, if◌then◌else◌}
+use Rattle.std.specs.Prelude.{◌||◌, not, nat_lt, if◌then◌else◌}
+use Rattle.std.specs.Char.{is_control}
 use Rattle.std.specs.List.{flat_map, list_all}
 use Rattle.std.specs.Str.{chars}
 use Rattle.std.proofs.lemmas.Bool.{ne_eqb}
 use Rattle.std.proofs.lemmas.List.Folds.{list_all-append}
 use lib.Utf8.{encode, next}
-use Rattle.ga_report.specs.Escape.{allowed, escaped, escaped_char, is_allowed}
+use Rattle.ga_messages.specs.Shown.{is_undrawn}
+use Rattle.ga_report.specs.Escape.{drawn, escaped, escaped_char}
 use Rattle.ga_report.specs.Laws.{EscapedTextsArePlain, is_plain}
 
 -- a byte that begins or goes on with a character of several bytes
@@ -51,13 +53,18 @@ encoded c plain =
     (λ highest. four (240 + c / 262144) (next (c / 4096)) (next (c / 64)) (next c) (omega arith)
     (omega arith) (omega arith) (omega arith))))
 
--- and one that XML lacks
-shown : (c : ℕ) → is_plain c ≡ true → list_all is_plain (encode (allowed c)) ≡ true
-shown c plain = by (is_allowed c)
+-- and what is shown of it
+shown : (c : ℕ) → is_plain c ≡ true → list_all is_plain (encode (drawn c)) ≡ true
+shown c plain =
+    by (c == 10) ((c == 0xFFFE) || (c == 0xFFFF)) ((is_control c && not (c == 9)) || is_undrawn c)
   where
-    by : (b : Bool) → list_all is_plain (encode (if b then c else 0xFFFD)) ≡ true
-    by true = encoded c plain
-    by false = encoded 0xFFFD refl
+    by : (line lacks undrawn : Bool)
+        → list_all is_plain (encode (if line then 10 else if lacks then 0xFFFD
+        else if undrawn then 32 else c)) ≡ true
+    by true lacks undrawn = encoded 10 refl
+    by false true undrawn = encoded 0xFFFD refl
+    by false false true = encoded 32 refl
+    by false false false = encoded c plain
 
 one_char : (c : ℕ) → list_all is_plain (escaped_char c) ≡ true
 one_char c =

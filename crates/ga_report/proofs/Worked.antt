@@ -33,14 +33,17 @@ use Rattle.ga_report.specs.Timeline.{row_of}
 use Rattle.ga_report.specs.declared.transfers.Transfer.{Transfer}
 use Rattle.ga_report.specs.TransferLines.{line_end, middle, offset, title, turns_text, word_text}
 
--- the signs of XML go by name, and a control character (27) is replaced
+-- the signs of XML go by name
 signs : escaped (codes "a < \"b\" & c > d") ≡ codes "a &lt; &quot;b&quot; &amp; c &gt; d"
 unfolding escaped chars encode
 signs = refl
 
-control : escaped (27 ∷ []) ≡ 0xEF ∷ 0xBF ∷ 0xBD ∷ []
+-- a control character (27) and one that sets the direction of writing (U+202E) are blanks, and
+-- U+FFFF is replaced
+undrawn : (escaped (27 ∷ []) ≡ 32 ∷ []) × (escaped (0xE2 ∷ 0x80 ∷ 0xAE ∷ []) ≡ 32 ∷ [])
+    × (escaped (0xEF ∷ 0xBF ∷ 0xBF ∷ []) ≡ 0xEF ∷ 0xBF ∷ 0xBD ∷ [])
 unfolding escaped chars encode
-control = refl
+undrawn = (refl, refl, refl)
 
 -- a line behind another one
 second_line : numbered 1 (codes "<b") ≡ codes "2\t&lt;b\n"

@@ -3,6 +3,7 @@ ghost use Rattle.std.specs.Prelude.{◌≡◌, ◌++◌, OnOk, string_bytes};
 ghost use Rattle.ga_report.specs.Escape as spec;
 ghost use Rattle.ga_report.specs.Escape.{escaped, escaped_char};
 
+use ga_messages::shown_char;
 use std::alloc::AllocError;
 
 /// Adds a text as it is written in a page.
@@ -26,28 +27,17 @@ fn push_character(text: &mut String, character: char) -> Result<(), AllocError>
         '<' => text.push_str("&lt;"),
         '>' => text.push_str("&gt;"),
         '"' => text.push_str("&quot;"),
-        _ => text.push(allowed(character)),
+        _ => text.push(drawn(character)),
     }
 }
 
-/// A character, or one in its place if XML has none such.
-fn allowed(character: char) -> char
-    ensures { result ≡ spec.allowed character }
-{
-    if is_allowed(character) {
-        character
-    } else {
-        '\u{FFFD}'
-    }
-}
-
-/// Whether XML has a character.
-fn is_allowed(character: char) -> bool
-    ensures { result ≡ spec.is_allowed character }
+/// A character as a page shows it: as a blank if it isn't drawn, as everywhere. XML lacks two.
+fn drawn(character: char) -> char
+    ensures { result ≡ spec.drawn character }
 {
     match character {
-        '\t' | '\n' | '\r' => true,
-        '\u{FFFE}' | '\u{FFFF}' => false,
-        _ => character >= ' ',
+        '\n' => character,
+        '\u{FFFE}' | '\u{FFFF}' => '\u{FFFD}',
+        _ => shown_char(character),
     }
 }

@@ -5,7 +5,7 @@ use ga_explain::Topic;
 use ga_input::{Loading, ServeError};
 use ga_jobs::{Ending, Job, serve};
 use ga_profile::WindowStart;
-use std::alloc::Global;
+use std::alloc::{AllocError, Global};
 use std::test::Fail;
 use std::thread::Threads;
 use std::time::Clock;
@@ -45,6 +45,12 @@ const LINT: Job = Job::Lint {
     deny: true,
     json: false,
     file: None,
+};
+
+/// The recording of a transcript.
+const RECORD: Job = Job::Record {
+    file: None,
+    any_source: false,
 };
 
 /// The picture of a chip at rest.
@@ -101,41 +107,60 @@ const PIECE: usize = 16;
 /// How many calls are made at the most.
 const MOST: u32 = 2000;
 
-/// A job of each subcommand that has one input or none, and an input that it accepts.
-fn jobs(alloc: Global) -> Result<Vec<(Job, &'static str)>, Fail> {
-    let mut jobs = Vec::new(alloc);
-    jobs.push((FIVE_TRIES, WORDS))?;
-    jobs.push((Job::Asm { file: None }, SOURCE))?;
-    jobs.push((DIS, WORDS))?;
+/// How many jobs `job_at` has.
+const JOBS: u32 = 19;
+
+/// A job of each subcommand that has one input or none, by number, and an input that it accepts.
+fn job_at(alloc: Global, number: u32) -> Result<(Job, &'static str), AllocError> {
+    match number {
+        0 => Ok((FIVE_TRIES, WORDS)),
+        1 => Ok((Job::Asm { file: None }, SOURCE)),
+        2 => Ok((DIS, WORDS)),
+        3 => boot_job(alloc),
+        4 => run_job(alloc),
+        5 => Ok((Job::Debug, SESSION)),
+        6 => Ok((Job::Replay { file: None }, STEPS)),
+        7 => Ok((Job::Expand { file: None }, LARGER)),
+        8 => Ok((LIST, SOURCE)),
+        9 => Ok((LINT, "node 708 + jump warm")),
+        10 => Ok((check_job(alloc), TRANSCRIPT)),
+        11 => Ok((RECORD, TRANSCRIPT)),
+        12 => Ok((RACE, TRANSCRIPT)),
+        13 => explain_job(alloc),
+        14 => Ok((MAP, TRANSCRIPT)),
+        15 => Ok((PROFILE, SOURCE)),
+        16 => Ok((TRACE, SOURCE)),
+        17 => Ok((COUNTS, SOURCE)),
+        _ => Ok((REPORT, SOURCE)),
+    }
+}
+
+fn boot_job(alloc: Global) -> Result<(Job, &'static str), AllocError> {
     let route = String::from_str(alloc, "708,709")?;
-    let file = None;
-    jobs.push((Job::Boot { route, file }, SOURCE))?;
+    Ok((Job::Boot { route, file: None }, SOURCE))
+}
+
+fn run_job(alloc: Global) -> Result<(Job, &'static str), AllocError> {
     let route = String::from_str(alloc, "708,709")?;
-    let (workers, turns, file) = (1, 200, None);
     let run = Job::Run {
         route,
-        workers,
-        turns,
-        file,
+        workers: 1,
+        turns: 200,
+        file: None,
     };
-    jobs.push((run, SOURCE))?;
-    jobs.push((Job::Debug, SESSION))?;
-    jobs.push((Job::Replay { file: None }, STEPS))?;
-    jobs.push((Job::Expand { file: None }, LARGER))?;
-    jobs.push((LIST, SOURCE))?;
-    jobs.push((LINT, "node 708 + jump warm"))?;
-    let files = Vec::new(alloc);
-    jobs.push((Job::Check { files }, TRANSCRIPT))?;
-    jobs.push((Job::Record { file: None }, TRANSCRIPT))?;
-    jobs.push((RACE, TRANSCRIPT))?;
+    Ok((run, SOURCE))
+}
+
+fn check_job(alloc: Global) -> Job {
+    Job::Check {
+        files: Vec::new(alloc),
+        any_source: false,
+    }
+}
+
+fn explain_job(alloc: Global) -> Result<(Job, &'static str), AllocError> {
     let topic = Topic::named(alloc, "NotHeld")?;
-    jobs.push((Job::Explain { topic }, ""))?;
-    jobs.push((MAP, TRANSCRIPT))?;
-    jobs.push((PROFILE, SOURCE))?;
-    jobs.push((TRACE, SOURCE))?;
-    jobs.push((COUNTS, SOURCE))?;
-    jobs.push((REPORT, SOURCE))?;
-    Ok(jobs)
+    Ok((Job::Explain { topic }, ""))
 }
 
 /// What a job leaves: how it ended, what it wrote, and how many reads and calls of the writer that
@@ -173,9 +198,10 @@ fn served(
 
 #[test]
 fn serves_byte_by_byte(rt: HostRuntime) -> Result<(), Fail> {
-    for (job, input) in &jobs(rt.alloc())? {
-        let whole = served(&rt, job, input, 8192, None, None);
-        let bytes = served(&rt, job, input, 1, None, None);
+    for number in 0..JOBS {
+        let (job, input) = job_at(rt.alloc(), number)?;
+        let whole = served(&rt, &job, input, 8192, None, None);
+        let bytes = served(&rt, &job, input, 1, None, None);
         assert!(rt;
             whole.outcome.is_ok() && bytes.outcome == whole.outcome,
             "{input}"
@@ -190,11 +216,12 @@ fn serves_byte_by_byte(rt: HostRuntime) -> Result<(), Fail> {
 
 #[test]
 fn fails_at_each_read_of_a_job(rt: HostRuntime) -> Result<(), Fail> {
-    for (job, input) in &jobs(rt.alloc())? {
-        let whole = served(&rt, job, input, PIECE, None, None);
+    for number in 0..JOBS {
+        let (job, input) = job_at(rt.alloc(), number)?;
+        let whole = served(&rt, &job, input, PIECE, None, None);
         assert!(rt; (whole.reads > 0) == job.reads_input() && whole.reads < MOST);
         for call in 0..whole.reads {
-            let failed = served(&rt, job, input, PIECE, Some(call), None);
+            let failed = served(&rt, &job, input, PIECE, Some(call), None);
             let is_right = failed.outcome == Err(ServeError::Read) && failed.writes == 0;
             assert!(rt; is_right, "{input}, read {call}");
         }
@@ -204,14 +231,15 @@ fn fails_at_each_read_of_a_job(rt: HostRuntime) -> Result<(), Fail> {
 
 #[test]
 fn fails_at_each_write_of_a_job(rt: HostRuntime) -> Result<(), Fail> {
-    for (job, input) in &jobs(rt.alloc())? {
+    for number in 0..JOBS {
+        let (job, input) = job_at(rt.alloc(), number)?;
         // writes of 16 bytes, or some twenty of a long output, and a flush
-        let text = served(&rt, job, input, 65536, None, None).taken;
+        let text = served(&rt, &job, input, 65536, None, None).taken;
         let piece = PIECE.max(text.len() / 20);
-        let whole = served(&rt, job, input, piece, None, None);
+        let whole = served(&rt, &job, input, piece, None, None);
         assert!(rt; whole.writes > 1 && whole.writes < MOST);
         for call in 0..whole.writes {
-            let failed = served(&rt, job, input, piece, None, Some(call));
+            let failed = served(&rt, &job, input, piece, None, Some(call));
             assert!(rt;
                 failed.outcome == Err(ServeError::Write),
                 "{input}, write {call}"

@@ -1,6 +1,9 @@
 -- What the definitions compute at values that were worked out by hand.
-use Rattle.std.proofs.Common.{◌≡◌, [], codes, refl, true, false}
-use Rattle.std.specs.Prelude.{None, Some}
+use Rattle.std.proofs.Common.{◌≡◌, ◌∙◌, ℕ, ◌==◌, List, [], ◌++◌, ap, append-nil, arith, codes, length, refl, true, false}
+use Rattle.std.specs.Prelude.{Option, None, Some, if◌then◌else◌}
+use Rattle.std.specs.List.{flat_map}
+use Rattle.ga_asm.specs.Image.{ImageView}
+use Rattle.ga_chip.specs.Chip.{Chip}
 use Rattle.ga_node.specs.State.{reset_state}
 use Rattle.ga_node.specs.declared.place.Place.TheVariants.{Fetch, Slot0, Slot1, Slot3}
 use Rattle.ga_pack.specs.Decoded.{reading_of}
@@ -16,9 +19,15 @@ use Rattle.ga_trace.specs.Rest.{target_of}
 use Rattle.ga_trace.specs.Depth.{BOTH_EMPTY, EMPTY, after_step, deeper, return_change}
 use Rattle.ga_trace.specs.declared.depth.Change.TheVariants as change
 use Rattle.ga_trace.specs.declared.depth.StackDepth.{StackDepth}
-use Rattle.ga_trace.specs.Watched.{changes_to, posted_at}
+use Rattle.ga_trace.specs.Stepped.{rest_line}
+use Rattle.ga_trace.specs.Traced.{behind, line_in, own_steps, traced}
+use Rattle.ga_trace.specs.Watched.{changes_in, changes_to, posted_at, watched}
 use Rattle.ga_trace.specs.What.{same_value}
+use Rattle.ga_trace.specs.declared.what.Value.{Value}
 use Rattle.ga_trace.specs.declared.what.Value.TheVariants.{Nothing, Word, Count}
+use Rattle.ga_trace.specs.declared.what.What.{What}
+use Rattle.ga_trace.proofs.FirstChange.{is_shown}
+use Rattle.ga_trace.proofs.FirstSteps.{are_shown}
 
 -- 04A12 is `[ @p a! @p . ]` at 000, whose followers are at 001 and 002: before slot 1 P is 2, and
 -- before slot 3 it is 3
@@ -91,3 +100,29 @@ only_checks : after_step (Some (record push_004 { deed = SawRead Right })) 0 BOT
     ≡ BOTH_EMPTY
 unfolding at_word reading_of op_with
 only_checks = refl
+
+-- ---- the laws at work
+
+-- if the first turn changes what is watched, the watch makes that turn alone
+one_turn : (images : List (ℕ × ImageView)) (name : ℕ) (what : What) (goal : Option Value)
+    (chip : Chip) → changes_in name what goal chip 0 ≡ true
+    → (watched images name what goal chip).1 ≡ behind chip 1
+one_turn images name what goal chip changes =
+    ap (λ (both : List ℕ × Chip). both.1) (is_shown images name what goal chip 0 (record {
+      within = omega arith;
+      changes = changes;
+      before = λ other less. absurd (omega (arith, less));
+    }))
+
+-- if the node makes three steps in the turns of a trace of three, the text is their three lines
+three_lines : (images : List (ℕ × ImageView)) (name : ℕ) (chip : Chip)
+    → let shown = are_shown images name 3 chip in
+    length (own_steps name chip shown.turns) ≡ 3
+    → (traced images name 3 chip).0
+    ≡ flat_map (line_in images chip) (own_steps name chip shown.turns)
+three_lines images name chip three =
+    let shown = are_shown images name 3 chip in
+    let lines = flat_map (line_in images chip) (own_steps name chip shown.turns) in
+    shown.lines
+    ∙ ap (λ n. lines ++ (if n == 3 then [] else rest_line name (traced images name 3 chip).1)) three
+    ∙ append-nil lines

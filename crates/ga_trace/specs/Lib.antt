@@ -7,4 +7,5 @@ pub mod Rest
 pub mod What
 pub mod Watched
 pub mod Depth
+pub mod Laws
 pub mod inner

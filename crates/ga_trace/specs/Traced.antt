@@ -1,10 +1,11 @@
 -- Turns of all nodes, and the steps of one of them.
-use Rattle.std.specs.Prelude.{ℕ, zero, suc, ◌+◌, ◌-◌, ◌==◌, Bool, ◌||◌, List, [], ◌++◌, length, Option, Some, None, if◌then◌else◌}
+use Rattle.std.specs.Prelude.{◌≡◌, ◌≤◌, ℕ, zero, suc, ◌+◌, ◌-◌, ◌==◌, Bool, ◌||◌, List, [], ◌++◌, length, Option, Some, None, if◌then◌else◌}
 use Rattle.ga_asm.specs.Image.{ImageView}
 use Rattle.ga_chip.specs.Chip.{Chip, state_of}
 use Rattle.std.specs.Option.{option_map_or}
-use Rattle.ga_chip.specs.Run.{moves, ran, side_of_turn, stands_held, turn_of}
-use Rattle.ga_observe.specs.Seen.{numbered, steps_seen}
+use Rattle.std.specs.List.{filter, flat_map}
+use Rattle.ga_chip.specs.Run.{moves, ran, side_of_turn, stands_held, turn_of, turns_of}
+use Rattle.ga_observe.specs.Seen.{numbered, steps_seen, turns_numbered}
 use Rattle.ga_observe.specs.declared.step.Step.{Step}
 use Rattle.ga_trace.specs.Last.{last_by}
 use Rattle.ga_trace.specs.Stepped.{line_between, rest_line}
@@ -57,3 +58,31 @@ traced_from images name (suc left) turn quiet steps chip =
 -- at most 1,000,000 turns are made
 unfoldable pub traced : List (ℕ × ImageView) → ℕ → ℕ → Chip → List ℕ × Chip
 traced images name steps chip = traced_from images name 1000000 0 0 steps chip
+
+-- ---- the first steps
+
+-- the chip behind a number of turns
+abbrev pub behind : Chip → ℕ → Chip
+behind chip turns = ran chip (turns_of turns)
+
+-- the steps that a node makes in a number of turns, in order
+abbrev pub own_steps : ℕ → Chip → ℕ → List Step
+own_steps name chip turns =
+    filter (λ (step : Step). step.node == name) (steps_seen chip (turns_numbered turns))
+
+-- the line of a step of a run, by the node's states in front of its turn and behind it
+abbrev pub line_in : List (ℕ × ImageView) → Chip → Step → List ℕ
+line_in images chip step =
+    line_between images step (state_of (behind chip step.turn) step.node)
+    (state_of (behind chip (suc step.turn)) step.node)
+
+-- Some turns were made. The node makes at most this many steps in them, and the text has a line
+-- for each, in order. If they are fewer, the last line says why.
+pub record ShowsFirst (images : List (ℕ × ImageView)) (name steps : ℕ) (chip : Chip)
+    (text : List ℕ) (next : Chip) : Type 0 where
+  pub turns : ℕ
+  pub made : next ≡ behind chip turns
+  pub most : length (own_steps name chip turns) ≤ steps
+  pub lines : text
+      ≡ flat_map (line_in images chip) (own_steps name chip turns)
+      ++ (if length (own_steps name chip turns) == steps then [] else rest_line name next)

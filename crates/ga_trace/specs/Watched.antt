@@ -1,5 +1,5 @@
 -- Turns until a value of a node changes.
-use Rattle.std.specs.Prelude.{ℕ, zero, suc, ◌+◌, ◌==◌, Bool, ◌&&◌, not, List, ◌++◌, codes, Option, Some, None, if◌then◌else◌}
+use Rattle.std.specs.Prelude.{◌≡◌, ◌<◌, ℕ, zero, suc, ◌==◌, Bool, true, false, ◌&&◌, not, List, ◌++◌, codes, Option, Some, None, if◌then◌else◌}
 use Rattle.std.specs.Fmt.{decimal}
 use Rattle.std.specs.Option.{option_map_or}
 use Rattle.ga_asm.specs.Image.{ImageView}
@@ -14,7 +14,7 @@ use Rattle.ga_trace.specs.declared.what.Value.TheVariants.{Word}
 use Rattle.ga_trace.specs.declared.what.What.{What}
 use Rattle.ga_trace.specs.declared.what.What.TheVariants.{Pending}
 use Rattle.ga_trace.specs.Stepped.{rest_line}
-use Rattle.ga_trace.specs.Traced.{moved_in, quiet_after, step_in, turn_line, turned}
+use Rattle.ga_trace.specs.Traced.{behind, moved_in, quiet_after, step_in, turn_line, turned}
 use Rattle.ga_trace.specs.What.{same_value, value_of, value_text}
 
 -- the word that a deed posts at a side
@@ -63,3 +63,34 @@ watched_from images name what goal (suc left) turn quiet chip =
 -- at most 1,000,000 turns are made
 unfoldable pub watched : List (ℕ × ImageView) → ℕ → What → Option Value → Chip → List ℕ × Chip
 watched images name what goal chip = watched_from images name what goal 1000000 0 0 chip
+
+-- ---- the first change
+
+-- what is watched, in front of the turn of a number, and as that turn shows it
+abbrev pub value_before : ℕ → What → Chip → ℕ → Value
+value_before name what chip turn = value_of what name (behind chip turn)
+
+abbrev pub value_shown : ℕ → What → Chip → ℕ → Value
+value_shown name what chip turn =
+    value_in_turn what (step_in name turn (behind chip turn))
+    (value_of what name (behind chip (suc turn)))
+
+abbrev pub changes_in : ℕ → What → Option Value → Chip → ℕ → Bool
+changes_in name what goal chip turn =
+    changes_to goal (value_before name what chip turn) (value_shown name what chip turn)
+
+-- The turn of a number is the first of this many that changes the value.
+pub record IsFirst (most name : ℕ) (what : What) (goal : Option Value) (chip : Chip) (turn : ℕ)
+    : Type 0 where
+  pub within : turn < most
+  pub changes : changes_in name what goal chip turn ≡ true
+  pub before : (other : ℕ) → other < turn → changes_in name what goal chip other ≡ false
+
+-- the line of the node's step in that turn, if it makes one, and the change; the chip behind it
+abbrev pub change_shown : List (ℕ × ImageView) → ℕ → What → Chip → ℕ → List ℕ × Chip
+change_shown images name what chip turn = (
+  turn_line images name turn (behind chip turn)
+      ++ change_line (value_before name what chip turn) (value_shown name what chip turn)
+      (suc turn),
+  behind chip (suc turn),
+)

@@ -8,6 +8,7 @@ mod changes;
 mod depth;
 mod last;
 mod last_steps;
+pub mod laws;
 mod line;
 mod rest;
 mod stepped;

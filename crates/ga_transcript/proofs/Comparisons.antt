@@ -1,5 +1,5 @@
 -- What is found of all commands of a transcript.
-use Rattle.std.proofs.Common.{◌≡◌, ◌∙◌, inr, ℕ, zero, suc, ◌+◌, ◌-◌, ◌<◌, ◌≤◌, true, false, Bool, List, [], ◌∷◌, ◌++◌, Option, None, Some, Result, Ok, Err, ap, append-nil, append_assoc, arith, length, refl, subst, sym, take}
+use Rattle.std.proofs.Common.{◌≡◌, ◌∙◌, inr, ℕ, zero, suc, ◌+◌, ◌-◌, ◌<◌, ◌≤◌, true, false, Bool, List, [], ◌∷◌, ◌++◌, Option, None, Some, Result, Ok, Err, ap, append-nil, append_assoc, arith, length, refl, sym, take}
 use Rattle.std.proofs.lemmas.Bool.{lt-ltb, ltb-false, ltb-true}
 use Rattle.std.proofs.lemmas.Grind.{flat_map-append}
 use Rattle.std.proofs.lemmas.List.{length-append}
@@ -14,19 +14,21 @@ use Rattle.ga_debug.specs.Pieces.{pieces}
 use Rattle.ga_debug.proofs.OneReplay.{one_loaded}
 use Rattle.ga_transcript.specs.declared.differences.Comparison.{Comparison}
 use Rattle.ga_transcript.specs.declared.error.TranscriptError.{TranscriptError}
-use Rattle.ga_transcript.specs.Check.{Answers, EarlyReply, Fault, IsChecked, TooLong, checked_by, checked_from, fault_of, signed, unless_early}
-use Rattle.ga_transcript.specs.Compare.{IsCompared, View, compared_from, comparison_of, comparison_view, difference_text, excerpt, more_lines, unless_long_report}
+use Rattle.ga_transcript.specs.Check.{Answers, EarlyReply, TooLong, checked_by, checked_from, fault_of, signed, unless_early}
+use Rattle.ga_transcript.specs.Compare.{IsCompared, IsComparedIfMet, View, compared_from, comparison_of, comparison_view, difference_text, excerpt, is_same, more_lines, unless_long_report}
 use Rattle.ga_transcript.specs.Following.{Compared, Difference, Lines, Step, checked, compared, differs, early_reply, same_lines, wanted}
 use Rattle.ga_transcript.specs.Line.{Kind, Command, Note, Reply, kind_of}
 use Rattle.ga_transcript.specs.Record.{Holds}
 use Rattle.ga_transcript.specs.Reply.{lines_in, step_from}
 use Rattle.ga_transcript.specs.inner.Excerpt.{shown_behind, shown_line}
-use Rattle.ga_transcript.proofs.OneTranscript.{one_behind}
-use Rattle.ga_transcript.proofs.Recordings.{not_early}
+use Rattle.ga_transcript.proofs.OneTranscript.{one_behind, one_met}
 use Rattle.ga_transcript.proofs.Starting.{fails}
 
 pub one_compared : (name text : List ℕ) → AtMostOne (IsCompared name text)
 one_compared name text = one_behind text (compared_from name)
+
+pub one_compared_if_met : (name text : List ℕ) → AtMostOne (IsComparedIfMet name text)
+one_compared_if_met name text = one_met text is_same (IsCompared name text) (one_compared name text)
 
 -- ---- excerpts
 

@@ -1,5 +1,5 @@
 -- Whether the replies of a transcript are those that come.
-use Rattle.std.specs.Prelude.{◌≡◌, ◌⊎◌, ℕ, ◌+◌, List, [], ◌∷◌, ◌++◌, Option, Some, None, Result, Ok, Err}
+use Rattle.std.specs.Prelude.{◌≡◌, ◌⊎◌, ℕ, ◌+◌, Bool, true, List, [], ◌∷◌, ◌++◌, Option, Some, None, Result, Ok, Err}
 use Rattle.std.specs.List.{flat_map}
 use Rattle.std.specs.String.{string_bytes}
 use Rattle.ga_debug.specs.Beginning.{IsLoaded, Start}
@@ -9,6 +9,8 @@ use Rattle.ga_transcript.specs.declared.error.TranscriptError.{TranscriptError}
 use Rattle.ga_transcript.specs.declared.error.TranscriptError.TheVariants as error
 use Rattle.ga_transcript.specs.Following.{Difference, Lines, checked, early_reply}
 use Rattle.ga_transcript.specs.Reply.{step_from}
+use Rattle.ga_transcript.specs.declared.unmet.Unmet.{Unmet}
+use Rattle.ga_transcript.specs.Unmet.{unmet_in, unmet_of}
 
 -- What is wrong with a transcript.
 pub data Fault : Type 0 where
@@ -19,6 +21,8 @@ pub data Fault : Type 0 where
   -- a command replies something else: the number of its line, and the expected and the actual
   -- lines, as text
   Differs : ℕ → List ℕ → Fault
+  -- all replies are as they stand there, but some are replies to expectations that aren't met
+  Failed : Unmet → Fault
   -- of what would be recorded: it has more bytes than a recording may have
   TooLong : Fault
   -- out of memory, which no text has by itself
@@ -28,6 +32,7 @@ abbrev pub fault_of : TranscriptError → Fault
 fault_of (error.Head fault) = Head fault
 fault_of (error.EarlyReply line) = EarlyReply line
 fault_of (error.Differs line lines) = Differs line (string_bytes lines)
+fault_of (error.Failed found) = Failed found
 fault_of error.TooLong = TooLong
 fault_of error.Memory = Memory
 
@@ -66,6 +71,22 @@ IsBehindHead text from (Err fault) =
 -- head, or else a reply before all commands, or else the first difference.
 abbrev pub IsChecked : List ℕ → Result ℕ Fault → Type 0
 IsChecked text answer = IsBehindHead text checked_from answer
+
+-- What is right by `IsRight`; but a value that passes is none if expectations of the transcript
+-- aren't met: that is the fault then.
+abbrev pub IfMet : {A : Type 0} → List ℕ → (A → Bool) → (Result A Fault → Type 0) → Result A Fault
+    → Type 0
+IfMet text passes IsRight (Ok value) =
+    IsRight (Ok value) × (passes value ≡ true → unmet_of (unmet_in text) ≡ None)
+IfMet {A = A} text passes IsRight (Err fault) =
+    IsRight (Err fault)
+    ⊎ ((value : A) × (found : Unmet) × IsRight (Ok value) × (passes value ≡ true)
+    × (unmet_of (unmet_in text) ≡ Some found) × (fault ≡ Failed found))
+
+-- How many commands a transcript has, if each has the reply behind it and all expectations are met;
+-- or the first fault.
+abbrev pub IsPassed : List ℕ → Result ℕ Fault → Type 0
+IsPassed text answer = IfMet text (λ count. true) (IsChecked text) answer
 
 -- What a function answers is right, a value seen through a view, unless memory ran out.
 abbrev pub FailsRightly : {B : Type 0} → (Result B Fault → Type 0) → Fault → Type 0

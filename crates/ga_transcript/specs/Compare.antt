@@ -1,10 +1,10 @@
 -- All commands of a transcript that have other replies, and the report on them.
-use Rattle.std.specs.Prelude.{ℕ, ◌+◌, ◌-◌, List, [], ◌∷◌, ◌++◌, codes, filter, length, nat_lt, take, Result, Ok, Err, if◌then◌else◌, string_bytes}
+use Rattle.std.specs.Prelude.{ℕ, ◌+◌, ◌-◌, ◌==◌, Bool, List, [], ◌++◌, codes, filter, length, nat_lt, take, Result, Ok, Err, if◌then◌else◌, string_bytes}
 use Rattle.std.specs.Fmt.{decimal}
 use Rattle.std.specs.List.{flat_map}
 use Rattle.ga_debug.specs.Beginning.{Start}
 use Rattle.ga_transcript.specs.declared.differences.Comparison.{Comparison}
-use Rattle.ga_transcript.specs.Check.{Fault, TooLong, IsBehindHead, signed, unless_early}
+use Rattle.ga_transcript.specs.Check.{Fault, TooLong, IfMet, IsBehindHead, signed, unless_early}
 use Rattle.ga_transcript.specs.Following.{Compared, Lines, compared, differs, early_reply}
 use Rattle.ga_transcript.specs.Reply.{step_from}
 
@@ -61,3 +61,11 @@ compared_from name start =
 -- all commands, or a report that would be too long.
 abbrev pub IsCompared : List ℕ → List ℕ → Result View Fault → Type 0
 IsCompared name text answer = IsBehindHead text (compared_from name) answer
+
+-- no command differs
+abbrev pub is_same : View → Bool
+is_same found = found.differences == 0
+
+-- The same; but if no command differs, and expectations aren't met, that is the fault.
+abbrev pub IsComparedIfMet : List ℕ → List ℕ → Result View Fault → Type 0
+IsComparedIfMet name text answer = IfMet text is_same (IsCompared name text) answer

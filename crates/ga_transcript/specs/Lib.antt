@@ -1,6 +1,7 @@
 pub mod Line
 pub mod Following
 pub mod Reply
+pub mod Unmet
 pub mod Check
 pub mod Compare
 pub mod Record

@@ -2,3 +2,4 @@
 pub mod Line
 pub mod Next
 pub mod Excerpt
+pub mod First

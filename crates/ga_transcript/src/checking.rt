@@ -1,7 +1,7 @@
 ghost use Rattle.std.specs.Prelude.{◌≡◌, ◌+◌, ◌<◌, ◌++◌, ◌^◌, IfOk, None, OnOk, length, string_bytes};
 ghost use Rattle.ga_asm.specs.Text.{AtMostOne};
 ghost use Rattle.ga_debug.specs.Session.{without_line_end};
-ghost use Rattle.ga_transcript.specs.Check.{Answers, Differs, IsChecked, checked_by, fault_of, signed};
+ghost use Rattle.ga_transcript.specs.Check.{Answers, Differs, IsChecked, IsPassed, checked_by, fault_of, signed};
 ghost use Rattle.ga_transcript.specs.Following.{checked, early_reply, wanted};
 ghost use Rattle.ga_transcript.specs.Reply.{reply_lines, step_of};
 
@@ -9,6 +9,7 @@ use crate::error::TranscriptError;
 use crate::line::{Line, line_of};
 use crate::lines::{LinesLeft, command_behind, early_reply};
 use crate::reply::{lines_in, push_as_reply};
+use crate::unmet::find_unmet;
 use ga_debug::{Pieces, Program, load, reply_or_refusal};
 use std::alloc::{AllocError, Global};
 use std::fmt::Write;
@@ -17,13 +18,25 @@ use std::fmt::Write;
 /// Answers how many commands there are, if all replies are right, or the first fault: of the head,
 /// as [`TranscriptError::Head`]; a line of a reply before all commands, as
 /// [`TranscriptError::EarlyReply`]; the first command that has another reply, as
-/// [`TranscriptError::Differs`]. Fails with [`TranscriptError::Memory`] only when out of memory.
+/// [`TranscriptError::Differs`]; replies to expectations that aren't met, as
+/// [`TranscriptError::Failed`]. Fails with [`TranscriptError::Memory`] only when out of memory.
 /// (The texts are this project's own: profile.)
-#[tactic(auto, using(crate::proofs::OneTranscript::one_checked))]
+#[tactic(auto, using(crate::proofs::OneTranscript::one_passed))]
 pub fn check(alloc: Global, text: &str) -> Result<u64, TranscriptError>
-    ensures checked { Answers (λ count. count) (IsChecked text.now) result }
+    ensures passed { Answers (λ count. count) (IsPassed text.now) result }
     // a text has one count, or one first fault
-    ensures only { AtMostOne (IsChecked text.now) }
+    ensures only { AtMostOne (IsPassed text.now) }
+{
+    let count = check_replies(alloc, text)?;
+    match find_unmet(text) {
+        None => Ok(count),
+        Some(found) => Err(TranscriptError::Failed(found)),
+    }
+}
+
+/// How many commands there are, if all replies are right, or the first fault.
+fn check_replies(alloc: Global, text: &str) -> Result<u64, TranscriptError>
+    ensures { Answers (λ count. count) (IsChecked text.now) result }
 {
     let loaded = load(alloc, text)?;
     let left = LinesLeft {

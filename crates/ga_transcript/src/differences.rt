@@ -2,7 +2,7 @@
 ghost use Rattle.std.specs.Prelude.{◌≡◌, ◌↔◌, ℕ, ◌+◌, ◌<◌, ◌≤◌, ◌++◌, ◌∷◌, ◌^◌, [], IfOk, List, OnOk, length, string_bytes};
 ghost use Rattle.ga_asm.specs.Text.{AtMostOne};
 ghost use Rattle.ga_transcript.specs.Check.{Answers};
-ghost use Rattle.ga_transcript.specs.Compare.{IsCompared, comparison_of, comparison_view, difference_text, excerpt, more_lines, unless_long_report};
+ghost use Rattle.ga_transcript.specs.Compare.{IsCompared, IsComparedIfMet, comparison_of, comparison_view, difference_text, excerpt, more_lines, unless_long_report};
 ghost use Rattle.ga_transcript.specs.inner.Excerpt.{shown_line};
 ghost use Rattle.ga_transcript.specs.Line.{as_reply};
 ghost use Rattle.ga_transcript.specs.Following.{Compared, same_lines, wanted};
@@ -14,6 +14,7 @@ use crate::error::TranscriptError;
 use crate::line::{Line, line_of};
 use crate::lines::{LinesLeft, command_behind, early_reply};
 use crate::reply::{lines_in, push_as_reply};
+use crate::unmet::find_unmet;
 use ga_debug::{Pieces, Program, load, reply_or_refusal};
 use std::alloc::{AllocError, Global};
 use std::fmt::Write;
@@ -41,14 +42,27 @@ pub struct Comparison {
 /// to each with the lines behind it. Behind a difference it goes on with the chip as the command
 /// left it. Or the first fault: of the head, as [`TranscriptError::Head`]; a line of a reply before
 /// all commands, as [`TranscriptError::EarlyReply`]; a report of more than 268,435,456 bytes, as
-/// [`TranscriptError::TooLong`]. Fails with [`TranscriptError::Memory`] only when out of memory.
+/// [`TranscriptError::TooLong`]; if nothing differs, replies to expectations that aren't met, as
+/// [`TranscriptError::Failed`]. Fails with [`TranscriptError::Memory`] only when out of memory.
 /// (The texts are this project's own: profile.)
-#[tactic(auto, using(crate::proofs::Comparisons::one_compared))]
+#[tactic(auto, using(crate::proofs::Comparisons::one_compared_if_met))]
 pub fn compare(alloc: Global, name: &str, text: &str) -> Result<Comparison, TranscriptError>
-    ensures compared { Answers comparison_view (IsCompared name.now text.now) result }
+    ensures compared { Answers comparison_view (IsComparedIfMet name.now text.now) result }
     // a text has one comparison, or one first fault
-    ensures only { AtMostOne (IsCompared name.now text.now) }
-    // there is no difference exactly if `check` accepts the text
+    ensures only { AtMostOne (IsComparedIfMet name.now text.now) }
+    // there is no difference exactly if all replies are as they stand there
+    ensures same { IfOk result (λ found. (found.differences ≡ 0) ↔ Holds text.now) }
+{
+    let found = compare_replies(alloc, name, text)?;
+    match find_unmet(text) {
+        Some(unmet) if found.differences == 0 => Err(TranscriptError::Failed(unmet)),
+        _ => Ok(found),
+    }
+}
+
+/// The same, whatever is expected.
+fn compare_replies(alloc: Global, name: &str, text: &str) -> Result<Comparison, TranscriptError>
+    ensures compared { Answers comparison_view (IsCompared name.now text.now) result }
     ensures same { IfOk result (λ found. (found.differences ≡ 0) ↔ Holds text.now) }
 {
     let loaded = load(alloc, text)?;

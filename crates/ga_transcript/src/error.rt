@@ -2,6 +2,7 @@ ghost use Rattle.std.specs.Prelude.{◌≡◌};
 ghost use Rattle.ga_debug.specs.declared.replay_error.ReplayError.TheVariants as replay;
 ghost use Rattle.ga_transcript.specs.declared.error.TranscriptError.TheVariants.{Head, Memory};
 
+use crate::unmet::Unmet;
 use ga_debug::ReplayError;
 use std::alloc::AllocError;
 use thiserror::Error;
@@ -20,6 +21,9 @@ pub enum TranscriptError {
     /// behind `-`, and then those of the actual one, each behind `+`.
     #[error("differs {0}\n{1}")]
     Differs(u64, String),
+    /// Each command has the reply behind it, but some are replies to expectations that aren't met.
+    #[error("{0}")]
+    Failed(Unmet),
     /// The recording would have more bytes than it may.
     #[error("TooLong")]
     TooLong,

@@ -9,6 +9,7 @@ mod lines;
 mod live;
 mod recording;
 mod reply;
+mod unmet;
 
 pub use checking::check;
 pub use differences::{Comparison, compare};
@@ -16,3 +17,4 @@ pub use error::TranscriptError;
 pub use live::{Live, without_line_end};
 pub use recording::record;
 pub use reply::{is_read_as_reply, lines_in};
+pub use unmet::{Unmet, find_unmet};

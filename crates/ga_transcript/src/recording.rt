@@ -29,7 +29,7 @@ pub fn record(alloc: Global, text: &str) -> Result<String, TranscriptError>
     ensures recorded { Answers string_bytes (IsRecorded text.now) result }
     // a text has one recording, or one first fault
     ensures only { AtMostOne (IsRecorded text.now) }
-    // `check` accepts a recording
+    // each command has the reply behind it
     ensures holds { IfOk result (λ recording. Holds (string_bytes recording)) }
     // and recording it again doesn't change it
     ensures again { IfOk result (λ recording. IsRecorded (string_bytes recording)

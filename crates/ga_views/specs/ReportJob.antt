@@ -55,7 +55,7 @@ race_headline race =
 abbrev pub headline_by : Verdict → Profile → List ℕ
 headline_by (verdict.Race race) profile = race_headline race
 headline_by v profile =
-    bottleneck_text profile.chip profile.nodes.items profile.passes.items profile.path.items
+    bottleneck_text profile.chip profile.nodes.items profile.path.items
     (length_of profile.window)
 
 -- The same, by a verdict that is so after some turns. Without another verdict they are the most

@@ -49,6 +49,14 @@ fn session_text(
 ) -> Result<String, AllocError> {
     let mut text = String::new(alloc);
     push_head(alloc, &mut text, loading, input)?;
+    push_turns(&mut text, chip, race)?;
+    push_way(alloc, &mut text, chip, race)?;
+    push_both_words(&mut text, race)?;
+    Ok(text)
+}
+
+/// Adds the turns before the one in which the word is read, and makes them.
+fn push_turns(text: &mut String, chip: &mut Chip, race: &Race) -> Result<(), AllocError> {
     writeln!(text, "\\ both words come before {} reads", race.take.reader)?;
     // No run has more turns than these.
     let turns = race.take.turn.min(1_000_000) as u32;
@@ -56,17 +64,31 @@ fn session_text(
         writeln!(text, "> turn {turns}")?;
     }
     let _moved = chip.turns(turns);
+    Ok(())
+}
+
+/// Adds the tries that lead to both words, until the text is longer than an input may be.
+fn push_way(
+    alloc: Global,
+    text: &mut String,
+    chip: &mut Chip,
+    race: &Race,
+) -> Result<(), AllocError> {
     for step in &way_to(alloc, chip, race)? {
         if text.len() > INPUT_LIMIT {
-            return Ok(text);
+            return Ok(());
         }
         writeln!(text, "> try {} {}", step.node, letter(step.side))?;
     }
+    Ok(())
+}
+
+/// Adds the commands that show both words and their reader, and the choice.
+fn push_both_words(text: &mut String, race: &Race) -> Result<(), AllocError> {
     writeln!(text, "> ports {}", race.take.taken.writer)?;
     writeln!(text, "> ports {}", race.left_out.writer)?;
     writeln!(text, "> regs {}", race.take.reader)?;
-    push_choice(&mut text, race)?;
-    Ok(text)
+    push_choice(text, race)
 }
 
 /// Adds the head that loads an input, with its line `go`.

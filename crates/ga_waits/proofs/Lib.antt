@@ -5,6 +5,7 @@ pub mod Writing
 pub mod Following
 pub mod Way
 pub mod InOrder
+pub mod InRing
 mod WorkedReset
 mod WorkedCauses
 mod Worked

@@ -57,7 +57,7 @@ at_end : (next : ℕ → Option ℕ) (first from : ℕ) → Leads next first fro
 at_end next first from leads = let waits = leads.waits in cc
 
 -- what comes back is such a row,
-found : (next : ℕ → Option ℕ) (first fuel from : ℕ) (at : Option ℕ) → next from ≡ at
+pub found : (next : ℕ → Option ℕ) (first fuel from : ℕ) (at : Option ℕ) → next from ≡ at
     → comes_back next first fuel at ≡ true → Leads next first from (names_behind next first fuel at)
 found next first fuel from None is h = absurd (cc)
 found next first zero from (Some name) is h = absurd (cc)
@@ -218,7 +218,7 @@ each_waits next (name ∷ names) (other ∷ others) e (suc k) d h =
     each_waits next names others rest k d (omega (arith, h))
 
 -- a row that leads back to its first name is a ring,
-leads_ring : (next : ℕ → Option ℕ) (first : ℕ) (names : List ℕ) → Leads next first first names
+pub leads_ring : (next : ℕ → Option ℕ) (first : ℕ) (names : List ℕ) → Leads next first first names
     → IsRing next (first ∷ names)
 leads_ring next first names leads = record {
   some = omega arith;
@@ -249,7 +249,7 @@ ring_leads next first names ring = record {
 abbrev pub AreNodes : (ℕ → Option ℕ) → Type 0
 AreNodes next = (name other : ℕ) → next name ≡ Some other → is_node_name name ≡ true
 
-few_names : (next : ℕ → Option ℕ) (row : List ℕ) → AreNodes next → IsRing next row
+pub few_names : (next : ℕ → Option ℕ) (row : List ℕ) → AreNodes next → IsRing next row
     → length row ≤ 144
 few_names next row nodes ring =
     pigeonhole (length row) 144 (λ k. index_of (get_or row k 0)) (λ k h. (at k h).0) one

@@ -10,6 +10,7 @@ use Rattle.ga_race.specs.Rounds.{ComesBack, HasNoBreaks}
 use Rattle.ga_race.specs.Spins.{ShowsSpins, Spins, uncounted}
 use Rattle.ga_race.specs.declared.ending.KeptChip.{KeptChip}
 use Rattle.ga_race.specs.declared.ending.RoundSearch.{RoundSearch}
+use Rattle.ga_race.specs.declared.found.Race.{Race}
 use Rattle.ga_race.specs.declared.verdict.Verdict.{Verdict}
 use Rattle.ga_race.specs.declared.verdict.Verdict.TheVariants as verdict
 
@@ -56,11 +57,11 @@ IfRound (Some (verdict.AtRest spins)) holds = Unit {0}
 IfRound (Some verdict.Open) holds = Unit {0}
 IfRound None holds = Unit {0}
 
--- a verdict by whether a race was found, and by the chip at the end
-abbrev pub IsFound : Bool → Chip → Option Verdict → Type 0
-IsFound race chip (Some (verdict.Race details)) = race ≡ true
+-- a verdict by the race that was found, and by the chip at the end
+abbrev pub IsFound : Option Race → Chip → Option Verdict → Type 0
+IsFound race chip (Some (verdict.Race details)) = race ≡ Some details
 IsFound race chip (Some (verdict.AtRest spins)) =
-    (race ≡ false) × (HasNoBreaks chip → ShowsSpins chip spins)
-IsFound race chip (Some (verdict.Round period)) = race ≡ false
-IsFound race chip (Some verdict.Open) = race ≡ false
-IsFound race chip None = race ≡ false
+    (race ≡ None) × (HasNoBreaks chip → ShowsSpins chip spins)
+IsFound race chip (Some (verdict.Round period)) = race ≡ None
+IsFound race chip (Some verdict.Open) = race ≡ None
+IsFound race chip None = race ≡ None

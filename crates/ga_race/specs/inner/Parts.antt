@@ -1,5 +1,5 @@
 -- Parts of a step of the watch, one after another.
-use Rattle.std.specs.Prelude.{ℕ, Bool, false, ◌&&◌, ◌||◌, not, ◌==◌, if◌then◌else◌, Some}
+use Rattle.std.specs.Prelude.{ℕ, Bool, ◌&&◌, ◌||◌, not, ◌==◌, if◌then◌else◌, Option, Some, None, is_some}
 use Rattle.std.specs.List.{list_any}
 use Rattle.ga_place.specs.Cell.{read_cell}
 use Rattle.ga_place.specs.Side.{SIDES, is_among, side_bit}
@@ -42,8 +42,8 @@ abbrev pub take_kept : ℕ → ℕ → Watch → Watch
 take_kept name cell watch = take_put cell (watch.clocks.nodes name) watch
 
 -- a cell gets a word, or loses it
-abbrev pub full_put : ℕ → Bool → Watch → Watch
-full_put cell full watch = record watch { full = put_for (Some cell) full watch.full }
+abbrev pub word_put : ℕ → Option ℕ → Watch → Watch
+word_put cell word watch = record watch { words = put_for (Some cell) word watch.words }
 
 -- a race is found, or not
 abbrev pub race_put : Bool → Watch → Watch
@@ -63,7 +63,7 @@ side_left name sides taken count side watch = record watch {
   left_at = λ cell. if is_left sides taken side && reads_cell name cell side then count
       else watch.left_at cell;
   race = watch.race || (is_left sides taken side
-      && kept_for false watch.full (read_cell name side));
+      && is_some (kept_for None watch.words (read_cell name side)));
 }
 
 -- and each side
@@ -72,5 +72,5 @@ all_left name sides taken count watch = record watch {
   left_at = λ cell. if list_any (λ side. is_left sides taken side
       && reads_cell name cell side) SIDES then count else watch.left_at cell;
   race = watch.race || list_any (λ side. is_left sides taken side
-      && kept_for false watch.full (read_cell name side)) SIDES;
+      && is_some (kept_for None watch.words (read_cell name side))) SIDES;
 }

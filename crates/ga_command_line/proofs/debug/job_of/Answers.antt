@@ -20,7 +20,7 @@ debug_loads : (rows : List Row) (error : LineError)
 debug_loads rows error right = λ asked.
     elim asked as (λ job. AsksFor (codes "debug", rows) job → error ≡ Memory) [
       | Debug ↦ λ asks. right Any asks.1.0
-      | Talk loading file ↦ λ asks. right loading asks.1.0
+      | Talk loading file any ↦ λ asks. right loading asks.1.0
       | _ ↦ λ asks. absurd
           (false≢true (ap (λ (text : Text). bytes_eq text (codes "debug")) (sym asks.0)))
     ]

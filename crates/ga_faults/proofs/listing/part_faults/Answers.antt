@@ -1,11 +1,9 @@
-use Rattle.std.proofs.Common.{◌≡◌, ◌∙◌, None, ap, arith, get_or, map, subst, take}
+use Rattle.std.proofs.Common.{◌≡◌, ◌∙◌, None, ap, arith, get_or, inl, inr, map, take}
 use Rattle.std.specs.Prelude.{slice_get, unwrap_or}
-use Rattle.std.proofs.lemmas.List.{length-map, take_all}
-use Rattle.ga_pack.specs.Model.Text.{lines_of}
-use Rattle.ga_faults.specs.Faults.{AreFirstFaults}
-use Rattle.ga_faults.specs.Sections.{part_in, parts_of, section_starts, sections_at}
+use Rattle.std.proofs.lemmas.List.{length-map}
+use Rattle.ga_faults.specs.Sections.{part_in, section_starts, sections_at}
 use Rattle.ga_faults.specs.declared.sections.Section.{Section}
-use Rattle.ga_faults.proofs.AllFaults.{faults_more, no_faults}
+use Rattle.ga_faults.proofs.AllFaults.{faults_more, no_faults, part_faults, the_parts}
 use Rattle.ga_faults.proofs.Keeping.{now}
 use Rattle.ga_faults.proofs.listing.part_faults.Goals as goal
 
@@ -29,25 +27,43 @@ loop-section-preserved c =
 pub returns : goal.returns
 returns c =
     let text = c.args.text.now in
-    let part = part_in (map now c.in_ok-lines.lines.items) c.unwrap_or-head.result in
+    let lines = map now c.in_ok-lines.lines.items in
+    let head = c.unwrap_or-head.result in
     let sections = c.deref-section-items.result.now in
     let starts : c.deref.result.now ≡ section_starts text =
     c.deref.ensures.value ∙ c.in_ok-starts.ensures in
     let starts_too : c.deref-2.result.now ≡ section_starts text =
     c.deref-2.ensures.value ∙ c.in_ok-starts.ensures in
-    let head : c.unwrap_or-head.result ≡ unwrap_or (slice_get c.deref.result.now 0) 0 =
+    let first : head ≡ unwrap_or (slice_get c.deref.result.now 0) 0 =
     c.unwrap_or-head.ensures ∙ ap (λ first. unwrap_or first 0)
     (c.copied.ensures ∙ c.first.ensures.value) in
-    let sections_are : sections ≡ take 144 (sections_at (section_starts text)) =
+    let some : sections ≡ take 144 (sections_at (section_starts text)) =
     c.deref-section-items.ensures.value ∙ c.truncate.ensures.items
     ∙ ap (take 144) (c.in_ok-sections.ensures ∙ ap sections_at starts_too) in
-    let parts : map part sections ≡ parts_of text =
-    ap (λ lines. map (part_in lines c.unwrap_or-head.result) sections) c.in_ok-lines.ensures
-    ∙ ap (λ n. map (part_in (lines_of text) n) sections)
-    (head ∙ ap (λ ls. unwrap_or (slice_get ls 0) 0) starts)
-    ∙ ap (map (part_in (lines_of text) (unwrap_or (slice_get (section_starts text) 0) 0)))
-    sections_are in
-    let all : take c.loop-section.section-index (map part sections) ≡ parts_of text =
-    take_all c.loop-section.section-index (map part sections)
-    (omega (arith, length-map sections part, c.loop-section-test.false)) ∙ parts in
-    subst (λ texts. AreFirstFaults texts c.loop-section.faults.items) all c.loop-section.invariant
+    part_faults text (map (part_in lines head) sections) c.loop-section.section-index
+    c.loop-section.faults.items
+    (the_parts text lines c.deref.result.now sections head c.in_ok-lines.ensures starts first some)
+    c.loop-section.invariant
+    (inl (omega (arith, length-map sections (part_in lines head), c.loop-section-test.false)))
+
+pub returns-then-len-ge-MOST_FAULTS : goal.returns-then-len-ge-MOST_FAULTS
+returns-then-len-ge-MOST_FAULTS c =
+    let text = c.args.text.now in
+    let lines = map now c.in_ok-lines.lines.items in
+    let head = c.unwrap_or-head.result in
+    let sections = c.deref-section-items.result.now in
+    let starts : c.deref.result.now ≡ section_starts text =
+    c.deref.ensures.value ∙ c.in_ok-starts.ensures in
+    let starts_too : c.deref-2.result.now ≡ section_starts text =
+    c.deref-2.ensures.value ∙ c.in_ok-starts.ensures in
+    let first : head ≡ unwrap_or (slice_get c.deref.result.now 0) 0 =
+    c.unwrap_or-head.ensures ∙ ap (λ first. unwrap_or first 0)
+    (c.copied.ensures ∙ c.first.ensures.value) in
+    let some : sections ≡ take 144 (sections_at (section_starts text)) =
+    c.deref-section-items.ensures.value ∙ c.truncate.ensures.items
+    ∙ ap (take 144) (c.in_ok-sections.ensures ∙ ap sections_at starts_too) in
+    part_faults text (map (part_in lines head) sections) c.loop-section.section-index
+    c.loop-section.faults.items
+    (the_parts text lines c.deref.result.now sections head c.in_ok-lines.ensures starts first some)
+    c.loop-section.invariant
+    (inr (omega (arith, c.len.ensures, c.if-len-ge-MOST_FAULTS.true)))

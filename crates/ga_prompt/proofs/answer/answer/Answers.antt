@@ -1,13 +1,37 @@
-use Rattle.std.proofs.Common.{◌≡◌, ◌∙◌, ap, codes, inl, inr, refl, subst, sym}
+use Rattle.std.proofs.Common.{◌≡◌, ◌∙◌, Bool, true, false, ap, codes, inl, inr, refl, subst, sym}
+use Rattle.std.specs.Prelude.{MatchBool}
 use Rattle.ga_transcript.specs.Live.{IsBack}
 use Rattle.ga_transcript.specs.Reply.{reply_lines}
 use Rattle.ga_prompt.specs.Request as spec
 use Rattle.ga_prompt.specs.Request.{request_in}
 use Rattle.ga_prompt.specs.Saving.{IsSaved}
-use Rattle.ga_prompt.specs.Talk.{IsReply, ended, undone_text}
+use Rattle.ga_prompt.specs.Talk.{IsReply, ended, is_full, undone_text}
 use Rattle.ga_prompt.specs.inner.Request.{request}
 use Rattle.ga_prompt.proofs.Saved.{memory_saved, none_saved}
 use Rattle.ga_prompt.proofs.answer.answer.Goals as goal
+
+if_full : (A B : Type 0) (full : Bool) → full ≡ true → A → MatchBool full A B
+if_full A B true e a = a
+if_full A B false e a = absurd (cc e)
+
+unless_full : (A B : Type 0) (full : Bool) → full ≡ false → B → MatchBool full A B
+unless_full A B false e b = b
+unless_full A B true e b = absurd (cc e)
+
+pub returns-in-Say-clause-answered : goal.returns-in-Say-clause-answered
+returns-in-Say-clause-answered g c =
+    let text = codes "refused TooLong\n" in
+    let saved = g.S.Saves.saved c.args.saves.now in
+    let asks : request_in c.args.line.now ≡ spec.Say c.in-Say.command.now =
+    sym c.request_in.ensures.request ∙ ap request c.in-Say.is in (
+      text,
+      subst (λ asked. IsReply c.args.live.now asked c.args.live.now text) (sym asks)
+          (inl (if_full _ _ (is_full c.args.live.now c.in-Say.command.now)
+          (sym c.is_full.ensures ∙ c.if-is_full.true) (refl, refl))),
+      subst (λ asked. IsSaved c.args.live.now asked text saved saved) (sym asks)
+          (none_saved saved),
+      c.write_text-in-Say.ensures.written,
+    )
 
 pub returns-in-Ok-clause-answered : goal.returns-in-Ok-clause-answered
 returns-in-Ok-clause-answered g c =
@@ -17,10 +41,11 @@ returns-in-Ok-clause-answered g c =
     sym c.request_in.ensures.request ∙ ap request c.in-Say.is in (
       text,
       subst (λ asked. IsReply c.args.live.now asked c.say.new.self text) (sym asks)
-          (inl (
+          (inl (unless_full _ _ (is_full c.args.live.now c.in-Say.command.now)
+          (sym c.is_full.ensures ∙ c.if-is_full.false) (
             c.in-Ok.ensures.said,
             ap (λ t. ended (reply_lines t)) (c.as_str.ensures.value ∙ c.in-Ok.ensures.reply),
-          )),
+          ))),
       subst (λ asked. IsSaved c.args.live.now asked text saved saved) (sym asks)
           (none_saved saved),
       c.write_reply.ensures.written,

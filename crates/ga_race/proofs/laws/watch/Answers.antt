@@ -2,6 +2,7 @@ use Rattle.std.proofs.Common.{sym, ◌∙◌}
 use Rattle.ga_observe.specs.Laws.{events_in}
 use Rattle.ga_race.proofs.Deciding as deciding
 use Rattle.ga_race.proofs.Exact as exact
+use Rattle.ga_race.proofs.Finding as finding
 use Rattle.ga_race.proofs.Fitting as fitting
 use Rattle.ga_race.proofs.Following as following
 use Rattle.ga_race.proofs.Watching as watching
@@ -23,3 +24,6 @@ returns-clause-races c = deciding.watch_finds
 
 pub returns-clause-decides : goal.returns-clause-decides
 returns-clause-decides c = deciding.watch_decides
+
+pub returns-clause-shows : goal.returns-clause-shows
+returns-clause-shows c = finding.watch_shows

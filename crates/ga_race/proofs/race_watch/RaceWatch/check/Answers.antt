@@ -1,6 +1,7 @@
 use Rattle.std.proofs.Common.{◌∙◌, subst, sym}
 use Rattle.ga_race.specs.Shown.{Shows}
 use Rattle.ga_race.proofs.Keeping.{check_is, check_none}
+use Rattle.ga_race.proofs.Details.{adds_none}
 use Rattle.ga_race.proofs.race_watch.RaceWatch.check.Goals as goal
 
 pub returns-in_default-clause-shows : goal.returns-in_default-clause-shows
@@ -15,3 +16,14 @@ returns-clause-shows c = λ w shown.
     (check_is w c.args.step.now c.args.count c.in-Some.cell c.args.side c.requires.count
     c.requires.deed (sym c.in-Some.ensures.number))
     (c.tick-2.ensures.shows _ (c.join_take.ensures.shows w shown))
+
+pub returns-in_default-clause-adds : goal.returns-in_default-clause-adds
+returns-in_default-clause-adds c = λ w shown.
+    adds_none w c.args.self.now c.tick.new.self c.args.step.now c.tick.ensures.left
+    c.tick.ensures.race
+
+pub returns-clause-adds : goal.returns-clause-adds
+returns-clause-adds c = λ w shown.
+    adds_none w c.args.self.now c.tick-2.new.self c.args.step.now
+    (c.tick-2.ensures.left ∙ c.join_take.ensures.left)
+    (c.tick-2.ensures.race ∙ c.join_take.ensures.race)

@@ -18,7 +18,7 @@ returns-clause-shows c = λ w shown.
           (w.clocks.nodes n)) c.index.ensures.back (shown.nodes c.index.result
           c.index.ensures.bound)));
       posts = s.posts;
-      full = s.full;
+      words = s.words;
       left_at = s.left_at;
       race = s.race;
     }

@@ -6,7 +6,7 @@ pub returns-in-Some : goal.returns-in-Some
 returns-in-Some c = λ begun steps from. record {
   start = c.note.ensures.start ∙ from.start;
   seen = seen_next c.args.self.now c.note.new.self steps c.args.step c.note.ensures.shows
-      c.note.ensures.start from.seen;
+      c.note.ensures.adds c.note.ensures.start from.seen;
 }
 
 pub returns-in_default : goal.returns-in_default

@@ -1,9 +1,0 @@
-use Rattle.std.proofs.Common.{◌≡◌, drop}
-use Rattle.std.specs.List.{list_any}
-use Rattle.ga_lint.specs.Reaching as spec
-use Rattle.ga_lint.proofs.reaching.has_execute.Given as goal
-
--- no opcode so far is one
-abbrev pub invariant-loop-op : goal.invariant-loop-op
-invariant-loop-op l =
-    list_any spec.is_execute (drop l.op-index l.ops) ≡ list_any spec.is_execute l.ops
