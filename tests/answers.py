@@ -515,7 +515,8 @@ def unmet(text):
 
 def first_unmet(text):
     """The first of them, as it is shown, and an empty line in place of a meaning."""
-    return f"  {drawn(text.splitlines()[unmet_lines(text)[0] - 1])}\n\n"
+    line = text.splitlines()[unmet_lines(text)[0] - 1]
+    return f"  {drawn(line[:100])}\n\n"
 
 
 def in_other_words(ask, transcript):
