@@ -514,9 +514,8 @@ def unmet(text):
 
 
 def first_unmet(text):
-    """The first of them, as it is shown, and an empty line in place of a meaning."""
-    line = text.splitlines()[unmet_lines(text)[0] - 1]
-    return f"  {drawn(line[:100])}\n\n"
+    """The first of them, as it is shown."""
+    return f"{drawn(text.splitlines()[unmet_lines(text)[0] - 1])}\n"
 
 
 def in_other_words(ask, transcript):

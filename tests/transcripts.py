@@ -127,7 +127,7 @@ def expectations(test):
     test.write("two.source", TWO)
     good = test.write("good", WHOLE + TURN)
     for head, line in (WHOLE, 11), (HEAD, 6):
-        alone, first = f"1 expectation failed, in line {line}", "  expected 00005, is 00000\n\n"
+        alone, first = f"1 expectation failed, in line {line}", "expected 00005, is 00000\n"
         for replies, told in (one, alone), (three, f"3 expectations failed, the first in line {line}"):
             text, bare = head + replies, head + "".join(it + "\n" for it in replies.splitlines() if it[0] == ">")
             file, new = test.write("unmet", text), test.write("bare", bare)

@@ -59,7 +59,8 @@ shown_head_fault text error =
     let shown = shown_text text (head_line text error) None (head_meaning text error) in
     Shown (Replay error) shown
 
--- the fault of a transcript; for a difference the expected and the actual lines are shown
+-- the fault of a transcript; for a difference the expected and the actual lines are shown, and for
+-- expectations that aren't met the first reply that says so, whole
 abbrev pub shown_transcript_fault : List ℕ → Fault → ServeError
 shown_transcript_fault text (transcript.Head error) = shown_head_fault text error
 shown_transcript_fault text (transcript.EarlyReply line) =
@@ -67,6 +68,6 @@ shown_transcript_fault text (transcript.EarlyReply line) =
 shown_transcript_fault text (transcript.Differs line lines) =
     Shown (Differs line) (shown_lines lines)
 shown_transcript_fault text (transcript.Failed unmet) =
-    Shown (Failed unmet) (shown_text text unmet.first None [])
+    Shown (Failed unmet) (shown_lines (numbered_line text unmet.first))
 shown_transcript_fault text transcript.TooLong = Output TooLong
 shown_transcript_fault text transcript.Memory = Memory

@@ -37,7 +37,7 @@ pub fn shown_transcript_fault(
         }
         TranscriptError::Failed(unmet) => {
             let fault = TextFault::Failed(unmet);
-            let shown = ShownText::new(alloc, text, unmet.first as usize, None, "")?;
+            let shown = ShownText::of_lines(alloc, numbered_line(text, unmet.first as usize))?;
             Ok(ServeError::Shown { fault, shown })
         }
         TranscriptError::TooLong => Ok(ServeError::Output(OutputFault::TooLong)),
