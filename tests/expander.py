@@ -11,11 +11,13 @@ from schedules import PORTS, neighbours, side_to
 Piece = namedtuple("Piece", "text line column")
 # How many parameters it has, and its tokens, each with its number if it is one of them.
 Body = namedtuple("Body", "arity parts")
+# The value of a constant, or of a part of an expression: is_ports says whether it is written as the address of ports.
 Operand = namedtuple("Operand", "number is_ports")
 WORDS = {"const", "body", "end", "use", "include", "to", "north", "east", "south", "west"}
 # Words that are no argument of a `use`.
 DELIMITERS = {"node", "const", "body", "end", "use", "include"}
 SIDES = re.compile(r"(right|down|left|up)(\|(right|down|left|up))+")
+NAMES_OF_PORTS = {"right", "down", "left", "up", "rdlu"}
 # By its address, which sides a port or several ports have.
 PORTS_BY_ADDRESS = {0x155 ^ bits << 4: bits for bits in range(1, 16)}
 MOST_TOKENS, MOST_BYTES, MOST_BODIES, MOST_PARAMETERS = 262144, 64, 256, 64
@@ -98,13 +100,8 @@ def calculated(piece, sign, left, right):
     return number % 0x40000
 
 
-def value_of(piece, constants):
-    """The number of a constant's value, which may be an expression."""
-    return operand_of(piece, constants).number
-
-
 def operand_of(piece, constants, levels=MOST_LEVELS):
-    """The value of an expression, and whether it is the address of ports by names, and not by digits or operators but `|`."""
+    """The value of a constant, which may be an expression."""
     if levels == 0:
         raise fault_at(piece, "BadToken")
     number = literal_of(piece)
@@ -119,9 +116,10 @@ def operand_of(piece, constants, levels=MOST_LEVELS):
         return Operand(calculated(piece, sign, left.number, right.number), False)
     if len(piece.text) > 1 and piece.text[0] == "(" and piece.text[-1] == ")":
         return operand_of(piece._replace(text=piece.text[1:-1]), constants, levels - 1)
-    number = constants.get(piece.text, NUMBERS.get(piece.text))
-    if number is not None:
-        return Operand(number, number in PORTS_BY_ADDRESS)
+    if piece.text in constants:
+        return constants[piece.text]
+    if piece.text in NUMBERS:
+        return Operand(NUMBERS[piece.text], piece.text in NAMES_OF_PORTS)
     if NUMBER.fullmatch(piece.text):
         number = int(piece.text[1:], 16) if piece.text[0] == "$" else int(piece.text)
     if number is None:
@@ -294,8 +292,8 @@ class Expander:
 
     def word(self, piece):
         number = literal_of(piece)
-        if number is None:
-            number = self.constants.get(piece.text)
+        if number is None and piece.text in self.constants:
+            number = self.constants[piece.text].number
         if number is None and not piece.text.isascii():
             raise fault_at(piece, "BadToken")
         self.written.append(piece if number is None else piece._replace(text=f"${number:05X}"))
@@ -318,7 +316,7 @@ class Expander:
             raise fault_at(name, "DuplicateName")
         if not value:
             raise fault_at(const, "OpenDefinition")
-        self.constants[name.text] = value_of(value, self.constants)
+        self.constants[name.text] = operand_of(value, self.constants)
 
     def piece_in(self, stage, piece):
         """Expands a token where an item may begin, a value or the name of a node. Returns what may stand behind it."""

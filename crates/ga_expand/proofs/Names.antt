@@ -10,7 +10,8 @@ use Rattle.std.proofs.lemmas.Str.{IsUtf8-from_ascii}
 use Rattle.indexmap.specs.IndexMap.{insert_entry}
 use Rattle.ga_pack.specs.Model.Token.{is_letter, is_letter_or_digit, is_name}
 use Rattle.ga_source.specs.Name.{NameText}
-use Rattle.ga_expand.specs.Constants.{number_of}
+use Rattle.ga_expand.specs.declared.expression.Operand.{Operand}
+use Rattle.ga_expand.specs.Constants.{constant_of}
 use Rattle.ga_expand.specs.inner.Constants.{constants_in}
 
 -- ---- a name is text
@@ -38,31 +39,32 @@ name-IsUtf8 text e = IsUtf8-from_ascii text (letters_below text (all_letters tex
 
 -- ---- constants in a map
 
-pub lookup_constants : (name : List ℕ) (entries : List (NameText × ℕ))
-    → lookup (λ k. bytes_eq name k.bytes) entries ≡ number_of (constants_in entries) name
+pub lookup_constants : (name : List ℕ) (entries : List (NameText × Operand))
+    → lookup (λ k. bytes_eq name k.bytes) entries ≡ constant_of (constants_in entries) name
 lookup_constants name [] = refl
 lookup_constants name (entry ∷ entries) =
     ap (λ r. if bytes_eq name entry.0.bytes then Some entry.1 else r)
     (lookup_constants name entries)
 
 -- a constant that is new goes last
-last_by : (name : NameText) (n : ℕ) (entry : NameText × ℕ) (entries : List (NameText × ℕ))
-    (b : Bool) → (if b then Some entry.1 else number_of (constants_in entries) name.bytes) ≡ None
-    → (number_of (constants_in entries) name.bytes ≡ None → constants_in
-    (insert_entry (λ one other. bytes_eq one.bytes other.bytes) entries name n)
-    ≡ constants_in entries ++ (name.bytes, n) ∷ [])
-    → constants_in (if b then (entry.0, n) ∷ entries else entry
-    ∷ insert_entry (λ one other. bytes_eq one.bytes other.bytes) entries name n)
-    ≡ constants_in (entry ∷ entries) ++ (name.bytes, n) ∷ []
-last_by name n entry entries true none more = absurd (cc)
-last_by name n entry entries false none more =
+last_by : (name : NameText) (value : Operand) (entry : NameText × Operand)
+    (entries : List (NameText × Operand)) (b : Bool)
+    → (if b then Some entry.1 else constant_of (constants_in entries) name.bytes) ≡ None
+    → (constant_of (constants_in entries) name.bytes ≡ None → constants_in
+    (insert_entry (λ one other. bytes_eq one.bytes other.bytes) entries name value)
+    ≡ constants_in entries ++ (name.bytes, value) ∷ [])
+    → constants_in (if b then (entry.0, value) ∷ entries else entry
+    ∷ insert_entry (λ one other. bytes_eq one.bytes other.bytes) entries name value)
+    ≡ constants_in (entry ∷ entries) ++ (name.bytes, value) ∷ []
+last_by name value entry entries true none more = absurd (cc)
+last_by name value entry entries false none more =
     ap (λ r. (entry.0.bytes, entry.1) ∷ r) (more none)
 
-pub constant_last : (name : NameText) (n : ℕ) (entries : List (NameText × ℕ))
-    → number_of (constants_in entries) name.bytes ≡ None
-    → constants_in (insert_entry (λ one other. bytes_eq one.bytes other.bytes) entries name n)
-    ≡ constants_in entries ++ (name.bytes, n) ∷ []
-constant_last name n [] none = refl
-constant_last name n (entry ∷ entries) none =
-    last_by name n entry entries (bytes_eq name.bytes entry.0.bytes) none
-    (λ more. constant_last name n entries more)
+pub constant_last : (name : NameText) (value : Operand) (entries : List (NameText × Operand))
+    → constant_of (constants_in entries) name.bytes ≡ None
+    → constants_in (insert_entry (λ one other. bytes_eq one.bytes other.bytes) entries name value)
+    ≡ constants_in entries ++ (name.bytes, value) ∷ []
+constant_last name value [] none = refl
+constant_last name value (entry ∷ entries) none =
+    last_by name value entry entries (bytes_eq name.bytes entry.0.bytes) none
+    (λ more. constant_last name value entries more)

@@ -11,7 +11,8 @@ use Rattle.ga_word.specs.declared.op.Op.{Op}
 use Rattle.ga_pack.specs.Model.Token.{is_name, is_reserved}
 use Rattle.ga_source.specs.Name.{NameText}
 use Rattle.ga_expand.specs.declared.error.ExpandErrorKind.{ExpandErrorKind}
-use Rattle.ga_expand.specs.Constants.{Constants, constant_named, number_of}
+use Rattle.ga_expand.specs.declared.expression.Operand.{Operand}
+use Rattle.ga_expand.specs.Constants.{Constants, constant_named, constant_of}
 use Rattle.ga_expand.specs.Expanding.{word_by, word_of}
 use Rattle.ga_expand.specs.Literal.{literal_of}
 use Rattle.ga_expand.specs.inner.Constants.{are_free, constants_in}
@@ -20,34 +21,37 @@ use Rattle.ga_expand.proofs.PlainTexts.{name_stays, none_named}
 
 -- ---- no constant has a reserved name
 
-free_or_inserted : (name : NameText) (n : ℕ) (entry : NameText × ℕ) (entries : List (NameText × ℕ))
-    (b : Bool) → are_free (entry ∷ entries) ≡ true
-    → are_free (insert_entry (λ one other. bytes_eq one.bytes other.bytes) entries name n) ≡ true
-    → are_free (if b then (entry.0, n) ∷ entries else entry
-    ∷ insert_entry (λ one other. bytes_eq one.bytes other.bytes) entries name n) ≡ true
-free_or_inserted name n entry entries true all more = all
-free_or_inserted name n entry entries false all more =
+free_or_inserted : (name : NameText) (value : Operand) (entry : NameText × Operand)
+    (entries : List (NameText × Operand)) (b : Bool) → are_free (entry ∷ entries) ≡ true
+    → are_free (insert_entry (λ one other. bytes_eq one.bytes other.bytes) entries name value)
+    ≡ true
+    → are_free (if b then (entry.0, value) ∷ entries else entry
+    ∷ insert_entry (λ one other. bytes_eq one.bytes other.bytes) entries name value) ≡ true
+free_or_inserted name value entry entries true all more = all
+free_or_inserted name value entry entries false all more =
     and_from (not (is_reserved entry.0.bytes))
-    (are_free (insert_entry (λ one other. bytes_eq one.bytes other.bytes) entries name n))
+    (are_free (insert_entry (λ one other. bytes_eq one.bytes other.bytes) entries name value))
     (and_parts (not (is_reserved entry.0.bytes)) (are_free entries) all).0 more
 
-stay_free : (name : NameText) (n : ℕ) (entries : List (NameText × ℕ))
+stay_free : (name : NameText) (value : Operand) (entries : List (NameText × Operand))
     → is_reserved name.bytes ≡ false → are_free entries ≡ true
-    → are_free (insert_entry (λ one other. bytes_eq one.bytes other.bytes) entries name n) ≡ true
-stay_free name n [] free all = and_from (not (is_reserved name.bytes)) true (ap not free) refl
-stay_free name n (entry ∷ entries) free all =
-    free_or_inserted name n entry entries (bytes_eq name.bytes entry.0.bytes) all
-    (stay_free name n entries free
+    → are_free (insert_entry (λ one other. bytes_eq one.bytes other.bytes) entries name value)
+    ≡ true
+stay_free name value [] free all = and_from (not (is_reserved name.bytes)) true (ap not free) refl
+stay_free name value (entry ∷ entries) free all =
+    free_or_inserted name value entry entries (bytes_eq name.bytes entry.0.bytes) all
+    (stay_free name value entries free
     (and_parts (not (is_reserved entry.0.bytes)) (are_free entries) all).1)
 
-pub free_after : {A B : Type 0} (result : Result A B) (name : NameText) (n : ℕ)
-    (before after : List (NameText × ℕ)) → is_reserved name.bytes ≡ false → are_free before ≡ true
+pub free_after : {A B : Type 0} (result : Result A B) (name : NameText) (value : Operand)
+    (before after : List (NameText × Operand)) → is_reserved name.bytes ≡ false
+    → are_free before ≡ true
     → OnOk result (after
-    ≡ insert_entry (λ one other. bytes_eq one.bytes other.bytes) before name n)
+    ≡ insert_entry (λ one other. bytes_eq one.bytes other.bytes) before name value)
     → OnErr result (after ≡ before) → are_free after ≡ true
-free_after (Ok old) name n before after free all ok err =
-    ap are_free ok ∙ stay_free name n before free all
-free_after (Err refused) name n before after free all ok err = ap are_free err ∙ all
+free_after (Ok old) name value before after free all ok err =
+    ap are_free ok ∙ stay_free name value before free all
+free_after (Err refused) name value before after free all ok err = ap are_free err ∙ all
 
 other_name : (text name : List ℕ) (b : Bool) → bytes_eq text name ≡ b → is_reserved text ≡ true
     → not (is_reserved name) ≡ true → b ≡ false
@@ -58,19 +62,19 @@ other_name text name true e is free =
     let wrong : false ≡ true = sym (ap not reserved) ∙ free in
     absurd (cc)
 
-none_of : (text : List ℕ) (entries : List (NameText × ℕ)) → are_free entries ≡ true
-    → is_reserved text ≡ true → number_of (constants_in entries) text ≡ None
+none_of : (text : List ℕ) (entries : List (NameText × Operand)) → are_free entries ≡ true
+    → is_reserved text ≡ true → constant_of (constants_in entries) text ≡ None
 none_of text [] all is = refl
 none_of text (entry ∷ entries) all is =
     let two = and_parts (not (is_reserved entry.0.bytes)) (are_free entries) all in
-    ap (λ (b : Bool). if b then Some entry.1 else number_of (constants_in entries) text)
+    ap (λ (b : Bool). if b then Some entry.1 else constant_of (constants_in entries) text)
     (other_name text entry.0.bytes (bytes_eq text entry.0.bytes) refl is two.0)
     ∙ none_of text entries two.1 is
 
-no_constant : (text : List ℕ) (entries : List (NameText × ℕ)) → are_free entries ≡ true
+no_constant : (text : List ℕ) (entries : List (NameText × Operand)) → are_free entries ≡ true
     → is_reserved text ≡ true → constant_named (constants_in entries) text ≡ None
 no_constant text entries all is =
-    ap (λ (o : Option ℕ). if is_name text then o else None) (none_of text entries all is)
+    ap (λ (o : Option Operand). if is_name text then o else None) (none_of text entries all is)
     ∙ none_named text
 
 -- ---- opcodes
@@ -103,8 +107,9 @@ without_constant constants text (Err kind) e = refl
 without_constant constants text (Ok (Some n)) e = refl
 without_constant constants text (Ok None) e = rw (e, none_named text) refl
 
-pub op_stays : (text : List ℕ) (o : Op) (entries : List (NameText × ℕ)) → op_named text ≡ Some o
-    → are_free entries ≡ true → word_of (constants_in entries) text ≡ Ok text
+pub op_stays : (text : List ℕ) (o : Op) (entries : List (NameText × Operand))
+    → op_named text ≡ Some o → are_free entries ≡ true
+    → word_of (constants_in entries) text ≡ Ok text
 unfolding word_of
 op_stays text o entries e all =
     without_constant (constants_in entries) text (literal_of text)

@@ -23,7 +23,8 @@ use Rattle.ga_expand.specs.declared.error.ExpandError.{ExpandError}
 use Rattle.ga_expand.specs.declared.expander.Expander.{Expander}
 use Rattle.ga_expand.specs.declared.expansion.Expansion.{Expansion}
 use Rattle.ga_expand.specs.Error.{Fault, fault_of}
-use Rattle.ga_expand.specs.Constants.{Constants, constant_named, is_kept, is_taken_label, number_of}
+use Rattle.ga_expand.specs.declared.expression.Operand.{Operand}
+use Rattle.ga_expand.specs.Constants.{Constants, constant_named, constant_of, is_kept, is_taken_label}
 use Rattle.ga_expand.specs.Expression.{value_of}
 use Rattle.ga_expand.specs.Expanding.{Body, Head, Naming, NodeName, Piece, Scope, Stage, Step, Towards, Value, Valuing, address_texts, addressed, all_at, directed, ended, expansion_from, further, in_node, is_ascii, is_const, is_to, item_at, label_in, number_step, number_text, onto, plain_at, same_or, silent, stage_by, start, step_at, valued, with_constant, with_stage, word_at, word_by, word_of, word_step}
 use Rattle.ga_expand.specs.Places.{direction_named, port_named, port_towards}
@@ -79,13 +80,19 @@ same_written text t place true ascii is e =
     (and_from (is_token text) (is_ascii text) is ascii)
 same_written text t place false ascii is e = absurd (cc)
 
-number_or_same : (text t : List ℕ) (place : Place) (number : Option ℕ) → is_token text ≡ true
-    → same_or number text ≡ Ok t → is_written (record { text = t; place = place }) ≡ true
-number_or_same text t place (Some n) is e =
+as_number_written : (n : ℕ) (t : List ℕ) (place : Place)
+    → ◌≡◌ {A = Result (List ℕ) ExpandErrorKind} (Ok (number_text n)) (Ok t)
+    → is_written (record { text = t; place = place }) ≡ true
+as_number_written n t place e =
     let same : number_text n ≡ t = cc in
     subst (λ w. is_written (record { text = w; place = place }) ≡ true) same
     (number_written n place)
-number_or_same text t place None is e = same_written text t place (is_ascii text) refl is e
+
+constant_or_same : (text t : List ℕ) (place : Place) (constant : Option Operand)
+    → is_token text ≡ true → same_or constant text ≡ Ok t
+    → is_written (record { text = t; place = place }) ≡ true
+constant_or_same text t place (Some constant) is e = as_number_written constant.word t place e
+constant_or_same text t place None is e = same_written text t place (is_ascii text) refl is e
 
 word_by_written : (constants : Constants) (text t : List ℕ) (place : Place)
     (form : Result (Option ℕ) ExpandErrorKind) → is_token text ≡ true
@@ -93,9 +100,9 @@ word_by_written : (constants : Constants) (text t : List ℕ) (place : Place)
     → is_written (record { text = t; place = place }) ≡ true
 word_by_written constants text t place (Err kind) is e = absurd (cc)
 word_by_written constants text t place (Ok (Some n)) is e =
-    number_or_same text t place (Some n) is e
+    as_number_written n t place e
 word_by_written constants text t place (Ok None) is e =
-    number_or_same text t place (constant_named constants text) is e
+    constant_or_same text t place (constant_named constants text) is e
 
 word_written : (constants : Constants) (text t : List ℕ) (place : Place) → is_token text ≡ true
     → word_of constants text ≡ Ok t → is_written (record { text = t; place = place }) ≡ true
@@ -168,13 +175,13 @@ sound_first scope piece made true is e =
     sound_silent (with_stage scope (Naming piece.place)) made tt e
 sound_first scope piece made false is e = sound_plain scope piece made is e
 
-sound_new : (scope : Scope) (text : List ℕ) (place : Place) (made : Step) (o : Option ℕ)
-    → is_reserved text ≡ false → number_of scope.constants text ≡ o
+sound_new : (scope : Scope) (text : List ℕ) (place : Place) (made : Step) (o : Option Operand)
+    → is_reserved text ≡ false → constant_of scope.constants text ≡ o
     → (if is_some o then Err DuplicateName
     else silent (with_stage scope (Valuing text place))) ≡ Ok made → Sound made
 sound_new scope text place made None free new e =
     sound_silent (with_stage scope (Valuing text place)) made (new, free) e
-sound_new scope text place made (Some n) free new e = absurd (cc)
+sound_new scope text place made (Some constant) free new e = absurd (cc)
 
 -- a name that isn't kept isn't reserved
 not_kept : (text : List ℕ) (b : Bool) → is_reserved text ≡ b → is_kept text ≡ false → b ≡ false
@@ -183,18 +190,19 @@ not_kept text true is e = absurd (cc)
 
 sound_named : (scope : Scope) (text : List ℕ) (place : Place) (made : Step) (a b : Bool)
     → is_kept text ≡ b → (if not a then Err BadToken else if b then Err ReservedName
-    else if is_some (number_of scope.constants text) then Err DuplicateName
+    else if is_some (constant_of scope.constants text) then Err DuplicateName
     else silent (with_stage scope (Valuing text place))) ≡ Ok made → Sound made
 sound_named scope text place made false b is e = absurd (cc)
 sound_named scope text place made true true is e = absurd (cc)
 sound_named scope text place made true false is e =
-    sound_new scope text place made (number_of scope.constants text)
+    sound_new scope text place made (constant_of scope.constants text)
     (not_kept text (is_reserved text) refl is) refl e
 
-sound_valued : (scope : Scope) (name : List ℕ) (value : Result ℕ ExpandErrorKind)
+sound_valued : (scope : Scope) (name : List ℕ) (value : Result Operand ExpandErrorKind)
     (made : Step) → valued scope name value ≡ Ok made → Sound made
 sound_valued scope name (Err kind) made e = absurd (cc)
-sound_valued scope name (Ok n) made e = sound_silent (with_constant scope name n) made tt e
+sound_valued scope name (Ok value) made e =
+    sound_silent (with_constant scope name value) made tt e
 
 sound_directed : (scope : Scope) (name : ℕ) (piece : Piece) (made : Step) (o : Option Direction)
     → is_token piece.text ≡ true → directed scope name piece o ≡ Ok made → Sound made

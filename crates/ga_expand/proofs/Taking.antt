@@ -8,7 +8,7 @@ use Rattle.ga_pack.specs.Model.Token.{is_name}
 use Rattle.ga_expand.specs.declared.error.ExpandErrorKind.TheVariants.{DuplicateName}
 use Rattle.ga_expand.specs.declared.expander.Expander.{Expander}
 use Rattle.ga_expand.specs.declared.writing.Writer.{Writer}
-use Rattle.ga_expand.specs.Constants.{is_kept, is_taken_label, number_of}
+use Rattle.ga_expand.specs.Constants.{constant_of, is_kept, is_taken_label}
 use Rattle.ga_expand.specs.Expanding.{Body, Head, Naming, Piece, Scope, Step, Valuing, Towards, addressed, is_const, is_to, item_at, label_in, named, plain_at, silent, step_at, with_stage, word_at, word_of, word_step}
 use Rattle.ga_expand.specs.inner.Plain.{is_written}
 use Rattle.ga_expand.specs.inner.Scope.{HasMade, HasWritten, scope_of}
@@ -20,19 +20,19 @@ nothing_more writer pieces w = subst (Written writer) (sym (append-nil pieces)) 
 
 named_by : (scope : Scope) (text name : List ℕ) (place : Place) (b : Bool)
     → is_name text ≡ b → ◌≡◌ {A = Option (List ℕ)} (Some name) (if b then Some text else None)
-    → is_kept text ≡ false → is_some (number_of scope.constants name) ≡ false
+    → is_kept text ≡ false → is_some (constant_of scope.constants name) ≡ false
     → named scope text place ≡ silent (with_stage scope (Valuing name place))
 named_by scope text name place true is e kept new =
     let same : name ≡ text = cc in
-    let fresh : is_some (number_of scope.constants text) ≡ false =
-    ap (λ (t : List ℕ). is_some (number_of scope.constants t)) (sym same) ∙ new in
+    let fresh : is_some (constant_of scope.constants text) ≡ false =
+    ap (λ (t : List ℕ). is_some (constant_of scope.constants t)) (sym same) ∙ new in
     rw (is, kept, fresh)
     (ap (λ (t : List ℕ). silent (with_stage scope (Valuing t place))) (sym same))
 named_by scope text name place false is e kept new = absurd (cc)
 
 pub named_ok : (scope : Scope) (text name : List ℕ) (place : Place)
     → ◌≡◌ {A = Option (List ℕ)} (Some name) (if is_name text then Some text else None)
-    → is_kept text ≡ false → is_some (number_of scope.constants name) ≡ false
+    → is_kept text ≡ false → is_some (constant_of scope.constants name) ≡ false
     → named scope text place ≡ silent (with_stage scope (Valuing name place))
 named_ok scope text name place e kept new =
     named_by scope text name place (is_name text) refl e kept new

@@ -6,21 +6,22 @@ use Rattle.std.specs.Str.{bytes_eq}
 use Rattle.ga_pack.specs.Model.Token.{is_name, is_reserved, number_named}
 use Rattle.ga_expand.specs.declared.error.ExpandErrorKind.{ExpandErrorKind}
 use Rattle.ga_expand.specs.declared.error.ExpandErrorKind.TheVariants.{BadToken, NumberRange}
+use Rattle.ga_expand.specs.declared.expression.Operand.{Operand}
 use Rattle.ga_expand.specs.Literal.{numeral}
-use Rattle.ga_expand.specs.Sides.{are_ports}
+use Rattle.ga_expand.specs.Sides.{is_side}
 
--- names and their numbers
+-- Names and their values: each is a number, and whether it is written as the address of ports.
 abbrev pub Constants : Type 0
-Constants = List (List ℕ × ℕ)
+Constants = List (List ℕ × Operand)
 
-abbrev pub number_of : Constants → List ℕ → Option ℕ
-number_of [] text = None
-number_of (constant ∷ constants) text =
-    if bytes_eq text constant.0 then Some constant.1 else number_of constants text
+abbrev pub constant_of : Constants → List ℕ → Option Operand
+constant_of [] text = None
+constant_of (constant ∷ constants) text =
+    if bytes_eq text constant.0 then Some constant.1 else constant_of constants text
 
--- the number of the constant that a token names
-abbrev pub constant_named : Constants → List ℕ → Option ℕ
-constant_named constants text = if is_name text then number_of constants text else None
+-- the value of the constant that a token names
+abbrev pub constant_named : Constants → List ℕ → Option Operand
+constant_named constants text = if is_name text then constant_of constants text else None
 
 -- the label that a token defines: what is in front of the colon with which it ends
 abbrev pub label_defined : List ℕ → Option (List ℕ)
@@ -50,9 +51,8 @@ abbrev pub is_kept : List ℕ → Bool
 is_kept text =
     is_reserved text || is_among words_of_definitions text || is_among words_of_places text
 
--- ---- the value of a constant
+-- ---- numbers in the plain language
 
--- a number in the plain language
 abbrev pub as_hex : List ℕ → Option ℕ
 as_hex [] = None
 as_hex (c ∷ digits) = if c == 36 then numeral 16 8 digits else None
@@ -60,18 +60,11 @@ as_hex (c ∷ digits) = if c == 36 then numeral 16 8 digits else None
 abbrev pub as_number : List ℕ → Option ℕ
 as_number text = option_or (number_named text) (option_or (numeral 10 8 text) (as_hex text))
 
+-- such a number as a word
 abbrev pub in_range : Option ℕ → Result ℕ ExpandErrorKind
 in_range None = Err BadToken
 in_range (Some n) = if nat_lt n (2 ^ 18) then Ok n else Err NumberRange
 
--- the number that a token without parts writes: the name of a constant, or a number in the plain
--- language
-abbrev pub plain_value_of : Constants → List ℕ → Result ℕ ExpandErrorKind
-plain_value_of constants text =
-    in_range (option_or (constant_named constants text) (as_number text))
-
--- whether a token is a name, of a constant or of the plain language, whose number is the address of
--- ports
-abbrev pub names_ports : Constants → List ℕ → Bool
-names_ports constants text =
-    option_map_or are_ports (option_or (constant_named constants text) (number_named text)) false
+-- whether a token is the address of ports by a name: that of a side, or that of all four
+abbrev pub names_ports : List ℕ → Bool
+names_ports text = is_side text || bytes_eq text (codes "rdlu")

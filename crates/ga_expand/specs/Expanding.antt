@@ -11,7 +11,8 @@ use Rattle.ga_place.specs.Side.{Direction}
 use Rattle.ga_word.specs.Op.{takes_dest}
 use Rattle.ga_expand.specs.declared.error.ExpandErrorKind.{ExpandErrorKind}
 use Rattle.ga_expand.specs.declared.error.ExpandErrorKind.TheVariants.{BadNode, BadToken, DuplicateName, OpenDefinition, ReservedName}
-use Rattle.ga_expand.specs.Constants.{Constants, constant_named, is_kept, is_taken_label, number_of}
+use Rattle.ga_expand.specs.declared.expression.Operand.{Operand}
+use Rattle.ga_expand.specs.Constants.{Constants, constant_named, constant_of, is_kept, is_taken_label}
 use Rattle.ga_expand.specs.Expression.{value_of}
 use Rattle.ga_expand.specs.Error.{Fault}
 use Rattle.ga_expand.specs.Literal.{literal_of}
@@ -39,8 +40,8 @@ abbrev pub is_ascii : List ℕ → Bool
 is_ascii text = list_all (λ c. nat_lt c 128) text
 
 -- a token that writes no number of the larger language stays, if all its characters are of ASCII
-abbrev pub same_or : Option ℕ → List ℕ → Result (List ℕ) ExpandErrorKind
-same_or (Some n) text = Ok (number_text n)
+abbrev pub same_or : Option Operand → List ℕ → Result (List ℕ) ExpandErrorKind
+same_or (Some constant) text = Ok (number_text constant.word)
 same_or None text = if is_ascii text then Ok text else Err BadToken
 
 -- A number in a form of the larger language, or the name of a constant, is that number in the plain
@@ -119,19 +120,19 @@ is_const text = bytes_eq text (codes "const")
 abbrev pub named : Scope → List ℕ → Place → Result Step ExpandErrorKind
 named scope text place =
     if not (is_name text) then Err BadToken else if is_kept text then Err ReservedName
-    else if is_some (number_of scope.constants text) then Err DuplicateName
+    else if is_some (constant_of scope.constants text) then Err DuplicateName
     else silent (with_stage scope (Valuing text place))
 
-abbrev pub with_constant : Scope → List ℕ → ℕ → Scope
-with_constant scope name n = record {
-  constants = scope.constants ++ (name, n) ∷ [];
+abbrev pub with_constant : Scope → List ℕ → Operand → Scope
+with_constant scope name value = record {
+  constants = scope.constants ++ (name, value) ∷ [];
   node = scope.node;
   stage = Head;
 }
 
-abbrev pub valued : Scope → List ℕ → Result ℕ ExpandErrorKind → Result Step ExpandErrorKind
+abbrev pub valued : Scope → List ℕ → Result Operand ExpandErrorKind → Result Step ExpandErrorKind
 valued scope name (Err kind) = Err kind
-valued scope name (Ok n) = silent (with_constant scope name n)
+valued scope name (Ok value) = silent (with_constant scope name value)
 
 -- ---- sections
 

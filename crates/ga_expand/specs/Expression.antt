@@ -2,8 +2,8 @@
 -- parentheses. An expression is one token.
 use Rattle.std.specs.Prelude.{◌==◌, ◌&&◌, ℕ, Bool, zero, suc, ◌+◌, ◌-◌, ◌*◌, ◌/◌, ◌^◌, true, false, List, [], ◌∷◌, bit_and, drop, length, nat_le, nat_lt, not, slice_index_or, Option, Some, None, Result, Ok, Err, take, if◌then◌else◌}
 use Rattle.std.specs.Int.Bits.{bit_or}
-use Rattle.std.specs.Option.{is_some}
-use Rattle.ga_expand.specs.Constants.{Constants, names_ports, plain_value_of}
+use Rattle.std.specs.Option.{is_some, option_map_or}
+use Rattle.ga_expand.specs.Constants.{Constants, as_number, constant_named, in_range, names_ports}
 use Rattle.ga_expand.specs.Literal.{literal_of}
 use Rattle.ga_expand.specs.Sides.{as_sides, ports_of_both}
 use Rattle.ga_expand.specs.declared.error.ExpandErrorKind.{ExpandErrorKind}
@@ -69,8 +69,9 @@ made_by Times left right = as_word (left * right)
 
 -- ---- operands
 
--- An operand is a number, and whether it is written as the address of ports: by names, and not as a
--- number in digits or as the result of another operator.
+-- An operand is a number, and whether it is written as the address of ports: by names of sides, by
+-- that of a constant that is one, or by two of these with `|` between them. A number in digits is
+-- none, nor is the result of another operator.
 abbrev pub operand_of : Bool → Result ℕ ExpandErrorKind → Result Operand ExpandErrorKind
 operand_of is_ports (Ok n) = Ok (record { word = n; is_ports = is_ports })
 operand_of is_ports (Err kind) = Err kind
@@ -154,10 +155,13 @@ applied o (Ok left) (Ok right) = combined o left right
 applied o (Ok left) (Err kind) = Err kind
 applied o (Err kind) right = Err kind
 
--- a number, or the name of a constant
+-- a number in the plain language
+abbrev pub plain_number : List ℕ → Result Operand ExpandErrorKind
+plain_number text = operand_of (names_ports text) (in_range (as_number text))
+
+-- the value of the constant with this name, or a number in the plain language
 abbrev pub plain_operand : Constants → List ℕ → Result Operand ExpandErrorKind
-plain_operand constants text =
-    operand_of (names_ports constants text) (plain_value_of constants text)
+plain_operand constants text = option_map_or Ok (constant_named constants text) (plain_number text)
 
 -- The value of a text by those of its parts: of the two beside an operator, or of what is in
 -- parentheses. A text without parts is a number of the plain language, or the name of a constant.
@@ -183,15 +187,7 @@ value_within (suc levels) constants text =
     unless_literal text (literal_of text) (by_parts constants text
     (value_within levels constants) (parted text) (inside text))
 
--- an expression has at most 64 levels
-unfoldable pub operand_in : Constants → List ℕ → Result Operand ExpandErrorKind
-operand_in constants text = value_within 64 constants text
-
-abbrev pub number_in : Result Operand ExpandErrorKind → Result ℕ ExpandErrorKind
-number_in (Ok operand) = Ok operand.word
-number_in (Err kind) = Err kind
-
--- The number that a token writes: in a form of either language, as the name of a constant, or as an
--- expression.
-unfoldable pub value_of : Constants → List ℕ → Result ℕ ExpandErrorKind
-value_of constants text = number_in (operand_in constants text)
+-- The value that a token writes: in a form of either language, as the name of a constant, or as an
+-- expression of at most 64 levels.
+unfoldable pub value_of : Constants → List ℕ → Result Operand ExpandErrorKind
+value_of constants text = value_within 64 constants text

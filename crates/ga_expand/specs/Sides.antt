@@ -1,5 +1,5 @@
 -- The address of several ports at once, by the names of their sides.
-use Rattle.std.specs.Prelude.{◌==◌, ◌&&◌, ◌+◌, ℕ, Bool, List, bit_xor, codes, not, Option, Some, None, if◌then◌else◌}
+use Rattle.std.specs.Prelude.{◌==◌, ◌&&◌, ◌+◌, ℕ, Bool, List, bit_xor, codes, Option, Some, None, if◌then◌else◌}
 use Rattle.std.specs.Int.Bits.{bit_or}
 use Rattle.std.specs.List.{list_all, list_any, slice_split}
 use Rattle.std.specs.Str.{bytes_eq}
@@ -26,11 +26,6 @@ abbrev pub ports_named : List (List ℕ) → ℕ
 ports_named names =
     bit_xor 0x155 (bit_among names Right + bit_among names Down + bit_among names Left
     + bit_among names Up)
-
--- Whether a number is the address of the ports of one or more sides: it differs from $155 in bits
--- of sides, and in no other one.
-abbrev pub are_ports : ℕ → Bool
-are_ports n = not (n == 0x155) && (bit_or (bit_xor 0x155 n) 0xF0 == 0xF0)
 
 -- the address of the ports that one or the other of two addresses has
 abbrev pub ports_of_both : ℕ → ℕ → ℕ

@@ -6,14 +6,14 @@ ghost use Rattle.std.specs.Str.{bytes_eq};
 ghost use Rattle.ga_pack.specs.Model.Token as plain;
 ghost use Rattle.ga_pack.specs.Model.Token.{is_name};
 ghost use Rattle.ga_expand.specs.Constants as model;
-ghost use Rattle.ga_expand.specs.Expression.{operand_in, plain_operand, value_of, value_within};
+ghost use Rattle.ga_expand.specs.Expression.{plain_number, plain_operand, value_of, value_within};
 ghost use Rattle.ga_expand.specs.declared.error.ExpandErrorKind.TheVariants.{Memory};
 ghost use Rattle.ga_expand.specs.inner.Constants.{are_free, constants_in};
 
 use crate::error::ExpandErrorKind;
 use crate::expression::{Operand, as_operand, inside, parted};
 use crate::literal::{literal, numeral};
-use crate::sides::{are_ports, sides};
+use crate::sides::{is_side, sides};
 use ga_source::Name;
 use ga_word::{Op, Word18};
 use indexmap::IndexMap;
@@ -23,7 +23,7 @@ use std::str;
 /// The constants so far, in their order.
 #[derive(Drop)]
 pub(crate) struct Constants {
-    values: IndexMap<Name, Word18>,
+    values: IndexMap<Name, Operand>,
     ghost free: { are_free values.entries ≡ true },
 }
 
@@ -36,29 +36,29 @@ impl Constants {
         }
     }
 
-    /// The number of the constant that a token names.
-    pub(crate) fn named(&self, text: &[u8]) -> Option<Word18>
+    /// The value of the constant that a token names.
+    pub(crate) fn named(&self, text: &[u8]) -> Option<Operand>
         ensures { result ≡ model.constant_named (constants_in self.now.values.entries) text.now }
     {
         if self.values.is_empty() {
             return None;
         }
-        self.number_of(name_in(text)?)
+        self.constant_of(name_in(text)?)
     }
 
-    /// The number of the constant with a name.
-    fn number_of(&self, name: Name) -> Option<Word18>
-        ensures { result ≡ model.number_of (constants_in self.now.values.entries) name.bytes }
+    /// The value of the constant with a name.
+    fn constant_of(&self, name: Name) -> Option<Operand>
+        ensures { result ≡ model.constant_of (constants_in self.now.values.entries) name.bytes }
     {
         self.values.get(&name).copied()
     }
 
     /// Whether a constant has a name.
     pub(crate) fn has(&self, name: Name) -> bool
-        ensures { result ≡ is_some (model.number_of (constants_in self.now.values.entries)
+        ensures { result ≡ is_some (model.constant_of (constants_in self.now.values.entries)
             name.bytes) }
     {
-        self.number_of(name).is_some()
+        self.constant_of(name).is_some()
     }
 
     /// Whether a token defines a label with the name of a constant.
@@ -72,8 +72,8 @@ impl Constants {
     }
 
     /// Adds a constant.
-    pub(crate) fn define(&mut self, name: Name, value: Word18) -> Result<(), ExpandErrorKind>
-        requires new { model.number_of (constants_in self.old.values.entries) name.bytes ≡ None }
+    pub(crate) fn define(&mut self, name: Name, value: Operand) -> Result<(), ExpandErrorKind>
+        requires new { model.constant_of (constants_in self.old.values.entries) name.bytes ≡ None }
         requires free { plain.is_reserved name.bytes ≡ false }
         ensures ok { OnOk result (constants_in self.new.values.entries
             ≡ constants_in self.old.values.entries ++ (name.bytes, value) ∷ []) }
@@ -83,20 +83,11 @@ impl Constants {
         Ok(())
     }
 
-    /// The number that a token writes: in a form of either language, as the name of a constant, or
-    /// as an expression.
+    /// The value that a token writes: in a form of either language, as the name of a constant, or
+    /// as an expression of at most 64 levels.
     #[tactic(auto, unfolding(crate::specs::Expression::value_of))]
-    pub(crate) fn value(&self, text: &[u8]) -> Result<Word18, ExpandErrorKind>
+    pub(crate) fn value(&self, text: &[u8]) -> Result<Operand, ExpandErrorKind>
         ensures { result ≡ value_of (constants_in self.now.values.entries) text.now }
-    {
-        let operand = self.operand_in(text)?;
-        Ok(operand.word)
-    }
-
-    /// The value of an expression of at most 64 levels.
-    #[tactic(auto, unfolding(crate::specs::Expression::operand_in))]
-    fn operand_in(&self, text: &[u8]) -> Result<Operand, ExpandErrorKind>
-        ensures { result ≡ operand_in (constants_in self.now.values.entries) text.now }
     {
         self.value_within(64, text)
     }
@@ -128,39 +119,39 @@ impl Constants {
         }
     }
 
-    /// The value of a number, or of the name of a constant.
+    /// The value of the constant with this name, or a number in the plain language.
     fn plain_operand(&self, text: &[u8]) -> Result<Operand, ExpandErrorKind>
         ensures { result ≡ plain_operand (constants_in self.now.values.entries) text.now }
     {
-        as_operand(self.plain_value(text), self.names_ports(text))
+        match self.named(text) {
+            Some(constant) => Ok(constant),
+            None => plain_number(text),
+        }
     }
+}
 
-    /// Whether a token is a name, of a constant or of the plain language, whose number is the
-    /// address of ports.
-    fn names_ports(&self, text: &[u8]) -> bool
-        ensures { result ≡ model.names_ports (constants_in self.now.values.entries) text.now }
-    {
-        if let Some(number) = self.named(text) {
-            return are_ports(number.get());
-        }
-        match address_named(text) {
-            Some(number) => are_ports(number),
-            None => false,
-        }
-    }
+/// A number in the plain language.
+fn plain_number(text: &[u8]) -> Result<Operand, ExpandErrorKind>
+    ensures { result ≡ plain_number text.now }
+{
+    as_operand(in_range(number(text)), names_ports(text))
+}
 
-    /// The number of the constant that a token names, or that it writes in the plain language.
-    fn plain_value(&self, text: &[u8]) -> Result<Word18, ExpandErrorKind>
-        ensures { result ≡ model.plain_value_of (constants_in self.now.values.entries) text.now }
-    {
-        if let Some(number) = self.named(text) {
-            return Ok(number);
-        }
-        match number(text) {
-            Some(number) => Word18::new(number).ok_or(ExpandErrorKind::NumberRange),
-            None => Err(ExpandErrorKind::BadToken),
-        }
+/// A number as a word.
+fn in_range(number: Option<u32>) -> Result<Word18, ExpandErrorKind>
+    ensures { result ≡ model.in_range number }
+{
+    match number {
+        Some(number) => Word18::new(number).ok_or(ExpandErrorKind::NumberRange),
+        None => Err(ExpandErrorKind::BadToken),
     }
+}
+
+/// Whether a token is the address of ports by a name: that of a side, or that of all four.
+fn names_ports(text: &[u8]) -> bool
+    ensures { result ≡ model.names_ports text.now }
+{
+    is_side(text) || text == b"rdlu".as_slice()
 }
 
 /// The label that a token defines: what is in front of the colon with which it ends.

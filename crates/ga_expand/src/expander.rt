@@ -2,7 +2,7 @@
 ghost use Rattle.std.specs.Prelude.{◌≡◌, ◌≢◌, ℕ, [], IfErr, IfOk, Err, None, Ok, OnOk, Some, false, option_map};
 ghost use Rattle.std.specs.Str.{IsAscii};
 ghost use Rattle.ga_source.specs.Token.{place_of};
-ghost use Rattle.ga_expand.specs.Constants.{number_of};
+ghost use Rattle.ga_expand.specs.Constants.{constant_of};
 ghost use Rattle.ga_expand.specs.Error.{fault_of};
 ghost use Rattle.ga_expand.specs.Expanding as model;
 ghost use Rattle.ga_expand.specs.Expression.{value_of};
@@ -271,7 +271,7 @@ impl Expander {
 
     /// The value of a constant.
     fn take_value(&mut self, name: Name, text: &[u8]) -> Result<(), ExpandErrorKind>
-        requires new { number_of (constants_in self.old.constants.values.entries) name.bytes
+        requires new { constant_of (constants_in self.old.constants.values.entries) name.bytes
             ≡ None }
         requires free { is_reserved name.bytes ≡ false }
         ensures { Took self.old self.new (model.valued (scope_of self.old) name.bytes

@@ -102,12 +102,12 @@ impl Operator {
     }
 }
 
-/// A value beside an operator.
+/// The value of a constant, or of a part of an expression.
 #[derive(Clone, Copy)]
 pub(crate) struct Operand {
     pub(crate) word: Word18,
-    /// It is written as the address of ports: by names, and not as a number in digits or as the
-    /// result of another operator.
+    /// It is written as the address of ports: by names of sides, or of constants that are one, and
+    /// not as a number in digits or as the result of an operator but `|`.
     pub(crate) is_ports: bool,
 }
 

@@ -20,13 +20,6 @@ pub(crate) fn sides(text: &[u8]) -> Option<Word18>
     Word18::new(0x155 ^ bits)
 }
 
-/// Whether a number is the address of the ports of one or more sides.
-pub(crate) fn are_ports(number: u32) -> bool
-    ensures { result ≡ model.are_ports number }
-{
-    number != 0x155 && (0x155 ^ number) | 0xF0 == 0xF0
-}
-
 /// The address of the ports that one or the other of two addresses has.
 pub(crate) fn ports_of_both(one: u32, other: u32) -> u32
     ensures { result ≡ model.ports_of_both one other }
@@ -47,7 +40,8 @@ fn are_sides(text: &[u8]) -> bool
     text.split(|byte| *byte == b'|').all(|part| is_side(part))
 }
 
-fn is_side(text: &[u8]) -> bool
+/// Whether a text is the name of a side.
+pub(crate) fn is_side(text: &[u8]) -> bool
     ensures { result ≡ model.is_side text.now }
 {
     matches!(text, b"right" | b"down" | b"left" | b"up")

@@ -56,11 +56,11 @@ fn is_plain_byte(byte: u8) -> bool
 
 /// The number of a constant, or a token of ASCII as it is.
 fn spell_plain<'a>(constants: &Constants, text: &'a [u8]) -> Spelling<'a>
-    ensures { text_of result ≡ option_map_or model.number_text
+    ensures { text_of result ≡ option_map_or (λ constant. model.number_text constant.word)
         (constant_named (constants_in constants.now.values.entries) text.now) text.now }
 {
     match constants.named(text) {
-        Some(number) => Spelling::Number(number),
+        Some(constant) => Spelling::Number(constant.word),
         None => Spelling::Same(text),
     }
 }
@@ -71,7 +71,7 @@ fn named_or_same<'a>(constants: &Constants, text: &'a [u8]) -> Result<Spelling<'
         (Ok None) }
 {
     match constants.named(text) {
-        Some(number) => Ok(Spelling::Number(number)),
+        Some(constant) => Ok(Spelling::Number(constant.word)),
         None => same(text),
     }
 }

@@ -165,8 +165,8 @@ Fixed:
 const MIXED_SIDES: &str = "\
 MixedSides: in an expression '|' joins the addresses of sides to that of all of
 them, or the bits of other numbers, but not an address and another number. An
-address is the name of a side, 'rdlu', or a constant with an address. A number
-in digits is none, nor is the result of another operator.
+address is the name of a side, 'rdlu', or a constant whose value is one. A
+number in digits is none, nor is the result of another operator.
 
   $ printf 'const P right\\nconst BOTH P|$115\\nnode 709 BOTH b!\\n' |
     ga-bench expand

@@ -8,7 +8,7 @@ use Rattle.ga_expand.specs.declared.error.ExpandErrorKind.TheVariants.{Memory}
 use Rattle.ga_expand.specs.declared.expander.Expander.{Expander}
 use Rattle.ga_expand.specs.declared.expander.Stage as here
 use Rattle.ga_expand.specs.declared.expander.Stage.TheVariants as at
-use Rattle.ga_expand.specs.Constants.{Constants, number_of}
+use Rattle.ga_expand.specs.Constants.{Constants, constant_of}
 use Rattle.ga_expand.specs.Error.{Fault}
 use Rattle.ga_expand.specs.Expanding.{Body, Head, Naming, NodeName, Piece, Scope, Stage, Step, Towards, Value, Valuing, expansion_from, onto, start, step, word_of}
 use Rattle.ga_expand.specs.inner.Constants.{constants_in}
@@ -60,7 +60,7 @@ HasFailed before piece fault =
 -- no constant has the name of one whose value is still to come, nor has an opcode
 abbrev pub IsFreshAt : Constants → Stage → Type 0
 IsFreshAt constants (Valuing name place) =
-    (number_of constants name ≡ None) × (is_reserved name ≡ false)
+    (constant_of constants name ≡ None) × (is_reserved name ≡ false)
 IsFreshAt constants stage = Unit {0}
 
 abbrev pub IsFresh : Scope → Type 0

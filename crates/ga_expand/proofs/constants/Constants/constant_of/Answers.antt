@@ -1,6 +1,6 @@
 use Rattle.std.proofs.Common.{◌∙◌}
 use Rattle.ga_expand.proofs.Names.{lookup_constants}
-use Rattle.ga_expand.proofs.constants.Constants.number_of.Goals as goal
+use Rattle.ga_expand.proofs.constants.Constants.constant_of.Goals as goal
 
 pub returns : goal.returns
 returns c =
