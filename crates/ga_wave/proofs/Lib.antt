@@ -8,4 +8,11 @@ pub mod OneMove
 pub mod PortTurns
 pub mod WordsInOrder
 pub mod Identifying
+pub mod Words
+pub mod ReadingParts
+pub mod ValueTexts
+pub mod HeaderLines
+pub mod OneOfMany
+pub mod ReadBack
 mod Worked
+mod WorkedReading

@@ -1,6 +1,7 @@
--- What a viewer shows at a time, and the words that it shows of a port.
-use Rattle.std.specs.Prelude.{◌≡◌, ℕ, zero, suc, ◌+◌, ◌==◌, List, ◌++◌, Option, Some, None, option_map, if◌then◌else◌}
-use Rattle.std.specs.List.{filter_map, range_with_len}
+-- What a viewer shows at a time, the words that it shows of a port, and what it reads from the
+-- text.
+use Rattle.std.specs.Prelude.{◌≡◌, ◌<◌, ℕ, zero, suc, ◌+◌, ◌^◌, ◌==◌, Bool, true, List, ◌++◌, Option, Some, None, option_map, if◌then◌else◌}
+use Rattle.std.specs.List.{filter_map, list_all, range_with_len, slice_get}
 use Rattle.std.specs.Option.{option_and_then, option_or, option_to_list}
 use Rattle.ga_place.specs.declared.side.Side.{Side}
 use Rattle.ga_asm.specs.Image.{ImageView}
@@ -15,9 +16,11 @@ use Rattle.ga_wave.specs.declared.value.Value.{Value}
 use Rattle.ga_wave.specs.declared.value.Value.TheVariants.{Bits}
 use Rattle.ga_wave.specs.Change.{is_new, signal_number}
 use Rattle.ga_wave.specs.Identifier.{identifier}
+use Rattle.ga_wave.specs.Reading.{is_word, read_at}
 use Rattle.ga_wave.specs.Sample.{pending_at}
+use Rattle.ga_wave.specs.Signal.{is_signal}
 use Rattle.ga_wave.specs.Value.{value_of, value_text}
-use Rattle.ga_wave.specs.Wave.{chip_behind, shown_before, shown_in}
+use Rattle.ga_wave.specs.Wave.{chip_behind, shown_before, shown_in, shown_names, waveform}
 
 -- the value that a turn writes for a signal of a node, if it writes one
 abbrev pub written_in : Chip → ℕ → Signal → ℕ → Option Value
@@ -85,3 +88,22 @@ IdentifiersDiffer =
     (number other : ℕ) (one two : Signal)
     → identifier (signal_number number one) ≡ identifier (signal_number other two)
     → (number ≡ other) × (one ≡ two)
+
+-- ---- the text
+
+-- each label of each image is a word
+abbrev pub labels_are_words : List (ℕ × ImageView) → Bool
+labels_are_words images =
+    list_all (λ image. list_all (λ label. is_word label.0) image.1.labels) images
+
+-- Whoever reads a waveform at the identifier of a signal of a node that is shown, and at the number
+-- of one of its turns, gets the text of the value that the turn shows. The nodes that are shown are
+-- numbered from 0.
+abbrev pub ReadsBack : Type 0
+ReadsBack =
+    (images : List (ℕ × ImageView)) (nodes : List ℕ) (start : Chip) (number name : ℕ)
+    (signal : Signal) (turns turn : ℕ)
+    → labels_are_words images ≡ true → slice_get (shown_names nodes) number ≡ Some name
+    → is_signal name signal ≡ true → turns < 2 ^ 64 → turn < turns
+    → read_at (waveform images nodes start turns) (identifier (signal_number number signal)) turn
+    ≡ Some (value_text images name (value_of signal (shown_in start turn name)))

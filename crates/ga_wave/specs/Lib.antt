@@ -9,6 +9,7 @@ pub mod Change
 pub mod Header
 pub mod Wave
 pub mod Tracer
+pub mod Reading
 pub mod Save
 pub mod Laws
 pub mod inner

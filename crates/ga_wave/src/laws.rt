@@ -1,5 +1,5 @@
 //! Laws of the definitions. They do nothing when run.
-ghost use Rattle.ga_wave.specs.Laws.{IdentifiersDiffer, LastValuesAreShown, WordsAreInOrder};
+ghost use Rattle.ga_wave.specs.Laws.{IdentifiersDiffer, LastValuesAreShown, ReadsBack, WordsAreInOrder};
 
 /// At each time the last value that a waveform has of a signal is what the turn of that number
 /// shows of it.
@@ -18,4 +18,11 @@ pub fn words_in_order()
 /// Signals with the same identifier are the same signal of the same node.
 pub fn identifiers()
     ensures { IdentifiersDiffer }
+{}
+
+/// Who reads the text of a waveform by the rules of VCD, at the identifier of a signal of a node
+/// that it shows and at the number of one of its turns, gets the text of the value that the turn
+/// shows. The labels of the images are words.
+pub fn reads_back()
+    ensures { ReadsBack }
 {}
