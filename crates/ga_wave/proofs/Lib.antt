@@ -14,5 +14,6 @@ pub mod ValueTexts
 pub mod HeaderLines
 pub mod OneOfMany
 pub mod ReadBack
+pub mod LabelWords
 mod Worked
 mod WorkedReading

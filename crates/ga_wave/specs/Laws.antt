@@ -5,6 +5,7 @@ use Rattle.std.specs.List.{filter_map, list_all, range_with_len, slice_get}
 use Rattle.std.specs.Option.{option_and_then, option_or, option_to_list}
 use Rattle.ga_place.specs.declared.side.Side.{Side}
 use Rattle.ga_asm.specs.Image.{ImageView}
+use Rattle.ga_asm.specs.Text.{HasImages}
 use Rattle.ga_chip.specs.Chip.{Chip}
 use Rattle.ga_chip.specs.Legal.{IsLegal}
 use Rattle.ga_observe.specs.declared.step.Step.{Step}
@@ -95,6 +96,12 @@ IdentifiersDiffer =
 abbrev pub labels_are_words : List (ℕ × ImageView) → Bool
 labels_are_words images =
     list_all (λ image. list_all (λ label. is_word label.0) image.1.labels) images
+
+-- so are those of the images of a source text
+abbrev pub LabelsAreWords : Type 0
+LabelsAreWords =
+    (text : List ℕ) (images : List (ℕ × ImageView)) → HasImages text images
+    → labels_are_words images ≡ true
 
 -- Whoever reads a waveform at the identifier of a signal of a node that is shown, and at the number
 -- of one of its turns, gets the text of the value that the turn shows. The nodes that are shown are

@@ -1,5 +1,5 @@
 //! Laws of the definitions. They do nothing when run.
-ghost use Rattle.ga_wave.specs.Laws.{IdentifiersDiffer, LastValuesAreShown, ReadsBack, WordsAreInOrder};
+ghost use Rattle.ga_wave.specs.Laws.{IdentifiersDiffer, LabelsAreWords, LastValuesAreShown, ReadsBack, WordsAreInOrder};
 
 /// At each time the last value that a waveform has of a signal is what the turn of that number
 /// shows of it.
@@ -25,4 +25,9 @@ pub fn identifiers()
 /// shows. The labels of the images are words.
 pub fn reads_back()
     ensures { ReadsBack }
+{}
+
+/// The labels of the images of a source text are words, as `reads_back` asks for.
+pub fn label_words()
+    ensures { LabelsAreWords }
 {}
