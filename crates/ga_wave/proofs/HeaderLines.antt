@@ -21,7 +21,7 @@ use Rattle.ga_wave.proofs.Words.{is_line, line_append, line_of_word, side_word, 
 
 -- ---- words
 
-node_word : (node : ℕ) → is_word (node_text node) ≡ true
+pub node_word : (node : ℕ) → is_word (node_text node) ≡ true
 node_word node =
     let tens = 48 + node / 10 % 10 in
     let ones = 48 + node % 10 in
@@ -45,7 +45,7 @@ port_word side (Some reader) =
     word_append (side_text side ++ codes "_to_") (node_text reader)
     (word_append (side_text side) (codes "_to_") (side_word side) refl) (node_word reader)
 
-name_word : (node : ℕ) (one : Signal) → is_word (signal_name node one) ≡ true
+pub name_word : (node : ℕ) (one : Signal) → is_word (signal_name node one) ≡ true
 name_word node (signal.Port side) = port_word side (neighbour_of node side)
 name_word node _ = refl
 
@@ -60,18 +60,18 @@ bits_line (signal.Port side) = refl
 bits_line _ = refl
 
 -- a line of six parts and its end
-ended : (a b c d e f : List ℕ)
+pub ended : (a b c d e f : List ℕ)
     → (a ++ (b ++ (c ++ (d ++ (e ++ (f ++ codes " $end")))))) ++ 10 ∷ []
     ≡ concat (a ∷ b ∷ c ∷ d ∷ e ∷ f ∷ codes " $end\n" ∷ [])
 ended a b c d e f = simp append_assoc
 
 -- the line of a declaration, up to its end
-abbrev line_of : ℕ → ℕ → Signal → List ℕ
+abbrev pub line_of : ℕ → ℕ → Signal → List ℕ
 line_of node number one =
     codes "$var " ++ (declared_type one ++ (identifier (signal_number number one)
     ++ (codes " " ++ (signal_name node one ++ (header.bits (codes " ") one ++ codes " $end")))))
 
-whole_line : (node number : ℕ) (one : Signal) → is_line (line_of node number one) ≡ true
+pub whole_line : (node number : ℕ) (one : Signal) → is_line (line_of node number one) ≡ true
 whole_line node number one =
     let id = identifier (signal_number number one) in
     let bits = header.bits (codes " ") one in
@@ -98,6 +98,13 @@ declared node number one = by (is_signal node one)
         (declaration_line (line_of node number one) (whole_line node number one) refl)
     by false = no_declaration
 
+pub whole_beginning : (node : ℕ)
+    → is_line (codes "$scope module n" ++ node_text node ++ codes " $end") ≡ true
+whole_beginning node =
+    line_append (codes "$scope module n" ++ node_text node) (codes " $end")
+    (line_append (codes "$scope module n") (node_text node) refl
+    (line_of_word (node_text node) (node_word node))) refl
+
 scope_declared : (node number : ℕ) → IsDeclaration (scope node number)
 unfolding scope header.declarations
 scope_declared node number =
@@ -106,10 +113,7 @@ scope_declared node number =
     let signals = flat_map (header.declaration node number) SIGNALS in
     declarations (front ++ signals) (codes "$upscope $end\n")
     (declarations front signals
-    (declaration_line line
-    (line_append (codes "$scope module n" ++ node_text node) (codes " $end")
-    (line_append (codes "$scope module n") (node_text node) refl
-    (line_of_word (node_text node) (node_word node))) refl) refl)
+    (declaration_line line (whole_beginning node) refl)
     (each_declaration (header.declaration node number) (declared node number) SIGNALS))
     (declaration_line (codes "$upscope $end") refl refl)
 

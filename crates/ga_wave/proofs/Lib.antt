@@ -15,5 +15,8 @@ pub mod HeaderLines
 pub mod OneOfMany
 pub mod ReadBack
 pub mod LabelWords
+pub mod NamesDiffer
+pub mod VariableLines
+pub mod DeclaredNames
 mod Worked
 mod WorkedReading

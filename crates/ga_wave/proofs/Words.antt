@@ -15,7 +15,7 @@ use Rattle.ga_place.specs.declared.side.Side.TheVariants.{Right, Down, Left, Up}
 use Rattle.ga_dump.specs.Side.{side_text}
 use Rattle.ga_wave.specs.Reading.{is_word, lines_in}
 
-none : (test : ℕ → Bool) (xs : List ℕ) → list_all (λ x. not (test x)) xs ≡ true
+pub none : (test : ℕ → Bool) (xs : List ℕ) → list_all (λ x. not (test x)) xs ≡ true
     → All (λ x. test x ≡ false) xs
 none test xs e =
     All-weaker (λ x. not (test x) ≡ true) (λ x. test x ≡ false) (λ x. not-true (test x)) xs

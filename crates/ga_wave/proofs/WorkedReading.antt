@@ -1,6 +1,7 @@
--- Readings that were worked out by hand.
-use Rattle.std.proofs.Common.{◌≡◌, ℕ, List, ◌++◌, Some, None, codes, refl}
+-- Readings of texts in VCD that were worked out by hand.
+use Rattle.std.proofs.Common.{◌≡◌, ℕ, List, [], ◌∷◌, ◌++◌, Some, None, codes, refl}
 use Rattle.ga_wave.specs.Reading.{change_in, read_at, time_in, value_in}
+use Rattle.ga_wave.specs.Variables.{declared_identifier}
 
 -- a clock, a count of four bits and a state, with an identifier of two characters
 abbrev EXAMPLE : List ℕ
@@ -10,6 +11,34 @@ EXAMPLE =
     ++ codes "$var string 1 b! state $end\n$upscope $end\n$enddefinitions $end\n"
     ++ codes "$dumpvars\n0!\nbz #\nsidle b!\n$end\n"
     ++ codes "#3\n1!\nb0 #\n#10\n0!\nscounts b!\n#12\n1!\nb1 #\n#13\n"
+
+-- ---- identifiers
+
+variables : (declared_identifier EXAMPLE (codes "chip" ∷ []) (codes "clock") ≡ Some (codes "!"))
+    × (declared_identifier EXAMPLE (codes "chip" ∷ []) (codes "count") ≡ Some (codes "#"))
+    × (declared_identifier EXAMPLE (codes "chip" ∷ []) (codes "state") ≡ Some (codes "b!"))
+    × (declared_identifier EXAMPLE (codes "chip" ∷ []) (codes "idle") ≡ None)
+    × (declared_identifier EXAMPLE [] (codes "clock") ≡ None)
+unfolding declared_identifier
+variables = (refl, refl, refl, refl, refl)
+
+-- scopes in a scope may have variables of one name
+abbrev NESTED : List ℕ
+NESTED =
+    codes "$scope module top $end\n$scope module left $end\n$var wire 1 ! at $end\n$upscope $end\n"
+    ++ codes "$scope module right $end\n$var wire 1 # at $end\n$upscope $end\n"
+    ++ codes "$var wire 1 & at $end\n$upscope $end\n$enddefinitions $end\n"
+
+nested : (declared_identifier NESTED (codes "left" ∷ codes "top" ∷ []) (codes "at")
+    ≡ Some (codes "!"))
+    × (declared_identifier NESTED (codes "right" ∷ codes "top" ∷ []) (codes "at")
+    ≡ Some (codes "#"))
+    × (declared_identifier NESTED (codes "top" ∷ []) (codes "at") ≡ Some (codes "&"))
+    × (declared_identifier NESTED (codes "right" ∷ []) (codes "at") ≡ None)
+unfolding declared_identifier
+nested = (refl, refl, refl, refl)
+
+-- ---- values
 
 -- a value holds until the next one
 clock : (read_at EXAMPLE (codes "!") 3 ≡ Some (codes "1"))
@@ -48,7 +77,8 @@ twice : read_at (codes "$enddefinitions $end\n#4\n0!\n1!\n#5\n") (codes "!") 4 �
 unfolding read_at
 twice = refl
 
--- lines
+-- ---- lines
+
 times : (time_in (codes "#120") ≡ Some 120) × (time_in (codes "#") ≡ None)
     × (time_in (codes "#1x") ≡ None) × (time_in (codes "b1 #") ≡ None)
 times = (refl, refl, refl, refl)

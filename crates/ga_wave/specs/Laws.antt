@@ -1,8 +1,9 @@
 -- What a viewer shows at a time, the words that it shows of a port, and what it reads from the
 -- text.
-use Rattle.std.specs.Prelude.{◌≡◌, ◌<◌, ℕ, zero, suc, ◌+◌, ◌^◌, ◌==◌, Bool, true, List, ◌++◌, Option, Some, None, option_map, if◌then◌else◌}
+use Rattle.std.specs.Prelude.{◌≡◌, ◌<◌, ℕ, zero, suc, ◌+◌, ◌^◌, ◌==◌, Bool, true, List, [], ◌∷◌, ◌++◌, codes, Option, Some, None, option_map, if◌then◌else◌}
 use Rattle.std.specs.List.{filter_map, list_all, range_with_len, slice_get}
 use Rattle.std.specs.Option.{option_and_then, option_or, option_to_list}
+use Rattle.ga_place.specs.Node.{node_text}
 use Rattle.ga_place.specs.declared.side.Side.{Side}
 use Rattle.ga_asm.specs.Image.{ImageView}
 use Rattle.ga_asm.specs.Text.{HasImages}
@@ -16,11 +17,13 @@ use Rattle.ga_wave.specs.declared.signal.Signal.TheVariants.{Port}
 use Rattle.ga_wave.specs.declared.value.Value.{Value}
 use Rattle.ga_wave.specs.declared.value.Value.TheVariants.{Bits}
 use Rattle.ga_wave.specs.Change.{is_new, signal_number}
+use Rattle.ga_wave.specs.Header.{signal_name}
 use Rattle.ga_wave.specs.Identifier.{identifier}
 use Rattle.ga_wave.specs.Reading.{is_word, read_at}
 use Rattle.ga_wave.specs.Sample.{pending_at}
 use Rattle.ga_wave.specs.Signal.{is_signal}
 use Rattle.ga_wave.specs.Value.{value_of, value_text}
+use Rattle.ga_wave.specs.Variables.{declared_identifier}
 use Rattle.ga_wave.specs.Wave.{chip_behind, shown_before, shown_in, shown_names, waveform}
 
 -- the value that a turn writes for a signal of a node, if it writes one
@@ -114,3 +117,18 @@ ReadsBack =
     → is_signal name signal ≡ true → turns < 2 ^ 64 → turn < turns
     → read_at (waveform images nodes start turns) (identifier (signal_number number signal)) turn
     ≡ Some (value_text images name (value_of signal (shown_in start turn name)))
+
+-- the scope of a node, by the names of the scopes that it is in, the innermost one first
+abbrev pub scope_of : ℕ → List (List ℕ)
+scope_of name = (codes "n" ++ node_text name) ∷ codes "chip" ∷ []
+
+-- A waveform declares the identifier of each signal of a node that is shown for the name of the
+-- signal, in the scope of the node. So a reader needs nothing but the text.
+abbrev pub IdentifiersAreDeclared : Type 0
+IdentifiersAreDeclared =
+    (images : List (ℕ × ImageView)) (nodes : List ℕ) (start : Chip) (number name : ℕ)
+    (signal : Signal) (turns : ℕ)
+    → slice_get (shown_names nodes) number ≡ Some name → is_signal name signal ≡ true
+    → declared_identifier (waveform images nodes start turns) (scope_of name)
+    (signal_name name signal)
+    ≡ Some (identifier (signal_number number signal))

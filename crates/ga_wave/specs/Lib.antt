@@ -10,6 +10,7 @@ pub mod Header
 pub mod Wave
 pub mod Tracer
 pub mod Reading
+pub mod Variables
 pub mod Save
 pub mod Laws
 pub mod inner

@@ -1,5 +1,5 @@
 //! Laws of the definitions. They do nothing when run.
-ghost use Rattle.ga_wave.specs.Laws.{IdentifiersDiffer, LabelsAreWords, LastValuesAreShown, ReadsBack, WordsAreInOrder};
+ghost use Rattle.ga_wave.specs.Laws.{IdentifiersAreDeclared, IdentifiersDiffer, LabelsAreWords, LastValuesAreShown, ReadsBack, WordsAreInOrder};
 
 /// At each time the last value that a waveform has of a signal is what the turn of that number
 /// shows of it.
@@ -30,4 +30,10 @@ pub fn reads_back()
 /// The labels of the images of a source text are words, as `reads_back` asks for.
 pub fn label_words()
     ensures { LabelsAreWords }
+{}
+
+/// A reader finds the identifier of a signal in the text of the waveform, by the name of the signal
+/// and by the scope of its node.
+pub fn declared_identifiers()
+    ensures { IdentifiersAreDeclared }
 {}
