@@ -17,4 +17,5 @@ mod work;
 
 pub use nodes::nodes_with_image;
 pub use save::save_text;
+pub use signal::Signal;
 pub use tracer::{Tracer, fits, push_end, waveform};

@@ -5,9 +5,9 @@ ghost use Rattle.ga_wave.specs.Signal.{SIGNALS, is_signal};
 
 use ga_place::{Node, Side, neighbour};
 
-/// What a waveform shows of a node.
+/// What a waveform shows of a node. The laws speak of it.
 #[derive(Clone, Copy)]
-pub(crate) enum Signal {
+pub enum Signal {
     /// What the node did.
     Did,
     /// The address of the word in execution, or before a fetch P.
