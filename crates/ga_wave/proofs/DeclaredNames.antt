@@ -20,8 +20,8 @@ use Rattle.ga_wave.specs.Wave as wave
 use Rattle.ga_wave.proofs.HeaderLines.{ended, whole_beginning, line_of, node_word, whole_line}
 use Rattle.ga_wave.proofs.NamesDiffer.{IsNumbered, one_number, same_node, same_signal}
 use Rattle.ga_wave.proofs.OneOfMany.{any_at, each, numbered_at, place_of, same_text}
-use Rattle.ga_wave.proofs.ReadingParts.{or_none}
-use Rattle.ga_wave.proofs.VariableLines.{Declares, declared_by, declares_both, declares_none, line_declares, neither, next_word, some_declares, variable_line}
+use Rattle.ga_wave.proofs.ReadingParts.{neither, or_none}
+use Rattle.ga_wave.proofs.VariableLines.{Declares, declared_by, declares_both, declares_none, line_declares, next_word, some_declares, variable_line}
 
 -- ---- the signals of a node
 

@@ -77,9 +77,13 @@ pub or_assoc : {T : Type 0} (one two three : Option T)
 or_assoc None two three = refl
 or_assoc (Some x) two three = refl
 
--- no value
-abbrev none : Option (List ℕ)
-none = None
+-- no value, and no identifier
+abbrev pub nothing : Option (List ℕ)
+nothing = None
+
+pub neither : (test : Bool) → (if test then nothing else nothing) ≡ nothing
+neither true = refl
+neither false = refl
 
 -- the text of a value, up to its identifier
 pub record IsValueText (text : List ℕ) : Type 0 where
@@ -126,11 +130,7 @@ abbrev pub given_by : ℕ → ℕ → Option (List ℕ) → Option (List ℕ)
 given_by time now given = if nat_le now time then given else None
 
 pub given_none : (time now : ℕ) → given_by time now None ≡ None
-given_none time now = by (nat_le now time)
-  where
-    by : (early : Bool) → (if early then none else none) ≡ none
-    by true = refl
-    by false = refl
+given_none time now = neither (nat_le now time)
 
 module _ (identifier : List ℕ) (time : ℕ) where
   -- what the lines of a text give the identifier up to the time, if the time in front of them is

@@ -84,14 +84,6 @@ variable_line node number one =
 
 -- ---- part by part
 
--- no identifier
-abbrev pub nothing : Option (List ℕ)
-nothing = None
-
-pub neither : (test : Bool) → (if test then nothing else nothing) ≡ nothing
-neither true = refl
-neither false = refl
-
 first_given : {T : Type 0} (one other : Bool) (given : Option T)
     → option_or (if one then given else None) (if other then given else None)
     ≡ (if (one || other) then given else None)

@@ -74,7 +74,7 @@ two_words one other e f =
     ∙ slice_split_at is_blank one 32 other (none is_blank one e) refl
     ∙ ap (λ words. one ∷ words) (slice_split_none is_blank other (none is_blank other f))
 
--- the characters behind a blank are none
+-- the characters from `!` on are no blanks
 visible : (byte : ℕ) → 33 ≤ byte → not (is_blank byte) ≡ true
 visible byte high = grind arith
 
