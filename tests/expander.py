@@ -53,31 +53,57 @@ def literal_of(piece):
     return None
 
 
-# Operators of an expression, from those that bind least.
-STRENGTHS = {"|": 0, "&": 1, "<<": 2, ">>": 2, "+": 3, "-": 3, "*": 4}
-MOST_LEVELS = 64
+# Operators between two operands, by how strongly they bind.
+STRENGTHS = {"|": 0, "&": 1, "<<": 2, ">>": 2, "+": 3, "-": 3, "*": 4, "/": 4, "%": 4}
+OPERATOR = re.compile("<<|>>|[|&+*/%-]")
 
 
-def split_at_weakest(text):
-    """The last of the weakest operators between two operands, outside parentheses and quotes, with what is beside it."""
-    found, depth, behind_operand, at = None, 0, False, 0
-    while at < len(text):
-        if text[at] == "'":
-            at, behind_operand = at + 3, True
-            continue
-        sign = text[at : at + 2] if text[at : at + 2] in STRENGTHS else text[at]
-        if text[at] in "()":
-            depth = max(0, depth + (1 if text[at] == "(" else -1))
-            behind_operand = text[at] == ")"
-        elif depth == 0 and behind_operand and sign in STRENGTHS:
-            if found is None or STRENGTHS[sign] <= STRENGTHS[found[0]]:
-                found = sign, text[:at], text[at + len(sign) :]
-            # The second character of a shift is read as one that isn't an operator.
-            at, behind_operand = at + len(sign) - 1, len(sign) == 2
-        else:
-            behind_operand = True
-        at += 1
-    return found
+class Reader:
+    """Reads an expression from left to right, with a method for each rule of its grammar.
+
+    An expression is its own text, if it has no parts; or a tuple: a sign and the operand behind it, "(" and what is in
+    parentheses, or an operator and the operands beside it.
+    """
+
+    def __init__(self, text):
+        self.text, self.at = text, 0
+
+    def operator(self):
+        found = OPERATOR.match(self.text, self.at)
+        return found and found[0]
+
+    def expression(self, least=0):
+        """Operands, and between them operators that bind at least as strongly as this."""
+        left = self.operand()
+        while (sign := self.operator()) and STRENGTHS[sign] >= least:
+            self.at += len(sign)
+            left = sign, left, self.expression(STRENGTHS[sign] + 1)
+        return left
+
+    def operand(self):
+        """All in front of an operator outside parentheses and quotes that is behind a number, a name or a parenthesis."""
+        start, depth, begun = self.at, 0, False
+        while self.at < len(self.text) and not (begun and depth == 0 and self.operator()):
+            character = self.text[self.at]
+            depth = max(0, depth + {"(": 1, ")": -1}.get(character, 0))
+            begun = character not in "-("
+            self.at += 3 if character == "'" else 1
+        return signed(self.text[start : self.at])
+
+
+def signed(text):
+    """A sign and an operand, an expression in parentheses, or neither."""
+    if text[:1] == "-" and text[1:2] != "-":
+        return "-", signed(text[1:])
+    if len(text) > 1 and text[0] == "(" and text[-1] == ")":
+        return "(", Reader(text[1:-1]).expression()
+    return text
+
+
+def expression_of(text):
+    """The expression that a token is, which has at most 64 bytes. Each byte is read as a character."""
+    data = text.encode()
+    return Reader(data.decode("latin-1")).expression() if len(data) <= MOST_BYTES else text
 
 
 def joined(piece, left, right):
@@ -89,44 +115,69 @@ def joined(piece, left, right):
     return Operand(left.number | right.number, False)
 
 
+def divided(left, right):
+    """The quotient that is rounded towards zero, and what is left."""
+    quotient = abs(left) // abs(right) * (1 if (left < 0) == (right < 0) else -1)
+    return quotient, left - quotient * right
+
+
 def calculated(piece, sign, left, right):
-    """What an operator but `|` makes of two words."""
-    if sign in ("<<", ">>") and right > 17:
+    """What an operator but `|` makes of two whole numbers."""
+    if sign in ("<<", ">>") and not 0 <= right <= 17 or sign in ("/", "%") and right == 0:
         raise fault_at(piece, "NumberRange")
-    number = {"&": left & right, "<<": left << min(right, 17), ">>": left >> min(right, 17), "+": left + right,
-              "-": left - right, "*": left * right}[sign]  # fmt: skip
-    if not -0x20000 <= number <= 0x3FFFF:
-        raise fault_at(piece, "NumberRange")
-    return number % 0x40000
+    results = {
+        "&": lambda: left & right, "<<": lambda: left << right, ">>": lambda: left >> right, "+": lambda: left + right,
+        "-": lambda: left - right, "*": lambda: left * right, "/": lambda: divided(left, right)[0],
+        "%": lambda: divided(left, right)[1],
+    }  # fmt: skip
+    return fitting(piece, results[sign]())
 
 
-def operand_of(piece, constants, levels=MOST_LEVELS):
-    """The value of a constant, which may be an expression."""
-    if levels == 0:
-        raise fault_at(piece, "BadToken")
-    number = literal_of(piece)
-    if number is not None:
-        return Operand(number, bool(SIDES.fullmatch(piece.text)))
-    parted = split_at_weakest(piece.text) if len(piece.text.encode()) <= MOST_BYTES else None
-    if parted:
-        sign, *sides = parted
-        left, right = (operand_of(piece._replace(text=side), constants, levels - 1) for side in sides)
-        if sign == "|":
-            return joined(piece, left, right)
-        return Operand(calculated(piece, sign, left.number, right.number), False)
-    if len(piece.text) > 1 and piece.text[0] == "(" and piece.text[-1] == ")":
-        return operand_of(piece._replace(text=piece.text[1:-1]), constants, levels - 1)
-    if piece.text in constants:
-        return constants[piece.text]
-    if piece.text in NUMBERS:
-        return Operand(NUMBERS[piece.text], piece.text in NAMES_OF_PORTS)
-    if NUMBER.fullmatch(piece.text):
-        number = int(piece.text[1:], 16) if piece.text[0] == "$" else int(piece.text)
+def fitting(piece, number):
+    """A part of an expression, whose number fits 32 bits with a sign."""
+    if not -(2**31) <= number < 2**31:
+        raise fault_at(piece, "NumberRange")
+    return Operand(number, False)
+
+
+def operand_of(piece, constants, expression):
+    """The value of an expression."""
+    if isinstance(expression, str):
+        return plain_operand(piece, constants, expression)
+    sign, *parts = expression
+    operands = [operand_of(piece, constants, it) for it in parts]
+    if sign == "(":
+        return operands[0]
+    if len(operands) == 1:
+        return fitting(piece, -operands[0].number)
+    if sign == "|":
+        return joined(piece, *operands)
+    return calculated(piece, sign, *[it.number for it in operands])
+
+
+def plain_operand(piece, constants, text):
+    """The value of a number or a constant."""
+    if text in constants:
+        return constants[text]
+    if text in NUMBERS:
+        return Operand(NUMBERS[text], text in NAMES_OF_PORTS)
+    number = literal_of(piece._replace(text=text))
+    if NUMBER.fullmatch(text):
+        number = int(text[1:], 16) if text[0] == "$" else int(text)
     if number is None:
         raise fault_at(piece, "BadToken")
     if number > 0x3FFFF:
         raise fault_at(piece, "NumberRange")
-    return Operand(number, False)
+    return Operand(number, bool(SIDES.fullmatch(text)))
+
+
+def constant_of(piece, constants):
+    """The value of a constant, which may be an expression and fits 18 bits, with a sign or without one."""
+    expression = piece.text if SIDES.fullmatch(piece.text) else expression_of(piece.text)
+    value = operand_of(piece, constants, expression)
+    if not -0x20000 <= value.number <= 0x3FFFF:
+        raise fault_at(piece, "NumberRange")
+    return value
 
 
 class Unfolder:
@@ -293,7 +344,7 @@ class Expander:
     def word(self, piece):
         number = literal_of(piece)
         if number is None and piece.text in self.constants:
-            number = self.constants[piece.text].number
+            number = self.constants[piece.text].number % 0x40000
         if number is None and not piece.text.isascii():
             raise fault_at(piece, "BadToken")
         self.written.append(piece if number is None else piece._replace(text=f"${number:05X}"))
@@ -316,7 +367,7 @@ class Expander:
             raise fault_at(name, "DuplicateName")
         if not value:
             raise fault_at(const, "OpenDefinition")
-        self.constants[name.text] = operand_of(value, self.constants)
+        self.constants[name.text] = constant_of(value, self.constants)
 
     def piece_in(self, stage, piece):
         """Expands a token where an item may begin, a value or the name of a node. Returns what may stand behind it."""

@@ -4,10 +4,11 @@
 has no end; or how many words a node needs that are more than its memory has.
 """
 import functools
+import re
 import string
 
 from assembler import NAME, NUMBER, NUMBERS, OPCODES, RAM, Fault, Layout, Parser
-from expander import MOST_BYTES, MOST_LEVELS, expanded_text, expansion, literal_of, pieces_of, split_at_weakest
+from expander import expanded_text, expansion, expression_of, literal_of, pieces_of
 from nearest import nearest
 from text_faults import part_at, part_with
 
@@ -62,21 +63,19 @@ def is_label(word, pieces):
     return bool(NAME.fullmatch(word)) and word not in [*OPCODES, *OTHER_WORDS] and any(it.text == f"{word}:" for it in pieces)
 
 
-def parts_of(text):
-    """The operands beside the operator that binds least, or what is in parentheses; or nothing."""
-    parted = split_at_weakest(text) if len(text.encode()) <= MOST_BYTES else None
-    if parted:
-        return [*parted[1:]]
-    return [text[1:-1]] if len(text) > 1 and text[0] == "(" and text[-1] == ")" else []
+def is_expression(piece, names):
+    """Whether a token is an expression of numbers, in range or not, and of names. A number with a sign is none."""
+    expression = expression_of(piece.text)
+    has_parts = not isinstance(expression, str) and not re.fullmatch("-[0-9]{1,8}", piece.text)
+    return has_parts and is_operand(piece, names, expression)
 
 
-def is_operand(piece, names, levels=MOST_LEVELS):
-    """Whether a token is a number, in range or not, or a name, or an expression of those."""
-    if levels == 0:
-        return False
-    if parts := parts_of(piece.text):
-        return all(is_operand(piece._replace(text=it), names, levels - 1) for it in parts)
-    return piece.text in names or piece.text in NUMBERS or bool(NUMBER.fullmatch(piece.text)) or is_literal(piece)
+def is_operand(piece, names, expression):
+    """Whether all that an expression is made of are numbers and names."""
+    if not isinstance(expression, str):
+        return all(is_operand(piece, names, it) for it in expression[1:])
+    text = piece._replace(text=expression)
+    return expression in names or expression in NUMBERS or bool(NUMBER.fullmatch(expression)) or is_literal(text)
 
 
 def is_literal(piece):
@@ -94,7 +93,7 @@ def token_hint(piece, pieces, text, at):
         return None if at and text[at - 1].text == "use" else f"{word} is a body: use {word}"
     if is_label(word, pieces):
         return f"{word} is a label: call {word}, or &{word} for its address; in data , {word}"
-    if parts_of(word) and is_operand(piece, constants):
+    if is_expression(piece, constants):
         return "an expression stands only behind const"
     if word in ("const", "body"):
         return "definitions come first"

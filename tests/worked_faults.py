@@ -61,7 +61,7 @@ WORDS = {
     "": ["frob", "#", "dddp", "END", "end", "include", "@p", "@P a!", "!P", "my-label", "<<<<<<<", "a/b", "!bb", "-A", "//",
      "for", "north|east b!"],
     "first": ["const A 5", "body B"],
-    "expression": ["2*3", "-5-3", "1<<4", "(1)>>(4)", "(5)", "2*(3)", "'A'+1"],
+    "expression": ["2*3", "-5-3", "1<<4", "(1)>>(4)", "(5)", "2*(3)", "'A'+1", "7/2", "7%2", "-$5", "-(5)", "-right"],
 }  # fmt: skip
 # What helps with a word in front of the first node: one with which a text may begin; of two that are near the first
 # one.
@@ -75,7 +75,7 @@ CONSTANTS = [
     ("LAST", "LATS", "near LAST"), ("PORTS", "PÖRTS", "near PORTS"), ("PORTS", "dropö", ""), ("X", "x", "near X"),
     ("dab", "dap", "near dup"), (LONG, LONG.lower(), f"near {LONG}"), (LONG, f"{LONG}QRSTUVWX", f"near {LONG}"),
     (LONG, f"{LONG}öööö", f"near {LONG}"), (LONG, f"{LONG}ööööQ", ""), ("SIZE", "SIZE-1", "expression"),
-    ("SIZE", "SIZE|1", "expression"), ("SIZE", "2*(SIZE)", "expression"),
+    ("SIZE", "SIZE|1", "expression"), ("SIZE", "2*(SIZE)", "expression"), ("SIZE", "-SIZE", "expression"),
 ]  # fmt: skip
 SEND = "body SEND PORT\n  PORT b! !b\nend\n"
 # What is behind SEND in a section `node 708`: a body, with `use` and without, and other words.
@@ -168,7 +168,7 @@ HINTED = [
     ("const RL right|left\nnode 709 RL|up a!", "2:10 expression"), ("const A 5\nnode 709 jump A+1", "2:15 expression"),
     ("const A_ 1\nconst _B 2\nnode 709 . data , A_&_B", "3:19 expression"), ("node 709 . data , A_&_B", "1:19"),
     ("const A 5\nnode 709 [ dup jump A+1 ]", "2:21 expression"), ("node 2*3 .", "1:6 expression"),
-    ("body B N\n  N\nend\nnode 709 use B 2*3", "4:16 expression"), ("const A 5/2\nnode 709 .", "1:9"),
+    ("body B N\n  N\nend\nnode 709 use B 2*3", "4:16 expression"), ("const A 5/A\nnode 709 .", "1:9"),
     ("node 708 .\nconst SIZE 8\nnode 709 SIZE-1", "2:1 first", "3:10"),
     # a body without an `end` in front of the next `body`, or of the text's end
     ("body STAGE\n  dup\nnode 708 5 use STAGE", "3:16 UnknownBody open STAGE"), ("body", "1:1 OpenDefinition"),

@@ -16,5 +16,6 @@ mod Expressions
 mod Unchanged
 mod Uses
 mod PlainTexts
+mod WorkedExpressions
 mod WorkedExpansions
 mod WorkedOperands

@@ -10,7 +10,7 @@ use Rattle.std.proofs.lemmas.Str.{IsUtf8-from_ascii}
 use Rattle.indexmap.specs.IndexMap.{insert_entry}
 use Rattle.ga_pack.specs.Model.Token.{is_letter, is_letter_or_digit, is_name}
 use Rattle.ga_source.specs.Name.{NameText}
-use Rattle.ga_expand.specs.declared.expression.Operand.{Operand}
+use Rattle.ga_expand.specs.declared.value.Operand.{Operand}
 use Rattle.ga_expand.specs.Constants.{constant_of}
 use Rattle.ga_expand.specs.inner.Constants.{constants_in}
 

@@ -11,7 +11,7 @@ use Rattle.ga_word.specs.declared.op.Op.{Op}
 use Rattle.ga_pack.specs.Model.Token.{is_name, is_reserved}
 use Rattle.ga_source.specs.Name.{NameText}
 use Rattle.ga_expand.specs.declared.error.ExpandErrorKind.{ExpandErrorKind}
-use Rattle.ga_expand.specs.declared.expression.Operand.{Operand}
+use Rattle.ga_expand.specs.declared.value.Operand.{Operand}
 use Rattle.ga_expand.specs.Constants.{Constants, constant_named, constant_of}
 use Rattle.ga_expand.specs.Expanding.{word_by, word_of}
 use Rattle.ga_expand.specs.Literal.{literal_of}

@@ -23,8 +23,8 @@ use Rattle.ga_pack.specs.Slots.{dest_bound, op_fits}
 use Rattle.ga_place.specs.Node.{node_named}
 use Rattle.ga_pack.specs.Model.Token as model
 use Rattle.ga_pack.specs.Model.Token.{Token, as_fixed, as_hex, as_label, as_name, as_node, as_op, fixed, is_letter, is_letter_or_digit, is_name, is_node, is_reserved, label_from, meaning_at, meaning_of, meanings, number_named}
-use Rattle.ga_expand.specs.declared.expression.Operand.{Operand}
-use Rattle.ga_expand.specs.Constants.{Constants, constant_named, is_taken_label, label_defined}
+use Rattle.ga_expand.specs.declared.value.Operand.{Operand}
+use Rattle.ga_expand.specs.Constants.{Constants, constant_named, constant_word, is_taken_label, label_defined}
 use Rattle.ga_expand.specs.Expanding.{Body, Head, Naming, NodeName, Piece, Scope, Stage, Towards, Value, Valuing, expansion_from, further, is_ascii, is_const, is_to, item_at, label_in, number_text, onto, piece_at, pieces_of, same_or, stage_by, start, step_at, word_at, word_of, word_step}
 use Rattle.ga_expand.specs.Bodies as bodies
 use Rattle.ga_expand.specs.Bodies.{Tokens, Unfolding, first, is_body, is_use, read_at, unfolded, unfolded_from}
@@ -112,14 +112,14 @@ no_literal c cs h =
 -- such a token is written as it is, unless it is the name of a constant
 pub plain_word : (constants : Constants) (text : List ℕ) → list_all is_plain_byte text ≡ true
     → word_of constants text
-    ≡ Ok (option_map_or (λ constant. number_text constant.word) (constant_named constants text)
-    text)
+    ≡ Ok (option_map_or (λ constant. number_text (constant_word constant))
+    (constant_named constants text) text)
 unfolding word_of literal_of
 plain_word constants [] h = refl
 plain_word constants (c ∷ cs) h = rw (no_literal c cs h) (by (constant_named constants (c ∷ cs)))
   where
     by : (o : Option Operand) → same_or o (c ∷ cs)
-        ≡ Ok (option_map_or (λ constant. number_text constant.word) o (c ∷ cs))
+        ≡ Ok (option_map_or (λ constant. number_text (constant_word constant)) o (c ∷ cs))
     by (Some constant) = refl
     by None = rw (plain_ascii (c ∷ cs) h) refl
 

@@ -23,8 +23,8 @@ use Rattle.ga_expand.specs.declared.error.ExpandError.{ExpandError}
 use Rattle.ga_expand.specs.declared.expander.Expander.{Expander}
 use Rattle.ga_expand.specs.declared.expansion.Expansion.{Expansion}
 use Rattle.ga_expand.specs.Error.{Fault, fault_of}
-use Rattle.ga_expand.specs.declared.expression.Operand.{Operand}
-use Rattle.ga_expand.specs.Constants.{Constants, constant_named, constant_of, is_kept, is_taken_label}
+use Rattle.ga_expand.specs.declared.value.Operand.{Operand}
+use Rattle.ga_expand.specs.Constants.{Constants, constant_named, constant_of, constant_word, is_kept, is_taken_label}
 use Rattle.ga_expand.specs.Expression.{value_of}
 use Rattle.ga_expand.specs.Expanding.{Body, Head, Naming, NodeName, Piece, Scope, Stage, Step, Towards, Value, Valuing, address_texts, addressed, all_at, directed, ended, expansion_from, further, in_node, is_ascii, is_const, is_to, item_at, label_in, number_step, number_text, onto, plain_at, same_or, silent, stage_by, start, step_at, valued, with_constant, with_stage, word_at, word_by, word_of, word_step}
 use Rattle.ga_expand.specs.Places.{direction_named, port_named, port_towards}
@@ -91,7 +91,8 @@ as_number_written n t place e =
 constant_or_same : (text t : List ℕ) (place : Place) (constant : Option Operand)
     → is_token text ≡ true → same_or constant text ≡ Ok t
     → is_written (record { text = t; place = place }) ≡ true
-constant_or_same text t place (Some constant) is e = as_number_written constant.word t place e
+constant_or_same text t place (Some constant) is e =
+    as_number_written (constant_word constant) t place e
 constant_or_same text t place None is e = same_written text t place (is_ascii text) refl is e
 
 word_by_written : (constants : Constants) (text t : List ℕ) (place : Place)

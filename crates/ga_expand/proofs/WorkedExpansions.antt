@@ -8,9 +8,8 @@ use Rattle.ga_pack.specs.Model.Token.{is_reserved, meaning_of}
 use Rattle.ga_place.specs.Side.{North}
 use Rattle.ga_expand.specs.declared.error.ExpandErrorKind.{ExpandErrorKind}
 use Rattle.ga_expand.specs.declared.error.ExpandErrorKind.TheVariants.{BadNode, BadToken, DuplicateName, MixedSides, NoNeighbour, NumberRange, OpenDefinition, ReservedName, TooLarge, UnknownBody}
-use Rattle.ga_expand.specs.declared.expression.Operand.{Operand}
-use Rattle.ga_expand.specs.Constants.{Constants}
-use Rattle.ga_expand.specs.Expression.{inside, left_of, made_by, parted, right_of, value_of}
+use Rattle.ga_expand.specs.Arithmetic.{made_by}
+use Rattle.ga_expand.specs.Expression.{behind_sign, inside, left_of, parted, right_of, value_of}
 use Rattle.ga_expand.specs.Error.{Fault}
 use Rattle.ga_expand.specs.Expanding.{Piece, expansion_from, pieces_of, step_at, word_of}
 use Rattle.ga_expand.specs.Bodies.{Part, SharedBody, Unfolding, first, name_error, read_at, unfolded_from, use_of}
@@ -57,96 +56,6 @@ no_side : ◌≡◌ {A = Literal} (literal_of (codes "right|io")) (Ok None)
 unfolding literal_of
 no_side = refl
 
--- ---- expressions
-
-abbrev Value : Type 0
-Value = Result Operand ExpandErrorKind
-
-abbrev number : ℕ → Operand
-number n = record { word = n; is_ports = false }
-
-abbrev ports : ℕ → Operand
-ports address = record { word = address; is_ports = true }
-
-abbrev some_constants : Constants
-some_constants = (codes "SIZE", number 8) ∷ (codes "M", number 0x3FFFF) ∷ []
-
--- `*` binds before `+`, and operators that bind alike go from left to right
-products_first : ◌≡◌ {A = Value} (value_of some_constants (codes "1+SIZE*2-3-4")) (Ok (number 10))
-unfolding value_of literal_of parted inside left_of right_of made_by
-products_first = refl
-
-in_parentheses : ◌≡◌ {A = Value} (value_of [] (codes "(1+2)*(3+4)")) (Ok (number 21))
-unfolding value_of literal_of parted inside left_of right_of made_by
-in_parentheses = refl
-
-shifts_and_masks : ◌≡◌ {A = Value} (value_of some_constants (codes "1<<SIZE|$F0&M>>4"))
-    (Ok (number 0x1F0))
-unfolding value_of literal_of parted inside left_of right_of made_by
-shifts_and_masks = refl
-
--- signs between quotes, and a sign without an operand in front of it, are no operators
-quoted_sign : ◌≡◌ {A = Value} (value_of [] (codes "'+'+'('*-131072")) (Err NumberRange)
-unfolding value_of literal_of parted inside left_of right_of made_by
-quoted_sign = refl
-
-less_than_none : ◌≡◌ {A = Value} (value_of some_constants (codes "5-SIZE")) (Ok (number 0x3FFFD))
-unfolding value_of literal_of parted inside left_of right_of made_by
-less_than_none = refl
-
-over_a_word : ◌≡◌ {A = Value} (value_of some_constants (codes "M+1")) (Err NumberRange)
-unfolding value_of literal_of parted inside left_of right_of made_by
-over_a_word = refl
-
-no_operand : ◌≡◌ {A = Value} (value_of [] (codes "5+")) (Err BadToken)
-unfolding value_of literal_of parted inside left_of right_of made_by
-no_operand = refl
-
-not_closed : ◌≡◌ {A = Value} (value_of [] (codes "(5+6")) (Err BadToken)
-unfolding value_of literal_of parted inside left_of right_of made_by
-not_closed = refl
-
--- ---- `|` and sides
-
-abbrev some_sides : Constants
-some_sides =
-    (codes "P", ports 0x1D5) ∷ (codes "RL", ports 0x1F5) ∷ (codes "MASK", number 0x111)
-    ∷ (codes "A", number 0x145) ∷ (codes "B", number 0x115) ∷ []
-
-constant_and_side : ◌≡◌ {A = Value} (value_of some_sides (codes "P|down")) (Ok (ports 0x195))
-unfolding value_of literal_of parted inside left_of right_of made_by
-constant_and_side = refl
-
-several_and_side : ◌≡◌ {A = Value} (value_of some_sides (codes "RL|up")) (Ok (ports 0x1E5))
-unfolding value_of literal_of parted inside left_of right_of made_by
-several_and_side = refl
-
-sides_in_parentheses : ◌≡◌ {A = Value} (value_of [] (codes "(right|left)|rdlu")) (Ok (ports 0x1A5))
-unfolding value_of literal_of parted inside left_of right_of made_by
-sides_in_parentheses = refl
-
-number_in_front : ◌≡◌ {A = Value} (value_of [] (codes "5|right|down")) (Err MixedSides)
-unfolding value_of literal_of parted inside left_of right_of made_by
-number_in_front = refl
-
-number_behind : ◌≡◌ {A = Value} (value_of some_sides (codes "P|MASK")) (Err MixedSides)
-unfolding value_of literal_of parted inside left_of right_of made_by
-number_behind = refl
-
--- a number in digits, or one that another operator makes, is no address of ports
-digits : ◌≡◌ {A = Value} (value_of [] (codes "$115|$145")) (Ok (number 0x155))
-unfolding value_of literal_of parted inside left_of right_of made_by
-digits = refl
-
-computed : ◌≡◌ {A = Value} (value_of some_sides (codes "P+0|down")) (Err MixedSides)
-unfolding value_of literal_of parted inside left_of right_of made_by
-computed = refl
-
--- nor is a constant that is such a number, even that of a port
-constants_of_digits : ◌≡◌ {A = Value} (value_of some_sides (codes "A|B")) (Ok (number 0x155))
-unfolding value_of literal_of parted inside left_of right_of made_by
-constants_of_digits = refl
-
 -- ---- ports: east is right in even columns, north is down in even rows
 
 abbrev Port : Type 0
@@ -189,7 +98,7 @@ constant_and_neighbour : ◌≡◌ {A = Expansion} (expansion (codes "const A 'A
     (Ok (at (codes "node") 1 13 ∷ at (codes "708") 1 18 ∷ at (codes "$00041") 1 22
     ∷ at (codes "$001D5") 1 24 ∷ at (codes "b!") 1 31 ∷ []))
 unfolding expansion unfolded_from read_at spread_from expansion_from pieces_of lexemes step_at
-    word_of literal_of value_of parted inside meaning_of is_reserved hex_digits at
+    word_of literal_of value_of parted inside behind_sign meaning_of is_reserved hex_digits at
 constant_and_neighbour = refl
 
 -- a constant is the address of ports if its value is written as one
@@ -197,14 +106,25 @@ constant_of_a_side : ◌≡◌ {A = Expansion}
     (expansion (codes "const P (right) const Q P const C Q|down node 709 C"))
     (Ok (at (codes "node") 1 42 ∷ at (codes "709") 1 47 ∷ at (codes "$00195") 1 51 ∷ []))
 unfolding expansion unfolded_from read_at spread_from expansion_from pieces_of lexemes step_at
-    word_of literal_of value_of parted inside left_of right_of made_by meaning_of is_reserved
-    hex_digits at
+    word_of literal_of value_of parted inside behind_sign left_of right_of made_by meaning_of
+    is_reserved hex_digits at
 constant_of_a_side = refl
+
+-- a constant keeps its sign, and stands for its word
+negative_constant : ◌≡◌ {A = Expansion}
+    (expansion (codes "const A -1 const B A+1 node 708 A B"))
+    (Ok (at (codes "node") 1 24 ∷ at (codes "708") 1 29 ∷ at (codes "$3FFFF") 1 33
+    ∷ at (codes "$00000") 1 35 ∷ []))
+unfolding expansion unfolded_from read_at spread_from expansion_from pieces_of lexemes step_at
+    word_of literal_of value_of parted inside behind_sign left_of right_of made_by meaning_of
+    is_reserved hex_digits at
+negative_constant = refl
 
 constant_of_digits : ◌≡◌ {A = Expansion} (expansion (codes "const A $145 const C A|right"))
     (failed MixedSides 1 22)
 unfolding expansion unfolded_from read_at spread_from expansion_from pieces_of lexemes step_at
-    literal_of value_of parted inside left_of right_of made_by is_reserved meaning_of failed
+    literal_of value_of parted inside behind_sign left_of right_of made_by is_reserved meaning_of
+    failed
 constant_of_digits = refl
 
 -- behind an opcode that takes a destination, and behind `,`, `to` and `east` are names of labels
@@ -219,7 +139,7 @@ labels_stay = refl
 open_definition : ◌≡◌ {A = Expansion} (expansion (codes "const A 1 const B"))
     (failed OpenDefinition 1 11)
 unfolding expansion unfolded_from read_at spread_from expansion_from pieces_of lexemes step_at
-    literal_of value_of parted inside is_reserved meaning_of failed
+    literal_of value_of parted inside behind_sign is_reserved meaning_of failed
 open_definition = refl
 
 reserved_name : ◌≡◌ {A = Expansion} (expansion (codes "const dup 1")) (failed ReservedName 1 7)
@@ -230,18 +150,18 @@ reserved_name = refl
 duplicate_name : ◌≡◌ {A = Expansion} (expansion (codes "const A 1 const A 2"))
     (failed DuplicateName 1 17)
 unfolding expansion unfolded_from read_at spread_from expansion_from pieces_of lexemes step_at
-    literal_of value_of parted inside is_reserved meaning_of failed
+    literal_of value_of parted inside behind_sign is_reserved meaning_of failed
 duplicate_name = refl
 
 label_of_a_constant : ◌≡◌ {A = Expansion} (expansion (codes "const A 1 node 708 A: dup"))
     (failed DuplicateName 1 20)
 unfolding expansion unfolded_from read_at spread_from expansion_from pieces_of lexemes step_at
-    word_of literal_of value_of parted inside is_reserved meaning_of failed
+    word_of literal_of value_of parted inside behind_sign is_reserved meaning_of failed
 label_of_a_constant = refl
 
 no_value : ◌≡◌ {A = Expansion} (expansion (codes "const A B")) (failed BadToken 1 9)
 unfolding expansion unfolded_from read_at spread_from expansion_from pieces_of lexemes step_at
-    literal_of value_of parted inside is_reserved meaning_of failed
+    literal_of value_of parted inside behind_sign is_reserved meaning_of failed
 no_value = refl
 
 no_neighbour : ◌≡◌ {A = Expansion} (expansion (codes "node 708 dup to 710"))
@@ -403,7 +323,7 @@ address_of_a_label : ◌≡◌ {A = Expansion} (expansion (codes "const A 1 node
     ∷ at (codes "@p") 1 20 ∷ at (codes ".") 1 20 ∷ at (codes ".") 1 20 ∷ at (codes ".") 1 20
     ∷ at (codes "]") 1 20 ∷ at (codes ",") 1 20 ∷ at (codes "A") 1 20 ∷ []))
 unfolding expansion unfolded_from read_at spread_from expansion_from pieces_of lexemes step_at
-    word_of literal_of value_of parted inside meaning_of is_reserved at
+    word_of literal_of value_of parted inside behind_sign meaning_of is_reserved at
 address_of_a_label = refl
 
 -- no name, and one that is reserved

@@ -1,18 +1,29 @@
 -- Constants, the names that they may have, and the values that tokens write.
-use Rattle.std.specs.Prelude.{◌||◌, ◌==◌, ◌-◌, ◌^◌, ℕ, Bool, false, List, [], ◌∷◌, codes, length, nat_lt, slice_index_or, take, Option, Some, None, Result, Ok, Err, if◌then◌else◌}
+use Rattle.std.specs.Prelude.{◌||◌, ◌==◌, ◌-◌, ◌^◌, ℕ, Bool, false, ℤ, pos, unsigned_abs, List, [], ◌∷◌, codes, length, nat_lt, slice_index_or, take, Option, Some, None, Result, Ok, Err, if◌then◌else◌}
+use Rattle.std.specs.Int.{int_rem_euclid}
 use Rattle.std.specs.List.{list_any}
 use Rattle.std.specs.Option.{is_some, option_map_or, option_or}
 use Rattle.std.specs.Str.{bytes_eq}
 use Rattle.ga_pack.specs.Model.Token.{is_name, is_reserved, number_named}
 use Rattle.ga_expand.specs.declared.error.ExpandErrorKind.{ExpandErrorKind}
 use Rattle.ga_expand.specs.declared.error.ExpandErrorKind.TheVariants.{BadToken, NumberRange}
-use Rattle.ga_expand.specs.declared.expression.Operand.{Operand}
+use Rattle.ga_expand.specs.declared.value.Operand.{Operand}
+use Rattle.ga_expand.specs.declared.value.Operand.TheVariants.{Number, Ports}
 use Rattle.ga_expand.specs.Literal.{numeral}
 use Rattle.ga_expand.specs.Sides.{is_side}
 
--- Names and their values: each is a number, and whether it is written as the address of ports.
+-- Names and their values: each is a whole number, or the address of ports that is written as one.
 abbrev pub Constants : Type 0
 Constants = List (List ℕ × Operand)
+
+-- the whole number that a value is
+abbrev pub number_of : Operand → ℤ
+number_of (Number number) = number
+number_of (Ports address) = pos address
+
+-- the word of a constant: its number modulo 2 ^ 18
+abbrev pub constant_word : Operand → ℕ
+constant_word value = unsigned_abs (int_rem_euclid (number_of value) (pos (2 ^ 18)))
 
 abbrev pub constant_of : Constants → List ℕ → Option Operand
 constant_of [] text = None

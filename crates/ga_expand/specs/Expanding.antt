@@ -11,8 +11,8 @@ use Rattle.ga_place.specs.Side.{Direction}
 use Rattle.ga_word.specs.Op.{takes_dest}
 use Rattle.ga_expand.specs.declared.error.ExpandErrorKind.{ExpandErrorKind}
 use Rattle.ga_expand.specs.declared.error.ExpandErrorKind.TheVariants.{BadNode, BadToken, DuplicateName, OpenDefinition, ReservedName}
-use Rattle.ga_expand.specs.declared.expression.Operand.{Operand}
-use Rattle.ga_expand.specs.Constants.{Constants, constant_named, constant_of, is_kept, is_taken_label}
+use Rattle.ga_expand.specs.declared.value.Operand.{Operand}
+use Rattle.ga_expand.specs.Constants.{Constants, constant_named, constant_of, constant_word, is_kept, is_taken_label}
 use Rattle.ga_expand.specs.Expression.{value_of}
 use Rattle.ga_expand.specs.Error.{Fault}
 use Rattle.ga_expand.specs.Literal.{literal_of}
@@ -41,7 +41,7 @@ is_ascii text = list_all (λ c. nat_lt c 128) text
 
 -- a token that writes no number of the larger language stays, if all its characters are of ASCII
 abbrev pub same_or : Option Operand → List ℕ → Result (List ℕ) ExpandErrorKind
-same_or (Some constant) text = Ok (number_text constant.word)
+same_or (Some constant) text = Ok (number_text (constant_word constant))
 same_or None text = if is_ascii text then Ok text else Err BadToken
 
 -- A number in a form of the larger language, or the name of a constant, is that number in the plain

@@ -2,6 +2,7 @@ pub mod Error
 pub mod Sides
 pub mod Literal
 pub mod Constants
+pub mod Arithmetic
 pub mod Expression
 pub mod Operand
 pub mod Places

@@ -35,6 +35,9 @@ abbrev pub as_character : List ℕ → Option ℕ
 as_character (a ∷ c ∷ b ∷ []) = if (a == 39) && (b == 39) && is_seen c then Some c else None
 as_character _ = None
 
+abbrev pub digits_or_character : List ℕ → Option ℕ
+digits_or_character text = option_or (as_binary text) (as_character text)
+
 -- The word below zero by a number, modulo 2 ^ 18. The lowest word is 2 ^ 17 below zero.
 abbrev pub negated : ℕ → Result (Option ℕ) ExpandErrorKind
 negated n = if nat_le n (2 ^ 17) then Ok (Some ((2 ^ 18 - n) % 2 ^ 18)) else Err NumberRange
@@ -43,4 +46,4 @@ negated n = if nat_le n (2 ^ 17) then Ok (Some ((2 ^ 18 - n) % 2 ^ 18)) else Err
 unfoldable pub literal_of : List ℕ → Result (Option ℕ) ExpandErrorKind
 literal_of text =
     option_map_or negated (as_negative text)
-    (Ok (option_or (as_binary text) (option_or (as_character text) (as_sides text))))
+    (Ok (option_or (digits_or_character text) (as_sides text)))

@@ -6,14 +6,15 @@ ghost use Rattle.std.specs.Str.{bytes_eq};
 ghost use Rattle.ga_pack.specs.Model.Token as plain;
 ghost use Rattle.ga_pack.specs.Model.Token.{is_name};
 ghost use Rattle.ga_expand.specs.Constants as model;
-ghost use Rattle.ga_expand.specs.Expression.{plain_number, plain_operand, value_of, value_within};
+ghost use Rattle.ga_expand.specs.Expression.{form_of, plain_number, plain_operand, value_of, value_within};
 ghost use Rattle.ga_expand.specs.declared.error.ExpandErrorKind.TheVariants.{Memory};
 ghost use Rattle.ga_expand.specs.inner.Constants.{are_free, constants_in};
 
 use crate::error::ExpandErrorKind;
-use crate::expression::{Operand, as_operand, inside, parted};
-use crate::literal::{literal, numeral};
+use crate::expression::{behind_sign, inside, parted};
+use crate::literal::{digits_or_character, numeral};
 use crate::sides::{is_side, sides};
+use crate::value::Operand;
 use ga_source::Name;
 use ga_word::{Op, Word18};
 use indexmap::IndexMap;
@@ -83,13 +84,13 @@ impl Constants {
         Ok(())
     }
 
-    /// The value that a token writes: in a form of either language, as the name of a constant, or
-    /// as an expression of at most 64 levels.
+    /// The value of a constant that a token writes: in a form of either language, as the name of a
+    /// constant, or as an expression of at most 64 levels.
     #[tactic(auto, unfolding(crate::specs::Expression::value_of))]
     pub(crate) fn value(&self, text: &[u8]) -> Result<Operand, ExpandErrorKind>
         ensures { result ≡ value_of (constants_in self.now.values.entries) text.now }
     {
-        self.value_within(64, text)
+        self.value_within(64, text)?.as_constant()
     }
 
     /// The value of an expression of at most this many levels.
@@ -99,23 +100,20 @@ impl Constants {
         if levels == 0 {
             return Err(ExpandErrorKind::BadToken);
         }
-        match literal(text) {
-            Ok(Some(word)) => Ok(Operand {
-                word,
-                is_ports: sides(text).is_some(),
-            }),
-            Ok(None) => match parted(text) {
-                Some(parting) => {
-                    let left = self.value_within(levels - 1, parting.left_of(text));
-                    let right = self.value_within(levels - 1, parting.right_of(text));
-                    parting.operator.applied(left, right)
-                }
-                None => match inside(text) {
-                    Some(within) => self.value_within(levels - 1, within),
-                    None => self.plain_operand(text),
-                },
-            },
-            Err(kind) => Err(kind),
+        if let Some(operand) = form_of(text) {
+            return Ok(operand);
+        }
+        if let Some(parting) = parted(text) {
+            let left = self.value_within(levels - 1, parting.left_of(text));
+            let right = self.value_within(levels - 1, parting.right_of(text));
+            return parting.operator.applied(left, right);
+        }
+        if let Some(within) = inside(text) {
+            return self.value_within(levels - 1, within);
+        }
+        match behind_sign(text) {
+            Some(operand) => self.value_within(levels - 1, operand)?.negated(),
+            None => self.plain_operand(text),
         }
     }
 
@@ -134,7 +132,19 @@ impl Constants {
 fn plain_number(text: &[u8]) -> Result<Operand, ExpandErrorKind>
     ensures { result ≡ plain_number text.now }
 {
-    as_operand(in_range(number(text)), names_ports(text))
+    let word = in_range(number(text))?;
+    Ok(Operand::new(word, names_ports(text)))
+}
+
+/// An operand of a form that the plain language lacks: binary digits, a character, or several
+/// sides.
+fn form_of(text: &[u8]) -> Option<Operand>
+    ensures { result ≡ form_of text.now }
+{
+    match digits_or_character(text) {
+        Some(word) => Some(Operand::new(word, false)),
+        None => Some(Operand::new(sides(text)?, true)),
+    }
 }
 
 /// A number as a word.

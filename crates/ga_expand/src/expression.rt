@@ -1,176 +1,16 @@
-//! Expressions: operators between numbers, and parentheses.
-ghost use Rattle.std.specs.Prelude.{◌≡◌, ◌+◌, ◌^◌, ◌<◌, ◌≤◌, IfSome, None, length, option_map};
+//! The parts of expressions: operators between numbers, `-` in front of them, and parentheses.
+ghost use Rattle.std.specs.Prelude.{◌≡◌, ◌+◌, ◌^◌, ◌<◌, length, option_map};
 ghost use Rattle.ga_expand.specs.Expression as model;
-ghost use Rattle.ga_expand.specs.Sides.{ports_of_both};
 
-use crate::error::ExpandErrorKind;
-use crate::sides::ports_of_both;
-use ga_word::Word18;
-
-/// An operator between two numbers.
-#[derive(Clone, Copy, PartialEq, Eq)]
-pub(crate) enum Operator {
-    Or,
-    And,
-    ShiftLeft,
-    ShiftRight,
-    Plus,
-    Minus,
-    Times,
-}
-
-impl Operator {
-    /// The operator with which a text begins.
-    fn at(text: &[u8]) -> Option<Operator>
-        ensures { result ≡ model.operator_at text.now }
-    {
-        match text {
-            [b'|', ..] => Some(Operator::Or),
-            [b'&', ..] => Some(Operator::And),
-            [b'+', ..] => Some(Operator::Plus),
-            [b'-', ..] => Some(Operator::Minus),
-            [b'*', ..] => Some(Operator::Times),
-            [b'<', b'<', ..] => Some(Operator::ShiftLeft),
-            [b'>', b'>', ..] => Some(Operator::ShiftRight),
-            _ => None,
-        }
-    }
-
-    /// How many bytes it has.
-    fn width(self) -> usize
-        ensures value { result ≡ model.width self }
-        ensures bound { result ≤ 2 }
-    {
-        match self {
-            Operator::ShiftLeft | Operator::ShiftRight => 2,
-            _ => 1,
-        }
-    }
-
-    /// How strongly it binds.
-    fn strength(self) -> u8
-        ensures { result ≡ model.strength self }
-    {
-        match self {
-            Operator::Or => 0,
-            Operator::And => 1,
-            Operator::ShiftLeft | Operator::ShiftRight => 2,
-            Operator::Plus | Operator::Minus => 3,
-            Operator::Times => 4,
-        }
-    }
-
-    /// What it makes of two operands, or why there is no result, or no operand to begin with.
-    pub(crate) fn applied(
-        self,
-        left: Result<Operand, ExpandErrorKind>,
-        right: Result<Operand, ExpandErrorKind>,
-    ) -> Result<Operand, ExpandErrorKind>
-        ensures { result ≡ model.applied self left right }
-    {
-        self.combined(left?, right?)
-    }
-
-    /// What it makes of two operands.
-    fn combined(self, left: Operand, right: Operand) -> Result<Operand, ExpandErrorKind>
-        ensures { result ≡ model.combined self left right }
-    {
-        match self {
-            Operator::Or => joined(left, right),
-            _ => as_operand(self.apply(left.word, right.word), false),
-        }
-    }
-
-    /// What it makes of two words.
-    #[tactic(auto, unfolding(crate::specs::Expression::made_by))]
-    fn apply(self, left: Word18, right: Word18) -> Result<Word18, ExpandErrorKind>
-        ensures { result ≡ model.made_by self left right }
-    {
-        let (left, right) = (u64::from(left.get()), u64::from(right.get()));
-        match self {
-            Operator::Or => as_word(left | right),
-            Operator::And => as_word(left & right),
-            Operator::ShiftLeft | Operator::ShiftRight if right > 17 => {
-                Err(ExpandErrorKind::NumberRange)
-            }
-            Operator::ShiftLeft => as_word(left << right),
-            Operator::ShiftRight => as_word(left >> right),
-            Operator::Plus => as_word(left + right),
-            Operator::Minus => difference(left, right),
-            Operator::Times => as_word(left * right),
-        }
-    }
-}
-
-/// The value of a constant, or of a part of an expression.
-#[derive(Clone, Copy)]
-pub(crate) struct Operand {
-    pub(crate) word: Word18,
-    /// It is written as the address of ports: by names of sides, or of constants that are one, and
-    /// not as a number in digits or as the result of an operator but `|`.
-    pub(crate) is_ports: bool,
-}
-
-/// A word as an operand, if there is one.
-pub(crate) fn as_operand(
-    word: Result<Word18, ExpandErrorKind>,
-    is_ports: bool,
-) -> Result<Operand, ExpandErrorKind>
-    ensures { result ≡ model.operand_of is_ports word }
-{
-    let word = word?;
-    Ok(Operand { word, is_ports })
-}
-
-/// What `|` makes of two operands: of two addresses of ports that of all their ports, and of two
-/// other numbers the bits that one of them has.
-fn joined(left: Operand, right: Operand) -> Result<Operand, ExpandErrorKind>
-    ensures { result ≡ model.joined left right }
-{
-    match (left.is_ports, right.is_ports) {
-        (true, true) => as_operand(joined_ports(left.word, right.word), true),
-        (false, false) => as_operand(Operator::Or.apply(left.word, right.word), false),
-        _ => Err(ExpandErrorKind::MixedSides),
-    }
-}
-
-/// The address of the ports of two addresses.
-fn joined_ports(left: Word18, right: Word18) -> Result<Word18, ExpandErrorKind>
-    ensures { result ≡ model.as_word (ports_of_both left right) }
-{
-    as_word(u64::from(ports_of_both(left.get(), right.get())))
-}
-
-/// A number as a word.
-fn as_word(number: u64) -> Result<Word18, ExpandErrorKind>
-    ensures { result ≡ model.as_word number }
-{
-    match u32::try_from(number) {
-        Ok(number) => Word18::new(number).ok_or(ExpandErrorKind::NumberRange),
-        Err(_) => Err(ExpandErrorKind::NumberRange),
-    }
-}
-
-/// A number less another one, which is a word below zero if that is greater.
-fn difference(left: u64, right: u64) -> Result<Word18, ExpandErrorKind>
-    requires { left < 2 ^ 18 }
-    ensures { result ≡ model.difference left right }
-{
-    if right <= left {
-        return as_word(left - right);
-    }
-    if right - left > 1 << 17 {
-        return Err(ExpandErrorKind::NumberRange);
-    }
-    as_word((1 << 18) - (right - left))
-}
+use crate::operator::Operator;
 
 /// What is known in front of a byte of an expression.
 #[derive(Clone, Copy)]
 pub(crate) struct Before {
     /// How many parentheses are parentheses.
     parentheses: usize,
-    /// An operand is there, so an operator may follow.
+    /// An operand is there, so an operator may follow. Elsewhere an operand begins, where `-` is a
+    /// sign, and `%` is in front of binary digits.
     operand: bool,
     /// How many more bytes belong to a character between quotes.
     quoted: u8,
@@ -218,6 +58,10 @@ impl Before {
                 quoted: 2,
                 ..self
             },
+            b'-' => Before {
+                operand: false,
+                ..self
+            },
             _ => Before {
                 operand: self.operator_here(text).is_none(),
                 ..self
@@ -239,7 +83,7 @@ pub(crate) struct Parting {
 pub(crate) fn parted(text: &[u8]) -> Option<Parting>
     ensures { result ≡ model.parted text.now }
 {
-    if text.len() > 64 {
+    if is_long(text) {
         return None;
     }
     let outset = Before {
@@ -304,9 +148,29 @@ pub(crate) fn inside(text: &[u8]) -> Option<&[u8]>
 {
     let (first, rest) = text.split_first()?;
     let (last, within) = rest.split_last()?;
-    if *first == b'(' && *last == b')' {
+    if *first == b'(' && *last == b')' && !is_long(text) {
         Some(within)
     } else {
         None
     }
+}
+
+/// The operand behind the `-` with which an expression begins. It begins with no other `-`.
+#[tactic(auto, unfolding(crate::specs::Expression::behind_sign))]
+pub(crate) fn behind_sign(text: &[u8]) -> Option<&[u8]>
+    ensures { option_map (λ operand. operand.now) result ≡ model.behind_sign text.now }
+{
+    let (first, operand) = text.split_first()?;
+    if *first == b'-' && operand.first() != Some(&b'-') && !is_long(text) {
+        Some(operand)
+    } else {
+        None
+    }
+}
+
+/// Whether a text is too long for an expression.
+fn is_long(text: &[u8]) -> bool
+    ensures { result ≡ model.is_long text.now }
+{
+    text.len() > 64
 }

@@ -11,6 +11,7 @@ mod literal;
 mod making;
 mod node_lists;
 mod operand;
+mod operator;
 mod piece;
 mod pieces;
 mod places;
@@ -19,6 +20,7 @@ mod sides;
 mod spelling;
 mod unfolder;
 mod unfolding;
+mod value;
 mod writing;
 
 pub use error::{ExpandError, ExpandErrorKind};

@@ -15,12 +15,19 @@ pub(crate) fn literal(text: &[u8]) -> Result<Option<Word18>, ExpandErrorKind>
     if let Some(number) = negative(text) {
         return negated(number);
     }
-    if let Some(number) = binary(text) {
-        return Ok(Some(number));
-    }
-    match character(text) {
+    match digits_or_character(text) {
         Some(number) => Ok(Some(number)),
         None => Ok(sides(text)),
+    }
+}
+
+/// The number in binary digits or of a character.
+pub(crate) fn digits_or_character(text: &[u8]) -> Option<Word18>
+    ensures { result ≡ model.digits_or_character text.now }
+{
+    match binary(text) {
+        Some(number) => Some(number),
+        None => character(text),
     }
 }
 

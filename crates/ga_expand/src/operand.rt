@@ -6,11 +6,12 @@ ghost use Rattle.ga_expand.specs.Constants.{is_among};
 ghost use Rattle.ga_expand.specs.Operand.{has_parts, is_expression, is_literal, is_operand, is_operand_within, is_plain};
 
 use crate::constants::number;
-use crate::expression::{inside, parted};
+use crate::expression::{behind_sign, inside, parted};
 use crate::literal::literal;
 
 /// Whether a token is an expression of numbers and of some names: it has an operator between two
-/// operands, or parentheses. (The rules are this project's own: profile.)
+/// operands, parentheses, or a sign in front of an operand. (The rules are this project's own:
+/// profile.)
 pub fn is_expression(names: &[&str], token: &str) -> bool
     ensures { result ≡ is_expression (map (λ name. name.now) names.now) token.now }
 {
@@ -18,11 +19,14 @@ pub fn is_expression(names: &[&str], token: &str) -> bool
     has_parts(text) && is_operand(names, text)
 }
 
-/// Whether a text has an operator between two operands, or is in parentheses.
+/// Whether a text has an operator between two operands, is in parentheses, or has a sign in front
+/// of it. `-5` is a number.
 fn has_parts(text: &[u8]) -> bool
     ensures { result ≡ has_parts text.now }
 {
-    parted(text).is_some() || inside(text).is_some()
+    parted(text).is_some()
+        || inside(text).is_some()
+        || (behind_sign(text).is_some() && !is_literal(text))
 }
 
 /// Whether a text is a number, a name, or an expression.
@@ -40,15 +44,13 @@ fn is_operand_within(levels: u32, names: &[&str], text: &[u8]) -> bool
     if levels == 0 {
         return false;
     }
-    match parted(text) {
-        Some(parting) => {
-            is_operand_within(levels - 1, names, parting.left_of(text))
-                && is_operand_within(levels - 1, names, parting.right_of(text))
-        }
-        None => match inside(text) {
-            Some(within) => is_operand_within(levels - 1, names, within),
-            None => is_plain(names, text),
-        },
+    if let Some(parting) = parted(text) {
+        return is_operand_within(levels - 1, names, parting.left_of(text))
+            && is_operand_within(levels - 1, names, parting.right_of(text));
+    }
+    match inside(text).or(behind_sign(text)) {
+        Some(operand) => is_operand_within(levels - 1, names, operand),
+        None => is_plain(names, text),
     }
 }
 

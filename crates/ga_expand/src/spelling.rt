@@ -2,7 +2,7 @@
 ghost use Rattle.std.specs.Prelude.{◌≡◌, Ok, None};
 ghost use Rattle.std.specs.List.{list_all};
 ghost use Rattle.std.specs.Option.{option_map_or};
-ghost use Rattle.ga_expand.specs.Constants.{constant_named};
+ghost use Rattle.ga_expand.specs.Constants.{constant_named, constant_word};
 ghost use Rattle.ga_expand.specs.Expanding as model;
 ghost use Rattle.ga_expand.specs.inner.Constants.{constants_in};
 ghost use Rattle.ga_expand.specs.inner.Piece.{text_of, word_in};
@@ -56,11 +56,12 @@ fn is_plain_byte(byte: u8) -> bool
 
 /// The number of a constant, or a token of ASCII as it is.
 fn spell_plain<'a>(constants: &Constants, text: &'a [u8]) -> Spelling<'a>
-    ensures { text_of result ≡ option_map_or (λ constant. model.number_text constant.word)
+    ensures { text_of result
+        ≡ option_map_or (λ constant. model.number_text (constant_word constant))
         (constant_named (constants_in constants.now.values.entries) text.now) text.now }
 {
     match constants.named(text) {
-        Some(constant) => Spelling::Number(constant.word),
+        Some(constant) => Spelling::Number(constant.word()),
         None => Spelling::Same(text),
     }
 }
@@ -71,7 +72,7 @@ fn named_or_same<'a>(constants: &Constants, text: &'a [u8]) -> Result<Spelling<'
         (Ok None) }
 {
     match constants.named(text) {
-        Some(constant) => Ok(Spelling::Number(constant.word)),
+        Some(constant) => Ok(Spelling::Number(constant.word())),
         None => same(text),
     }
 }

@@ -22,7 +22,7 @@ source_entries = (
   BAD_TOKEN.now,
 ) ∷ (
   codes "NumberRange",
-  codes "a number over $3FFFF, or a destination over $3FF outside brackets",
+  codes "a number over $3FFFF, a destination over $3FF outside brackets, or a division by 0",
   NUMBER_RANGE.now,
 ) ∷ (
   codes "BadNode",

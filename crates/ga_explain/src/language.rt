@@ -21,8 +21,8 @@ pub fn topics() -> [Topic; 5]
 const CONST: &str = "\
 const: in a FILE, 'const NAME VALUE' before the first node gives a number a
 name. VALUE is one token without blanks: a number, a constant before it, or an
-expression with + - * & | << >> and ( ). An expression can't stand elsewhere, so
-give its value a name. No label has the name of a constant.
+expression with + - * / % & | << >> and ( ), as in C. An expression can't stand
+elsewhere, so give its value a name. No label has the name of a constant.
 
   $ printf '%s\\n' 'const SIZE 8' 'const LAST SIZE-1' 'node 708 LAST push' |
     ga-bench expand

@@ -17,7 +17,7 @@ pub fn topics() -> [Topic; 10]
         ),
         topic!(
             "NumberRange",
-            "a number over $3FFFF, or a destination over $3FF outside brackets",
+            "a number over $3FFFF, a destination over $3FF outside brackets, or a division by 0",
             NUMBER_RANGE,
         ),
         topic!(
@@ -103,8 +103,8 @@ docs/COMING-FROM.md shows the notations of other assemblers beside this one.
 const NUMBER_RANGE: &str = "\
 NumberRange: a number over $3FFFF, more than 18 bits, or a destination over $3FF
 outside brackets. Write a negative number as its word: -1 is $3FFFF. In a FILE
--1 may stand, down to -131072; in expressions a value is 0 to $3FFFF, so that
-LAST+10 is too large where LAST is -5.
+-1 may stand, down to -131072. In an expression it is also a part of more than
+32 bits with its sign, a shift by more than 17, or a division by 0.
 
   $ echo 'node 709 $FFFFF' | ga-bench asm
   ga-bench: source 1:10 NumberRange

@@ -3,7 +3,7 @@ use Rattle.std.specs.Prelude.{Bool, List, map, not}
 use Rattle.std.specs.List.{list_all}
 use Rattle.ga_pack.specs.Model.Token.{is_reserved}
 use Rattle.ga_source.specs.Name.{NameText}
-use Rattle.ga_expand.specs.declared.expression.Operand.{Operand}
+use Rattle.ga_expand.specs.declared.value.Operand.{Operand}
 use Rattle.ga_expand.specs.Constants.{Constants}
 
 abbrev pub constants_in : List (NameText × Operand) → Constants
