@@ -49,7 +49,7 @@ ROUTES = ["708,709", "708,709,710/708,608/708,709,609", "708/708", "708,709/000,
 KINDS = [kind.encode().split() for kind in (
     "@p a! ; ex unext @+ @b @ !p !+ !b ! +* 2* 2/ - + and or drop dup pop over a . push b!", "jump call next if -if",
     "right down left up io rdlu warm", "0 1 2 3 5 10 17 $1D5 $3FFFF", "708 709 710 608 609 017 300", "r d l u",
-    "const body end use to north east south west", "-1 %101 'A' right|left 2*(3+4) 1<<5|3 A-1",
+    "const body end use to north east south west", "-1 %101 'A' right|left 2*(3+4) 1<<5|3 -A/2%3",
     "000 001 002 003 008 03F 041 0A9 175", "moved waits held stopped", "regs mem ports node sides depth", "break clear until",
     "step trace", "where nodes map breaks", "P A B R S T C io steps at", "none IoRead Rom Unmapped", "written read",
 )]  # fmt: skip

@@ -1,5 +1,5 @@
 -- Worked values of expressions, each worked out by hand.
-use Rattle.std.proofs.Common.{◌≡◌, ℕ, ◌-◌, ℤ, pos, negsuc, List, [], ◌∷◌, Ok, Err, Result, refl}
+use Rattle.std.proofs.Common.{◌≡◌, ℕ, ◌-◌, pos, negsuc, [], ◌∷◌, Ok, Err, Result, refl}
 use Rattle.std.specs.Prelude.{codes}
 use Rattle.ga_expand.specs.Arithmetic.{made_by}
 use Rattle.ga_expand.specs.Constants.{Constants, constant_word}

@@ -7,7 +7,7 @@ use crate::operator::Operator;
 /// What is known in front of a byte of an expression.
 #[derive(Clone, Copy)]
 pub(crate) struct Before {
-    /// How many parentheses are parentheses.
+    /// How many parentheses are open.
     parentheses: usize,
     /// An operand is there, so an operator may follow. Elsewhere an operand begins, where `-` is a
     /// sign, and `%` is in front of binary digits.

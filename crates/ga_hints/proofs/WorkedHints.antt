@@ -3,7 +3,7 @@ use Rattle.std.proofs.Common.{◌≡◌, ◌-◌, ℕ, false, List, [], ◌∷�
 use Rattle.std.specs.Prelude.{codes}
 use Rattle.std.specs.Fmt.{digits}
 use Rattle.ga_pack.specs.Model.Text.{lexemes, texts_of}
-use Rattle.ga_expand.specs.Expression.{inside, left_of, parted, right_of}
+use Rattle.ga_expand.specs.Expression.{behind_sign, inside, left_of, parted, right_of}
 use Rattle.ga_expand.specs.Literal.{literal_of}
 use Rattle.ga_expand.specs.Operand.{is_operand}
 use Rattle.ga_hints.specs.Hints.{Body, Definition, Expression, Hint, Label, bad_token_hint, is_label, label_in}
@@ -76,16 +76,22 @@ label_word = refl
 sum_word : hint_for_last (codes "const SIZE 5\nnode 1\n SIZE+1") (codes "SIZE+1")
     ≡ Some Expression
 unfolding hint_for_last names_from texts_of lexemes is_operand literal_of parted
-    inside left_of right_of
+    inside behind_sign left_of right_of
 sum_word = refl
 
+negative_word : hint_for_last (codes "const SIZE 5\nnode 1\n -SIZE") (codes "-SIZE")
+    ≡ Some Expression
+unfolding hint_for_last names_from texts_of lexemes is_operand literal_of parted
+    inside behind_sign left_of right_of
+negative_word = refl
+
 definition_word : hint_for_last (codes "node 1 dup\nconst") (codes "const") ≡ Some Definition
-unfolding hint_for_last names_from texts_of lexemes parted inside
+unfolding hint_for_last names_from texts_of lexemes literal_of parted inside behind_sign
 definition_word = refl
 
 -- an opcode that stands only in brackets is none of those that are near
 bracketed_word : hint_for_last (codes "node 1 @P") (codes "@P") ≡ None
-unfolding hint_for_last names_from texts_of lexemes parted inside
+unfolding hint_for_last names_from texts_of lexemes literal_of parted inside behind_sign
 bracketed_word = refl
 
 -- what can't be the name of a label
