@@ -11,3 +11,5 @@ pub mod Leaf
 pub mod Placed
 pub mod Watched
 pub mod Settled
+pub mod Readable
+pub mod Written
