@@ -3,10 +3,12 @@ ghost use Rattle.std.specs.Prelude.{◌≡◌, IfOk, OnOk};
 ghost use Rattle.ga_place.specs.declared.side.Side.TheVariants.{Right};
 
 use crate::plans::plan;
-use crate::values::{WRITE_12_RIGHT, array, node, nodes};
+use crate::values::{WRITE_12_RIGHT, array, chip_with, node, nodes};
 use ga_chip::{Chip, Try};
 use ga_group::Open;
-use ga_law_examples::{one_side, spinning_plans, tries_beside_stuck, two_parts};
+use ga_law_examples::{
+    one_side, plain_waveform, spinning_plans, tries_beside_stuck, two_parts, waveform_of_text,
+};
 use ga_place::{Node, Side};
 use std::alloc::Global;
 use std::test::Fail;
@@ -96,5 +98,18 @@ fn tries_beside_two_stuck_nodes(rt: HostRuntime) -> Result<(), Fail> {
     assert!(rt; chip.state(node_708).steps() == 7 && chip.state(node_000).steps() == 2);
     assert!(rt; !tries_beside_stuck(&mut chip, node_000, &tries));
     assert!(rt; chip.state(node_709).steps() == 7 && chip.state(node_000).steps() == 4);
+    Ok(())
+}
+
+#[test]
+fn waveforms_of_a_node_that_writes(rt: HostRuntime) -> Result<(), Fail> {
+    let node_708 = node(708)?;
+    let chip = chip_with(rt.alloc(), node_708, &WRITE_12_RIGHT)?;
+    let plain = plain_waveform(rt.alloc(), chip, &[node_708], 8)?;
+    assert!(rt; plain.contains("\nb10010 ,\n") && plain.contains("\ns000 \"\n"));
+    let chip = chip_with(rt.alloc(), node_708, &WRITE_12_RIGHT)?;
+    let source = "node 708 main: right b! 18 !b";
+    let labelled = waveform_of_text(rt.alloc(), chip, source, &[node_708], 8).ok_or("none")?;
+    assert!(rt; labelled.contains("\nb10010 ,\n") && labelled.contains("\nsmain \"\n"));
     Ok(())
 }
