@@ -205,6 +205,18 @@ def names(test):
                 told = f"ga-bench: {file}: input {path} Outside\n"
                 test.expect(f"written {name}, {file}", test.run(["record", "--write", file], cwd=cwd), (1, "", told))
             test.expect(f"the source {name}, {file}", test.run(["check", file], cwd=cwd), wanted)
+    # links: to a source elsewhere, to a folder elsewhere, to a source below, to nothing
+    for link, target, is_below in ("out", "../two.source", False), ("away", "..", False), ("in", "a/two.source", True):
+        os.symlink(target, f"{test.folder}/sub/{link}")
+        name = "away/two.source" if link == "away" else link
+        file = test.write("sub/linked", HEAD.replace("two.source", name) + TURN)
+        test.expect(f"any source behind a link {target}", test.run(["check", "--any-source", file]), (0, "same 1\n", ""))
+        wanted = (0, "same 1\n", "") if is_below else (1, "", f"ga-bench: input sub/{name} Outside\n")
+        test.expect(f"a link {target}", test.run(["check", file]), wanted)
+        test.expect(f"a link {target}, debug", test.run(["debug", file], "")[::2], (1 - is_below, wanted[2]))
+    os.symlink("nowhere", f"{test.folder}/sub/lost")
+    file = test.write("sub/linked", HEAD.replace("two.source", "lost") + TURN)
+    test.expect("a link to nothing", test.run(["check", file]), (1, "", "ga-bench: input sub/lost NoFile\n"))
     for name in ["-", "--", *NAMES]:
         file = test.write("sub/odd", HEAD.replace("two.source", name) + TURN)
         test.write(f"sub/{name}", TWO)

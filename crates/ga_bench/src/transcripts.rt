@@ -11,11 +11,12 @@ use ga_messages::ShownText;
 use ga_replays::record::replacement;
 use ga_replays::{FileReport, Sourced, fault_in_source, source_named};
 use ga_transcript::{Unmet, find_unmet};
+use std::io::ErrorKind::{NotFound, OutOfMemory};
 use std::io::{Read, Write};
 use std::rt::Files;
 use std::thread::Threads;
 use std::time::Clock;
-use std::{io, str};
+use std::{fs, io, str};
 
 /// Where a source may lie that a transcript names.
 #[derive(Clone, Copy)]
@@ -49,22 +50,46 @@ pub fn sourced<Rt: AllocGlobal + Files>(
         return Ok(None);
     };
     let path = source_path(alloc, file, name)?;
-    match source_input(rt, name, path.as_str(), sources) {
+    match source_input(rt, file, name, path.as_str(), sources) {
         Ok(source) => Ok(Some(Sourced::new(alloc, text, path.as_str(), &source)?)),
         Err(fault) => Err(fault_in_source(alloc, path.as_str(), fault)?),
     }
 }
 
-/// The bytes of a source with a name, if it lies where it may.
+/// The bytes of the source that the file with a name names, if it lies where it may.
 fn source_input<Rt: AllocGlobal + Files>(
     rt: &Rt,
+    file: &str,
     name: &str,
     path: &str,
     sources: Sources,
 ) -> Result<Vec<u8>, ServeError> {
     match sources {
-        Sources::Below if !is_below(name) => Err(ServeError::Input(InputFault::Outside)),
+        Sources::Below if !is_below(name) || leads_out(rt, file, path)? => {
+            Err(ServeError::Input(InputFault::Outside))
+        }
         _ => regular_input(rt, path),
+    }
+}
+
+/// Whether links lead from a path to a place outside of the folder of the file with a name, or to
+/// one whose name is no text. A path to nothing leads nowhere.
+fn leads_out<Rt: AllocGlobal + Files>(rt: &Rt, file: &str, path: &str) -> Result<bool, ServeError> {
+    let place = match fs::canonicalize(rt, path) {
+        Ok(place) => place,
+        Err(error) => {
+            return match error.kind() {
+                NotFound => Ok(false),
+                OutOfMemory => Err(ServeError::Memory),
+                _ => Ok(true),
+            };
+        }
+    };
+    let folder = source_path(rt.alloc(), file, ".")?;
+    match fs::canonicalize(rt, folder.as_str()) {
+        Ok(folder) => Ok(!place.starts_with(folder.as_str())),
+        Err(error) if error.kind() == OutOfMemory => Err(ServeError::Memory),
+        Err(_) => Ok(true),
     }
 }
 

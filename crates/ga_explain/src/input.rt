@@ -90,9 +90,10 @@ Fixed, with the name of a file, or one that is free:
 
 const OUTSIDE: &str = "\
 Outside: a transcript names a source by a name that begins with / or has a part
-'..', so it may lead out of the transcript's folder. A fault shows a line of a
-source: a transcript of somebody else could show one of any file. If you trust
-it, the flag --any-source of check, record and debug allows such a name.
+'..', or by one that links lead out of the transcript's folder. A fault shows a
+line of a source: a transcript of somebody else could show one of any file. If
+you trust it, the flag --any-source of check, record and debug allows such a
+name.
 
   $ printf 'profile 2\\nplace\\nsource ../my.source\\ngo\\n' >t; ga-bench check t
   ga-bench: input ../my.source Outside
