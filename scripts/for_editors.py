@@ -114,9 +114,10 @@ def added_tokens(words):
 
 def expression():
     """The tokens that may be expressions, and those that are one name or number."""
-    part = rf"(?:-?[0-9]{{1,8}}|\$[0-9A-Fa-f]{{1,8}}|%[01]{{1,18}}|'[!-~]'|{NAME})"
-    operator = "(?:[<]{2}|[>]{2}|[-+*|]|&)"
-    return rf"[(]*{part}(?:[)]*{operator}[(]*{part})*[)]*"
+    number = rf"(?:[0-9]{{1,8}}|\$[0-9A-Fa-f]{{1,8}}|%[01]{{1,18}}|'[!-~]'|{NAME})"
+    part = rf"(?:-?[(])*-?{number}"
+    operator = "(?:[<]{2}|[>]{2}|[-+*/|]|%|&)"
+    return rf"{part}(?:[)]*{operator}{part})*[)]*"
 
 
 def tokens(words, is_larger):

@@ -83,6 +83,7 @@ MORE = {
         ("%101 %2 % -123456789 - -1 include", "number,error,error,error,opcode,number,name"),
         ("up|down up|io right|left|up|down |up", "name of a number,number,name of a number,error"),
         ("const A 2*(ONE-1)<<3 const B (1|2 *3", "keyword,name,number,keyword,name,number,error"),
+        ("const A 7/2%%101 const B -(ONE)*-5 const C -SIZE --5", "keyword,name,number,keyword,name,number,keyword,name,number,error"),
         ("&again & &1 to: - &x", "name,error,error,label,opcode,name"),
         ('include "a.larger"', "include,include"),
         (' \tinclude \t"two words.larger" \\ "a"', "include,include,include,comment,comment"),

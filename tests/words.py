@@ -46,6 +46,7 @@ PHRASES = [
 # A file or a pattern of files, a text that is allowed there, and why.
 EXCEPTIONS = [
     ("docs/GLOSSARY.md", "a read or fetch at several ports", "the meaning of multiport read"),
+    ("crates/ga_expand/specs/Expression.antt", "Where no operand is there, one begins", "a place in a text, and no condition"),
 ]
 
 

@@ -7,7 +7,7 @@ endif
 " Of two that begin at one place, Vim takes the later one.
 syntax match gaBadNode contained "\v\S+"
 syntax match gaError "\v\S@1<!\S+\S@!"
-syntax match gaNumber "\v\S@1<![(]*%(-?[0-9]{1,8}|\$[0-9A-Fa-f]{1,8}|\%[01]{1,18}|'[!-~]'|[A-Za-z_][A-Za-z0-9_]{0,15})%([)]*%([<]{2}|[>]{2}|[-+*|]|\&)[(]*%(-?[0-9]{1,8}|\$[0-9A-Fa-f]{1,8}|\%[01]{1,18}|'[!-~]'|[A-Za-z_][A-Za-z0-9_]{0,15}))*[)]*\S@!"
+syntax match gaNumber "\v\S@1<!%(-?[(])*-?%([0-9]{1,8}|\$[0-9A-Fa-f]{1,8}|\%[01]{1,18}|'[!-~]'|[A-Za-z_][A-Za-z0-9_]{0,15})%([)]*%([<]{2}|[>]{2}|[-+*/|]|\%|\&)%(-?[(])*-?%([0-9]{1,8}|\$[0-9A-Fa-f]{1,8}|\%[01]{1,18}|'[!-~]'|[A-Za-z_][A-Za-z0-9_]{0,15}))*[)]*\S@!"
 syntax match gaName "\v\S@1<![A-Za-z_][A-Za-z0-9_]{0,15}\S@!"
 syntax match gaNumber "\v\S@1<!%([0-9]{1,8}|\$[0-9A-Fa-f]{1,8})\S@!"
 syntax match gaMark "\v\S@1<!%(\[|\]|\,|\/)\S@!"
