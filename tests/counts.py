@@ -31,10 +31,19 @@ def opcodes(word):
     return decoded(word.value)[0] if word.kind == "code" else []
 
 
+def jump_target(at, word):
+    """The address to which a word goes that has nothing but a jump, and `.` before it, else None. The destination has ten,
+    eight or three bits, and the bits above are those of P behind the fetch of the word."""
+    ops, dest = decoded(word.value)[:2]
+    if word.kind != "code" or ops[-1] != "jump" or any(op != "." for op in ops[:-1]):
+        return None
+    bound = 1 << [10, 8, 3][len(ops) - 1]
+    return (at + 1) // bound * bound + dest
+
+
 def heat(at, word, counts):
     """The highest count of a word, but none of one that only jumps to itself."""
-    is_spin = word.kind == "code" and decoded(word.value)[:2] == (["jump"], at)
-    return 0 if is_spin else max(counts[at, place] for place in PLACES)
+    return 0 if jump_target(at, word) == at else max(counts[at, place] for place in PLACES)
 
 
 def shown(count):

@@ -84,8 +84,10 @@ def idle(node):
     return IDLE._replace(sides=neighbours(node))
 
 
-# A step: the turn, how many steps the node made before it in the run, its state in front of it, and whether it is a jump of
-# a word of memory to itself.
+# The places of a node in a word.
+SLOTS = ["slot0", "slot1", "slot2", "slot3"]
+# A step: the turn, how many steps the node made before it in the run, its state in front of it, and whether it begins a word
+# of memory that only jumps to itself.
 Step = namedtuple("Step", "turn number state is_self_jump")
 # A step on a path: its turn, its place among all steps, the word of memory in execution, or None, and what it waited for: the
 # node, the need and the side of the step that ends the wait.
@@ -201,15 +203,11 @@ class Run:
         return self.replies_behind(turns, [f"try {node:03} r"]) == [["waits"]]
 
     def spins(self, turns, node):
-        """Whether a node behind some turns is about to fetch a word that jumps to itself, or to jump to one: its second step is
-        such a jump, or else its third."""
-        look = ["where", f"expect {node:03} at 000", f"try {node:03} r"]
-        replies = self.replies_behind(turns, [*look * 3, "where"])
-        states = [states_of(replies[index]).get(node, idle(node)) for index in range(0, 10, 3)]
-        states = [state._replace(at=found_in(at)) for state, (at,) in zip(states, replies[1::3])] + states[3:]
-        jumps = [jumps_to_itself(*pair) for pair in zip(states, states[1:])]
-        enters = states[0].place == "slot0" and states[0].op == "jump"
-        return jumps[2] if enters else states[0].place == "fetch" and jumps[1]
+        """Whether a node behind some turns comes back to its registers, word and place by at most four own steps."""
+        replies = self.replies_behind(turns, [f"regs {node:03}", f"expect {node:03} at 000", f"try {node:03} r"] * 5)
+        states = [(re.sub(r" steps \d+ ", " ", line), at) for (line,), at in zip(replies[::3], replies[1::3])]
+        own = [line.endswith(" need own") and tried == ["moved"] for (line, _), tried in zip(states, replies[2::3])]
+        return any(states[0] == states[period] and all(own[:period]) for period in range(1, 5))
 
     def lines_of(self, turn):
         side = "rdlu"[turn % 4]
@@ -225,7 +223,10 @@ class Run:
                 if outcome == "moved":
                     state = states[turn].get(node, idle(node))._replace(at=found_in(at), r=found_in(r))
                     after = states[turn + 1][node]
-                    steps[node].append(Step(turn, len(steps[node]), state, jumps_to_itself(state, after)))
+                    steps[node].append(Step(turn, len(steps[node]), state, False))
+                    if jumps_to_itself(steps[node], after):
+                        first = len(steps[node]) - 1 - SLOTS.index(state.place)
+                        steps[node][first] = steps[node][first]._replace(is_self_jump=True)
         return steps
 
 
@@ -238,10 +239,14 @@ def address_of(state):
     return state.p & 0x200 | state.at
 
 
-def jumps_to_itself(before, after):
-    """Whether a step runs a word of memory that only jumps to itself."""
-    address = address_of(before)
-    return before.place == "slot0" and before.op == "jump" and is_memory(address) and after.p == address
+def jumps_to_itself(steps, after):
+    """Whether the last step of a node is a jump of a word of memory to itself, which has nothing but `.` in front of it."""
+    state = steps[-1].state
+    address = address_of(state)
+    if state.op != "jump" or state.place not in SLOTS or not is_memory(address) or after.p != address:
+        return False
+    earlier = steps[-1 - SLOTS.index(state.place) : -1]
+    return all(it.state.op == "." and it.state.place == slot for it, slot in zip(earlier, SLOTS))
 
 
 @dataclass

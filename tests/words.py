@@ -47,6 +47,10 @@ PHRASES = [
 EXCEPTIONS = [
     ("docs/GLOSSARY.md", "a read or fetch at several ports", "the meaning of multiport read"),
     ("crates/ga_expand/specs/Expression.antt", "Where no operand is there, one begins", "a place in a text, and no condition"),
+    ("crates/ga_counts/specs/Heat.antt", "Where a word goes that has nothing but a jump", "an address, and no condition"),
+    ("crates/ga_counts/src/heat.rt", "Where a word at an address goes that has nothing but a jump", "an address, and no condition"),
+    ("crates/ga_profile/specs/SelfJump.antt", "Where a word goes if a jump is all of it", "an address, and no condition"),
+    ("crates/ga_node/proofs/Spun.antt", "at most so many steps", "a bound, which the next line names"),
 ]
 
 

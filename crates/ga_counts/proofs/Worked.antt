@@ -3,8 +3,9 @@ use Rattle.std.proofs.Common.{Some, ◌≡◌, ℕ, ◌+◌, ◌*◌, true, fals
 use Rattle.std.specs.Prelude.{None, codes, reverse}
 use Rattle.std.specs.Fmt.{digits}
 use Rattle.ga_word.specs.Hex.{hex_digits}
+use Rattle.ga_word.specs.Op.{op_with}
 use Rattle.ga_word.specs.declared.op.Op.TheVariants as op
-use Rattle.ga_pack.specs.Decoded.{Reading}
+use Rattle.ga_pack.specs.Decoded.{Reading, reading_of}
 use Rattle.ga_place.specs.Side.{sides_with}
 use Rattle.ga_place.specs.declared.side.Side.TheVariants.{Right}
 use Rattle.ga_node.specs.declared.place.Place.{Place}
@@ -94,6 +95,29 @@ spin_has_none = refl
 
 jump_has_some : heat 7 (Code jump_006) counts_709 ≡ 3
 jump_has_some = refl
+
+-- the heat of a word as code at an address, with these counts
+abbrev heat_at : ℕ → ℕ → ℕ
+heat_at address word = heat address (Code (reading_of word)) counts_709
+
+-- `. . jump` is 16 and 09 in slots 0 and 1 (the code 1C in exclusive or with 0A and 15), 08 in slot
+-- 2 (02 in exclusive or with 0A), and three bits. With 2, 2C942, it goes to 00A at 00A, but with 3
+-- to 00B.
+by_three_bits : (heat_at 0x00A 0x2C942 ≡ 0) × (heat_at 0x00A 0x2C943 ≡ 3)
+unfolding reading_of op_with
+by_three_bits = (refl, refl)
+
+-- with 7 it goes to 00F at 007, and to 047 at 03F, since P is 008 and 040 behind the fetch
+next_eight : (heat_at 0x007 0x2C947 ≡ 3) × (heat_at 0x03F 0x2C947 ≡ 3)
+unfolding reading_of op_with
+next_eight = (refl, refl)
+
+-- `. jump` is 16 and 17 in slots 0 and 1 (02 in exclusive or with 15), and eight bits. With 0A it
+-- goes to 00A, and with 3F to 03F, though P is 040 there.
+by_eight_bits : (heat_at 0x00A 0x2D70A ≡ 0) × (heat_at 0x00B 0x2D70A ≡ 3)
+    × (heat_at 0x03F 0x2D73F ≡ 0)
+unfolding reading_of op_with
+by_eight_bits = (refl, refl, refl)
 
 most_of_two : most_heat (λ address. counts_709) (Code jump_006 ∷ Data 7 ∷ []) ≡ 3
 unfolding most_heat

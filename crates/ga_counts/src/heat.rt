@@ -1,5 +1,6 @@
 //! The hottest lines of a node.
 ghost use Rattle.std.specs.Prelude.{◌≡◌, map};
+ghost use Rattle.ga_place.specs.Address.{advance_of};
 ghost use Rattle.ga_disasm.specs.Disassembling.{item_view};
 ghost use Rattle.ga_counts.specs.Counts.{word_counts};
 ghost use Rattle.ga_counts.specs.Heat as spec;
@@ -21,12 +22,27 @@ fn highest_count(counts: &WordCounts) -> u64
     counts.fetches.max(first.max(last))
 }
 
-/// Where a word goes that has nothing but a jump.
-fn jump_target(packed: &Packed) -> Option<u16>
-    ensures { result ≡ jump_target packed.now.ops.items packed.now.dest }
+/// P behind the fetch of the word at an address, as `ga_place::advance` has it.
+fn behind_fetch(address: usize) -> usize
+    ensures { result ≡ advance_of address }
 {
+    if address / 0x100 % 2 == 1 {
+        return address;
+    }
+    address / 0x80 * 0x80 + (address + 1) % 0x80
+}
+
+/// Where a word at an address goes that has nothing but a jump, and `.` before it. The destination
+/// replaces all of P in slot 0, its low eight bits in slot 1, and its low three in slot 2.
+fn jump_target(address: usize, packed: &Packed) -> Option<usize>
+    ensures { result ≡ jump_target address packed.now.ops.items packed.now.dest }
+{
+    let dest = usize::from(packed.dest?);
+    let p = behind_fetch(address);
     match packed.ops.as_slice() {
-        [Op::Jump] => packed.dest,
+        [Op::Jump] => Some(dest),
+        [Op::Nop, Op::Jump] => Some(p / 0x100 * 0x100 + dest % 0x100),
+        [Op::Nop, Op::Nop, Op::Jump] => Some(p / 8 * 8 + dest % 8),
         _ => None,
     }
 }
@@ -36,10 +52,7 @@ fn spins(address: usize, item: &Item) -> bool
     ensures { result ≡ spec.spins address (item_view item.now) }
 {
     match item {
-        Item::Code(packed) => match jump_target(packed) {
-            Some(target) => usize::from(target) == address,
-            None => false,
-        },
+        Item::Code(packed) => jump_target(address, packed) == Some(address),
         Item::Follower(_) | Item::Data(_) => false,
     }
 }

@@ -19,7 +19,7 @@ pub(crate) enum Mark {
     Held,
     /// A try can move it.
     Works,
-    /// It only jumps to itself.
+    /// It spins.
     Spins,
     /// It waits at its idle address.
     Idle,

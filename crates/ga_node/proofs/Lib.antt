@@ -9,3 +9,6 @@ mod StackRing
 mod WorkedNodes
 mod WorkedSteps
 mod WorkedLoader
+pub mod Uncounted
+pub mod Spun
+mod WorkedSpins

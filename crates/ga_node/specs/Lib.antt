@@ -5,4 +5,5 @@ pub mod Loader
 pub mod Slot
 pub mod Line
 pub mod Running
+pub mod Spins
 pub mod inner

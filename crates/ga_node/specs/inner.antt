@@ -3,3 +3,4 @@ pub mod Work
 pub mod Again
 pub mod Going
 pub mod Skip
+pub mod Ahead

@@ -1,5 +1,6 @@
 //! Copies of a node's state, and their comparison.
 ghost use Rattle.std.specs.Prelude.{◌≡◌, true};
+ghost use Rattle.ga_node.specs.Spins.{uncounted};
 ghost use Rattle.ga_node.specs.inner.Again.{HasSameLists, HasSameMode, HasSameRegisters};
 
 use crate::decoded::Decoded;
@@ -34,17 +35,18 @@ impl NodeState {
         }
     }
 
-    /// Whether two states are equal but for the numbers of steps. If the answer is `false`, they
-    /// may still be.
+    /// Whether two states are equal but for the numbers of steps.
     pub fn is_again(&self, other: &NodeState) -> bool
-        ensures { result ≡ true → self.now ≡ record other.now { steps = self.now.steps } }
+        ensures again { result ≡ true → self.now ≡ record other.now { steps = self.now.steps } }
+        ensures all { uncounted self.now ≡ uncounted other.now → result ≡ true }
     {
         self.has_same_registers(other) && self.has_same_mode(other) && self.has_same_lists(other)
     }
 
     /// Whether all is equal that differs in most states.
     fn has_same_registers(&self, other: &NodeState) -> bool
-        ensures { result ≡ true → HasSameRegisters self.now other.now }
+        ensures same { result ≡ true → HasSameRegisters self.now other.now }
+        ensures all { HasSameRegisters self.now other.now → result ≡ true }
     {
         self.p == other.p
             && self.place == other.place
@@ -57,7 +59,8 @@ impl NodeState {
 
     /// Whether all is equal that stands apart.
     fn has_same_mode(&self, other: &NodeState) -> bool
-        ensures { result ≡ true → HasSameMode self.now other.now }
+        ensures same { result ≡ true → HasSameMode self.now other.now }
+        ensures all { HasSameMode self.now other.now → result ≡ true }
     {
         self.io == other.io
             && self.carry == other.carry
@@ -68,7 +71,8 @@ impl NodeState {
 
     /// Whether the stacks, the loader's fields and the memory are equal.
     fn has_same_lists(&self, other: &NodeState) -> bool
-        ensures { result ≡ true → HasSameLists self.now other.now }
+        ensures same { result ≡ true → HasSameLists self.now other.now }
+        ensures all { HasSameLists self.now other.now → result ≡ true }
     {
         are_same(&self.data_stack.words(), &other.data_stack.words())
             && are_same(&self.return_stack.words(), &other.return_stack.words())
@@ -92,7 +96,8 @@ impl Loader {
 
     /// Whether two loaders keep the same.
     fn is_same(&self, other: &Loader) -> bool
-        ensures { result ≡ true → self.now ≡ other.now }
+        ensures same { result ≡ true → self.now ≡ other.now }
+        ensures all { self.now ≡ other.now → result ≡ true }
     {
         self.completion == other.completion
             && self.transfer == other.transfer
@@ -103,7 +108,8 @@ impl Loader {
 
 /// Whether words are the same.
 fn are_same(words: &[Word18], others: &[Word18]) -> bool
-    ensures { result ≡ true → words.now ≡ others.now }
+    ensures same { result ≡ true → words.now ≡ others.now }
+    ensures all { words.now ≡ others.now → result ≡ true }
 {
     words == others
 }

@@ -12,6 +12,7 @@ mod place;
 mod running;
 mod skip;
 mod slot;
+mod spinning;
 mod stack;
 mod state;
 mod step;
@@ -19,4 +20,5 @@ mod work;
 
 pub use need::{Need, Stop};
 pub use place::Place;
+pub use spinning::{Ahead, LONGEST_SPIN};
 pub use state::NodeState;

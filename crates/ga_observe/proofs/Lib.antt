@@ -3,4 +3,5 @@ pub mod Watched
 pub mod Moving
 pub mod Quiet
 pub mod Counting
+pub mod Tried
 mod WorkedSteps

@@ -1,5 +1,5 @@
 -- The definitions at worked values.
-use Rattle.std.proofs.Common.{◌≡◌, ℕ, ◌+◌, ◌*◌, true, List, [], ◌∷◌, Some, refl}
+use Rattle.std.proofs.Common.{◌≡◌, ℕ, ◌+◌, ◌*◌, true, false, List, [], ◌∷◌, Some, refl}
 use Rattle.std.specs.Prelude.{codes, None}
 use Rattle.std.specs.Fmt.{digits}
 use Rattle.ga_word.specs.Op.{op_with}
@@ -25,6 +25,7 @@ use Rattle.ga_profile.specs.NodePass.{pass_of}
 use Rattle.ga_profile.specs.NodeTurns.{NO_TURNS, after_step, turns_between, turns_in}
 use Rattle.ga_profile.specs.Passes.{passes_in, place_of}
 use Rattle.ga_profile.specs.Profile.{wait_for}
+use Rattle.ga_profile.specs.SelfJump.{jump_target, jumps_to_itself}
 use Rattle.ga_profile.specs.Share.{cell, share_of}
 use Rattle.ga_profile.specs.Table.{means, row, shares, words}
 use Rattle.ga_profile.specs.Text.{window_text}
@@ -41,6 +42,44 @@ a_step name turn place p word deed = record {
   word = word;
   deed = deed;
 }
+
+-- ---- self jumps
+
+-- 10000 jumps to 000 in slot 0 (the code 02 in exclusive or with 0A), 2D700 is `. jump` with 00 in
+-- eight bits, and 04A12 doesn't jump
+jumps : (jump_target 1 0x10000 ≡ Some 0) × (jump_target 1 0x2D700 ≡ Some 0)
+    × (jump_target 1 0x04A12 ≡ None)
+unfolding reading_of op_with
+jumps = (refl, refl, refl)
+
+-- a node begins a word behind the fetch of which P is this
+abbrev begins : ℕ → ℕ → Step
+begins p word = a_step 708 13 Slot0 p word did.Own
+
+-- `. . jump` is 16 and 09 in slots 0 and 1 (the code 1C in exclusive or with 0A and 15), 08 in slot
+-- 2 (02 in exclusive or with 0A), and three bits. With 2, 2C942, it goes to 00A at 00A, but with 3
+-- to 00B; at 007 with 7 it goes to 00F, since P is 008 there.
+by_three_bits : (jumps_to_itself (begins 0x00B 0x2C942) ≡ true)
+    × (jumps_to_itself (begins 0x00B 0x2C943) ≡ false)
+    × (jumps_to_itself (begins 0x008 0x2C947) ≡ false)
+unfolding at_word reading_of op_with
+by_three_bits = (refl, refl, refl)
+
+-- `. jump` is 16 and 17 in slots 0 and 1 (02 in exclusive or with 15), and eight bits. With 0A it
+-- goes to 00A, and to 20A if bit 9 of P is set; at 07F, behind which P is 000, it goes there with
+-- 7F.
+by_eight_bits : (jumps_to_itself (begins 0x00B 0x2D70A) ≡ true)
+    × (jumps_to_itself (begins 0x00C 0x2D70A) ≡ false)
+    × (jumps_to_itself (begins 0x20B 0x2D70A) ≡ true)
+    × (jumps_to_itself (begins 0x000 0x2D77F) ≡ true)
+unfolding at_word reading_of op_with
+by_eight_bits = (refl, refl, refl, refl)
+
+-- `jump 20A` stays in extended mode, and `jump 00A` leaves it
+by_ten_bits : (jumps_to_itself (begins 0x20B 0x1020A) ≡ true)
+    × (jumps_to_itself (begins 0x20B 0x1000A) ≡ false)
+unfolding at_word reading_of op_with
+by_ten_bits = (refl, refl)
 
 -- 708 boots, begins in turn 2, waits two turns for a word, and three for its word to be read; then
 -- it jumps to itself, by the word 10000 at 000

@@ -103,7 +103,7 @@ abbrev pub words_after : ℕ → ℕ → Option ℕ → ℕ → Bool → ℕ
 words_after count from began turn one =
     if one && is_some began && nat_le from turn then more count 1 else count
 
--- a node spins from its first jump to the word itself on
+-- a node spins from the first step on of a word that only jumps to itself
 abbrev pub spins_by : Bool → Step → Bool
 spins_by spinning step = spinning || jumps_to_itself step
 

@@ -14,7 +14,7 @@ use Rattle.ga_chip.specs.Stuck.{is_unread}
 use Rattle.ga_waits.specs.Closed.{stuck_in}
 use Rattle.ga_trace.specs.Rest.{spins}
 
--- A stuck node makes no step any more, and one that spins only jumps to itself.
+-- A stuck node makes no step any more. One that spins goes round by own steps, which read no port.
 abbrev pub never_reads : Chip → ℕ → Bool
 never_reads chip name = stuck_in chip name || spins chip name
 

@@ -1,7 +1,6 @@
 //! Steps that jump to their own word.
 ghost use Rattle.std.specs.Prelude.{◌≡◌};
-ghost use Rattle.ga_trace.specs.Rest.{target_of};
-ghost use Rattle.ga_profile.specs.SelfJump.{fetches_memory, is_memory, jumps_to_itself};
+ghost use Rattle.ga_profile.specs.SelfJump.{fetches_memory, is_memory, jump_target, jumps_to_itself};
 
 use ga_node::Place;
 use ga_observe::Step;
@@ -10,15 +9,16 @@ use ga_place::{Where, locate};
 use ga_trace::at_word;
 use ga_word::{Op, Word18};
 
-/// Whether a step runs a word of memory that only jumps to itself: from then on its node does
+/// Whether a step begins a word of memory that only jumps to itself: from then on its node does
 /// nothing else.
 pub(crate) fn jumps_to_itself(step: &Step) -> bool
     ensures { result ≡ jumps_to_itself step.now }
 {
     match step.place {
         Place::Slot0 => {
-            let address = at_word(step.place, step.p % 0x400, step.word);
-            is_memory(address) && target_of(step.word) == Some(address)
+            let p = step.p % 0x400;
+            let address = at_word(step.place, p, step.word);
+            is_memory(address) && jump_target(p, step.word) == Some(address)
         }
         _ => false,
     }
@@ -40,13 +40,18 @@ fn is_memory(address: u16) -> bool
     }
 }
 
-/// The address to which a word jumps, if a jump in slot 0 is all of it.
-fn target_of(word: Word18) -> Option<u16>
-    ensures { result ≡ target_of word }
+/// The address to which a word jumps from P behind its fetch, if a jump is all of it, but for `.`
+/// before it. The destination replaces all of P in slot 0, its low eight bits in slot 1, and its
+/// low three in slot 2.
+fn jump_target(p: u16, word: Word18) -> Option<u16>
+    ensures { result ≡ jump_target p word }
 {
     let packed = decode(word);
+    let dest = packed.dest?;
     match packed.ops.as_slice() {
-        [Op::Jump] => packed.dest,
+        [Op::Jump] => Some(dest),
+        [Op::Nop, Op::Jump] => Some(p / 0x100 * 0x100 + dest % 0x100),
+        [Op::Nop, Op::Nop, Op::Jump] => Some(p / 8 * 8 + dest % 8),
         _ => None,
     }
 }

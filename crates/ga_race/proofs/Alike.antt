@@ -17,10 +17,11 @@ use Rattle.ga_chip.specs.Run.{Event, Try, SetBreak, ClearBreak, PassBreak, Piece
 use Rattle.ga_chip.specs.Legal.{IsLegal}
 use Rattle.ga_chip.proofs.Kept.{legal_kept}
 use Rattle.ga_chip.proofs.Runs.{stand_ran}
-use Rattle.ga_race.specs.Spins.{IsSpinning, uncounted}
+use Rattle.ga_race.specs.Spins.{IsSpinning}
+use Rattle.ga_node.specs.Spins.{uncounted}
 use Rattle.ga_race.specs.Rounds.{IsAlike, unnumbered}
-use Rattle.ga_race.proofs.Uncounted.{step_same, wants_same}
-use Rattle.ga_race.proofs.Tried.{Leaves, part_else, part_here}
+use Rattle.ga_node.proofs.Uncounted.{step_same, wants_same}
+use Rattle.ga_observe.proofs.Tried.{Leaves, no_node, part_else, part_here, tried_leaves}
 use Rattle.ga_race.proofs.Longer.{own_tried, spins_else, spins_here}
 
 -- no node has made as many steps as are counted
@@ -148,26 +149,11 @@ after_alike (Take side cell) (Some word) one two e = (
 )
 after_alike (Take side cell) None one two e = (refl, e)
 
--- what a try of a node leaves
-pub tried_leaves : (chip : Chip) (name : ℕ) (side : Side) (part : Part)
-    → part_of chip name ≡ Some part
-    → Leaves chip name side part (after part side (found_by (asks part side) chip.cells)).1
-    (asks part side)
-unfolding happened tried
-tried_leaves chip name side part there =
-    record { there = there; leads = ap (λ o. (tried_at o chip name side).1) there }
-
 -- what move the try is
 pub its_move : (chip : Chip) (name : ℕ) (side : Side) (o : Option Part) → part_of chip name ≡ o
     → move_in chip (Try name side) ≡ move_at o chip name side
 unfolding move_in
 its_move chip name side o there = ap (λ p. move_at p chip name side) there
-
--- a try of no node changes nothing
-pub no_node : (chip : Chip) (name : ℕ) (side : Side) → part_of chip name ≡ None
-    → happened chip (Try name side) ≡ chip
-unfolding happened tried
-no_node chip name side none = ap (λ o. (tried_at o chip name side).1) none
 
 -- a node of two chips that are alike
 abbrev Same : Chip → Chip → ℕ → Type 0

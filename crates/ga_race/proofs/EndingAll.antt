@@ -12,7 +12,8 @@ use Rattle.ga_chip.specs.Chip.{Chip, part_of, state_of, tried}
 use Rattle.ga_chip.specs.Legal.{IsLegal}
 use Rattle.ga_chip.proofs.Tries.{tried_none}
 use Rattle.ga_race.specs.Rounds.{HasNoBreaks}
-use Rattle.ga_race.specs.Spins.{IsRestOrSpins, IsResting, IsSpinning, RestsOrSpins, ShowsSpins, Spins}
+use Rattle.ga_race.specs.Spins.{IsRestOrSpins, IsResting, IsSpinning, RestsOrSpins, ShowsSpins}
+use Rattle.ga_node.specs.Spins.{Spins}
 
 -- a name of no node rests
 none_rests : (chip : Chip) (name : ℕ) → part_of chip name ≡ None → IsResting chip name

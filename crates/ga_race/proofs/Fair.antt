@@ -21,48 +21,10 @@ use Rattle.ga_race.proofs.Embedded.{IsEmbedded, IsFedPrefix, embedded_next, runs
 use Rattle.ga_race.proofs.Room.{room_by}
 use Rattle.ga_race.proofs.Rest.{moves_free}
 use Rattle.ga_race.proofs.Longer.{free_part}
-use Rattle.ga_race.proofs.Tried.{part_else, part_here}
-use Rattle.ga_race.proofs.Alike.{AreTries, its_move, no_node, tried_leaves, tries_front, tries_join}
+use Rattle.ga_observe.proofs.Tried.{break_at, no_node, part_else, part_here, tried_leaves, try_breaks}
+use Rattle.ga_race.proofs.Alike.{AreTries, its_move, tries_front, tries_join}
 use Rattle.ga_race.proofs.TurnLists.{feed_nothing, four_try_each, some_turns, tries_of_turns, turns_split, turns_tries}
 use Rattle.ga_race.proofs.Rounds.{race_round}
-
--- a try leaves the breakpoints of its node
-same_breaks : (q : Asks) (found : Option ℕ) (part : Part)
-    → (after_asked q found part).1.breaks ≡ part.breaks
-same_breaks (Nothing outcome) found part = refl
-same_breaks Own found part = refl
-same_breaks (Feed word) found part = refl
-same_breaks (Post side cell word) found part = refl
-same_breaks (Check side cell) None part = refl
-same_breaks (Check side cell) (Some word) part = refl
-same_breaks (Take side cell) None part = refl
-same_breaks (Take side cell) (Some word) part = refl
-
--- whether an address is a breakpoint of a part
-abbrev break_at : ℕ → Option Part → Bool
-break_at address part = option_map_or (λ p. get_or p.breaks address false) part false
-
--- a try sets no breakpoint
-try_breaks : (chip : Chip) (name other address : ℕ) (side : Side) → IsLegal chip
-    → has_break (happened chip (Try name side)) other address ≡ has_break chip other address
-unfolding after
-try_breaks chip name other address side legal = by (part_of chip name) refl (cases_eq name other)
-  where
-    by : (o : Option Part) → part_of chip name ≡ o → (name ≡ other) ⊎ (name ≡ other → ⊥)
-        → has_break (happened chip (Try name side)) other address ≡ has_break chip other address
-    by None e same = ap (λ c. has_break c other address) (no_node chip name side e)
-    by (Some part) e (inl same) =
-        let leaves = tried_leaves chip name side part e in
-        let next : Part = (after part side (found_by (asks part side) chip.cells)).1 in
-        ap (λ n. has_break (happened chip (Try name side)) n address) (sym same)
-        ∙ ap (break_at address) (part_here chip name side part next (asks part side) leaves)
-        ∙ ap (λ l. get_or l address false)
-        (same_breaks (asks part side) (found_by (asks part side) chip.cells) part)
-        ∙ sym (ap (break_at address) e) ∙ ap (λ n. has_break chip n address) same
-    by (Some part) e (inr apart) =
-        ap (break_at address)
-        (part_else chip name side part (after part side (found_by (asks part side) chip.cells)).1
-        (asks part side) (tried_leaves chip name side part e) legal other apart)
 
 -- a run of tries sets no breakpoint
 pub breaks_kept : (chip : Chip) (events : List Event) → AreTries events → IsLegal chip

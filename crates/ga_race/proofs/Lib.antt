@@ -3,9 +3,7 @@ pub mod Causes
 pub mod Embedded
 pub mod Rest
 pub mod Room
-pub mod Uncounted
 pub mod Cuts
-pub mod Tried
 pub mod Longer
 pub mod Spinning
 pub mod Alike
@@ -29,8 +27,6 @@ pub mod Rows
 pub mod Details
 pub mod Keeping
 mod Worked
-mod WorkedSpins
-pub mod Spun
 pub mod Resting
 pub mod EndingAll
 pub mod Returning

@@ -21,11 +21,12 @@ use Rattle.ga_chip.proofs.Runs.{ran-append}
 use Rattle.ga_chip.proofs.Tries.{tried_none, tried_there}
 use Rattle.ga_race.specs.Clocks.{clocks, steps_in}
 use Rattle.ga_race.specs.Races.{HasNoRace, IsOrdered, LeavesOut, Posts}
-use Rattle.ga_race.specs.Spins.{IsRestOrSpins, IsResting, IsSpinning, Spins}
+use Rattle.ga_race.specs.Spins.{IsRestOrSpins, IsResting, IsSpinning}
+use Rattle.ga_node.specs.Spins.{Spins}
 use Rattle.ga_race.proofs.Prefixes.{prefix_of, its_own, next_of, not_its, only_move, prefix_both, prefix_self}
 use Rattle.ga_race.proofs.Cuts.{LastCut, last_cut}
-use Rattle.ga_race.proofs.Tried.{Leaves, part_else, part_here}
-use Rattle.ga_race.proofs.Uncounted.{spins_next, spins_own}
+use Rattle.ga_observe.proofs.Tried.{Leaves, part_else, part_here}
+use Rattle.ga_node.proofs.Uncounted.{spins_next, spins_own}
 
 -- the move of an own step
 abbrev pub own_move : ℕ → Move

@@ -17,15 +17,16 @@ use Rattle.ga_chip.specs.Legal.{IsLegal}
 use Rattle.ga_chip.proofs.Kept.{legal_kept, legal_ran}
 use Rattle.ga_chip.proofs.Runs.{part_first, ran-append}
 use Rattle.ga_race.specs.Rounds.{ComesBack, HasNoBreaks, IsAlike, unnumbered}
-use Rattle.ga_race.specs.Spins.{IsSpinning, Spins, uncounted}
+use Rattle.ga_race.specs.Spins.{IsSpinning}
+use Rattle.ga_node.specs.Spins.{Spins, uncounted}
 use Rattle.ga_race.specs.inner.Ending.{AreSpinning, IsAgain, IsKept, IsSearch}
 use Rattle.ga_race.specs.declared.ending.KeptChip.{KeptChip}
 use Rattle.ga_race.specs.declared.ending.RoundSearch.{RoundSearch}
-use Rattle.ga_race.proofs.Alike.{AreTries, no_node, tried_leaves}
+use Rattle.ga_race.proofs.Alike.{AreTries}
 use Rattle.ga_race.proofs.EndingAll.{unbroken_part}
 use Rattle.ga_race.proofs.Fair.{breaks_kept}
 use Rattle.ga_race.proofs.Longer.{own_tried, spent_asks, spins_else, spins_here}
-use Rattle.ga_race.proofs.Tried.{part_else, part_here}
+use Rattle.ga_observe.proofs.Tried.{no_node, part_else, part_here, tried_leaves}
 use Rattle.ga_race.proofs.TurnLists.{some_turns, tries_of_turns, turns_split, turns_tries}
 
 -- A node's part later in a run of tries: its stream is the same or has fewer words, and it is the

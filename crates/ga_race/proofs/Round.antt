@@ -18,7 +18,7 @@ use Rattle.ga_race.specs.Spins.{IsSpinning}
 use Rattle.ga_race.specs.Rounds.{IsAlike, unnumbered}
 use Rattle.ga_race.proofs.Prefixes.{moves_next, next_of}
 use Rattle.ga_race.proofs.Causes.{clocks_on-append, clocks_one}
-use Rattle.ga_race.proofs.Uncounted.{spins_own}
+use Rattle.ga_node.proofs.Uncounted.{spins_own}
 use Rattle.ga_race.proofs.Cuts.{Cut, cut}
 use Rattle.ga_race.proofs.Alike.{AreTries, IsCounting, RunAlike, counting_before, need_alike, need_wants, run_alike, tries_front, tries_join}
 use Rattle.ga_race.proofs.Shifted.{grows_on, shifted_from}

@@ -7,7 +7,8 @@ use Rattle.ga_chip.specs.Run.{Event, has_break, ran, turns_of, words_fed}
 use Rattle.ga_chip.specs.Legal.{IsLegal}
 use Rattle.ga_race.specs.Clocks.{steps_in}
 use Rattle.ga_race.specs.Races.{RunsAgree, HasNoRace, IsDeterminateWithin, IsFed}
-use Rattle.ga_race.specs.Spins.{IsSpinning, uncounted}
+use Rattle.ga_race.specs.Spins.{IsSpinning}
+use Rattle.ga_node.specs.Spins.{uncounted}
 
 -- A node's part without its numbers: of steps, of words written and of words read. A pass counts
 -- only where the node has a breakpoint.

@@ -1,11 +1,8 @@
 -- Nodes that spin, and what a run without races shows if some nodes spin at its end.
-use Rattle.std.specs.Prelude.{◌≡◌, ◌≢◌, ℕ, ◌≤◌, ◌<◌, zero, suc, Bool, true, false, List, get_or, ◌⊎◌, Some, None}
+use Rattle.std.specs.Prelude.{◌≡◌, ◌≢◌, ℕ, ◌≤◌, ◌<◌, Bool, true, false, List, get_or, ◌⊎◌, Some}
 use Rattle.ga_place.specs.Cell.{name_at}
 use Rattle.ga_place.specs.declared.side.Side.{Side}
-use Rattle.ga_node.specs.State.{State}
-use Rattle.ga_node.specs.Need.{wants}
-use Rattle.ga_node.specs.Slot.{step}
-use Rattle.ga_node.specs.declared.need.Need.TheVariants.{Own}
+use Rattle.ga_node.specs.Spins.{Spins}
 use Rattle.ga_chip.specs.declared.outcome.Outcome.TheVariants.{Held, Moved}
 use Rattle.ga_chip.specs.Part.{Part}
 use Rattle.ga_chip.specs.Chip.{Chip, part_of, tried}
@@ -13,29 +10,6 @@ use Rattle.ga_chip.specs.Run.{Event, ran, words_fed}
 use Rattle.ga_chip.specs.Legal.{IsLegal}
 use Rattle.ga_race.specs.Clocks.{steps_in}
 use Rattle.ga_race.specs.Races.{HasNoRace, IsDeterminate, IsFed}
-
--- a node's state after a number of own steps
-abbrev pub own_after : ℕ → State → State
-own_after zero state = state
-own_after (suc steps) state = own_after steps (step state None)
-
--- a state without its number of steps
-abbrev pub uncounted : State → State
-uncounted state = record state { steps = 0 }
-
--- A node spins: own steps alone lead from its state back to it, except for the number of steps.
-pub record Spins (state : State) : Type 0 where
-  -- the number of steps that lead back, at least one
-  pub period : ℕ
-  pub some : 1 ≤ period
-  -- each of them is the node's own work
-  pub own : (steps : ℕ) → steps < period → wants (own_after steps state) ≡ Own
-  -- behind them the state is the same
-  pub back : uncounted (own_after period state) ≡ uncounted state
-
--- A node that spins still spins after any number of own steps.
-abbrev pub StillSpins : Type 0
-StillSpins = (state : State) (steps : ℕ) → Spins state → Spins (own_after steps state)
 
 -- A node of a chip spins, and it has no breakpoint.
 pub record IsSpinning (chip : Chip) (name : ℕ) : Type 0 where

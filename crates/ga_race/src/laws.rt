@@ -1,7 +1,8 @@
 //! Laws of runs without races. They do nothing when run.
 ghost use Rattle.ga_race.specs.Races.{NoChoiceNoRace, NoRace, NoRaceAtRest};
 ghost use Rattle.ga_race.specs.Rounds.{NoRaceRound, RoundIsDeterminate};
-ghost use Rattle.ga_race.specs.Spins.{NoRaceSpinning, StillSpins};
+ghost use Rattle.ga_race.specs.Spins.{NoRaceSpinning};
+ghost use Rattle.ga_node.specs.Spins.{StillSpins};
 ghost use Rattle.ga_race.specs.Decides.{WatchDecides, WatchFindsRaces};
 ghost use Rattle.ga_race.specs.Details.{WatchShows};
 ghost use Rattle.ga_race.specs.Differs.{RaceDiffers, TriesDiffer};

@@ -8,3 +8,5 @@ pub mod Resting
 pub mod Deepening
 pub mod AllNodes
 mod Worked
+pub mod Unbroken
+pub mod Spinning

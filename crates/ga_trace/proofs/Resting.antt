@@ -1,5 +1,5 @@
 -- Turns until rest, one step of the loop at a time.
-use Rattle.std.proofs.Common.{◌≡◌, ◌∙◌, ℕ, zero, suc, ◌+◌, ◌-◌, ◌<◌, ◌≤◌, ◌==◌, Bool, true, false, List, ap, arith, length, length-append, refl, sym}
+use Rattle.std.proofs.Common.{◌≡◌, ◌∙◌, ℕ, suc, ◌+◌, ◌-◌, ◌<◌, ◌==◌, true, false, List, ap, arith, length, length-append, refl, sym}
 use Rattle.std.specs.List.{flat_map, range_with_len}
 use Rattle.ga_dump.proofs.Lines.{next_line}
 use Rattle.ga_place.specs.Cell.{name_at}

@@ -1,5 +1,5 @@
 -- Steps of one node, one at a time.
-use Rattle.std.proofs.Common.{◌≡◌, ◌∙◌, ℕ, zero, suc, ◌+◌, ◌-◌, ◌<◌, ◌≤◌, Bool, true, false, List, [], ◌∷◌, ◌++◌, add-one, ap, append-nil, append_assoc, arith, drop, drop-cons, get_or, refl, sym}
+use Rattle.std.proofs.Common.{◌≡◌, ◌∙◌, ℕ, suc, ◌+◌, ◌-◌, ◌<◌, ◌≤◌, Bool, true, false, List, ◌∷◌, add-one, ap, append_assoc, arith, drop, drop-cons, get_or, refl, sym}
 use Rattle.std.specs.Prelude.{Option, None, Some, find, if◌then◌else◌}
 use Rattle.ga_asm.specs.Image.{ImageView}
 use Rattle.ga_place.specs.Side.{SIDES}

@@ -1,6 +1,6 @@
 -- Turns of a watch, one step of its loop at a time.
-use Rattle.std.proofs.Common.{◌≡◌, ◌∙◌, ℕ, zero, suc, ◌+◌, ◌-◌, ◌<◌, ◌≤◌, ◌==◌, Bool, true, false, List, [], ◌++◌, ap, append_assoc, arith, refl, sym}
-use Rattle.std.specs.Prelude.{Option, if◌then◌else◌}
+use Rattle.std.proofs.Common.{◌≡◌, ◌∙◌, ℕ, suc, ◌+◌, ◌-◌, ◌<◌, ◌≤◌, ◌==◌, true, false, List, ◌++◌, ap, arith, refl, sym}
+use Rattle.std.specs.Prelude.{Option}
 use Rattle.ga_asm.specs.Image.{ImageView}
 use Rattle.ga_chip.specs.Chip.{Chip}
 use Rattle.ga_trace.specs.declared.traced.MadeTurn.{MadeTurn}

@@ -15,10 +15,10 @@ use Rattle.ga_observe.specs.declared.step.Deed.TheVariants.{Own, Posted, SawRead
 use Rattle.ga_observe.specs.declared.step.Step.{Step}
 use Rattle.ga_trace.specs.At.{at_word, retreat}
 use Rattle.ga_trace.specs.Line.{changes, deed_text, ram_changes}
-use Rattle.ga_trace.specs.Rest.{target_of}
 use Rattle.ga_trace.specs.Depth.{BOTH_EMPTY, EMPTY, after_step, deeper, return_change}
 use Rattle.ga_trace.specs.declared.depth.Change.TheVariants as change
 use Rattle.ga_trace.specs.declared.depth.StackDepth.{StackDepth}
+use Rattle.ga_trace.specs.Rest.{is_unbroken}
 use Rattle.ga_trace.specs.Stepped.{rest_line}
 use Rattle.ga_trace.specs.Traced.{behind, line_in, own_steps, traced}
 use Rattle.ga_trace.specs.Watched.{changes_in, changes_to, posted_at, watched}
@@ -50,11 +50,6 @@ changed : changes (reset_state 708) (record (reset_state 708) { t = 0x2C; b = 0x
     ≡ codes "  T 0002C  B 1D5"
 unfolding changes ram_changes hex_digits
 changed = refl
-
--- 10000 jumps to 000 in slot 0 (the code 02 in exclusive or with 0A), and 04A12 doesn't jump
-jumps : (target_of 0x10000 ≡ Some 0) × (target_of 0x04A12 ≡ None)
-unfolding reading_of op_with
-jumps = (refl, refl)
 
 -- to become a value is to change to it
 becomes : (changes_to (Some (Word 5)) (Word 4) (Word 5) ≡ true)
@@ -126,3 +121,8 @@ three_lines images name chip three =
     shown.lines
     ∙ ap (λ n. lines ++ (if n == 3 then [] else rest_line name (traced images name 3 chip).1)) three
     ∙ append-nil lines
+
+-- a fetch at a breakpoint, and at another address
+halts : (is_unbroken (λ at. at == 5) (record (reset_state 708) { p = 5 }) ≡ false)
+    × (is_unbroken (λ at. at == 5) (record (reset_state 708) { p = 6 }) ≡ true)
+halts = (refl, refl)

@@ -1,5 +1,5 @@
 -- The last step of a node.
-use Rattle.std.specs.Prelude.{◌≡◌, ℕ, ◌==◌, List, [], ◌∷◌, Option, Some, if◌then◌else◌}
+use Rattle.std.specs.Prelude.{ℕ, ◌==◌, List, [], ◌∷◌, Option, Some, if◌then◌else◌}
 use Rattle.ga_observe.specs.declared.step.Step.{Step}
 
 -- the last step of a node among some steps, or else the one found before them

@@ -1,5 +1,5 @@
 -- What a node shows that has a value: a register, a word of memory, a port, or where it is.
-use Rattle.std.specs.Prelude.{ℕ, ◌==◌, ◌%◌, Bool, true, false, List, [], ◌∷◌, ◌++◌, codes, get_or, Option, Some, None, if◌then◌else◌}
+use Rattle.std.specs.Prelude.{ℕ, ◌==◌, ◌%◌, Bool, true, false, List, codes, get_or, Option, Some, None, if◌then◌else◌}
 use Rattle.std.specs.Fmt.{decimal}
 use Rattle.std.specs.Option.{option_and_then, option_map_or}
 use Rattle.ga_word.specs.Hex.{hex_digits}

@@ -3,3 +3,4 @@ pub mod Stepped
 pub mod Traced
 pub mod LastSteps
 pub mod AllDepths
+pub mod Spinning

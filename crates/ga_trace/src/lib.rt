@@ -11,6 +11,7 @@ mod last_steps;
 pub mod laws;
 mod line;
 mod rest;
+mod spin_watch;
 mod stepped;
 mod traced;
 mod watched;

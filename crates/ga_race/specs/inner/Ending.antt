@@ -7,7 +7,8 @@ use Rattle.ga_chip.specs.Legal.{IsLegal}
 use Rattle.ga_chip.specs.Run.{ran, turns_of}
 use Rattle.ga_chip.specs.Stream.{left_of}
 use Rattle.ga_race.specs.Rounds.{ComesBack, HasNoBreaks}
-use Rattle.ga_race.specs.Spins.{ShowsSpins, Spins, uncounted}
+use Rattle.ga_race.specs.Spins.{ShowsSpins}
+use Rattle.ga_node.specs.Spins.{Spins, uncounted}
 use Rattle.ga_race.specs.declared.ending.KeptChip.{KeptChip}
 use Rattle.ga_race.specs.declared.ending.RoundSearch.{RoundSearch}
 use Rattle.ga_race.specs.declared.found.Race.{Race}

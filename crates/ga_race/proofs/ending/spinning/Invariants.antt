@@ -2,7 +2,7 @@ use Rattle.std.proofs.Common.{◌≡◌, ◌<◌, ℕ, Some, false, get_or, leng
 use Rattle.ga_place.specs.Cell.{name_at}
 use Rattle.ga_node.specs.State.{State}
 use Rattle.ga_chip.specs.Chip.{state_of}
-use Rattle.ga_race.specs.Spins.{Spins}
+use Rattle.ga_node.specs.Spins.{Spins}
 use Rattle.ga_race.proofs.ending.spinning.Given as goal
 
 -- of the nodes so far those spin that the list names

@@ -1,5 +1,5 @@
 use Rattle.ga_race.proofs.laws.no_race_spinning.Goals as goal
-use Rattle.ga_race.proofs.Uncounted as uncounted
+use Rattle.ga_node.proofs.Uncounted as uncounted
 use Rattle.ga_race.proofs.Spinning as spinning
 
 pub returns-clause-still : goal.returns-clause-still

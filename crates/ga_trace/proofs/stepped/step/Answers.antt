@@ -1,4 +1,4 @@
-use Rattle.std.proofs.Common.{◌≡◌, Bool, true, false, string_bytes, subst}
+use Rattle.std.proofs.Common.{string_bytes, subst}
 use Rattle.ga_waits.specs.Label.{images_in}
 use Rattle.ga_trace.specs.inner.Stepped.{Tells}
 use Rattle.ga_trace.proofs.Stepping.{step_next, step_over}

@@ -1,5 +1,5 @@
 use Rattle.std.proofs.Common.{◌∙◌, ℕ, [], ap, rules, refl}
-use Rattle.std.specs.Prelude.{Option, None}
+use Rattle.std.specs.Prelude.{Option}
 use Rattle.ga_observe.specs.declared.step.Step.{Step}
 use Rattle.ga_chip.specs.Run.{side_of_turn, turn_of}
 use Rattle.ga_observe.specs.Seen.{numbered, steps_seen}

@@ -16,7 +16,8 @@ use Rattle.ga_node.specs.Slot.{jumped, moved, row, slot_step, step, step_at, wri
 use Rattle.ga_node.specs.declared.need.Need.TheVariants as need
 use Rattle.ga_node.specs.declared.place.Place.{Place}
 use Rattle.ga_node.specs.declared.place.Place.TheVariants.{Fetch, Slot0, Completion, Transfer, Count, Body}
-use Rattle.ga_race.specs.Spins.{Spins, StillSpins, own_after, uncounted}
+use Rattle.ga_node.specs.Running.{own_run}
+use Rattle.ga_node.specs.Spins.{Spins, StillSpins, uncounted}
 
 -- a choice of two states leaves out the number of steps
 either : (b : Bool) (one other : State) (x y : State) → one ≡ uncounted x → other ≡ uncounted y
@@ -154,7 +155,7 @@ wants_same one two e = sym (need_same one.place one) ∙ ap wants e ∙ need_sam
 
 -- a step before own steps is a step behind them
 pub own_next : (steps : ℕ) (state : State)
-    → own_after steps (step state None) ≡ step (own_after steps state) None
+    → own_run steps (step state None) ≡ step (own_run steps state) None
 own_next zero state = refl
 own_next (suc steps) state = own_next steps (step state None)
 
@@ -163,22 +164,22 @@ pub spins_own : (state : State) → Spins state → wants state ≡ need.Own
 spins_own state spins = spins.own 0 spins.some
 
 -- A node that spins still spins after an own step.
-pub spins_next : (state : State) → Spins state → Spins (step state None)
+unfoldable pub spins_next : (state : State) → Spins state → Spins (step state None)
 spins_next state spins = record {
   period = spins.period;
   some = spins.some;
   own = λ steps below. by steps (cases_lt (suc steps) spins.period) below;
   back = ap uncounted (own_next spins.period state)
-      ∙ step_same (own_after spins.period state) state None spins.back;
+      ∙ step_same (own_run spins.period state) state None spins.back;
 }
   where
     by : (steps : ℕ) → (suc steps < spins.period) ⊎ (spins.period ≤ suc steps)
-        → steps < spins.period → wants (own_after steps (step state None)) ≡ need.Own
+        → steps < spins.period → wants (own_run steps (step state None)) ≡ need.Own
     by steps (inl h) below = spins.own (suc steps) h
     by steps (inr h) below =
         let last : suc steps ≡ spins.period = omega arith in
-        ap (λ n. wants (own_after n state)) last
-        ∙ wants_same (own_after spins.period state) state spins.back ∙ spins_own state spins
+        ap (λ n. wants (own_run n state)) last
+        ∙ wants_same (own_run spins.period state) state spins.back ∙ spins_own state spins
 
 -- and after any number of own steps
 pub still_spins : StillSpins
