@@ -163,12 +163,12 @@ def named_source(test, source):
     test.write(FILE, source)
     test.write("named", f"profile 2\nplace\nsource {FILE}\ngo\n")
     fault = job("asm").input_fault(source)
+    place = ":".join(map(str, fault.place))
     report = reports_of(source, [fault], FILE)[0]._replace(hint=None)
-    test.expect(f"debug, the source {source!r}", test.run(["debug", "named"]), job("debug").refusal([report]))
-    for it in job("check"), job("record"):
-        place = ":".join(map(str, fault.place))
+    for it in OF_SESSIONS:
         told = it.input_refusal(fault, source)[2].replace(f" {place} ", f" {FILE}:{place} ", 1)
-        test.expect(f"{it.line}, the source {source!r}", test.run(it.words("named")), (1, "", told))
+        wanted = (1, "", told) if it.errors == "bare" else it.refusal([report])
+        test.expect(f"{it.line}, the source {source!r}", test.run(it.words("named")), wanted)
 
 
 HEAD = "profile 2\nplace\nnode 709 .\ngo\n"

@@ -195,7 +195,7 @@ NAMED = {
     "itself": b'include "itself"\n',
 }
 NAMED_RUNS = [
-    *[(job, "x.transcript") for job in ("check", "record", "debug")],
+    *[(job, "x.transcript") for job in ("check", "record", "debug", "race", "map", "list --counts --turns 9")],
     *[(job, "good") for job in ("asm", "expand", "lint", "list --labels", "map", "profile --json --turns 9", "debug")],
     *[(job, "errors") for job in ("asm", "lint", "boot 708,709", "trace", "debug")],
     *[("list", name) for name in ("good", "missing", "malformed", "itself", "misspelt", "labels", "bodies", "full")],

@@ -100,7 +100,7 @@ TESTS = [
     script("faults_of_texts", "all errors of a text, what helps, as JSON, and in listings", whole=["--whole"]),
     script("mistakes", "what lint reports of small programs, and code that never runs", whole=["--whole"]),
     script("includes", "lines that include a file", whole=["--whole"]),
-    script("transcripts", "check and record of several transcripts, and of those that name their source", whole=["--whole"]),
+    script("transcripts", "check and record of several transcripts, and all that read one which names its source", whole=["--whole"]),
     script("explain", "the texts of explain"),
     script("commands", "the commands in help and pages"),
     script("manual", "the manual page and the completions"),

@@ -1,5 +1,5 @@
 #!/usr/bin/env python3
-"""Transcripts, several of them, and their sources: python3 tests/transcripts.py PROGRAM [--whole] [KIND..]"""
+"""Transcripts, several of them, and their sources, also of views: python3 tests/transcripts.py PROGRAM [--whole] [KIND..]"""
 import os
 import random
 import re
@@ -19,6 +19,12 @@ COMMANDS = [
     "break 709 done", "clear 709 done", "until 709 done 20", "turn x", "regs 800", "chip",
 ]  # fmt: skip
 SHOWN = 10
+# Subcommands that show a run of a session, and the same with more options.
+VIEWS = [["race"], ["map"], ["profile"], ["trace"], ["report"], ["list", "--counts"]]
+MORE_VIEWS = [
+    *([*words, "--turns", "60"] for words in VIEWS), ["race", "--witness"], ["profile", "--json"],
+    ["profile", "--from", "first", "--turns", "9"], ["trace", "--nodes", "709", "--turns", "9"],
+]  # fmt: skip
 ROOT = os.path.dirname(os.path.dirname(os.path.abspath(__file__)))
 
 
@@ -189,6 +195,7 @@ def names(test):
         test.expect(f"FILE {name!r}", test.run(["check", "--", good, name])[1], wanted)
     for file in "two.source", "sub/two.source", "sub/..x/two.source", "sub/a/two.source":
         test.write(file, TWO)
+    shown_of = {words[0]: test.run([*words, good]) for words in VIEWS}
     # whether a source of this name lies in the folder of the transcript, or below
     places = dict.fromkeys(["two.source", "./two.source", "..x/two.source", "a/two.source", "a/./two.source"], True)
     places |= dict.fromkeys(["../two.source", "../sub/two.source", "a/../two.source", "./../two.source", f"{test.folder}/two.source"], False)
@@ -200,11 +207,14 @@ def names(test):
             if not is_below:
                 path = name if name[0] == "/" else os.path.dirname(file) + "/" * ("/" in file) + name
                 wanted = 1, "", f"ga-bench: input {path} Outside\n"
-                for words in ["record"], ["debug"]:
+                for words in ["record"], ["debug"], *VIEWS:
                     test.expect(f"{words} {name}, {file}", test.run([*words, file], "", cwd=cwd), wanted)
                 told = f"ga-bench: {file}: input {path} Outside\n"
                 test.expect(f"written {name}, {file}", test.run(["record", "--write", file], cwd=cwd), (1, "", told))
             test.expect(f"the source {name}, {file}", test.run(["check", file], cwd=cwd), wanted)
+            if is_below:
+                for words in VIEWS:
+                    test.expect(f"{words} {name}, {file}", test.run([*words, file], cwd=cwd), shown_of[words[0]])
     # links: to a source elsewhere, to a folder elsewhere, to a source below, to nothing
     for link, target, is_below in ("out", "../two.source", False), ("away", "..", False), ("in", "a/two.source", True):
         os.symlink(target, f"{test.folder}/sub/{link}")
@@ -214,6 +224,9 @@ def names(test):
         wanted = (0, "same 1\n", "") if is_below else (1, "", f"ga-bench: input sub/{name} Outside\n")
         test.expect(f"a link {target}", test.run(["check", file]), wanted)
         test.expect(f"a link {target}, debug", test.run(["debug", file], "")[::2], (1 - is_below, wanted[2]))
+        for words in VIEWS:
+            told = shown_of[words[0]] if is_below else wanted
+            test.expect(f"a link {target}, {words}", test.run([*words, file]), told)
     os.symlink("nowhere", f"{test.folder}/sub/lost")
     file = test.write("sub/linked", HEAD.replace("two.source", "lost") + TURN)
     test.expect("a link to nothing", test.run(["check", file]), (1, "", "ga-bench: input sub/lost NoFile\n"))
@@ -267,16 +280,29 @@ def faults(test):
             begins(test, ["record", "--any-source", file], "", f"ga-bench: {fault}", what)
             begins(test, ["record", "--write", "--any-source", file], "", f"ga-bench: {file}: {fault}", what)
             begins(test, ["check", "--any-source", file, file], f"{file}: {fault}", "", what)
+            if name[0] == "/":
+                wanted = 1, "", f"ga-bench: input {name} Outside\n"
+            for words in VIEWS:
+                test.expect(f"{what} {words}", test.run([*words, file]), wanted)
             test.expect(f"{what} left", test.read(file), text)
     test.write("two.source", TWO)
-    heads = {"profile 3\nplace": "BadProfile", "profile 2\nplac": "BadRoute", "profile 2\nroute 708,000": "Route"}
-    for first, fault in heads.items():
+    heads = {
+        "profile 3\nplace": (1, "BadProfile"), "profile 2\nplac": (2, "BadRoute"),
+        "profile 2\nroute 708,000": (2, "Route"), "profile 2\nroute 708": (2, "Boot"),
+    }  # fmt: skip
+    for first, (line, fault) in heads.items():
         test.write("head", HEAD.replace("profile 2\nplace", first))
         begins(test, ["check", "head"], "", f"ga-bench: replay {fault}\n", first)
+        told = test.run(["debug", "head"])
+        test.holds(f"debug {first!r}", told[2].startswith(f"head:{line}:1: error: {fault}: "))
+        for words in VIEWS:
+            test.expect(f"{words} {first!r}", test.run([*words, "head"]), told)
     text = "\n" * (LIMIT - len(WHOLE)) + TURN[:-1]
     for more, wanted in (0, (0, "same 1\n", "")), (1, (1, "", "ga-bench: input TooLong\n")):
         test.write("long", HEAD + text[len(TURN) - 1 - more :])
         test.expect(f"the longest text, and {more} bytes", test.run(["check", "long"]), wanted)
+        told = (1, "", "ga-bench: long: input TooLong\n") if more else test.run(["map"], WHOLE)
+        test.expect(f"map of the longest text, and {more} bytes", test.run(["map", "long"]), told)
 
 
 def plain(test):
@@ -285,7 +311,7 @@ def plain(test):
     text, row = HEAD + TURN, 'include "two"'
     file, as_text = test.write("file", text), test.run(["check"], text)
     test.expect("standard input", first_line(as_text), (1, "", "ga-bench: source 3:1 NoNode"))
-    for words in (["check", "-"], ["record"], ["record", "-"], ["debug", "-"]):
+    for words in (["check", "-"], ["record"], ["record", "-"], ["debug", "-"], *VIEWS, *([*words, "-"] for words in VIEWS)):
         test.expect(f"{words}", test.run(words, text), as_text)
     told = test.run(["check", "-", file], text)[1].split("\n")
     wanted = ("-: source 3:1 NoNode", "file: same 1", "1 passed, 1 failed", "")
@@ -300,12 +326,20 @@ def plain(test):
         test.write("other", other)
         for name in ("check", "record"):
             test.expect(f"{name} {other!r}", test.run([name, "other"]), test.run([name], other))
+        told = [test.run([*words, "other"]) for words in VIEWS]
+        os.rename(f"{test.folder}/two.source", f"{test.folder}/away")
+        test.expect(f"views of {other!r} read no source", [test.run([*words, "other"]) for words in VIEWS], told)
+        os.rename(f"{test.folder}/away", f"{test.folder}/two.source")
+    for options in (["--place"], ["--route", "708,709"]):
+        for words in VIEWS:
+            begins(test, [*words, *options, file], "", "file:1:1: error: NoNode: ")
     begins(test, ["check", "other"], "", "ga-bench: transcript line 10 EarlyReply\n", row)
     test.write("two", "")
     test.write("two.source", f"{row}\n{TWO}")
     fault = "ga-bench: source two.source:1:1 NoNode\n"
-    for name, error in {"check": fault, "record": fault, "debug": "two.source:1:1: error: NoNode: "}.items():
-        begins(test, [name, file], "", error, "a source includes nothing,")
+    for words in ["check"], ["record"], ["debug"], *VIEWS:
+        error = fault if words[0] in ("check", "record") else "two.source:1:1: error: NoNode: "
+        begins(test, [*words, file], "", error, "a source includes nothing,")
 
 
 def random_source(dice):
@@ -358,6 +392,92 @@ def sourced(test):
         if came[0] == 0:
             test.write("file", came[1])
             test.expect(f"{number}: accepted", test.run(["check", file])[0], 0)
+
+
+RACING = "node 709\nmain: $1F5 a! @ jump warm\nnode 708 right a! 1 !\nnode 710 left a! 2 !\n"
+# What some views show of this source, behind a head of two lines.
+RACE = """\
+race: 709 at 000 main reads 1F5 (line 4); the schedule decides which word it takes
+  right 00001 from 708 at 003 (line 5)
+  left  00002 from 710 at 003 (line 6)
+"""
+COUNTS = """\
+node 709 entry 000 code 3 words 3
+  fetches  slot0  slot1  slot2  slot3  at   word    line  kind      reading
+main:
+        .                              000  04A0A      4  code      [ @p a! @ . ]
+        .                              001  001F5      4  follower  , $001F5
+*       1                              002  100A9      4  code      [ jump $000A9 ]
+"""
+
+
+def views(test):
+    """What shows a run of a session answers for a head that names its source as for the text with the source in it."""
+    test.write("sub/a/racing.source", RACING)
+    rest = "> turn 8\nmoved 0\n> regs 709\n"
+    file = test.write("sub/file", f"profile 2\nplace\nsource a/racing.source\ngo\n{rest}")
+    whole = test.write("whole", f"profile 2\nplace\n{RACING}go\n{rest}")
+    test.expect("race", test.run(["race", file]), (1, RACE, ""))
+    status, output, error = test.run(["list", "--counts", file])
+    test.expect("list --counts", (status, output[: len(COUNTS)], error), (0, COUNTS, ""))
+    status, output, error = test.run(["race", "--witness", file])
+    test.expect("a witness has the source", (status, output.partition("go\n")[0], error), (1, f"profile 2\nplace\n{RACING}", ""))
+    output = test.run(["report", file])[1]
+    test.holds("a page has the source", "\n4\tmain: $1F5 a! @ jump warm\n" in output and "\n8\t&gt; turn 8\n" in output)
+    for words in MORE_VIEWS:
+        test.expect(f"{words}", test.run([*words, file]), test.run([*words, whole]))
+        test.expect(f"{words} behind include", test.run([*words, test.write("sub/all", 'include "file"\n')]), test.run([*words, whole]))
+    test.write("sub/early", f"profile 2\nplace\nsource a/racing.source\ngo\n\nmoved 3\n{rest}")
+    test.write("sub/all", 'include "early"\n')
+    early = "sub/early:6:1: error: EarlyReply: a line that is no command or comment, with no command before it\n  moved 3\n  ^\n"
+    for words in VIEWS:
+        # `race` doesn't look at the lines behind `go`
+        wanted = (1, RACE, "") if words == ["race"] else (1, "", early)
+        for name in "sub/early", "sub/all":
+            test.expect(f"{words} {name}", test.run([*words, name]), wanted)
+    save_files(test, file, whole)
+
+
+def save_files(test, file, whole):
+    """`trace --save` writes the same for both, and replaces neither FILE nor its source."""
+    source = "sub/a/racing.source"
+    waves = [test.run(["trace", "--save", f"{name}.gtkw", name]) for name in (file, whole)]
+    test.expect("a waveform", (waves[0][::2], waves[0] == waves[1]), ((0, ""), True))
+    test.expect("a save file", test.read(f"{file}.gtkw"), test.read(f"{whole}.gtkw"))
+    told = test.run(["trace", "--nodes", "7", "--save", "none.gtkw", file])
+    test.expect("wrong nodes", told, (1, "", "ga-bench: route BadRoute\n"))
+    os.symlink("a/racing.source", f"{test.folder}/sub/link")
+    os.link(f"{test.folder}/{source}", f"{test.folder}/twin")
+    lost, before = "the source that FILE names", [test.read(source), test.read(file)]
+    saved = dict.fromkeys([source, f"./{source}", f"{test.folder}/{source}", "sub/a/../a/racing.source", "sub/link", "twin"], lost)
+    for name, what in (saved | {file: "FILE", f"./{file}": "FILE"}).items():
+        status, output, error = test.run(["trace", "--save", name, file])
+        wanted = (2, "", f"error: the save file would replace {what}")
+        test.expect(f"--save {name}", (status, output, error.split("\n")[0]), wanted)
+        test.expect(f"{name}, both are left", [test.read(source), test.read(file)], before)
+    test.write(source, "node 708 frob\n")
+    told = test.run(["trace", "--save", source, file])
+    wanted = (1, "", f"{source}:1:10: error: BadToken: ")
+    test.expect("a source with a fault", (*told[:2], told[2][: len(wanted[2])]), wanted)
+    test.expect("it is left, and nothing is written", (test.read(source), os.path.exists(f"{test.folder}/none.gtkw")), ("node 708 frob\n", False))
+
+
+def random_views(test):
+    """Random sources and commands: what is shown is that of the text with the source in it, with faults by lines of the file."""
+    dice = random.Random(2)
+    for number in range(test.size(10, 60)):
+        source, rest = random_source(dice) if number % 3 else TWO, random_rest(dice)
+        test.write("two.source", source)
+        kept = source.removesuffix("\n").split("\n")
+        kept = "".join(line + (" \n" if line == "go" else "\n") for line in kept)
+        file, whole = test.write("file", HEAD + rest), test.write("whole", f"profile 2\nplace\n{kept}go\n{rest}")
+        debugged, more = test.run(["debug", file]), kept.count("\n") - 1
+        for words in MORE_VIEWS:
+            came, wanted = test.run([*words, file]), test.run([*words, whole])
+            if debugged[2].startswith("two.source:"):
+                wanted = debugged
+            error = re.sub(r"^whole:(\d+):", lambda it: f"file:{int(it[1]) - more}:", wanted[2])
+            test.expect(f"{number}: {words}", came, (*wanted[:2], error))
 
 
 def states(test, files):
@@ -428,12 +548,14 @@ def ends(test):
     for count in 2, 500:
         status, output, _ = test.run(["check", *[good] * count])
         test.expect(f"{count} files", (status, output.split("\n")[-2]), (0, f"{count} passed, 0 failed"))
-    for words in (["check", file], ["record", file], ["check", file, file], ["check", good, good]):
+    many = ["check", file], ["record", file], ["check", file, file], ["check", good, good], *([*words, file] for words in VIEWS)
+    for words in many:
         with open("/dev/full", "wb") as full:
             test.expect(f"full: {words}", test.run(words, stdout=full), (1, "", "ga-bench: write\n"))
     if os.getuid():
         os.chmod(f"{test.folder}/two.source", 0)
-        test.expect("it may not be read", test.run(["check", file]), (1, "", "ga-bench: input two.source read\n"))
+        for words in ["check"], *VIEWS:
+            test.expect("it may not be read", test.run([*words, file]), (1, "", "ga-bench: input two.source read\n"))
         os.chmod(f"{test.folder}/two.source", 0o600)
     else:
         test.skip("a source that may not be read", "a user who isn't root")
@@ -444,4 +566,5 @@ def ends(test):
 
 
 if __name__ == "__main__":
-    main(__doc__, worked, several, expectations, hostile, names, faults, plain, sourced, rewriting, firmwares, ends)
+    kinds = worked, several, expectations, hostile, names, faults, plain, sourced, views, random_views, rewriting, firmwares, ends
+    main(__doc__, *kinds)

@@ -1,14 +1,16 @@
-//! The text of a file with those that it includes.
+//! The text of a file with those that it includes, or with the source that it names.
 use crate::reading::{has_bytes, input_named, regular_input};
+use crate::transcripts::{SourcedFile, Sources, sourced};
 use ga_diagnostics::Lines;
 use ga_include::{
     IncludeError, IncludeFaultKind, IncludePlace, Included, SourceFile, expand_includes,
     has_includes,
 };
 use ga_input::{
-    IncludeFault, IncludeRefusal, InputFault, ServeError, is_session, shown_include_fault,
+    IncludeFault, IncludeRefusal, InputFault, Loading, ServeError, is_session, shown_include_fault,
 };
-use ga_jobs::Job;
+use ga_jobs::{Ending, Job};
+use ga_replays::{Sourced, session_source};
 use std::alloc::{AllocError, Global};
 use std::io::Read;
 use std::rt::Files;
@@ -17,9 +19,17 @@ use std::str;
 /// The most files of a text.
 const MOST_FILES: usize = 64;
 
+/// The text of a file or of standard input. A session may name its source.
+#[derive(Drop)]
+pub struct FileText<'a> {
+    written: Written<'a>,
+    /// The session with the lines of the source that it names.
+    sourced: Option<SourcedFile>,
+}
+
 /// The bytes of a file or of standard input, or the text of a file that includes others.
 #[derive(Drop)]
-pub enum FileText<'a> {
+enum Written<'a> {
     Alone {
         /// The file's name; `-` is standard input.
         name: &'a str,
@@ -32,29 +42,67 @@ pub enum FileText<'a> {
 }
 
 impl FileText<'_> {
-    /// The bytes that a job reads.
+    /// The bytes that a job reads: if a session names its source, those of the whole text.
     pub fn bytes(&self) -> &[u8] {
-        match self {
-            FileText::Alone { input, .. } => input,
-            FileText::Including { made, .. } => made.text.as_bytes(),
+        match &self.sourced {
+            Some(found) => found.transcript.whole().as_bytes(),
+            None => self.written.bytes(),
+        }
+    }
+
+    /// The bytes as they were written: a session has the name of its source.
+    pub fn written(&self) -> &[u8] {
+        self.written.bytes()
+    }
+
+    /// The session whose head names its source.
+    pub fn transcript(&self) -> Option<&Sourced> {
+        match &self.sourced {
+            Some(found) => Some(&found.transcript),
+            None => None,
+        }
+    }
+
+    /// An outcome for the bytes that a job reads, with a fault by the lines that were written.
+    pub fn as_written(&self, outcome: Result<Ending, ServeError>) -> Result<Ending, ServeError> {
+        match (outcome, self.transcript()) {
+            (Err(fault), Some(transcript)) => Err(transcript.fault_in_file(fault)),
+            (outcome, _) => outcome,
         }
     }
 
     /// Whether the file with a name is one of these: it has the name of one, or the bytes.
     /// Standard input has no name.
     pub fn has_file<Rt: AllocGlobal + Files>(&self, rt: &Rt, name: &str) -> bool {
-        match self {
-            FileText::Alone { name: "-", input } => has_bytes(rt, name, input),
-            FileText::Alone { name: own, input } => *own == name || has_bytes(rt, name, input),
-            FileText::Including { files, .. } => is_among(rt, name, files),
+        match &self.written {
+            Written::Alone { name: "-", input } => has_bytes(rt, name, input),
+            Written::Alone { name: own, input } => *own == name || has_bytes(rt, name, input),
+            Written::Including { files, .. } => is_among(rt, name, files),
         }
     }
 
-    /// Where their lines were written.
+    /// The same of the source that a session names.
+    pub fn has_source<Rt: AllocGlobal + Files>(&self, rt: &Rt, name: &str) -> bool {
+        match &self.sourced {
+            Some(found) => found.has_source(rt, name),
+            None => false,
+        }
+    }
+
+    /// Where the lines were written.
     pub fn lines(&self) -> Lines<'_> {
+        match &self.written {
+            Written::Alone { name, .. } => Lines::File(name),
+            Written::Including { files, made } => Lines::Files(files, made),
+        }
+    }
+}
+
+impl Written<'_> {
+    fn bytes(&self) -> &[u8] {
         match self {
-            FileText::Alone { name, .. } => Lines::File(name),
-            FileText::Including { files, made } => Lines::Files(files, made),
+            Written::Alone { input, .. } => input,
+            Written::Including { made, .. } => made.text.as_bytes(),
         }
     }
 }
@@ -76,20 +124,65 @@ pub struct NamedFault {
     pub fault: ServeError,
 }
 
-/// The text of the file with a name, or of standard input for `-`. Only source text includes files.
+/// The text of the file with a name, or of standard input for `-`. Only source text includes files,
+/// and only a session names its source.
 pub fn file_text<'a, Rt: AllocGlobal + Files, R: Read>(
     rt: &Rt,
     reader: &mut R,
     name: &'a str,
     job: &Job,
 ) -> Result<FileText<'a>, NamedFault> {
+    let written = written_text(rt, reader, name, job)?;
+    match sourced_by(rt, name, job, written.bytes()) {
+        Ok(sourced) => Ok(FileText { written, sourced }),
+        Err(fault) => Err(named(rt.alloc(), name, fault)),
+    }
+}
+
+/// The session that a job opens by the bytes of the file with a name, if it names its source.
+/// Standard input has no folder in which one could lie.
+fn sourced_by<Rt: AllocGlobal + Files>(
+    rt: &Rt,
+    name: &str,
+    job: &Job,
+    input: &[u8],
+) -> Result<Option<SourcedFile>, ServeError> {
+    let source = match loading_of(job) {
+        Some(loading) if name != "-" => session_source(loading, input),
+        _ => None,
+    };
+    let sources = Sources::of_flag(job.takes_any_source());
+    sourced(rt, name, source, sources, input)
+}
+
+/// How a job loads a chip, if its input may be a session.
+fn loading_of(job: &Job) -> Option<&Loading> {
+    match job {
+        Job::Talk { loading, .. }
+        | Job::Counts { loading, .. }
+        | Job::Race { loading, .. }
+        | Job::Map { loading, .. }
+        | Job::Profile { loading, .. }
+        | Job::Trace { loading, .. }
+        | Job::Report { loading, .. } => Some(loading),
+        _ => None,
+    }
+}
+
+/// The text of the file with a name, or of standard input for `-`, as it was written.
+fn written_text<'a, Rt: AllocGlobal + Files, R: Read>(
+    rt: &Rt,
+    reader: &mut R,
+    name: &'a str,
+    job: &Job,
+) -> Result<Written<'a>, NamedFault> {
     let input = match input_named(rt, reader, name) {
         Ok(input) => input,
         Err(fault) => return Err(named(rt.alloc(), name, fault)),
     };
     match including(name, job, &input) {
         Some(text) => text_including(rt, name, text),
-        None => Ok(FileText::Alone { name, input }),
+        None => Ok(Written::Alone { name, input }),
     }
 }
 
@@ -119,7 +212,7 @@ fn text_including<'a, Rt: AllocGlobal + Files>(
     rt: &Rt,
     name: &str,
     text: &str,
-) -> Result<FileText<'a>, NamedFault> {
+) -> Result<Written<'a>, NamedFault> {
     let alloc = rt.alloc();
     let mut files = match files_of(alloc, name, text) {
         Ok(files) => files,
@@ -127,7 +220,7 @@ fn text_including<'a, Rt: AllocGlobal + Files>(
     };
     for _ in 0..MOST_FILES {
         match expand_includes(alloc, &files) {
-            Ok(made) => return Ok(FileText::Including { files, made }),
+            Ok(made) => return Ok(Written::Including { files, made }),
             Err(error) => add_wanted(rt, &mut files, error)?,
         }
     }

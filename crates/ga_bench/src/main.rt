@@ -25,7 +25,7 @@ use crate::numbers::{numbers_of, opened};
 use crate::reading::{EndsOnce, is_standard_output};
 use crate::reporting::{refuse, refuse_missing, report_on_replaced, reported, reported_in};
 use crate::saved_files::{SavedFiles, put};
-use crate::transcripts::{Sources, check_status, rewrite_status, serve_transcript, sourced};
+use crate::transcripts::{Sources, check_status, rewrite_status, serve_transcript};
 use clap::error::ErrorKind::{ArgumentConflict, InvalidValue};
 use ga_command_line::{LineError, job, refusal};
 use ga_diagnostics::Lines;
@@ -37,7 +37,6 @@ use ga_jobs::{
 use ga_messages::Form;
 use ga_profile::WindowStart;
 use ga_prompt::Conversation;
-use ga_replays::session_source;
 use ga_views::trace::save_text;
 use std::alloc::Global;
 use std::io::ErrorKind::{NotFound, OutOfMemory};
@@ -151,7 +150,7 @@ fn text_status<Rt: AllocGlobal + Print + Eprint + Threads + Clock + Sync>(
     ensures { HasStatus result }
 {
     let outcome = served(rt, &mut io::writer(rt), text, job);
-    reported_of(rt, job, text, &outcome)
+    reported_of(rt, job, text, outcome)
 }
 
 /// Serves the job `check` or `record` for the file with a name. Answers the exit status.
@@ -194,20 +193,23 @@ fn form_for(job: &Job) -> Form {
     }
 }
 
-/// Reports the fault of a job's outcome, if it has one: that of its file as compilers do. Answers
-/// the exit status.
+/// Reports the fault of a job's outcome for a text, if it has one: that of its file as compilers
+/// do. Answers the exit status.
 fn reported_of<Rt: AllocGlobal + Print + Eprint>(
     rt: &Rt,
     job: &Job,
     text: &FileText<'_>,
-    outcome: &Result<Ending, ServeError>,
+    outcome: Result<Ending, ServeError>,
 ) -> u8
-    ensures { result ≡ status_of outcome.now }
+    ensures { result ≡ status_of outcome }
 {
-    match (job.file(), form_for(job)) {
-        (None, Form::Text) => reported(rt, outcome),
-        (_, form) => reported_in(rt, &text.lines(), form, text.bytes(), outcome),
-    }
+    let answer = status(&outcome);
+    let outcome = text.as_written(outcome);
+    let _ = match (job.file(), form_for(job)) {
+        (None, Form::Text) => reported(rt, &outcome),
+        (_, form) => reported_in(rt, &text.lines(), form, text.written(), &outcome),
+    };
+    answer
 }
 
 /// Serves a job for the text of a file. `lint` reads text of the larger language itself, and `list`
@@ -264,12 +266,12 @@ fn numbers_status<Rt: AllocGlobal + Print + Eprint>(
 ) -> u8 {
     let numbers = match numbers_of(rt.alloc(), job, loading, start, turns, text.bytes()) {
         Ok(numbers) => numbers,
-        Err(fault) => return reported_of(rt, job, text, &Err(fault)),
+        Err(fault) => return reported_of(rt, job, text, Err(fault)),
     };
     let mut writer = io::writer(rt);
     match write_output(&mut writer, numbers.as_bytes(), &mut Writes::default()) {
         Ok(()) => status(&Ok(Ending::Done)),
-        Err(fault) => reported_of(rt, job, text, &Err(fault)),
+        Err(fault) => reported_of(rt, job, text, Err(fault)),
     }
 }
 
@@ -288,13 +290,13 @@ fn trace_status<Rt: AllocGlobal + Print + Eprint + Threads + Clock + Sync + File
     }
     let (waveform, saved) = match traced(rt, job, loading, nodes, text.bytes()) {
         Ok(made) => made,
-        Err(fault) => return reported_of(rt, job, text, &Err(fault)),
+        Err(fault) => return reported_of(rt, job, text, Err(fault)),
     };
     if let Err(fault) = put(rt, save, saved.as_str()) {
         return report_on_replaced(rt, save, fault);
     }
     let outcome = waveform.write(rt.alloc(), &mut io::writer(rt), job);
-    reported_of(rt, job, text, &outcome)
+    reported_of(rt, job, text, outcome)
 }
 
 /// What would be lost if the save file of a waveform had a name.
@@ -305,6 +307,9 @@ fn lost_by<Rt: AllocGlobal + Files>(
 ) -> Option<&'static str> {
     if text.has_file(rt, save) {
         return Some("the save file would replace FILE");
+    }
+    if text.has_source(rt, save) {
+        return Some("the save file would replace the source that FILE names");
     }
     if is_standard_output(rt, save) {
         return Some("the save file would replace the waveform, which goes there, too");
@@ -351,34 +356,27 @@ fn talk_status<Rt: AllocGlobal + Print + Eprint + Files, R: Read + IsTerminal>(
         }
         Err(refused) => return refused_status(rt, name, Form::Text, refused),
     };
-    let sources = Sources::of_flag(job.takes_any_source());
-    let outcome = match talk_about(rt, reader, loading, name, sources, text.bytes()) {
+    let outcome = match talk_about(rt, reader, loading, &text) {
         Ok(()) => Ok(Ending::Done),
         Err(fault) => Err(fault),
     };
     match name {
         "-" => reported(rt, &outcome),
-        _ => reported_in(rt, &text.lines(), Form::Text, text.bytes(), &outcome),
+        _ => reported_in(rt, &text.lines(), Form::Text, text.written(), &outcome),
     }
 }
 
-/// Talks with the session of a file that has these bytes.
+/// Talks with the session of a text.
 fn talk_about<Rt: AllocGlobal + Print + Files, R: Read + IsTerminal>(
     rt: &Rt,
     reader: &mut R,
     loading: &Loading,
-    name: &str,
-    sources: Sources,
-    input: &[u8],
+    text: &FileText<'_>,
 ) -> Result<(), ServeError> {
     let alloc = rt.alloc();
-    let named = match name {
-        "-" => None,
-        _ => session_source(loading, input),
-    };
-    let live = match sourced(rt, name, named, sources, input)? {
+    let live = match text.transcript() {
         Some(transcript) => transcript.open_session(alloc)?,
-        None => open_file(alloc, loading, input)?,
+        None => open_file(alloc, loading, text.bytes())?,
     };
     let mut conversation = Conversation::new(alloc, live, reader.is_terminal())?;
     let typed = EndsOnce {

@@ -1,7 +1,7 @@
 //! Transcripts, whose heads may name their sources, are checked and recorded.
 ghost use Rattle.ga_transcript.specs.Record.{Holds};
 
-use crate::reading::{input_named, opened, regular_input};
+use crate::reading::{has_bytes, input_named, opened, regular_input};
 use crate::reporting::report_on_replaced;
 use crate::saved_files::{PutFault, put};
 use ga_include::{is_below, source_path};
@@ -36,6 +36,23 @@ impl Sources {
     }
 }
 
+/// A transcript whose head names its source, with the file of that source.
+#[derive(Drop)]
+pub struct SourcedFile {
+    pub transcript: Sourced,
+    /// The path of the source.
+    path: String,
+    /// The bytes of the source.
+    source: Vec<u8>,
+}
+
+impl SourcedFile {
+    /// Whether the file with a name is that of the source: it has its path, or its bytes.
+    pub fn has_source<Rt: AllocGlobal + Files>(&self, rt: &Rt, name: &str) -> bool {
+        self.path.as_str() == name || has_bytes(rt, name, &self.source)
+    }
+}
+
 /// The transcript of an input that comes from the file with a name, and whose head names a source;
 /// or none, if it names none.
 pub fn sourced<Rt: AllocGlobal + Files>(
@@ -44,14 +61,18 @@ pub fn sourced<Rt: AllocGlobal + Files>(
     named: Option<&str>,
     sources: Sources,
     input: &[u8],
-) -> Result<Option<Sourced>, ServeError> {
+) -> Result<Option<SourcedFile>, ServeError> {
     let alloc = rt.alloc();
     let (Some(name), Ok(text)) = (named, str::from_utf8(input)) else {
         return Ok(None);
     };
     let path = source_path(alloc, file, name)?;
     match source_input(rt, file, name, path.as_str(), sources) {
-        Ok(source) => Ok(Some(Sourced::new(alloc, text, path.as_str(), &source)?)),
+        Ok(source) => Ok(Some(SourcedFile {
+            transcript: Sourced::new(alloc, text, path.as_str(), &source)?,
+            path,
+            source,
+        })),
         Err(fault) => Err(fault_in_source(alloc, path.as_str(), fault)?),
     }
 }
@@ -103,12 +124,12 @@ pub fn serve_transcript<Rt: AllocGlobal + Threads + Clock + Sync + Files, W: Wri
     let alloc = rt.alloc();
     let input = read_input(alloc, &mut opened(rt, name)?, &mut Reads::default())?;
     let sources = Sources::of_flag(job.takes_any_source());
-    let Some(transcript) = sourced(rt, name, source_named(&input), sources, &input)? else {
+    let Some(found) = sourced(rt, name, source_named(&input), sources, &input)? else {
         return serve_file(rt, writer, job, &input);
     };
     let text = match job {
-        Job::Record { .. } => transcript.record(alloc)?,
-        _ => transcript.check(alloc)?,
+        Job::Record { .. } => found.transcript.record(alloc)?,
+        _ => found.transcript.check(alloc)?,
     };
     write_output(writer, text.as_bytes(), &mut Writes::default())?;
     Ok(ending_of(job, text.as_str()))
@@ -181,7 +202,7 @@ fn read_report<Rt: AllocGlobal + Files, R: Read>(
         _ => source_named(&input),
     };
     match sourced(rt, name, named, sources, &input)? {
-        Some(transcript) => FileReport::of_sourced(rt.alloc(), name, &transcript),
+        Some(found) => FileReport::of_sourced(rt.alloc(), name, &found.transcript),
         None => FileReport::new(rt.alloc(), name, &input),
     }
 }
@@ -261,8 +282,8 @@ fn replaced<Rt: AllocGlobal + Files>(
     let alloc = rt.alloc();
     let input = regular_input(rt, name)?;
     let recording = match sourced(rt, name, source_named(&input), sources, &input)? {
-        Some(transcript) => {
-            let recording = transcript.replacement(alloc)?;
+        Some(found) => {
+            let recording = found.transcript.replacement(alloc)?;
             if let Some(recording) = &recording {
                 put(rt, name, recording.as_str())?;
             }

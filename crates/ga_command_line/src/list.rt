@@ -26,7 +26,8 @@ warnings of lint follow, but not with --labels.
 
 With --counts it makes a run: until no node moves but those that spin, or N turns. Each line begins with how
 often its word was fetched, and how often the opcode in each slot ran if that differs; the lines where a node
-ran most have a mark. Then FILE may also be a session or a transcript, whose commands are done first.
+ran most have a mark. Then FILE may also be a session or a transcript, whose commands are done first, and
+which may name its source as for check.
 
 Example: printf 'node 709 main: dup jump main' | ga-bench list
 More: Listings in docs/FORMATS.md";

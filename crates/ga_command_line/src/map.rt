@@ -19,8 +19,9 @@ use std::alloc::{AllocError, Global};
 const HELP: &str = "\
 Shows the chip as a picture, as the command map of debug FILE does: a mark for what each node does, the
 words that are pending with their readers, rings, and who is stuck. Reads from FILE, or from standard
-input if FILE is left out or is -: a session or a transcript, whose commands are done first; or source
-text, whose words are placed in their nodes. Makes turns until no node moves but those that spin, or N.
+input if FILE is left out or is -: a session or a transcript, whose commands are done first, and which in
+FILE may name its source as for check; or source text, whose words are placed in their nodes. Makes turns
+until no node moves but those that spin, or N.
 
 Example: printf 'node 708 right b! @b\\nnode 709 right b! @b' | ga-bench map
 More: The map in docs/FORMATS.md";

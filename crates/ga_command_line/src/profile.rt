@@ -24,8 +24,9 @@ const HELP: &str = "\
 Shows where a run is slow: for each node in how many turns it worked, waited for a word, and waited for its
 word to be read, with a bar; how many words it took and posted; and the bottleneck, with what to change.
 Reads from FILE, or from standard input if FILE is left out or is -: a session or a transcript, whose
-commands are done first; or source text, whose words are placed in their nodes. Makes turns until no node
-moves but those that spin, or N. The profile begins where --from says.
+commands are done first, and which in FILE may name its source as for check; or source text, whose words are
+placed in their nodes. Makes turns until no node moves but those that spin, or N. The profile begins where
+--from says.
 
 Example: printf 'node 708 right b! 7 !b @b\\nnode 709 right b! @b !b' | ga-bench profile
 More: profile in docs/FORMATS.md";

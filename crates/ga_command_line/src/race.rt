@@ -20,8 +20,8 @@ use std::alloc::{AllocError, Global};
 const HELP: &str = "\
 Decides whether the schedule, the order in which nodes step, decides what a program does. Reads from
 FILE, or from standard input if FILE is left out or is -: the head of a session, whose commands aren't
-looked at; or source text, whose words are placed in their nodes. Runs it once, until there is a verdict,
-or for N turns.
+looked at, and which in FILE may name its source as for check; or source text, whose words are placed in
+their nodes. Runs it once, until there is a verdict, or for N turns.
 
   race: ..                 a multiport read may take either of two words: the node that reads, and both
                            words with their writers, labels and lines. The exit status is 1

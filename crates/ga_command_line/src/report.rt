@@ -23,9 +23,9 @@ const HELP: &str = "\
 Writes a page in HTML that shows a run: a race, a deadlock or the bottleneck as its headline; what each node
 did, turn by turn; the profile; the chip at the end, with its pending words; and the listing, with how often
 each word was fetched, beside the source. It needs no script and no other file. Reads from FILE, or from
-standard input if FILE is left out or is -: a session or a transcript, whose commands are done first; or
-source text, whose words are placed in their nodes. Makes turns until no node moves but those that spin, or N.
-What is shown begins where --from says.
+standard input if FILE is left out or is -: a session or a transcript, whose commands are done first, and which
+in FILE may name its source as for check; or source text, whose words are placed in their nodes. Makes turns
+until no node moves but those that spin, or N. What is shown begins where --from says.
 
 Example: printf 'node 708 right b! !b\\nnode 709 right b! @b' | ga-bench report > r.html
 More: report in docs/FORMATS.md";

@@ -21,9 +21,10 @@ const HELP: &str = "\
 Writes a waveform in VCD, for GTKWave: at each turn what each node did, where it was in its program, its
 opcode, its registers, and the words at its ports, each port named by the node that reads there. Reads from
 FILE, or from standard input if FILE is left out or is -: a session or a transcript, whose commands are done
-first; or source text, whose words are placed in their nodes. Makes turns until no node moves but those that
-spin, or N. One turn is 1 ns. Nothing is written if the waveform has more than 1073741824 bytes. With --save
-it also writes a save file for GTKWave, with the signals to show, their forms and colours.
+first, and which in FILE may name its source as for check; or source text, whose words are placed in their
+nodes. Makes turns until no node moves but those that spin, or N. One turn is 1 ns. Nothing is written if the
+waveform has more than 1073741824 bytes. With --save it also writes a save file for GTKWave, with the signals
+to show, their forms and colours.
 
 Example: printf 'node 708 right b! 5 !b\nnode 709 right b! @b' | ga-bench trace > out.vcd
 More: trace in docs/FORMATS.md";

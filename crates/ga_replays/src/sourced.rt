@@ -122,7 +122,7 @@ impl Sourced {
     }
 
     /// A fault of the whole text, by the lines of the file.
-    pub(crate) fn fault_in_file(&self, fault: ServeError) -> ServeError
+    pub fn fault_in_file(&self, fault: ServeError) -> ServeError
         ensures { result ≡ fault_in_file self.now.count fault }
     {
         match fault {
