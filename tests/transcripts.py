@@ -215,18 +215,28 @@ def names(test):
             if is_below:
                 for words in VIEWS:
                     test.expect(f"{words} {name}, {file}", test.run([*words, file], cwd=cwd), shown_of[words[0]])
-    # links: to a source elsewhere, to a folder elsewhere, to a source below, to nothing
-    for link, target, is_below in ("out", "../two.source", False), ("away", "..", False), ("in", "a/two.source", True):
+    # links: to a source elsewhere, to a folder elsewhere, to one with a longer name beside, to a pipe, to a source below, to nothing
+    test.write("sub2/two.source", TWO)
+    os.mkfifo(f"{test.folder}/sub2/pipe")
+    links = {"out": "../two.source", "away": "..", "near": "../sub2", "beside": "../sub2/two.source", "in": "a/two.source"}
+    for link, target in links.items():
+        is_below = link == "in"
         os.symlink(target, f"{test.folder}/sub/{link}")
-        name = "away/two.source" if link == "away" else link
+        name = f"{link}/two.source" if link in ("away", "near") else link
         file = test.write("sub/linked", HEAD.replace("two.source", name) + TURN)
         test.expect(f"any source behind a link {target}", test.run(["check", "--any-source", file]), (0, "same 1\n", ""))
         wanted = (0, "same 1\n", "") if is_below else (1, "", f"ga-bench: input sub/{name} Outside\n")
         test.expect(f"a link {target}", test.run(["check", file]), wanted)
         test.expect(f"a link {target}, debug", test.run(["debug", file], "")[::2], (1 - is_below, wanted[2]))
+        test.expect(f"a link {target}, record", test.run(["record", file])[::2], (1 - is_below, wanted[2]))
+        told = (0, f"{file}: same\n", "") if is_below else (1, "", f"ga-bench: {file}: input sub/{name} Outside\n")
+        test.expect(f"a link {target}, written", test.run(["record", "--write", file]), told)
         for words in VIEWS:
             told = shown_of[words[0]] if is_below else wanted
             test.expect(f"a link {target}, {words}", test.run([*words, file]), told)
+    os.symlink("../sub2/pipe", f"{test.folder}/sub/pipe")
+    file = test.write("sub/linked", HEAD.replace("two.source", "pipe") + TURN)
+    test.expect("a link to a pipe", test.run(["check", file]), (1, "", "ga-bench: input sub/pipe Outside\n"))
     os.symlink("nowhere", f"{test.folder}/sub/lost")
     file = test.write("sub/linked", HEAD.replace("two.source", "lost") + TURN)
     test.expect("a link to nothing", test.run(["check", file]), (1, "", "ga-bench: input sub/lost NoFile\n"))
