@@ -23,7 +23,9 @@ use Rattle.ga_chip.proofs.Kept.{has_name, legal_ran}
 use Rattle.ga_chip.proofs.Parts.{Fits, asks_fits}
 use Rattle.ga_chip.proofs.Runs.{flow_ran, moves_of-append, posts, posts_ran, ran-append, takes, takes_ran}
 use Rattle.ga_race.specs.Clocks.{Clock, Clocks, cause_of, clock_of, clocks_by, clocks_on, post_clocks, take_clocks}
+use Rattle.ga_race.specs.inner.Way.{apart_by}
 use Rattle.ga_race.proofs.Causes.{clocks_on-append}
+use Rattle.ga_race.proofs.Following.{below, not_below}
 use Rattle.ga_race.proofs.Prefixes.{One, moves_next, not_its, one_or_none}
 use Rattle.ga_race.proofs.Ticking.{clock_cause, clock_more, clock_own, grows_all, node_grows, node_here}
 use Rattle.ga_race.proofs.Trying.{Changes, IsTry, TriesAlike, Tried, changed_other, changed_same, none_tried, part_other, same_move, same_part, tried_move, try_or_changes}
@@ -111,7 +113,7 @@ push_moves : (x : ℕ) (ms : List Move) (m : Move)
 push_moves x ms m = moves_of-append x ms (m ∷ [])
 
 -- to the words posted in a cell
-push_posts : (cell : ℕ) (ms : List Move) (m : Move)
+pub push_posts : (cell : ℕ) (ms : List Move) (m : Move)
     → posts cell (ms ++ m ∷ []) ≡ posts cell ms ++ posted_by cell m.asked
 push_posts cell ms m =
     flat_map-append (λ move. posted_by cell move.asked) ms (m ∷ [])
@@ -148,7 +150,7 @@ same_option (Some x) None e = cc
 same_option (Some x) (Some y) e = cc
 
 -- a cell at which the same was posted and taken holds the same
-same_pending : (start : Chip) (one two : List Event) (cell : ℕ) → IsLegal start
+pub same_pending : (start : Chip) (one two : List Event) (cell : ℕ) → IsLegal start
     → posts cell (moves start one) ≡ posts cell (moves start two)
     → takes cell (moves start one) ≡ takes cell (moves start two)
     → pending (ran start one) cell ≡ pending (ran start two) cell
@@ -197,11 +199,10 @@ keep_among p done event e =
 
 -- ---- the moves apart from a step
 
--- If a run of a chip has come to some moves, another run has made those that don't come behind
--- the step of a node that follows its first k.
-pub record Apart (start : Chip) (first : Clocks) (name k : ℕ) (done : List Event) (now : Chip)
+-- If a run of a chip has come to some moves, another run, the way, has made those that don't come
+-- behind the step of a node that follows its first k.
+pub record Apart (start : Chip) (first : Clocks) (name k : ℕ) (done way : List Event) (now : Chip)
     (made : List Move) : Type 0 where
-  pub way : List Event
   -- a node that made no other moves is as it is, and made the same
   pub parts : (x : ℕ) → (clocks_on first made).nodes x name ≤ k
       → part_of (ran start way) x ≡ part_of now x
@@ -223,16 +224,38 @@ pub record Apart (start : Chip) (first : Clocks) (name k : ℕ) (done : List Eve
   -- and each event is one of the run
   pub among : (p : Event → Bool) → list_all p done ≡ true → list_all p way ≡ true
 
+-- Some way makes them.
+abbrev pub HasApart : (start : Chip) (first : Clocks) (name k : ℕ) (done : List Event)
+    (now : Chip) (made : List Move) → Type 0
+HasApart start first name k done now made =
+    (way : List Event) × Apart start first name k done way now made
+
+-- no way has been made at the start
+pub none_yet : (start : Chip) (first : Clocks) (name k : ℕ)
+    → Apart start first name k [] [] start []
+none_yet start first name k = record {
+  parts = λ x h. refl;
+  moves_are = λ x h. refl;
+  posts_are = λ cell h. refl;
+  takes_are = λ cell h. refl;
+  within = λ x. zero-le;
+  still = refl;
+  stands = refl;
+  fed = λ x apart. refl;
+  unfed = refl;
+  among = λ p e. e;
+}
+
 -- A try at a moment of a run.
-record Step (start : Chip) (first : Clocks) (name k : ℕ) (done : List Event) (one : asked.Try)
+record Step (start : Chip) (first : Clocks) (name k : ℕ) (done way : List Event) (one : asked.Try)
     (m : Move) : Type 0 where
   legal : IsLegal start
-  so : Apart start first name k done (ran start done) (moves start done)
+  so : Apart start first name k done way (ran start done) (moves start done)
   grown : k ≤ (clocks_on first (moves start done)).nodes name name
   made : move_in (ran start done) (Try one.node one.side) ≡ m ∷ []
 
-module _ (start : Chip) (first : Clocks) (name k : ℕ) (done : List Event) (one : asked.Try)
-    (m : Move) (s : Step start first name k done one m) where
+module _ (start : Chip) (first : Clocks) (name k : ℕ) (done way : List Event) (one : asked.Try)
+    (m : Move) (s : Step start first name k done way one m) where
   -- the try
   abbrev event : Event
   event = Try one.node one.side
@@ -243,7 +266,7 @@ module _ (start : Chip) (first : Clocks) (name k : ℕ) (done : List Event) (one
 
   -- and the one that the other run has
   abbrev there : Chip
-  there = ran start s.so.way
+  there = ran start way
 
   -- the clocks before the try
   abbrev old : Clocks
@@ -284,18 +307,18 @@ module _ (start : Chip) (first : Clocks) (name k : ℕ) (done : List Event) (one
   -- such a node posted the same in a cell
   writer_same : (side : Side) (cell : ℕ) → old.nodes m.node name ≤ k
       → cell_of one.node side ≡ Some cell
-      → posts cell (moves start s.so.way) ≡ posts cell (moves start done)
+      → posts cell (moves start way) ≡ posts cell (moves start done)
   writer_same side cell h here =
-      posts_ran start s.so.way one.node cell side s.legal here
+      posts_ran start way one.node cell side s.legal here
       ∙ ap (posts cell) (s.so.moves_are one.node (subst (λ n. old.nodes n name ≤ k) node_is h))
       ∙ sym (posts_ran start done one.node cell side s.legal here)
 
   -- and took the same from one
   reader_same : (side : Side) (cell : ℕ) → old.nodes m.node name ≤ k
       → read_cell one.node side ≡ Some cell
-      → takes cell (moves start s.so.way) ≡ takes cell (moves start done)
+      → takes cell (moves start way) ≡ takes cell (moves start done)
   reader_same side cell h here =
-      takes_ran start s.so.way one.node cell side s.legal named here
+      takes_ran start way one.node cell side s.legal named here
       ∙ ap (takes cell) (s.so.moves_are one.node (subst (λ n. old.nodes n name ≤ k) node_is h))
       ∙ sym (takes_ran start done one.node cell side s.legal named here)
 
@@ -326,10 +349,10 @@ module _ (start : Chip) (first : Clocks) (name k : ℕ) (done : List Event) (one
     found : found_by m.asked there.cells ≡ found_by m.asked now.cells
     found =
         same_found m.asked there now
-        (λ side cell e. same_pending start s.so.way done cell s.legal
+        (λ side cell e. same_pending start way done cell s.legal
         (s.so.posts_are cell (subst (λ q. cause_of q old name ≤ k) e cause))
         (reader_same side cell own (reads side cell e)))
-        (λ side cell e. same_pending start s.so.way done cell s.legal
+        (λ side cell e. same_pending start way done cell s.legal
         (writer_same side cell own (checks side cell e))
         (s.so.takes_are cell (subst (λ q. cause_of q old name ≤ k) e cause)))
 
@@ -347,13 +370,13 @@ module _ (start : Chip) (first : Clocks) (name k : ℕ) (done : List Event) (one
     made_again = same_move there now one.node one.side it.part alike ∙ s.made
 
     -- the other run makes the move too
-    more : moves start (s.so.way ++ event ∷ []) ≡ moves start s.so.way ++ m ∷ []
+    more : moves start (way ++ event ∷ []) ≡ moves start way ++ m ∷ []
     more =
-        moves_next start s.so.way event ∙ ap (λ l. moves start s.so.way ++ l) made_again
+        moves_next start way event ∙ ap (λ l. moves start way ++ l) made_again
 
     -- and leads on
-    goes : ran start (s.so.way ++ event ∷ []) ≡ happened there event
-    goes = ran-append start s.so.way (event ∷ [])
+    goes : ran start (way ++ event ∷ []) ≡ happened there event
+    goes = ran-append start way (event ∷ [])
 
     -- the node of the step doesn't make it
     not_its_node : name ≡ m.node → ⊥
@@ -390,38 +413,37 @@ module _ (start : Chip) (first : Clocks) (name k : ℕ) (done : List Event) (one
 
   -- A MOVE THAT DOESN'T COME BEHIND THE STEP is made
   kept : clock_of m old name ≤ k
-      → Apart start first name k (done ++ event ∷ []) (happened now event) new
+      → Apart start first name k (done ++ event ∷ []) (way ++ event ∷ []) (happened now event) new
   kept h = record {
-    way = s.so.way ++ event ∷ [];
     parts = λ x g. ap (λ c. part_of c x) (goes h) ∙ part_at x g (cases_eq x one.node);
-    moves_are = λ x g. ap (moves_of x) (more h) ∙ push_moves x (moves start s.so.way) m
+    moves_are = λ x g. ap (moves_of x) (more h) ∙ push_moves x (moves start way) m
         ∙ ap (λ l. l ++ moves_of x (m ∷ [])) (s.so.moves_are x (old_clock x g))
         ∙ sym (push_moves x (moves start done) m);
-    posts_are = λ cell g. ap (posts cell) (more h) ∙ push_posts cell (moves start s.so.way) m
+    posts_are = λ cell g. ap (posts cell) (more h) ∙ push_posts cell (moves start way) m
         ∙ ap (λ l. l ++ posted_by cell m.asked) (posts_old cell g (posts_at m.asked cell))
         ∙ sym (push_posts cell (moves start done) m);
-    takes_are = λ cell g. ap (takes cell) (more h) ∙ push_takes cell (moves start s.so.way) m
+    takes_are = λ cell g. ap (takes cell) (more h) ∙ push_takes cell (moves start way) m
         ∙ ap (λ l. l ++ taken_by cell m.asked m.found) (takes_old cell g (takes_at m.asked cell))
         ∙ sym (push_takes cell (moves start done) m);
     within = λ x. more_both _ _ _ _ (length (moves_of x (m ∷ [])))
-        (ap (λ ms. length (moves_of x ms)) (more h) ∙ push_long x (moves start s.so.way) m)
+        (ap (λ ms. length (moves_of x ms)) (more h) ∙ push_long x (moves start way) m)
         (push_long x (moves start done) m) (s.so.within x);
-    still = ap (moves_of name) (more h) ∙ push_moves name (moves start s.so.way) m
+    still = ap (moves_of name) (more h) ∙ push_moves name (moves start way) m
         ∙ ap₂ (λ xs ys. xs ++ ys) s.so.still (not_its name m (not_its_node h));
     stands = ap (λ c. part_of c name) (goes h)
         ∙ other_there name (λ e. not_its_node h (e ∙ sym node_is)) ∙ s.so.stands;
-    fed = λ x apart. push_fed start s.so.way event x
+    fed = λ x apart. push_fed start way event x
         ∙ ap (λ ws. ws ++ words_fed start (event ∷ []) x) (s.so.fed x apart)
         ∙ sym (push_fed start done event x);
-    unfed = push_fed start s.so.way event name
+    unfed = push_fed start way event name
         ∙ ap (λ ws. ws ++ words_fed start (event ∷ []) name) s.so.unfed;
-    among = λ p. push_among p done s.so.way event (s.so.among p);
+    among = λ p. push_among p done way event (s.so.among p);
   }
     where
       other_there : (x : ℕ) → (x ≡ one.node → ⊥)
           → part_of (happened there event) x ≡ part_of there x
       other_there x apart =
-          part_other there one.node one.side x (legal_ran start s.so.way s.legal).parts apart
+          part_other there one.node one.side x (legal_ran start way s.legal).parts apart
 
       part_at : (x : ℕ) → (clocks_on first new).nodes x name ≤ k
           → (x ≡ one.node) ⊎ (x ≡ one.node → ⊥)
@@ -434,22 +456,21 @@ module _ (start : Chip) (first : Clocks) (name k : ℕ) (done : List Event) (one
 
       posts_old : (cell : ℕ) → (clocks_on first new).posts cell name ≤ k
           → PostsNot m.asked cell ⊎ PostsHere m.asked cell
-          → posts cell (moves start s.so.way) ≡ posts cell (moves start done)
+          → posts cell (moves start way) ≡ posts cell (moves start done)
       posts_old cell g (inl n) = s.so.posts_are cell (old_posts cell n g)
       posts_old cell g (inr p) =
           writer_same p.side cell (own h) (writes p.side cell p.word p.asked)
 
       takes_old : (cell : ℕ) → (clocks_on first new).takes cell name ≤ k
           → TakesNot m.asked cell ⊎ TakesHere m.asked cell
-          → takes cell (moves start s.so.way) ≡ takes cell (moves start done)
+          → takes cell (moves start way) ≡ takes cell (moves start done)
       takes_old cell g (inl n) = s.so.takes_are cell (old_takes cell n g)
       takes_old cell g (inr t) = reader_same t.side cell (own h) (reads t.side cell t.asked)
 
   -- and any other left out
   dropped : k < clock_of m old name
-      → Apart start first name k (done ++ event ∷ []) (happened now event) new
+      → Apart start first name k (done ++ event ∷ []) way (happened now event) new
   dropped late = record {
-    way = s.so.way;
     parts = λ x g. s.so.parts x (old_clock x g)
         ∙ sym (other_now x (λ e. not_its_node x g (e ∙ sym node_is)));
     moves_are = λ x g. s.so.moves_are x (old_clock x g) ∙ sym (append-nil _)
@@ -475,7 +496,7 @@ module _ (start : Chip) (first : Clocks) (name k : ℕ) (done : List Event) (one
 
       posts_old : (cell : ℕ) → (clocks_on first new).posts cell name ≤ k
           → PostsNot m.asked cell ⊎ PostsHere m.asked cell
-          → posts cell (moves start s.so.way) ≡ posts cell new
+          → posts cell (moves start way) ≡ posts cell new
       posts_old cell g (inl n) =
           s.so.posts_are cell (old_posts cell n g) ∙ sym (append-nil _)
           ∙ ap (λ l. posts cell (moves start done) ++ l) (sym n.none)
@@ -486,7 +507,7 @@ module _ (start : Chip) (first : Clocks) (name k : ℕ) (done : List Event) (one
 
       takes_old : (cell : ℕ) → (clocks_on first new).takes cell name ≤ k
           → TakesNot m.asked cell ⊎ TakesHere m.asked cell
-          → takes cell (moves start s.so.way) ≡ takes cell new
+          → takes cell (moves start way) ≡ takes cell new
       takes_old cell g (inl n) =
           s.so.takes_are cell (old_takes cell n g) ∙ sym (append-nil _)
           ∙ ap (λ l. takes cell (moves start done) ++ l) (sym (n.none m.found))
@@ -496,19 +517,32 @@ module _ (start : Chip) (first : Clocks) (name k : ℕ) (done : List Event) (one
           ∙ ap (λ c. c name) (t.clocks (clock_of m old) old.takes)) g)
 
 -- The moves that don't come behind the step are made behind any try.
-next_try : (start : Chip) (first : Clocks) (name k : ℕ) (done : List Event) (one : asked.Try)
-    → IsLegal start → k ≤ (clocks_on first (moves start done)).nodes name name
-    → Apart start first name k done (ran start done) (moves start done)
+pub next_try : (start : Chip) (first : Clocks) (name k : ℕ) (done way : List Event)
+    (one : asked.Try) → IsLegal start → k ≤ (clocks_on first (moves start done)).nodes name name
+    → Apart start first name k done way (ran start done) (moves start done)
     → Apart start first name k (done ++ Try one.node one.side ∷ [])
+    (way ++ apart_by name k (Try one.node one.side)
+    (move_in (ran start done) (Try one.node one.side)) (clocks_on first (moves start done)))
     (happened (ran start done) (Try one.node one.side))
     (moves start done ++ move_in (ran start done) (Try one.node one.side))
-next_try start first name k done one legal grown so =
-    by (one_or_none (ran start done) (Try one.node one.side))
+next_try start first name k done way one legal grown so = by (one_or_none now event)
   where
-    none_more : Apart start first name k (done ++ Try one.node one.side ∷ []) (ran start done)
-        (moves start done)
+    event : Event
+    event = Try one.node one.side
+
+    now : Chip
+    now = ran start done
+
+    old : Clocks
+    old = clocks_on first (moves start done)
+
+    -- what is made behind the moves of the try
+    Made : List Move → List Event → Chip → Type 0
+    Made ms more there =
+        Apart start first name k (done ++ event ∷ []) (way ++ more) there (moves start done ++ ms)
+
+    none_more : Apart start first name k (done ++ event ∷ []) way now (moves start done)
     none_more = record {
-      way = so.way;
       parts = so.parts;
       moves_are = so.moves_are;
       posts_are = so.posts_are;
@@ -516,46 +550,48 @@ next_try start first name k done one legal grown so =
       within = so.within;
       still = so.still;
       stands = so.stands;
-      fed = λ x apart. so.fed x apart ∙ sym (append-nil _)
-          ∙ sym (push_fed start done (Try one.node one.side) x);
+      fed = λ x apart. so.fed x apart ∙ sym (append-nil _) ∙ sym (push_fed start done event x);
       unfed = so.unfed;
-      among = λ p e. so.among p (keep_among p done (Try one.node one.side) e);
+      among = λ p e. so.among p (keep_among p done event e);
     }
 
-    by : (move_in (ran start done) (Try one.node one.side) ≡ [])
-        ⊎ One (ran start done) (Try one.node one.side)
-        → Apart start first name k (done ++ Try one.node one.side ∷ [])
-        (happened (ran start done) (Try one.node one.side))
-        (moves start done ++ move_in (ran start done) (Try one.node one.side))
+    by : (move_in now event ≡ []) ⊎ One now event
+        → Made (move_in now event) (apart_by name k event (move_in now event) old)
+        (happened now event)
     by (inl none) =
-        subst (λ c. Apart start first name k (done ++ Try one.node one.side ∷ []) c
-        (moves start done ++ move_in (ran start done) (Try one.node one.side)))
-        (sym (none_tried (ran start done) one.node one.side none))
-        (subst (Apart start first name k (done ++ Try one.node one.side ∷ []) (ran start done))
-        (sym (append-nil (moves start done)) ∙ ap (λ l. moves start done ++ l) (sym none))
-        none_more)
+        subst (λ ms. Made ms (apart_by name k event ms old) (happened now event)) (sym none)
+        (subst (Made [] []) (sym (none_tried now one.node one.side none))
+        (subst (λ w. Apart start first name k (done ++ event ∷ []) w now (moves start done ++ []))
+        (sym (append-nil way))
+        (subst (Apart start first name k (done ++ event ∷ []) way now)
+        (sym (append-nil (moves start done))) none_more)))
     by (inr o) =
-        subst (λ l. Apart start first name k (done ++ Try one.node one.side ∷ [])
-        (happened (ran start done) (Try one.node one.side)) (moves start done ++ l)) (sym o.made)
-        (either (cases_lt k (clock_of o.move (clocks_on first (moves start done)) name)))
+        subst (λ ms. Made ms (apart_by name k event ms old) (happened now event)) (sym o.made)
+        (either (cases_lt k (clock_of o.move old name)))
       where
-        s : Step start first name k done one o.move
+        s : Step start first name k done way one o.move
         s = record { legal = legal; so = so; grown = grown; made = o.made }
 
-        either : (k < clock_of o.move (clocks_on first (moves start done)) name)
-            ⊎ (clock_of o.move (clocks_on first (moves start done)) name ≤ k)
-            → Apart start first name k (done ++ Try one.node one.side ∷ [])
-            (happened (ran start done) (Try one.node one.side)) (moves start done ++ o.move ∷ [])
-        either (inl late) = dropped start first name k done one o.move s late
-        either (inr early) = kept start first name k done one o.move s early
+        either : (k < clock_of o.move old name) ⊎ (clock_of o.move old name ≤ k)
+            → Made (o.move ∷ []) (apart_by name k event (o.move ∷ []) old) (happened now event)
+        either (inl late) =
+            subst (λ b. Made (o.move ∷ []) (if b then [] else event ∷ []) (happened now event))
+            (sym (below k (clock_of o.move old name) late))
+            (subst (λ w. Apart start first name k (done ++ event ∷ []) w (happened now event)
+            (moves start done ++ o.move ∷ [])) (sym (append-nil way))
+            (dropped start first name k done way one o.move s late))
+        either (inr early) =
+            subst (λ b. Made (o.move ∷ []) (if b then [] else event ∷ []) (happened now event))
+            (sym (not_below k (clock_of o.move old name) early))
+            (kept start first name k done way one o.move s early)
 
 -- A change of a node's breakpoints, its pass or its stream.
-module _ (start : Chip) (first : Clocks) (name k : ℕ) (done : List Event) (event : Event)
+module _ (start : Chip) (first : Clocks) (name k : ℕ) (done way : List Event) (event : Event)
     (c : Changes event) (legal : IsLegal start)
-    (so : Apart start first name k done (ran start done) (moves start done)) where
+    (so : Apart start first name k done way (ran start done) (moves start done)) where
   -- the other run leads to a legal chip
-  legal_there : IsLegal (ran start so.way)
-  legal_there = legal_ran start so.way legal
+  legal_there : IsLegal (ran start way)
+  legal_there = legal_ran start way legal
 
   -- the event changes no other node
   other_done : (x : ℕ) → (x ≡ c.node → ⊥)
@@ -565,10 +601,9 @@ module _ (start : Chip) (first : Clocks) (name k : ℕ) (done : List Event) (eve
 
   -- is made at any node but that of the step
   change_kept : (name ≡ c.node → ⊥) → Apart start first name k (done ++ event ∷ [])
-      (happened (ran start done) event) (moves start done)
+      (way ++ event ∷ []) (happened (ran start done) event) (moves start done)
   change_kept apart = record {
-    way = so.way ++ event ∷ [];
-    parts = λ x h. ap (λ d. part_of d x) (ran-append start so.way (event ∷ []))
+    parts = λ x h. ap (λ d. part_of d x) (ran-append start way (event ∷ []))
         ∙ part_at x h (cases_eq x c.node);
     moves_are = λ x h. ap (moves_of x) no_more ∙ so.moves_are x h;
     posts_are = λ cell h. ap (posts cell) no_more ∙ so.posts_are cell h;
@@ -576,39 +611,38 @@ module _ (start : Chip) (first : Clocks) (name k : ℕ) (done : List Event) (eve
     within = λ x. subst (λ ms. length (moves_of x ms) ≤ length (moves_of x (moves start done)))
         (sym no_more) (so.within x);
     still = ap (moves_of name) no_more ∙ so.still;
-    stands = ap (λ d. part_of d name) (ran-append start so.way (event ∷ []))
-        ∙ changed_other event c (ran start so.way) name legal_there.parts apart ∙ so.stands;
-    fed = λ x apart. push_fed start so.way event x
+    stands = ap (λ d. part_of d name) (ran-append start way (event ∷ []))
+        ∙ changed_other event c (ran start way) name legal_there.parts apart ∙ so.stands;
+    fed = λ x apart. push_fed start way event x
         ∙ ap (λ ws. ws ++ words_fed start (event ∷ []) x) (so.fed x apart)
         ∙ sym (push_fed start done event x);
-    unfed = push_fed start so.way event name
+    unfed = push_fed start way event name
         ∙ ap₂ (λ xs ys. xs ++ (ys ++ [])) so.unfed (c.elsewhere (is_open start name) name apart);
-    among = λ p. push_among p done so.way event (so.among p);
+    among = λ p. push_among p done way event (so.among p);
   }
     where
-      no_more : moves start (so.way ++ event ∷ []) ≡ moves start so.way
+      no_more : moves start (way ++ event ∷ []) ≡ moves start way
       no_more =
-          moves_next start so.way event
-          ∙ ap (λ l. moves start so.way ++ l) (c.none (ran start so.way)) ∙ append-nil _
+          moves_next start way event
+          ∙ ap (λ l. moves start way ++ l) (c.none (ran start way)) ∙ append-nil _
 
       part_at : (x : ℕ) → (clocks_on first (moves start done)).nodes x name ≤ k
-          → (x ≡ c.node) ⊎ (x ≡ c.node → ⊥) → part_of (happened (ran start so.way) event) x
+          → (x ≡ c.node) ⊎ (x ≡ c.node → ⊥) → part_of (happened (ran start way) event) x
           ≡ part_of (happened (ran start done) event) x
       part_at x h (inl e) =
-          subst (λ n. part_of (happened (ran start so.way) event) n
+          subst (λ n. part_of (happened (ran start way) event) n
           ≡ part_of (happened (ran start done) event) n) (sym e)
-          (changed_same event c (ran start so.way) (ran start done)
-          (subst (λ n. part_of (ran start so.way) n ≡ part_of (ran start done) n) e (so.parts x h)))
+          (changed_same event c (ran start way) (ran start done)
+          (subst (λ n. part_of (ran start way) n ≡ part_of (ran start done) n) e (so.parts x h)))
       part_at x h (inr other) =
-          changed_other event c (ran start so.way) x legal_there.parts other ∙ so.parts x h
+          changed_other event c (ran start way) x legal_there.parts other ∙ so.parts x h
           ∙ sym (other_done x other)
 
   -- and left out at that node, once it has made the step
   change_dropped : name ≡ c.node → k < (clocks_on first (moves start done)).nodes name name
-      → Apart start first name k (done ++ event ∷ [])
+      → Apart start first name k (done ++ event ∷ []) way
       (happened (ran start done) event) (moves start done)
   change_dropped its late = record {
-    way = so.way;
     parts = λ x h. so.parts x h
         ∙ sym (other_done x (λ e. too_late x h (e ∙ sym its)));
     moves_are = so.moves_are;
@@ -633,52 +667,55 @@ module _ (start : Chip) (first : Clocks) (name k : ℕ) (done : List Event) (eve
           over _ h (subst (λ n. k < (clocks_on first (moves start done)).nodes n name) (sym e) late)
 
 -- and behind any event, once the step is made
-next : (start : Chip) (first : Clocks) (name k : ℕ) (done : List Event) (event : Event)
+next : (start : Chip) (first : Clocks) (name k : ℕ) (done way : List Event) (event : Event)
     → IsLegal start → k < (clocks_on first (moves start done)).nodes name name
-    → Apart start first name k done (ran start done) (moves start done)
-    → Apart start first name k (done ++ event ∷ []) (happened (ran start done) event)
+    → Apart start first name k done way (ran start done) (moves start done)
+    → HasApart start first name k (done ++ event ∷ []) (happened (ran start done) event)
     (moves start done ++ move_in (ran start done) event)
-next start first name k done event legal late so = by (try_or_changes event)
+next start first name k done way event legal late so = by (try_or_changes event)
   where
     same : (c : Changes event)
         → moves start done ++ move_in (ran start done) event ≡ moves start done
     same c = ap (λ l. moves start done ++ l) (c.none (ran start done)) ∙ append-nil _
 
     by_name : (c : Changes event) → (name ≡ c.node) ⊎ (name ≡ c.node → ⊥)
-        → Apart start first name k (done ++ event ∷ []) (happened (ran start done) event)
+        → HasApart start first name k (done ++ event ∷ []) (happened (ran start done) event)
         (moves start done)
-    by_name c (inl its) = change_dropped start first name k done event c legal so its late
-    by_name c (inr apart) = change_kept start first name k done event c legal so apart
+    by_name c (inl its) =
+        (way, change_dropped start first name k done way event c legal so its late)
+    by_name c (inr apart) =
+        (way ++ event ∷ [], change_kept start first name k done way event c legal so apart)
 
     by : IsTry event ⊎ Changes event
-        → Apart start first name k (done ++ event ∷ []) (happened (ran start done) event)
+        → HasApart start first name k (done ++ event ∷ []) (happened (ran start done) event)
         (moves start done ++ move_in (ran start done) event)
     by (inl t) =
-        subst (λ e. Apart start first name k (done ++ e ∷ []) (happened (ran start done) e)
+        subst (λ e. HasApart start first name k (done ++ e ∷ []) (happened (ran start done) e)
         (moves start done ++ move_in (ran start done) e)) (sym t.is)
-        (next_try start first name k done t.one legal (omega arith) so)
+        (_, next_try start first name k done way t.one legal (omega arith) so)
     by (inr c) =
         subst
-        (Apart start first name k (done ++ event ∷ []) (happened (ran start done) event))
+        (HasApart start first name k (done ++ event ∷ []) (happened (ran start done) event))
         (sym (same c)) (by_name c (cases_eq name c.node))
 
 -- and so along the run
 on : (start : Chip) (first : Clocks) (name k : ℕ) (done rest : List Event) → IsLegal start
     → k < (clocks_on first (moves start done)).nodes name name
-    → Apart start first name k done (ran start done) (moves start done)
-    → Apart start first name k (done ++ rest) (ran start (done ++ rest))
+    → HasApart start first name k done (ran start done) (moves start done)
+    → HasApart start first name k (done ++ rest) (ran start (done ++ rest))
     (moves start (done ++ rest))
 on start first name k done [] legal late so =
-    subst (λ es. Apart start first name k es (ran start es) (moves start es))
+    subst (λ es. HasApart start first name k es (ran start es) (moves start es))
     (sym (append-nil done)) so
 on start first name k done (event ∷ rest) legal late so =
-    subst (λ es. Apart start first name k es (ran start es) (moves start es))
+    subst (λ es. HasApart start first name k es (ran start es) (moves start es))
     (append_assoc done (event ∷ []) rest)
     (on start first name k (done ++ event ∷ []) rest legal later
-    (subst (λ c. Apart start first name k (done ++ event ∷ []) c (moves start (done ++ event ∷ [])))
-    (sym (ran-append start done (event ∷ [])))
-    (subst (Apart start first name k (done ++ event ∷ []) (happened (ran start done) event))
-    (sym (moves_next start done event)) (next start first name k done event legal late so))))
+    (subst (λ c. HasApart start first name k (done ++ event ∷ []) c
+    (moves start (done ++ event ∷ []))) (sym (ran-append start done (event ∷ [])))
+    (subst (HasApart start first name k (done ++ event ∷ []) (happened (ran start done) event))
+    (sym (moves_next start done event))
+    (next start first name k done so.0 event legal late so.1))))
   where
     less : (a b c : ℕ) → a < b → b ≤ c → a < c
     less a b c h g = omega arith
@@ -695,21 +732,23 @@ on start first name k done (event ∷ rest) legal late so =
 pub apart : (start : Chip) (first : Clocks) (name k : ℕ) (one : asked.Try) (rest : List Event)
     (m : Move) → IsLegal start → k ≤ first.nodes name name
     → move_in start (Try one.node one.side) ≡ m ∷ [] → name ≡ m.node
-    → Apart start first name k (Try one.node one.side ∷ rest)
+    → HasApart start first name k (Try one.node one.side ∷ rest)
     (ran start (Try one.node one.side ∷ rest)) (moves start (Try one.node one.side ∷ rest))
 apart start first name k one rest m legal grown made its =
     on start first name k (Try one.node one.side ∷ []) rest legal
     (subst (λ ms. k < (clocks_on first ms).nodes name name) (sym only)
     (subst (λ c. k < c) (sym (ap (λ n. (clocks_by m first).nodes n name) its
     ∙ ap (λ c. c name) (node_here m first))) late))
-    (subst (Apart start first name k (Try one.node one.side ∷ [])
-    (happened start (Try one.node one.side))) (sym only)
-    (dropped start first name k [] one m (record {
-      legal = legal;
-      so = none_yet;
-      grown = grown;
-      made = made;
-    }) late))
+    (subst (HasApart start first name k (Try one.node one.side ∷ [])
+    (happened start (Try one.node one.side))) (sym only) (
+      [],
+      dropped start first name k [] [] one m (record {
+        legal = legal;
+        so = none_yet start first name k;
+        grown = grown;
+        made = made;
+      }) late,
+    ))
   where
     only : moves start (Try one.node one.side ∷ []) ≡ m ∷ []
     only = append-nil (move_in start (Try one.node one.side)) ∙ made
@@ -720,18 +759,3 @@ apart start first name k one rest m legal grown made its =
     late : k < clock_of m first name
     late =
         less _ _ _ (subst (λ n. k ≤ first.nodes n name) its grown) (clock_more m first name its)
-
-    none_yet : Apart start first name k [] start []
-    none_yet = record {
-      way = [];
-      parts = λ x h. refl;
-      moves_are = λ x h. refl;
-      posts_are = λ cell h. refl;
-      takes_are = λ cell h. refl;
-      within = λ x. zero-le;
-      still = refl;
-      stands = refl;
-      fed = λ x apart. refl;
-      unfed = refl;
-      among = λ p e. e;
-    }

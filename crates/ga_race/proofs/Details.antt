@@ -11,6 +11,7 @@ use Rattle.ga_race.specs.Found.{IsAmong, IsPending, IsPosted, IsPostedIn, IsTake
 use Rattle.ga_race.specs.Shown.{Kept, Recalls}
 use Rattle.ga_race.specs.Watch.{Watch, first_watch, is_early_by, watch_on}
 use Rattle.ga_race.specs.declared.found.MultiportTake.{MultiportTake}
+use Rattle.ga_race.specs.declared.found.Post.{Post}
 use Rattle.ga_race.specs.declared.found.Race.{Race}
 use Rattle.ga_race.specs.declared.found.SideWord.{SideWord}
 use Rattle.ga_race.specs.inner.Adds.{Adds, EarlyBy, LeavesBy, PostedBy, TakeAdds}
@@ -37,7 +38,7 @@ takes_both words old mid new take a b = record {
     by_race race (inr is) = inr is
 
 -- what a test of order shows
-below : (a b : ℕ) → nat_lt a b ≡ true → a < b
+pub below : (a b : ℕ) → nat_lt a b ≡ true → a < b
 below a b e = grind (arith, common_steps)
 
 -- a race that is found first
@@ -99,14 +100,14 @@ found_adds words old new take left_out cell left race is word writer = record {
 
 -- a race of a take that was kept for a cell, by a word that is posted there
 pub early_by : (w : Watch) (old new : Kept) (node cell : ℕ) (side : Side) (take : MultiportTake)
-    (left_out : SideWord) (race : Race) → get_or old.left cell None ≡ Some take
+    (left_out : SideWord) (when : Post) (race : Race) → get_or old.left cell None ≡ Some take
     → w.left_at cell ≡ take.number + 1
     → true ≡ is_early_by (Some cell) (neighbour_of node side) (w.clocks.nodes node) w.left_at
-    → left_out.side ≡ side → left_out.writer ≡ node
+    → left_out.side ≡ side → left_out.writer ≡ node → left_out.post ≡ Some when
     → new.race ≡ Some (unwrap_or old.race (record { take = take; left_out = left_out }))
     → new.race ≡ Some race
-    → (old.race ≡ Some race) ⊎ EarlyBy w old node side cell left_out.word race
-early_by w old new node cell side take left_out race left count early at writer found e =
+    → (old.race ≡ Some race) ⊎ EarlyBy w old node side cell left_out.word when race
+early_by w old new node cell side take left_out when race left count early at writer post found e =
     by (found_first old.race new.race it race found e)
   where
     it : Race
@@ -114,13 +115,14 @@ early_by w old new node cell side take left_out race left count early at writer 
 
     its : (next : Option ℕ) → neighbour_of node side ≡ next
         → true ≡ is_early_by (Some cell) next (w.clocks.nodes node) w.left_at
-        → EarlyBy w old node side cell left_out.word it
+        → EarlyBy w old node side cell left_out.word when it
     its None there h = absurd (false≢true (sym h))
     its (Some reader) there h = record {
       left = left;
       side = at;
       word = refl;
       writer = writer;
+      post = post;
       reader = reader;
       next = there;
       early = subst (λ n. w.clocks.nodes node reader < n) count
@@ -128,10 +130,10 @@ early_by w old new node cell side take left_out race left count early at writer 
     }
 
     by : (old.race ≡ Some race) ⊎ (race ≡ it)
-        → (old.race ≡ Some race) ⊎ EarlyBy w old node side cell left_out.word race
+        → (old.race ≡ Some race) ⊎ EarlyBy w old node side cell left_out.word when race
     by (inl was) = inl was
     by (inr same) =
-        inr (subst (EarlyBy w old node side cell left_out.word) (sym same)
+        inr (subst (EarlyBy w old node side cell left_out.word when) (sym same)
         (its (neighbour_of node side) refl early))
 
 -- A step adds what its take does.

@@ -35,7 +35,7 @@ use Rattle.ga_chip.proofs.Runs.{flow_ran, moves-append, moves_of-append, posts, 
 use Rattle.ga_race.specs.Clocks.{clocks, clocks_on, no_clocks, steps_in}
 use Rattle.ga_race.specs.Races.{LeavesOut, Posts}
 use Rattle.ga_race.specs.Differs.{CanTake, GoesTwoWays, HasRace, PostsApart, RaceDiffers, TriesDiffer}
-use Rattle.ga_race.proofs.Apart.{Apart, apart}
+use Rattle.ga_race.proofs.Apart.{HasApart, apart}
 use Rattle.ga_race.proofs.Causes.{clocks_on-append}
 use Rattle.ga_race.proofs.Prefixes.{fed_prefix, its_own, next_of, not_its, only_move, posted_one, steps_earlier, wrote, wrote_append, wrote_one}
 use Rattle.ga_race.proofs.Embedded.{chosen}
@@ -71,12 +71,12 @@ moved_free part side found moved = by (is_held part) refl moved
     by false e f = e
 
 -- What is known of a node that takes a word at one of several sides.
-record Chooses (part : Part) (name : ℕ) : Type 0 where
-  sides : Sides
-  needs : need_of part.state ≡ need.Take sides
-  several : one_side sides ≡ None
-  free : is_held part ≡ false
-  node : part.state.node ≡ name
+pub record Chooses (part : Part) (name : ℕ) : Type 0 where
+  pub sides : Sides
+  pub needs : need_of part.state ≡ need.Take sides
+  pub several : one_side sides ≡ None
+  pub free : is_held part ≡ false
+  pub node : part.state.node ≡ name
 
 -- it asks for the word of the side that its try names
 asks_there : (part : Part) (name cell : ℕ) (side : Side) (c : Chooses part name)
@@ -93,7 +93,7 @@ asks_there part name cell side c among reads =
     looks false e = cc
 
 -- where a word is pending there it is taken
-takes_there : (chip : Chip) (part : Part) (name cell : ℕ) (side : Side) (c : Chooses part name)
+pub takes_there : (chip : Chip) (part : Part) (name cell : ℕ) (side : Side) (c : Chooses part name)
     → is_among side c.sides ≡ true → read_cell name side ≡ Some cell
     → IsSome (pending chip cell) → (result_of chip side part).0 ≡ Moved
 unfolding after
@@ -112,18 +112,19 @@ picks_there part name side c =
     ap (λ n. picked_by n side) c.needs ∙ ap (λ o. picked_of o side) c.several
 
 -- What is known of a take that leaves out a side.
-record Takes (start : Chip) (event : Event) (name cell : ℕ)
+pub record Takes (start : Chip) (event : Event) (name cell : ℕ)
     (l : LeavesOut start event name cell) : Type 0 where
-  one : asked.Try
-  is : event ≡ Try one.node one.side
-  made : move_in start event ≡ l.move ∷ []
-  its : name ≡ l.move.node
-  chooses : Chooses l.part name
-  among : is_among l.taken chooses.sides ≡ true
-  among_left : is_among l.left_out chooses.sides ≡ true
-  at : ℕ
-  reads : read_cell name l.taken ≡ Some at
-  word : IsSome (pending start at)
+  pub one : asked.Try
+  pub is : event ≡ Try one.node one.side
+  pub made : move_in start event ≡ l.move ∷ []
+  pub its : name ≡ l.move.node
+  pub chooses : Chooses l.part name
+  pub among : is_among l.taken chooses.sides ≡ true
+  pub among_left : is_among l.left_out chooses.sides ≡ true
+  pub at : ℕ
+  pub reads : read_cell name l.taken ≡ Some at
+  pub word : IsSome (pending start at)
+  pub found : l.move.found ≡ pending start at
 
 -- a try that takes is known
 try_takes : (start : Chip) (event : Event) (name cell : ℕ) (l : LeavesOut start event name cell)
@@ -140,6 +141,8 @@ try_takes start event name cell l one legal is made = record {
   at = looked.1.0;
   reads = ap (read_cell name) (sym it.3) ∙ looked.1.1;
   word = subst IsSome (sym holds.1) refl;
+  found = ap (λ m. m.found) t.is ∙ ap (λ p. found_by (asks p one.side) start.cells) same
+      ∙ ap (λ q. found_by q start.cells) (asked_is ∙ looked.1.2);
 }
   where
     t : Tried start one.node one.side l.move
@@ -189,7 +192,7 @@ try_takes start event name cell l one legal is made = record {
         (passed_after l.part one.side (found_by (asks l.part one.side) start.cells) moved)
 
 -- and a take is a try
-is_taken : (start : Chip) (event : Event) (name cell : ℕ) (l : LeavesOut start event name cell)
+pub is_taken : (start : Chip) (event : Event) (name cell : ℕ) (l : LeavesOut start event name cell)
     → IsLegal start → Takes start event name cell l
 is_taken start event name cell l legal = by (try_or_changes event)
   where
@@ -240,7 +243,7 @@ full_one (Some word) n h = omega arith
 full_one None n h = cc
 
 -- the steps of a run and of one behind it
-steps_append : (chip : Chip) (done more : List Event) (x : ℕ)
+pub steps_append : (chip : Chip) (done more : List Event) (x : ℕ)
     → steps_in chip (done ++ more) x ≡ steps_in chip done x + steps_in (ran chip done) more x
 steps_append chip done more x =
     ap (λ l. length l)
@@ -297,9 +300,9 @@ module _ (chip : Chip) (before : List Event) (event : Event) (later : List Event
     grown = let own = own_steps no_clocks (moves chip before) name in omega arith
 
     -- the moves that don't come behind the take
-    others : Apart start (clocks chip before) name k upto (ran start upto) (moves start upto)
+    others : HasApart start (clocks chip before) name k upto (ran start upto) (moves start upto)
     others =
-        subst (λ e. Apart start (clocks chip before) name k (e ∷ (p.mid ++ p.post ∷ []))
+        subst (λ e. HasApart start (clocks chip before) name k (e ∷ (p.mid ++ p.post ∷ []))
         (ran start (e ∷ (p.mid ++ p.post ∷ []))) (moves start (e ∷ (p.mid ++ p.post ∷ []))))
         (sym t.is)
         (apart start (clocks chip before) name k t.one (p.mid ++ p.post ∷ []) l.move legal_now
@@ -333,8 +336,8 @@ module _ (chip : Chip) (before : List Event) (event : Event) (later : List Event
         omega (arith, one_more)
 
     -- so it is among those moves
-    posted : posts cell (moves start others.way) ≡ posts cell (moves start upto)
-    posted = others.posts_are cell early
+    posted : posts cell (moves start others.0) ≡ posts cell (moves start upto)
+    posted = others.1.posts_are cell early
 
     -- at its moment it posts
     at_post : Posts (ran start (event ∷ p.mid)) p.post cell
@@ -342,7 +345,7 @@ module _ (chip : Chip) (before : List Event) (event : Event) (later : List Event
         subst (λ c. Posts c p.post cell) (ran-append chip before (event ∷ p.mid)) p.posts
 
     -- so that a word was posted
-    many : 1 ≤ wrote start others.way cell
+    many : 1 ≤ wrote start others.0 cell
     many =
         let all : wrote start upto cell ≡ wrote start (event ∷ p.mid) cell
         + wrote (ran start (event ∷ p.mid)) (p.post ∷ []) cell =
@@ -351,26 +354,26 @@ module _ (chip : Chip) (before : List Event) (event : Event) (later : List Event
         wrote_one (ran start (event ∷ p.mid)) p.post at_post.move cell at_post.made
         ∙ ap (λ q. length (posted_by cell q)) at_post.asked
         ∙ posted_one at_post.side cell at_post.word in
-        let same : wrote start others.way cell ≡ wrote start upto cell =
+        let same : wrote start others.0 cell ≡ wrote start upto cell =
         ap (λ ws. length ws) posted in
         omega arith
 
     -- and both words are pending
     comes : Reached start (event ∷ later) name t.at cell
     comes = record {
-      way = others.way;
-      taken = pending_later start others.way name t.at l.taken legal_now named t.reads others.still
-          (full_one (pending start t.at) (wrote start others.way t.at) t.word);
-      left_out = pending_later start others.way name cell l.left_out legal_now named l.reads
-          others.still (more_than (length (option_to_list (pending start cell)))
-          (wrote start others.way cell) many);
-      stands = others.stands;
-      still = others.still;
-      within = λ x. le_trans (others.within x)
+      way = others.0;
+      taken = pending_later start others.0 name t.at l.taken legal_now named t.reads others.1.still
+          (full_one (pending start t.at) (wrote start others.0 t.at) t.word);
+      left_out = pending_later start others.0 name cell l.left_out legal_now named l.reads
+          others.1.still (more_than (length (option_to_list (pending start cell)))
+          (wrote start others.0 cell) many);
+      stands = others.1.stands;
+      still = others.1.still;
+      within = λ x. le_trans (others.1.within x)
           (subst (λ es. steps_in start upto x ≤ steps_in start es x) upto_is
           (steps_earlier start upto p.rest x));
       fed = λ x. fed_at x (cases_eq x name);
-      among = λ q all. others.among q (and_parts (list_all q upto) (list_all q p.rest)
+      among = λ q all. others.1.among q (and_parts (list_all q upto) (list_all q p.rest)
           (sym (list_all-append q upto p.rest) ∙ ap (list_all q) upto_is ∙ all)).0;
     }
       where
@@ -378,15 +381,16 @@ module _ (chip : Chip) (before : List Event) (event : Event) (later : List Event
         more_than a b h = omega arith
 
         fed_at : (x : ℕ) → (x ≡ name) ⊎ (x ≡ name → ⊥)
-            → IsPrefix (words_fed start others.way x) (words_fed start (event ∷ later) x)
+            → IsPrefix (words_fed start others.0 x) (words_fed start (event ∷ later) x)
         fed_at x (inl same) =
-            subst (λ n. IsPrefix (words_fed start others.way n) (words_fed start (event ∷ later) n))
+            subst (λ n. IsPrefix (words_fed start others.0 n) (words_fed start (event ∷ later) n))
             (sym same) (
               words_fed start (event ∷ later) name,
-              ap (λ ws. ws ++ words_fed start (event ∷ later) name) (sym others.unfed),
+              ap (λ ws. ws ++ words_fed start (event ∷ later) name) (sym others.1.unfed),
             )
         fed_at x (inr apart) =
-            subst (λ ws. IsPrefix ws (words_fed start (event ∷ later) x)) (sym (others.fed x apart))
+            subst (λ ws. IsPrefix ws (words_fed start (event ∷ later) x))
+            (sym (others.1.fed x apart))
             (subst (λ es. IsPrefix (words_fed start upto x) (words_fed start es x)) upto_is
             (fed_prefix start upto p.rest x))
 

@@ -33,6 +33,7 @@ use Rattle.ga_race.specs.Differs.{HasRace, PostsApart}
 use Rattle.ga_race.specs.Found.{IsAmong, IsPending, IsPostedIn, LeavesAt}
 use Rattle.ga_race.specs.Details.{ComesWith, IsRaceOf, WatchShows}
 use Rattle.ga_race.specs.Watch.{Watch, clock_after, first_watch, leaves_side, watch_on}
+use Rattle.ga_race.specs.declared.found.Post as declared
 use Rattle.ga_race.specs.declared.found.Race.{Race}
 use Rattle.ga_race.proofs.Tracks.{Track, first_track, track_on, tracked_all, tracked_by}
 use Rattle.ga_race.proofs.Prefixes.{One, its_own, next_of, one_or_none}
@@ -233,6 +234,32 @@ less_counted before k steps most less is some = by (cases_lt k 1)
     by (inr more) = let same = counted_some before k more in omega arith
 
 -- THE RACE
+-- An event of a run, behind these ones, is that of a turn.
+pub record IsInTurn (events : List (ℕ × Event)) (before : List Event) (event : Event)
+    (turn : ℕ) : Type 0 where
+  pub front : List (ℕ × Event)
+  pub back : List (ℕ × Event)
+  pub cut : events ≡ front ++ (turn, event) ∷ back
+  pub front_is : events_in front ≡ before
+
+-- a word that is posted later than the take is posted by its writer, in the turn that is shown
+abbrev pub IsPostShown : (chip : Chip) (events : List (ℕ × Event)) (race : Race)
+    (before : List Event) (event : Event) (later : List Event) (name cell : ℕ)
+    → ComesWith chip before event later name cell race.left_out.word → Type 0
+IsPostShown chip events race before event later name cell (inl pending) = Unit {0}
+IsPostShown chip events race before event later name cell (inr (p, e)) =
+    (at : declared.Post) × (race.left_out.post ≡ Some at)
+    × (p.posts.move.node ≡ race.left_out.writer)
+    × IsInTurn events (before ++ event ∷ p.mid) p.post at.turn
+
+-- A race of a run, with what is shown of it.
+pub record IsShown (chip : Chip) (events : List (ℕ × Event)) (race : Race) : Type 0 where
+  pub found : HasRace chip (events_in events)
+  pub is : IsRaceOf chip (events_in events) found race
+  pub take : IsInTurn events found.before found.event race.take.turn
+  pub post : IsPostShown chip events race found.before found.event found.later found.name
+      found.cell is.comes
+
 module _ (chip : Chip) (events : List (ℕ × Event)) (race : Race) (legal : IsLegal chip)
     (among : IsAmong chip.cells (steps_seen chip events) race) where
   abbrev take : At chip events among.before among.step among.later
@@ -310,17 +337,18 @@ module _ (chip : Chip) (events : List (ℕ × Event)) (race : Race) (legal : IsL
 
   -- so the run has a race, which is this one
   abbrev Shown : Type 0
-  Shown = (found : HasRace chip (events_in events)) × IsRaceOf chip (events_in events) found race
+  Shown = IsShown chip events race
 
   shown : (side : Side) (cell : ℕ) → LeavesAt race.take side cell
       → (comes : IsSome (pending now cell)
       ⊎ PostsApart chip done take.event (events_in take.back) m.node cell)
       → race.left_out.side ≡ side
-      → ComesWith chip done take.event (events_in take.back) m.node cell race.left_out.word
+      → (word : ComesWith chip done take.event (events_in take.back) m.node cell race.left_out.word)
+      → IsPostShown chip events race done take.event (events_in take.back) m.node cell word
       → neighbour_of m.node race.left_out.side ≡ Some race.left_out.writer → Shown
   unfolding leaves
-  shown side cell at comes left word writer = (
-    record {
+  shown side cell at comes left word post writer = record {
+    found = record {
       before = done;
       event = take.event;
       later = events_in take.back;
@@ -330,8 +358,8 @@ module _ (chip : Chip) (events : List (ℕ × Event)) (race : Race) (legal : IsL
       cell = cell;
       leaves = leaves side cell at;
       comes = comes;
-    },
-    record {
+    };
+    is = record {
       reader = sym reader_is;
       number = sym among.take.number ∙ ap (λ (s : Step). s.number) (sym take.is);
       place = sym among.take.place ∙ ap (λ (s : Step). s.place) (sym take.is);
@@ -343,8 +371,12 @@ module _ (chip : Chip) (events : List (ℕ × Event)) (race : Race) (legal : IsL
       left_out = left;
       comes = word;
       other_writer = writer;
-    },
-  )
+    };
+    take = subst (IsInTurn events done take.event)
+        (ap (λ (s : Step). s.turn) take.is ∙ among.take.turn)
+        (record { front = take.front; back = take.back; cut = take.cut; front_is = refl });
+    post = post;
+  }
 
   -- A WORD IS PENDING
   of_pending : IsPending (watch_on first among.before).words race → Shown
@@ -352,7 +384,7 @@ module _ (chip : Chip) (events : List (ℕ × Event)) (race : Race) (legal : IsL
       let there : pending now p.cell ≡ Some race.left_out.word =
       sym (follows.words p.cell) ∙ p.word in
       let other = writer_there race.take.reader p.cell race.left_out.side p.at.reads in
-      shown race.left_out.side p.cell p.at (inl (ap is_some there)) refl (inl there)
+      shown race.left_out.side p.cell p.at (inl (ap is_some there)) refl (inl there) tt
       (ap (λ n. neighbour_of n race.left_out.side) reader_is ∙ other.1
       ∙ ap Some (sym (p.writer other.0 other.1)))
 
@@ -413,10 +445,25 @@ module _ (chip : Chip) (events : List (ℕ × Event)) (race : Race) (legal : IsL
     posted_at : (o : One (ran chip behind_take) post.event)
         → step_of post.turn o.makes.part.state o.move ≡ q.post → Shown
     posted_at o is =
-        shown q.side q.cell q.at (inr apart) same.1 (inr (apart, refl)) writer
+        shown q.side q.cell q.at (inr apart) same.1 (inr (apart, refl)) (
+          q.posted.shown,
+          q.posted.when,
+          ap (λ (s : Step). s.node) is ∙ q.posted.writer,
+          subst (IsInTurn events behind_take post.event)
+              (ap (λ (s : Step). s.turn) is ∙ sym q.posted.turn) turn_is,
+        ) writer
       where
         legal_post : IsLegal (ran chip behind_take)
         legal_post = legal_ran chip behind_take legal
+
+        turn_is : IsInTurn events behind_take post.event post.turn
+        turn_is = record {
+          front = passed;
+          back = post.back;
+          cut = take.cut ∙ ap (λ l. take.front ++ (take.turn, take.event) ∷ l) post.cut
+              ∙ sym (append_assoc take.front ((take.turn, take.event) ∷ post.front) _);
+          front_is = events_are;
+        }
 
         t : Track
         t = track_on chip first_track behind_take
@@ -503,7 +550,7 @@ module _ (chip : Chip) (events : List (ℕ × Event)) (race : Race) (legal : IsL
       → Shown) (ran-append chip done (take.event ∷ events_in post.front)) (posted_at q post)
       post.one post.is
 
-  race_found : Shown
+  pub race_found : Shown
   race_found = by among.comes
     where
       by : IsPending (watch_on first among.before).words race
@@ -513,7 +560,8 @@ module _ (chip : Chip) (events : List (ℕ × Event)) (race : Race) (legal : IsL
 
 -- A RACE THAT IS KEPT IS ONE OF THE RUN
 pub watch_shows : WatchShows
-watch_shows chip events race legal among = race_found chip events race legal among
+watch_shows chip events race legal among =
+    let shown = race_found chip events race legal among in (shown.found, shown.is)
 
 -- and one of the turns
 pub race_shown : (chip : Chip) (turns : ℕ) (race : Race) → IsLegal chip

@@ -51,7 +51,7 @@ pub counted_some : (before k : ℕ) → 1 ≤ k → counted before k ≡ k + bef
 counted_some before k h =
     ap (λ b. if b then 0 else k + before) (ne_eqb k 0 (λ e. absurd (omega arith)))
 
-counted_none : (before k : ℕ) → k < 1 → counted before k ≡ 0
+pub counted_none : (before k : ℕ) → k < 1 → counted before k ≡ 0
 counted_none before k h =
     let e : k ≡ 0 = omega arith in ap (λ b. if b then 0 else k + before) (eq-eqb k 0 e)
 
@@ -78,10 +78,10 @@ counted_max before j k = by (cases_lt j 1) (cases_lt k 1)
         let b = counted_some before k g in
         let c = counted_some before (max j k) (omega arith) in omega arith
 
-below : (a b : ℕ) → a < b → nat_lt a b ≡ true
+pub below : (a b : ℕ) → a < b → nat_lt a b ≡ true
 below a b h = grind (arith, common_steps)
 
-not_below : (a b : ℕ) → b ≤ a → nat_lt a b ≡ false
+pub not_below : (a b : ℕ) → b ≤ a → nat_lt a b ≡ false
 not_below a b h = grind (arith, common_steps)
 
 counted_less : (before j k : ℕ) → j < k → counted before j < counted before k

@@ -1,5 +1,5 @@
 -- The verdict after some turns is so.
-use Rattle.std.proofs.Common.{◌≡◌, ◌∙◌, ◌+◌, ℕ, false, List, Option, Some, None, ap, refl, subst, sym}
+use Rattle.std.proofs.Common.{◌≡◌, ◌∙◌, ◌+◌, ◌<◌, ℕ, false, List, Option, Some, None, ap, refl, subst, sym}
 use Rattle.std.specs.Prelude.{is_some}
 use Rattle.ga_chip.specs.Chip.{Chip}
 use Rattle.ga_chip.specs.Run.{Event, ran, turns_of, words_fed}
@@ -12,18 +12,19 @@ use Rattle.ga_race.specs.Clocks.{steps_in}
 use Rattle.ga_race.specs.Found.{IsAmong}
 use Rattle.ga_race.specs.Races.{HasNoRace, IsDeterminateWithin}
 use Rattle.ga_race.specs.Shown.{HasSeen, Kept}
-use Rattle.ga_race.specs.Verdict.{AgreesFor, IsSo}
+use Rattle.ga_race.specs.Verdict.{IfRace, AgreesFor, IsSo}
 use Rattle.ga_race.specs.Watch.{CountsFit, finds_race, first_watch, watch_on}
 use Rattle.ga_race.specs.declared.found.Race.{Race}
 use Rattle.ga_race.specs.declared.verdict.Verdict.{Verdict}
 use Rattle.ga_race.specs.declared.verdict.Verdict.TheVariants as verdict
 use Rattle.ga_race.specs.Rounds.{HasNoBreaks}
 use Rattle.ga_race.specs.inner.Ending.{IfRound, IsFound, MadeTwice}
+use Rattle.ga_race.proofs.Beginning.{take_within}
 use Rattle.ga_race.proofs.Deciding.{quiet_within}
 use Rattle.ga_race.proofs.Differs.{race_differs}
 use Rattle.ga_race.proofs.EndingAll.{all_names}
 use Rattle.ga_race.proofs.Fair.{breaks_kept}
-use Rattle.ga_race.proofs.Finding.{race_shown}
+use Rattle.ga_race.proofs.Finding.{race_found, race_shown}
 use Rattle.ga_race.proofs.Fitting.{steps_are_counted}
 use Rattle.ga_race.proofs.Following.{finds_same}
 use Rattle.ga_race.proofs.Rounds.{turns_front}
@@ -114,3 +115,22 @@ found_so chip turns race (verdict.Round period) legal is among found made =
     )
 found_so chip turns race verdict.Open legal is among found made =
     agrees_for chip turns legal (sym is ∙ ap is_some found)
+
+-- a race that is found is one that the watch keeps
+pub if_race : (race : Option Race) (now : Chip) (v : Verdict) (holds : Race → Type 0)
+    → ((one : Race) → race ≡ Some one → holds one) → IsFound race now (Some v) → IfRace v holds
+if_race race now (verdict.Race details) holds kept found = kept details found
+if_race race now (verdict.AtRest spins) holds kept found = tt
+if_race race now (verdict.Round period) holds kept found = tt
+if_race race now verdict.Open holds kept found = tt
+
+-- its take is in one of the turns
+pub take_turn : (chip : Chip) (turns : ℕ) (v : Verdict) → IsLegal chip
+    → IfRace v (IsAmong chip.cells (steps_seen chip (turns_numbered turns)))
+    → IfRace v (λ race. race.take.turn < turns)
+take_turn chip turns (verdict.Race race) legal among =
+    take_within chip turns race legal
+    (race_found chip (turns_numbered turns) race legal among)
+take_turn chip turns (verdict.AtRest spins) legal among = tt
+take_turn chip turns (verdict.Round period) legal among = tt
+take_turn chip turns verdict.Open legal among = tt

@@ -18,6 +18,7 @@ use Rattle.ga_observe.specs.declared.step.Step.{Step}
 use Rattle.ga_race.specs.Clocks.{Clock, joined, no_clock, with_clock}
 use Rattle.ga_race.specs.Found.{IsPending, IsTake}
 use Rattle.ga_race.specs.declared.found.MultiportTake.{MultiportTake}
+use Rattle.ga_race.specs.declared.found.Post.{Post}
 use Rattle.ga_race.specs.declared.found.Race.{Race}
 use Rattle.ga_race.specs.inner.Adds.{Adds, EarlyBy, PostedBy}
 use Rattle.ga_race.specs.Shown.{HasSeen, Kept, Shows, ShowsClock}
@@ -156,13 +157,14 @@ post_is w step count cell word side n e there =
 
 -- a post adds a race, or nothing
 pub posted_adds : (w : Watch) (old one two new : Kept) (step : Step) (count cell word : ℕ)
-    (side : Side) → count ≡ count_of step → step.deed ≡ did.Posted side word
+    (side : Side) (when : Post) → when.turn ≡ step.turn → count ≡ count_of step
+    → step.deed ≡ did.Posted side word
     → cell_of step.node side ≡ Some cell → one.left ≡ old.left → one.race ≡ old.race
     → two.left ≡ one.left → ((race : Race) → two.race ≡ Some race → (one.race ≡ Some race)
-    ⊎ EarlyBy (ticked step.node count w) one step.node side cell word race)
+    ⊎ EarlyBy (ticked step.node count w) one step.node side cell word when race)
     → new.left ≡ two.left → new.race ≡ two.race → Adds w old new step
-posted_adds w old one two new step count cell word side n is writes left race left' found left''
-    race' = record {
+posted_adds w old one two new step count cell word side when turn n is writes left race left' found
+    left'' race' = record {
       left = λ at take e. inl (ap (λ l. get_or l at None)
           (sym left ∙ sym left' ∙ sym left'') ∙ e);
       race = λ it e. by it (found it (sym race' ∙ e));
@@ -177,7 +179,8 @@ posted_adds w old one two new step count cell word side n is writes left race le
         (cause_by step.node d w.clocks))) (sym is)
 
     by : (it : Race)
-        → (one.race ≡ Some it) ⊎ EarlyBy (ticked step.node count w) one step.node side cell word it
+        → (one.race ≡ Some it)
+        ⊎ EarlyBy (ticked step.node count w) one step.node side cell word when it
         → (old.race ≡ Some it) ⊎ ((IsTake step it.take × IsPending w.words it)
         ⊎ PostedBy w old step it)
     by it (inl was) = inl (sym race ∙ was)
@@ -191,6 +194,9 @@ posted_adds w old one two new step count cell word side n is writes left race le
         reader = e.reader;
         next = ap (neighbour_of step.node) e.side ∙ e.next;
         early = subst (λ (c : Clock). c e.reader < it.take.number + 1) clock e.early;
+        shown = when;
+        when = e.post;
+        turn = turn;
       };
     }))
 

@@ -33,3 +33,5 @@ pub mod Returning
 pub mod Finding
 pub mod Judging
 pub mod Reading
+pub mod Ways
+pub mod Beginning

@@ -1,10 +1,12 @@
 -- Turns: four of them try each node at each side, and each moves a node at most once.
-use Rattle.std.proofs.Common.{◌≡◌, ℕ, zero, suc, ◌+◌, ◌*◌, ◌-◌, ◌≤◌, ◌<◌, Bool, List, [], ◌∷◌, ◌++◌, ◌⊎◌, inl, inr, flat_map, length, map, slice_index_or, Option, Some, None, refl, sym, ap, ap₂, ◌∙◌, subst, append_assoc, length-append, zero-add, add-zero, zero-le, arith}
+use Rattle.std.proofs.Common.{◌≡◌, ℕ, zero, suc, ◌+◌, ◌*◌, ◌-◌, ◌≤◌, ◌<◌, Bool, List, [], ◌∷◌, ◌++◌, ◌⊎◌, inl, inr, flat_map, length, map, slice_index_or, take, Option, Some, None, refl, sym, ap, ap₂, ◌∙◌, subst, append-nil, append_assoc, length-append, zero-add, add-zero, zero-le, arith}
 use Rattle.std.specs.Prelude.{◌%◌}
 use Rattle.std.specs.List.{range_with_len}
 use Rattle.std.proofs.Math.Nat.{add-mul-mod_self_right}
 use Rattle.std.proofs.lemmas.Bool.{cases_eq, cases_lt, ne_eqb}
+use Rattle.std.proofs.lemmas.List.{map-append}
 use Rattle.std.proofs.lemmas.List.Concat.{flat_map-append}
+use Rattle.std.proofs.lemmas.List.FromFn.{take-map-range_with_len}
 use Rattle.ga_place.specs.Cell.{index_of, name_at}
 use Rattle.ga_place.specs.Node.{IsNodeName}
 use Rattle.ga_place.specs.Side.{SIDES}
@@ -24,7 +26,7 @@ use Rattle.ga_race.proofs.Alike.{AreTries, its_move, tries_join}
 use Rattle.ga_race.proofs.Round.{steps_more}
 
 -- a number of turns, from a turn on
-pub some_turns : ℕ → ℕ → List Event
+unfoldable pub some_turns : ℕ → ℕ → List Event
 some_turns from count = flat_map (λ turn. turn_of (side_of_turn turn)) (range_with_len from count)
 
 -- numbers in a row are split in two
@@ -66,7 +68,7 @@ turn_tries side [] = tt
 turn_tries side (index ∷ indices) = (tt, turn_tries side indices)
 
 -- a turn is made of tries
-tries_of_turn : (side : Side) → AreTries (turn_of side)
+pub tries_of_turn : (side : Side) → AreTries (turn_of side)
 unfolding turn_of
 tries_of_turn side = turn_tries side (range_with_len 0 144)
 
@@ -161,7 +163,7 @@ turn_at turn index small = by (cases_lt index (turn % 4))
     by (inr behind) = (index - turn % 4, omega arith, omega arith)
 
 -- turns from one on are split in two
-some_split : (from one two : ℕ) → some_turns from (one + two) ≡ some_turns from one
+pub some_split : (from one two : ℕ) → some_turns from (one + two) ≡ some_turns from one
     ++ some_turns (from + one) two
 unfolding some_turns
 some_split from one two =
@@ -170,10 +172,42 @@ some_split from one two =
     (range_with_len (from + one) two)
 
 -- turns from one on begin with that turn
-some_first : (from count : ℕ) → some_turns from (suc count) ≡ turn_of (side_of_turn from)
+pub some_first : (from count : ℕ) → some_turns from (suc count) ≡ turn_of (side_of_turn from)
     ++ some_turns (from + 1) count
 unfolding some_turns
 some_first from count = refl
+
+-- one turn alone
+turn_alone : (turn : ℕ) → some_turns turn 1 ≡ turn_of (side_of_turn turn)
+unfolding some_turns
+turn_alone turn = append-nil (turn_of (side_of_turn turn))
+
+-- the first tries of a turn, with one more
+pub turn_take : (side : Side) (index : ℕ) → index < 144 → take (index + 1) (turn_of side)
+    ≡ take index (turn_of side) ++ Try (name_at index) side ∷ []
+unfolding turn_of
+turn_take side index below =
+    let event : ℕ → Event = λ at. Try (name_at at) side in
+    take-map-range_with_len event 0 144 (index + 1) (omega arith)
+    ∙ ap (map event) (range_split 0 index 1)
+    ∙ map-append event (range_with_len 0 index) (range_with_len (0 + index) 1)
+    ∙ ap₂ (λ xs ys. xs ++ ys) (sym (take-map-range_with_len event 0 144 index (omega arith)))
+    (ap (λ at. event at ∷ []) (zero-add index))
+
+-- and all of them
+pub turn_full : (side : Side) → take 144 (turn_of side) ≡ turn_of side
+unfolding turn_of
+turn_full side = take-map-range_with_len (λ at. Try (name_at at) side) 0 144 144 (omega arith)
+
+-- turns from one on, with one more
+pub turns_next : (first turn : ℕ) → first ≤ turn → some_turns first (turn - first)
+    ++ take 144 (turn_of (side_of_turn turn)) ≡ some_turns first (turn + 1 - first)
+turns_next first turn h =
+    let at : first + (turn - first) ≡ turn = omega arith in
+    let more : turn - first + 1 ≡ turn + 1 - first = omega arith in
+    ap (λ es. some_turns first (turn - first) ++ es) (turn_full (side_of_turn turn)
+    ∙ sym (turn_alone turn) ∙ ap (λ n. some_turns n 1) (sym at))
+    ∙ sym (some_split first (turn - first) 1) ∙ ap (some_turns first) more
 
 -- four turns try each node at each side
 pub four_try_each : (from name : ℕ) (side : Side) → IsNodeName name
@@ -286,7 +320,7 @@ one_left chip side name (suc left) index e =
         omega arith
 
 -- a node makes one step at most in a turn
-turn_steps : (chip : Chip) (side : Side) (name : ℕ) → steps_in chip (turn_of side) name ≤ 1
+pub turn_steps : (chip : Chip) (side : Side) (name : ℕ) → steps_in chip (turn_of side) name ≤ 1
 turn_steps chip side name =
     subst (λ es. steps_in chip es name ≤ 1) (turn_whole side) (one_left chip side name 144 0 refl)
 

@@ -7,6 +7,7 @@ use Rattle.ga_observe.specs.declared.step.Deed.TheVariants as did
 use Rattle.ga_observe.specs.declared.step.Step.{Step}
 use Rattle.ga_race.specs.Watch.{Watch, clock_after, first_watch, leaves_side, watch_on}
 use Rattle.ga_race.specs.declared.found.MultiportTake.{MultiportTake}
+use Rattle.ga_race.specs.declared.found.Post.{Post}
 use Rattle.ga_race.specs.declared.found.Race.{Race}
 
 -- A take is this step, with its sides and its word; the neighbour at its side has written the word.
@@ -41,6 +42,10 @@ pub record IsPosted (w : Watch) (post : Step) (race : Race) (cell : ℕ) : Type 
   pub reader : ℕ
   pub next : neighbour_of post.node race.left_out.side ≡ Some reader
   pub early : clock_after post w.clocks reader < race.take.number + 1
+  -- its turn is shown
+  pub shown : Post
+  pub when : race.left_out.post ≡ Some shown
+  pub turn : shown.turn ≡ post.turn
 
 -- The same, among later steps.
 pub record IsPostedIn (w : Watch) (later : List Step) (race : Race) : Type 0 where

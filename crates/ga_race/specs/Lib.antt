@@ -9,5 +9,6 @@ pub mod Found
 pub mod Decides
 pub mod Details
 pub mod Verdict
+pub mod Way
 pub mod Shown
 pub mod inner

@@ -8,6 +8,7 @@ use Rattle.ga_race.specs.Differs.{GoesTwoWays, HasRace}
 use Rattle.ga_race.specs.Races.{IsDeterminate, IsDeterminateWithin, IsFed}
 use Rattle.ga_race.specs.Rounds.{GoesRound, HasNoBreaks}
 use Rattle.ga_race.specs.Spins.{IsRestOrSpins, IsResting, ShowsSpins}
+use Rattle.ga_race.specs.declared.found.Race.{Race}
 use Rattle.ga_race.specs.declared.verdict.Verdict.{Verdict}
 use Rattle.ga_race.specs.declared.verdict.Verdict.TheVariants as verdict
 
@@ -30,6 +31,13 @@ pub record EndsRound (chip : Chip) (turns period : ℕ) : Type 0 where
   pub first : ℕ
   pub twice : first + period + period ≤ turns
   pub round : GoesRound chip first period
+
+-- if a verdict is a race, this holds for it
+abbrev pub IfRace : Verdict → (Race → Type 0) → Type 0
+IfRace (verdict.Race race) holds = holds race
+IfRace (verdict.AtRest spins) holds = Unit {0}
+IfRace (verdict.Round period) holds = Unit {0}
+IfRace verdict.Open holds = Unit {0}
 
 -- A verdict after some turns is so. A race: these turns have the one that is shown, and within
 -- their steps the chip can go two ways. Else any two runs agree in which no node makes more steps,

@@ -3,3 +3,4 @@ pub mod Going
 pub mod Ending
 pub mod Watched
 pub mod Adds
+pub mod Way

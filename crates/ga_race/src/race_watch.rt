@@ -98,7 +98,9 @@ impl RaceWatch {
 
     /// How many steps of a second node come before the last step of a first one, by causes, or are
     /// that step.
-    pub(crate) fn known(&self, node: Node, other: Node) -> u64 {
+    pub(crate) fn known(&self, node: Node, other: Node) -> u64
+        ensures { (w : Watch) → Shows self.now w → result ≡ w.clocks.nodes node other }
+    {
         self.nodes[node.index()].at(other.index())
     }
 
@@ -308,7 +310,9 @@ impl RaceWatch {
     }
 
     /// When a step is a post.
-    fn post_at(&self, step: &Step) -> Post {
+    fn post_at(&self, step: &Step) -> Post
+        ensures { result.turn ≡ step.now.turn }
+    {
         Post {
             number: step.number,
             turn: step.turn,
@@ -324,7 +328,7 @@ impl RaceWatch {
         ensures start { self.new.start ≡ self.old.start }
         ensures left { self.new.left ≡ self.old.left }
         ensures race { (w : Watch) → Shows self.old w → (race : race) → self.new.race ≡ Some race
-            → (self.old.race ≡ Some race) ⊎ EarlyBy w self.old node side cell word race }
+            → (self.old.race ≡ Some race) ⊎ EarlyBy w self.old node side cell word post race }
     {
         if let Some(take) = self.early(node, side, cell) {
             let left_out = SideWord {

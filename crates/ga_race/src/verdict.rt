@@ -5,7 +5,8 @@ ghost use Rattle.ga_chip.specs.Run.{moves, ran, turns_of};
 ghost use Rattle.ga_observe.specs.Seen.{steps_seen, turns_numbered};
 ghost use Rattle.ga_race.specs.Reads.{multiport_takes};
 ghost use Rattle.ga_race.specs.Rounds.{HasNoBreaks};
-ghost use Rattle.ga_race.specs.Verdict.{IsSo};
+ghost use Rattle.ga_race.specs.Found.{IsAmong};
+ghost use Rattle.ga_race.specs.Verdict.{IfRace, IsSo};
 ghost use Rattle.ga_race.specs.inner.Ending.{IfRound, IsFound, IsSearch, MadeTwice};
 
 use crate::counts::counts_fit;
@@ -51,6 +52,11 @@ pub fn race(alloc: Global, chip: &mut Chip, turns: u32) -> Result<Report, AllocE
     ensures reads { IfOk result (λ report. report.multiport_reads
         ≡ multiport_takes (steps_seen chip.old (turns_numbered report.turns))) }
     ensures verdict { IfOk result (λ report. IsSo chip.old report.turns report.verdict) }
+    // a race is shown as a watch over these turns shows it, with the turn of its take
+    ensures shown { IfOk result (λ report. IfRace report.verdict
+        (IsAmong chip.old.cells (steps_seen chip.old (turns_numbered report.turns)))) }
+    ensures turn { IfOk result (λ report.
+        IfRace report.verdict (λ race. race.take.turn < report.turns)) }
     // without another verdict all turns are made
     ensures open { IfOk result (λ report. report.verdict ≡ Verdict.Open → report.turns ≡ turns) }
     ensures most { IfOk result (λ report. report.turns ≤ turns) }

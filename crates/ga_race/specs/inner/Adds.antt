@@ -7,6 +7,7 @@ use Rattle.ga_race.specs.Found.{IsPending, IsPosted, IsTake, LeavesAt}
 use Rattle.ga_race.specs.Shown.{Kept}
 use Rattle.ga_race.specs.Watch.{Watch}
 use Rattle.ga_race.specs.declared.found.MultiportTake.{MultiportTake}
+use Rattle.ga_race.specs.declared.found.Post.{Post}
 use Rattle.ga_race.specs.declared.found.Race.{Race}
 
 -- a take that is kept is this one, and leaves out the cell
@@ -38,12 +39,13 @@ pub record Adds (w : Watch) (old new : Kept) (step : Step) : Type 0 where
 
 -- a race of a take that was kept for a cell, by a word that this node posts there at this side, at
 -- the end of its clock
-pub record EarlyBy (w : Watch) (old : Kept) (node : ℕ) (at : Side) (cell posted : ℕ)
+pub record EarlyBy (w : Watch) (old : Kept) (node : ℕ) (at : Side) (cell posted : ℕ) (when : Post)
     (race : Race) : Type 0 where
   pub left : get_or old.left cell None ≡ Some race.take
   pub side : race.left_out.side ≡ at
   pub word : race.left_out.word ≡ posted
   pub writer : race.left_out.writer ≡ node
+  pub post : race.left_out.post ≡ Some when
   pub reader : ℕ
   pub next : neighbour_of node at ≡ Some reader
   pub early : w.clocks.nodes node reader < race.take.number + 1

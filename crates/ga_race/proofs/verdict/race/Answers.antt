@@ -6,10 +6,11 @@ use Rattle.ga_chip.proofs.Turning.{one_more_count, one_turn}
 use Rattle.ga_observe.specs.Seen.{steps_seen, turns_numbered}
 use Rattle.ga_observe.proofs.Watched.{turns_steps}
 use Rattle.ga_race.specs.Reads.{multiport_takes}
-use Rattle.ga_race.specs.Verdict.{IsSo}
+use Rattle.ga_race.specs.Found.{IsAmong}
+use Rattle.ga_race.specs.Verdict.{IfRace, IsSo}
 use Rattle.ga_race.specs.inner.Ending.{IfRound, IsFound, MadeTwice}
 use Rattle.ga_race.specs.inner.Watched.{HasWatched}
-use Rattle.ga_race.proofs.Judging.{found_so, if_round, kept_finds, kept_race, none_kept}
+use Rattle.ga_race.proofs.Judging.{found_so, if_race, if_round, kept_finds, kept_race, none_kept, take_turn}
 use Rattle.ga_race.proofs.Reading.{reads_are}
 use Rattle.ga_race.proofs.verdict.race.Goals as goal
 
@@ -95,6 +96,33 @@ returns-in-Some-clause-verdict c =
     c.loop-number.invariant.search free)) in
     subst (λ n. IsSo c.args.chip.now n c.reported.result.verdict) (sym c.reported.ensures.turns)
     (subst (IsSo c.args.chip.now turns) (sym c.reported.ensures.verdict) so)
+
+pub returns-in-Some-clause-shown : goal.returns-in-Some-clause-shown
+returns-in-Some-clause-shown c =
+    let turns = c.loop-number.number + 1 in
+    let races = c.turn.new.observer.races in
+    let chip = c.args.chip.now in
+    let seen : HasWatched c.in_ok-watch.watch c.turn.new.observer
+    (steps_seen chip (turns_numbered turns)) =
+    subst (HasWatched c.in_ok-watch.watch c.turn.new.observer)
+    (turns_steps chip c.loop-number.chip c.loop-number.number c.loop-number.invariant.chip)
+    (c.turn.ensures.seen c.in_ok-watch.watch
+    (steps_seen chip (turns_numbered c.loop-number.number)) c.loop-number.invariant.seen) in
+    let shown : IfRace c.in-Some.verdict
+    (IsAmong chip.cells (steps_seen chip (turns_numbered turns))) =
+    if_race races.race c.turn.new.chip c.in-Some.verdict _
+    (kept_race chip turns races c.legal.ensures c.counts_fit.ensures
+    (seen.races.start ∙ c.in_ok-watch.ensures.start) seen.races.seen)
+    (subst (IsFound races.race c.turn.new.chip) c.in-Some.is c.in_ok-verdict.ensures.found) in
+    subst (λ n. IfRace c.reported.result.verdict
+    (IsAmong chip.cells (steps_seen chip (turns_numbered n)))) (sym c.reported.ensures.turns)
+    (subst (λ v. IfRace v (IsAmong chip.cells (steps_seen chip (turns_numbered turns))))
+    (sym c.reported.ensures.verdict) shown)
+
+pub returns-in-Some-clause-turn : goal.returns-in-Some-clause-turn
+returns-in-Some-clause-turn c =
+    take_turn c.args.chip.now c.reported.result.turns c.reported.result.verdict c.legal.ensures
+    (returns-in-Some-clause-shown c)
 
 pub returns-in-Some-clause-reads : goal.returns-in-Some-clause-reads
 returns-in-Some-clause-reads c =

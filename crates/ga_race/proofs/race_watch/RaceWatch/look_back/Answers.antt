@@ -13,6 +13,6 @@ returns-in-Some-clause-race c = λ w shown race is.
       post = Some c.args.post;
     } in
     early_by w c.args.self.now c.find.new.self c.args.node c.args.cell c.args.side c.in-Some.take
-    left_out race c.in-Some.ensures.kept
+    left_out c.args.post race c.in-Some.ensures.kept
     (sym (shown.left_at c.args.cell c.in-Some.ensures.bound) ∙ ap take_count c.in-Some.ensures.kept)
-    (c.in-Some.ensures.early w shown) refl refl c.find.ensures.race is
+    (c.in-Some.ensures.early w shown) refl refl refl c.find.ensures.race is

@@ -28,7 +28,8 @@ returns-in_default-clause-adds c = λ w shown.
 pub returns-clause-adds : goal.returns-clause-adds
 returns-clause-adds c = λ w shown.
     posted_adds w c.args.self.now c.tick.new.self c.look_back.new.self c.put_posted.new.self
-    c.args.step.now c.args.count c.in-Some.cell c.args.word c.args.side c.requires.count
+    c.args.step.now c.args.count c.in-Some.cell c.args.word c.args.side c.post_at-post.result
+    c.post_at-post.ensures c.requires.count
     c.requires.deed (sym c.in-Some.ensures.number) c.tick.ensures.left c.tick.ensures.race
     c.look_back.ensures.left (c.look_back.ensures.race _ (c.tick.ensures.shows w shown))
     (ap (λ (k : Kept). k.left) c.put_posted.ensures ∙ c.put_word.ensures.left
