@@ -1,3 +1,11 @@
 mod Booting
 mod Instructions
 mod Steps
+mod Shifting
+mod Stacking
+mod Trying
+mod Staying
+mod Spinning
+mod Resting
+mod WorkedStacks
+mod WorkedRest

@@ -1,7 +1,9 @@
-//! The law. It does nothing when run.
+//! The laws. They do nothing when run.
 ghost use Rattle.ga_chip.specs.Laws.{Confluence};
 ghost use Rattle.ga_group.specs.Laws.{PlansAgree, RunAgrees};
 ghost use Rattle.ga_laws.specs.Laws.{BootsHold, StepsAreRows, WordsGiveBack};
+ghost use Rattle.ga_laws.specs.Rest.{RestLasts, RunRests};
+ghost use Rattle.ga_laws.specs.Stacks.{StepKeepsWords, WordsStay};
 
 /// For every accepted source and every list of tries, including those of runs of workers: each step
 /// of each node is its row of the table; disassembling the assembled words gives back the
@@ -21,4 +23,27 @@ pub fn headline()
     ensures confluence { Confluence }
     ensures plans { PlansAgree }
     ensures run { RunAgrees }
+{}
+
+/// The words that a node pushes stay in its stacks as long as there is room for them, ten in the
+/// data stack and nine in the return stack. In a step, each word below the top one stays at its
+/// height, if there is room for the words that were pushed and not yet popped, before the step and
+/// behind it. In a run, a word stays at its height as long as there are words above it, if no push
+/// was found for which there was no room.
+///
+/// It is about the counts of `depths` and `StackDepths` of `ga_trace`.
+pub fn stacks()
+    ensures step { StepKeepsWords }
+    ensures run { WordsStay }
+{}
+
+/// A run of turns that is said to rest leads to a chip at rest, at which only nodes that spin can
+/// move, if each node's count of steps has room for a step in each turn. And a chip at rest stays
+/// so whatever nodes are tried, in whatever order: the same nodes spin, the others are as they
+/// were, and so is each cell.
+///
+/// It is about the answer of `run` of `ga_trace`.
+pub fn rest()
+    ensures run { RunRests }
+    ensures lasts { RestLasts }
 {}
