@@ -175,8 +175,12 @@ def commands_of(nodes, turns):
     return commands
 
 
-# What is shown of a node before a turn: its need with the sides, its opcode or its place, and the address of its word.
-Stand = namedtuple("Stand", "need sides op at")
+# What is shown of a node before a turn: its need with the sides, its opcode or its place, the address of its word, all of its
+# registers, and the address of the word that it fetched last.
+Stand = namedtuple("Stand", "need sides op at registers word")
+# The most steps of a loop of a node that spins; and opcodes that change what `regs` doesn't show, or an unknown word.
+LONGEST_SPIN = 4
+DEEP = {None, "!p", "!+", "!b", "!", "@p", "@+", "@b", "@", "dup", "pop", "push", "over", "a", "+", "and", "or", "drop", "b!", "a!", "call", ";"}
 
 
 class Session:
@@ -184,15 +188,45 @@ class Session:
 
     def __init__(self, replies, images, nodes):
         self.replies, self.images, self.nodes = iter(replies), images, nodes
+        # For each turn, where each node stands before it, and whether it makes an own step in it.
+        self.stands, self.words = [], {}
+
+    def turns(self, count):
+        """What each turn shows, by path, as far as the turns behind it show which nodes spin; and the nodes of which they don't."""
+        shown = [self.turn(turn) for turn in range(count + LONGEST_SPIN)][:count]
+        for turn, signals in enumerate(shown):
+            loops = {node: self.loop(turn, node) for node in self.nodes}
+            for node, opcodes in loops.items():
+                if opcodes:
+                    signals |= {f"chip.n{node}.did": "spins", f"chip.n{node}.busy": 0}
+            yield signals, [node for node, opcodes in loops.items() if DEEP & opcodes]
+
+    def loop(self, turn, node):
+        """The opcodes of at most four own steps, one in each turn, that lead a node back to where it stands before a turn, as far
+        as `regs` shows it; or none."""
+        (here, works), opcodes = self.stands[turn][node], set()
+        there = here
+        if here.word is None:
+            opcodes.add(None)
+        for stands in self.stands[turn + 1 : turn + 1 + LONGEST_SPIN]:
+            if not works:
+                break
+            opcodes.add(there.op)
+            there, works = stands[node]
+            if there._replace(word=here.word and there.word) == here:
+                return opcodes
+        return set()
 
     def turn(self, turn):
         """What a turn shows, by path."""
         where = {line[:3]: line for line in next(self.replies)}
-        stands = {node: self.stand(where.get(node, "")) for node in self.nodes}
+        stands = {node: self.stand(node, where.get(node, "")) for node in self.nodes}
         outcomes, posted = {}, {}
         for node in NODES:
             outcomes[node] = next(self.replies)[0]
             posted[node] = words_posted(next(self.replies)) if node in self.nodes else {}
+        works = {node: outcomes[node] == "moved" and stand.need == "own" for node, stand in stands.items()}
+        self.stands.append({node: (stand, works[node]) for node, stand in stands.items()})
         shown = {}
         for node in self.nodes:
             path, stand = f"chip.n{node}", stands[node]
@@ -211,14 +245,17 @@ class Session:
             shown.update((f"{path}.{name}", word) for name, word in ports.items())
         return shown
 
-    def stand(self, line):
+    def stand(self, node, line):
         """What a node is about to do: by its line of `where`, if it has one, and the replies to `regs` and `expect`."""
         registers, at = registers_in(next(self.replies)[0]), next(self.replies)[0]
         address = int(at.partition(", is ")[2] or "000", 16) | int(registers["P"], 16) & 0x200
         opcode = re.search(f" {registers['at']} ([^ ]+) {registers['need']}", line)
         asked = re.search(f" {registers['need']} ((?:right|down|left|up) of .*)", line)
         sides = [it.split()[0] for it in asked[1].split(" and ")] if asked else []
-        return Stand(registers["need"], sides, opcode[1] if opcode else registers["at"], address)
+        state = {name: value for name, value in registers.items() if name != "steps"}
+        if registers["at"].startswith("slot"):
+            self.words[node] = address
+        return Stand(registers["need"], sides, opcode[1] if opcode else registers["at"], address, state, self.words.get(node))
 
 
 def registers_in(line):
@@ -245,8 +282,10 @@ def label_or(image, address):
 
 def compare(wave, session, turns):
     """Compares the first turns of a waveform with those of a session."""
-    for turn, shown in zip(range(turns), wave.turns()):
-        expected = session.turn(turn)
+    for turn, (shown, (expected, unsure)) in enumerate(zip(wave.turns(), session.turns(turns))):
+        for node in unsure:
+            demand((shown[f"chip.n{node}.did"], shown[f"chip.n{node}.busy"]) in {("works", 1), ("spins", 0)}, f"{node} does other things")
+            expected |= {path: shown[path] for path in (f"chip.n{node}.did", f"chip.n{node}.busy")}
         demand(set(shown) == set(expected), f"there are other signals: {sorted(set(shown) ^ set(expected))[:4]}")
         wrong = [path for path in expected if shown[path] != expected[path]]
         demand(not wrong, f"at {turn}: {', '.join(f'{it} is {shown[it]}, not {expected[it]}' for it in wrong[:4])}")
@@ -307,7 +346,7 @@ def fault_of(program, text, turns):
         nodes = wave.nodes()
         run = Transcript(output_of(program, ["record"], text + f"> run {turns}\n")).exchanges[-1].reply[0]
         demand(run.startswith(f"turns {wave.end} "), f"it has {wave.end} turns, and there are other: {run}")
-        commands = commands_of(nodes, wave.end)
+        commands = commands_of(nodes, wave.end + LONGEST_SPIN)
         session = Transcript(output_of(program, ["record"], text + "".join(f"> {it}\n" for it in commands)))
         demand(nodes == [f"{node:03}" for node in sorted(session.head.images)], "it shows other nodes")
         replies = [it.reply for it in session.exchanges[len(session.exchanges) - len(commands) :]]

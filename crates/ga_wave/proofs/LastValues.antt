@@ -57,7 +57,7 @@ same_text images name one other r q signal.At e =
 same_text images name one other r q signal.Op e =
     ap name_value ((bytes_eq-Decides (work_text one.stand.work) (work_text other.stand.work)).0 e)
 same_text images name one other r q signal.Busy e =
-    same_busy images name one.moved other.moved e
+    same_busy images name one.busy other.busy e
 same_text images name one other r q signal.P e =
     ap bits_value (eqb-true one.registers.p other.registers.p e)
 same_text images name one other r q signal.T e =

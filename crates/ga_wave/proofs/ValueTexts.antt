@@ -36,6 +36,7 @@ use Rattle.ga_wave.proofs.Words.{digits_word, hex_word, side_word, word_append}
 
 did_word : (did : Did) → is_word (did_text did) ≡ true
 did_word did.Works = refl
+did_word did.Spins = refl
 did_word (did.Posts side) = word_append (codes "posts_") (side_text side) refl (side_word side)
 did_word (did.Takes side) = word_append (codes "takes_") (side_text side) refl (side_word side)
 did_word (did.SeesRead side) =

@@ -9,11 +9,12 @@ use Rattle.ga_word.specs.declared.op.Op.TheVariants.{Store}
 use Rattle.ga_chip.specs.Chip.{Chip}
 use Rattle.ga_observe.specs.declared.step.Deed.TheVariants.{Posted, SawRead}
 use Rattle.ga_observe.specs.declared.step.Step.{Step}
-use Rattle.ga_wave.specs.declared.deed.Did.TheVariants.{Posts, SeesRead}
-use Rattle.ga_wave.specs.declared.deed.Intent.TheVariants.{Post, Check}
+use Rattle.ga_wave.specs.declared.deed.Did.TheVariants.{Held, Posts, SeesRead, Spins}
+use Rattle.ga_wave.specs.declared.deed.Intent.TheVariants.{Post, Check, Work}
 use Rattle.ga_node.specs.declared.need.Need.TheVariants as need
 use Rattle.ga_node.specs.declared.place.Place.TheVariants.{Slot0}
 use Rattle.ga_wave.specs.declared.sample.Sample.{Sample}
+use Rattle.ga_wave.specs.declared.sample.Stand.{Stand}
 use Rattle.ga_wave.specs.declared.signal.Signal.TheVariants as signal
 use Rattle.ga_wave.specs.declared.value.Value.TheVariants as value
 use Rattle.ga_wave.specs.declared.work.Work.TheVariants.{Runs}
@@ -22,7 +23,7 @@ use Rattle.ga_wave.specs.Deed.{did_text, intent_of, step_did}
 use Rattle.ga_wave.specs.Header.{declarations, scope}
 use Rattle.ga_wave.specs.Identifier.{identifier}
 use Rattle.ga_wave.specs.Laws.{word_of, words_posted}
-use Rattle.ga_wave.specs.Sample.{word_at}
+use Rattle.ga_wave.specs.Sample.{did_of, word_at}
 use Rattle.ga_wave.specs.Save.{heading, saved_signal}
 use Rattle.ga_wave.specs.Value.{label_or, value_text}
 use Rattle.ga_wave.specs.Wave.{turn_block}
@@ -88,13 +89,14 @@ posted = record {
   stand = record {
     intent = Post Right 5;
     held = false;
+    spins = false;
     steps = 3;
     address = 1;
     reaches = Ram 1;
     work = Runs Store;
   };
   did = Posts Right;
-  moved = true;
+  busy = true;
   registers = record { p = 2; t = 5; s = 0; r = 0; a = 0x1D5; b = 0x15D; io = 0 };
   ports = record { right = Some 5; down = None; left = None; up = None };
 }
@@ -104,6 +106,7 @@ read = record posted {
   stand = record {
     intent = Check Right;
     held = false;
+    spins = false;
     steps = 4;
     address = 1;
     reaches = Ram 1;
@@ -121,6 +124,13 @@ seen = refl
 same : changes [] 708 0 (Some read) read ≡ []
 unfolding changes
 same = refl
+
+-- a node that spins isn't busy, though it makes steps
+abbrev spinning : Stand
+spinning = record read.stand { intent = Work; spins = true }
+
+while_it_spins : (did_of Left spinning true ≡ Spins) × (did_of Left spinning false ≡ Held)
+while_it_spins = (refl, refl)
 
 -- a turn that changed nothing has no time
 turn : turn_block 12 (codes "1$\n") ≡ codes "#12\n1$\n"

@@ -49,6 +49,7 @@ read_text side = codes "sees_" ++ side_text side ++ codes "_read"
 -- its name, which has no blanks
 abbrev pub did_text : Did → List ℕ
 did_text did.Works = codes "works"
+did_text did.Spins = codes "spins"
 did_text (did.Posts side) = post_text side
 did_text (did.Takes side) = take_text side
 did_text (did.SeesRead side) = read_text side

@@ -11,8 +11,9 @@ use Rattle.ga_node.specs.State.{State, reset_state}
 use Rattle.ga_chip.specs.Chip.{Chip, pending, state_of}
 use Rattle.ga_chip.specs.Run.{stands_held}
 use Rattle.ga_trace.specs.At.{at_word}
+use Rattle.ga_trace.specs.Rest.{spins}
 use Rattle.ga_wave.specs.declared.deed.Did.{Did}
-use Rattle.ga_wave.specs.declared.deed.Did.TheVariants.{Held}
+use Rattle.ga_wave.specs.declared.deed.Did.TheVariants.{Held, Spins}
 use Rattle.ga_wave.specs.declared.deed.Intent.{Intent}
 use Rattle.ga_wave.specs.declared.deed.Intent.TheVariants.{Post}
 use Rattle.ga_wave.specs.declared.sample.Ports.{Ports}
@@ -31,12 +32,13 @@ state_at chip name = unwrap_or (state_of chip name) (reset_state name)
 abbrev pub address_of : State → ℕ
 address_of state = at_word state.place state.p state.word
 
--- where a node stands: what it is about to do, whether it is held, its steps, the address of the
--- word in execution, and what it runs
-abbrev pub stand_by : Bool → State → Stand
-stand_by held state = record {
+-- where a node stands: what it is about to do, whether it is held, whether it spins, its steps, the
+-- address of the word in execution, and what it runs
+abbrev pub stand_by : Bool → Bool → State → Stand
+stand_by held spinning state = record {
   intent = intent_of (need_of state);
   held = held;
+  spins = spinning;
   steps = state.steps;
   address = address_of state;
   reaches = where_is (address_of state);
@@ -44,14 +46,16 @@ stand_by held state = record {
 }
 
 abbrev pub stand_in : Chip → ℕ → Stand
-stand_in chip name = stand_by (stands_held chip name) (state_at chip name)
+stand_in chip name =
+    stand_by (stands_held chip name) (spins chip name) (state_at chip name)
 
 -- ---- in the turn
 
--- what the node did, by whether it made a step
+-- what the node did, by whether it made a step; a step of a node that spins is no work
 abbrev pub did_of : Side → Stand → Bool → Did
 did_of side stand moved =
-    if moved then step_did side stand.intent
+    if moved && stand.spins then Spins
+    else if moved then step_did side stand.intent
     else if stand.held then Held else rest_did stand.intent
 
 -- ---- behind the turn
@@ -93,7 +97,7 @@ sample_of side stand chip name =
     let moved = not ((state_at chip name).steps == stand.steps) in record {
       stand = stand;
       did = did_of side stand moved;
-      moved = moved;
+      busy = moved && not stand.spins;
       registers = registers_of (state_at chip name);
       ports = ports_of stand.intent moved chip name;
     }

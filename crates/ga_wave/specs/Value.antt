@@ -29,7 +29,7 @@ abbrev pub value_of : Signal → Sample → Value
 value_of signal.Did sample = value.Did sample.did
 value_of signal.At sample = value.At sample.stand.address sample.stand.reaches
 value_of signal.Op sample = value.Runs sample.stand.work
-value_of signal.Busy sample = busy_value sample.moved
+value_of signal.Busy sample = busy_value sample.busy
 value_of signal.P sample = value.Bits sample.registers.p
 value_of signal.T sample = value.Bits sample.registers.t
 value_of signal.S sample = value.Bits sample.registers.s

@@ -11,6 +11,8 @@ use ga_word::Word18;
 pub(crate) enum Did {
     /// Its own work.
     Works,
+    /// Its own work, by which it goes round for ever.
+    Spins,
     /// It posted a word at a side.
     Posts(Side),
     /// It took a word at a side.
@@ -95,6 +97,7 @@ pub(crate) fn did_name(did: Did) -> &'static str
 {
     match did {
         Did::Works => "works",
+        Did::Spins => "spins",
         Did::Posts(side) => post_name(side),
         Did::Takes(side) => take_name(side),
         Did::SeesRead(side) => read_name(side),

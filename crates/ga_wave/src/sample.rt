@@ -9,7 +9,7 @@ use crate::work::{Work, work_of};
 use ga_chip::Chip;
 use ga_node::NodeState;
 use ga_place::{Node, Side, Where, cell, locate};
-use ga_trace::at_word;
+use ga_trace::{at_word, spins};
 use ga_word::{Hex3, Word18};
 
 /// Where a node stands before a turn.
@@ -17,6 +17,8 @@ use ga_word::{Hex3, Word18};
 pub(crate) struct Stand {
     pub(crate) intent: Intent,
     pub(crate) held: bool,
+    /// Whether it goes round by own steps alone.
+    pub(crate) spins: bool,
     pub(crate) steps: u64,
     /// The address of the word in execution, or before a fetch P.
     pub(crate) address: Hex3,
@@ -52,7 +54,8 @@ pub(crate) struct Ports {
 pub(crate) struct Sample {
     pub(crate) stand: Stand,
     pub(crate) did: Did,
-    pub(crate) moved: bool,
+    /// Whether it made a step, and doesn't spin.
+    pub(crate) busy: bool,
     pub(crate) registers: Registers,
     pub(crate) ports: Ports,
 }
@@ -66,6 +69,7 @@ pub(crate) fn stand_in(chip: &Chip, node: Node) -> Stand
     Stand {
         intent: intent_of(&state.need()),
         held: chip.is_held(node),
+        spins: spins(chip, node),
         steps: state.steps(),
         address: Hex3::new(address),
         reaches: locate(address),
@@ -89,7 +93,7 @@ pub(crate) fn sample_of(side: Side, stand: &Stand, chip: &Chip, node: Node) -> S
     Sample {
         stand: *stand,
         did: did_of(side, stand, moved),
-        moved,
+        busy: moved && !stand.spins,
         registers: registers_of(state),
         ports: ports_of(&stand.intent, moved, chip, node),
     }
@@ -99,7 +103,9 @@ pub(crate) fn sample_of(side: Side, stand: &Stand, chip: &Chip, node: Node) -> S
 fn did_of(side: Side, stand: &Stand, moved: bool) -> Did
     ensures { result ≡ spec.did_of side stand.now moved }
 {
-    if moved {
+    if moved && stand.spins {
+        Did::Spins
+    } else if moved {
         step_did(side, stand.intent)
     } else if stand.held {
         Did::Held

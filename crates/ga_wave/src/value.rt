@@ -56,7 +56,7 @@ pub(crate) fn value_of(signal: Signal, sample: &Sample) -> Value
         Signal::Did => Value::Did(sample.did),
         Signal::At => Value::At(sample.stand.address, sample.stand.reaches),
         Signal::Op => Value::Runs(sample.stand.work),
-        Signal::Busy => busy_value(sample.moved),
+        Signal::Busy => busy_value(sample.busy),
         Signal::P => Value::Bits(u32::from(sample.registers.p)),
         Signal::T => Value::Bits(sample.registers.t.get()),
         Signal::S => Value::Bits(sample.registers.s.get()),
@@ -71,10 +71,10 @@ pub(crate) fn value_of(signal: Signal, sample: &Sample) -> Value
     }
 }
 
-fn busy_value(moved: bool) -> Value
-    ensures { result ≡ spec.busy_value moved }
+fn busy_value(busy: bool) -> Value
+    ensures { result ≡ spec.busy_value busy }
 {
-    if moved { Value::High } else { Value::Low }
+    if busy { Value::High } else { Value::Low }
 }
 
 fn word_value(word: Option<Word18>) -> Value
