@@ -70,6 +70,8 @@ def declarations(crate, path):
     found, made_by, bodies = {}, {}, {}
     kind = current = None
     comment, column, in_signature = [], 0, False
+    # What the modules around a declaration are given: it names all of that, too.
+    given, is_given = "", False
     for line in text.splitlines():
         code = line.strip()
         if code.startswith("--"):
@@ -77,15 +79,17 @@ def declarations(crate, path):
             continue
         indent = len(line) - len(line.lstrip(" "))
         if code and indent < column:
-            column = indent
+            column, given = indent, given if indent else ""
         is_item = indent == column and not code.startswith("use ")
         if is_item and code.startswith("module "):
-            column, current = column + 2, None
+            column, current, is_given = column + 2, None, True
+        if is_given:
+            given, is_given = given + line + "\n", not code.endswith(" where")
         head = HEAD.match(code) if is_item else None
         if head:
             kind, current = head[1], (crate, module, head[2] or head[3])
             found[current] = Declaration("\n".join(comment), "")
-            bodies[current], in_signature = "", True
+            bodies[current], in_signature = given, True
         elif is_item and code and not kind:
             in_signature = False
         if current and not code.startswith("use "):
