@@ -43,14 +43,15 @@ from outputs import (
     asm_output, boot_output, dis_output, judge_reached, labels_output, list_output, routes_of, rows_of, tree_of,
 )  # fmt: skip
 from profiles import (
-    LINES_HEAD, PROFILE, Run, TooLong, has_code_of, profile_json, profile_of, profile_text, row_of_path, share, stuck_text,
+    LINES_HEAD, PROFILE, MayChange, Run, TooLong, has_code_of, profile_json, profile_of, profile_text, row_of_path, share,
+    stuck_text,
 )  # fmt: skip
 from replies import STACKS, agree_in_other_words, agrees, has_form, ledgers, other_words, registers
 from report_page import BOTTLENECK, fault_of_page
 from sessions import Transcript, head_of, text_of
 from testing import drawn
 from text_faults import faults_of
-from vcd import NODES, Session, Waveform, Wrong, commands_of, compare, compare_end, demand
+from vcd import LONGEST_SPIN, NODES, Session, Waveform, Wrong, commands_of, compare, compare_end, demand
 
 ROOT = os.path.dirname(os.path.dirname(os.path.abspath(__file__)))
 LIMIT = 1048576
@@ -648,7 +649,7 @@ def profile(ask, job, text, answer):
         if run.turns <= MOST_PROFILED:
             found = profile_of(run, job.options.get("from", "last"))
             return profile_json(found) if has_numbers else profile_text(found)
-    except TooLong:
+    except (TooLong, MayChange):
         pass
     if has_numbers:
         demand(answer.status == 0, "no JSON")
@@ -821,7 +822,7 @@ def trace(ask, job, text, answer):
     demand(run[0].startswith(f"turns {wave.end} "), f"it has {wave.end} turns, and there are other: {run[0]}")
     compare_end(wave, nodes, replies)
     turns = min(wave.end, MOST_TRIES // len(NODES))
-    session = ask(["record"], front + text_of(commands_of(nodes, turns), "> "))
+    session = ask(["record"], front + text_of(commands_of(nodes, turns + LONGEST_SPIN), "> "))
     if session is not None:
         replies = [it.reply for it in transcript_of(session).exchanges[len(commands) :]]
         compare(wave, Session(replies, images, nodes), turns)

@@ -9,7 +9,8 @@ import json
 import re
 from collections import Counter, namedtuple
 from dataclasses import dataclass, field
-from itertools import accumulate
+from functools import partial
+from itertools import accumulate, takewhile
 
 from assembler import NAME
 from outputs import reading_at
@@ -27,6 +28,8 @@ WAITS = re.compile(
 # A side at which a node takes, posts or checks, with the neighbour there.
 SIDE = re.compile(r" ?(?P<side>right|down|left|up) of (?P<node>\d{3})\b.*")
 SLOTS = ["slot0", "slot1", "slot2", "slot3"]
+# The sides in the order in which turns try them.
+ORDER = ["right", "down", "left", "up"]
 # What a node does in a turn, in the order in which a bar has it, and the sign.
 SIGNS = {"boots": "b", "works": "#", "takes": "?", "reads": "!", "spins": "~", "stops": "x"}
 # The same in JSON, by its names.
@@ -67,7 +70,7 @@ PROFILE = [
     rf"(?:\d{{3}}(?: +{SHARE}){{4}} \|b*#*\?*!*~*x* *\| +{SHARE}(?: +\d+){{2}}(?: +\d+){{2}}\n|"
     rf"\d{{3}}(?: +{SHARE}){{4}} \|b*#*\?*!*~*x* *\| +{SHARE}(?: +\d+){{2}}      \.     \.\n)*",
     re.escape(LEGEND),
-    rf"(?:{STUCK})?Bottleneck: [^\n]*\n(?:The run gets [^\n]*\n|(?:ring(?: \d{{3}})+\n)*)",
+    rf"(?:{STUCK})?Bottleneck: [^\n]*\n(?:If it worked [^\n]*\n|(?:ring(?: \d{{3}})+\n)*)",
     rf"{LINES_HEAD}(?: +{SHARE}   \d{{3}}[ +][^\n]*\n){{0,10}}",
     rf"(?:{STACKS_HEAD}(?:\d{{3}}(?: +\d+){{2}}{PASSED.format('data')}{PASSED.format('return')}\n){{1,10}})?",
     r"At the end:\n(?:\d{3} P [^\n]*\n)*(?:idle:(?: \d{3})+\n)?(?:ring(?: \d{3})+\n)*",
@@ -126,6 +129,11 @@ def sides_in(text):
 
 class TooLong(Exception):
     """The sessions that show a run would be too long."""
+
+
+class MayChange(Exception):
+    """What comes if a node is faster isn't worked out: a multiport read may take another word, or a node spins by opcodes that
+    change stacks or memory, of which the replies don't show all."""
 
 
 class Run:
@@ -224,8 +232,8 @@ class Run:
                     state = states[turn].get(node, idle(node))._replace(at=found_in(at), r=found_in(r))
                     after = states[turn + 1][node]
                     steps[node].append(Step(turn, len(steps[node]), state, False))
-                    if jumps_to_itself(steps[node], after):
-                        first = len(steps[node]) - 1 - SLOTS.index(state.place)
+                    first = len(steps[node]) - 1 - (SLOTS.index(state.place) if state.place in SLOTS else 0)
+                    if first >= 0 and jumps_to_itself(steps[node], after):
                         steps[node][first] = steps[node][first]._replace(is_self_jump=True)
         return steps
 
@@ -318,7 +326,7 @@ def moves_of(steps):
         if step.state.need in ("take", "post", "check") and step.state.sides:
             side = [*step.state.sides][0]
             if len(step.state.sides) > 1:
-                side = ["right", "down", "left", "up"][turn % 4]
+                side = ORDER[turn % 4]
             ports.setdefault((node, step.state.need, side), []).append(Move(turn, place, None, None))
             ends = {"take": "post", "check": "take"}.get(step.state.need)
             awaited = ends and (step.state.sides[side], ends, side)
@@ -348,6 +356,90 @@ def path_of(steps, first, node):
         turns[node, move.word] += max(0, own if before is None else min(own, move.turn - before.turn))
         node, move = there, before
     return turns
+
+
+class Clocks:
+    """A clock for each node, which has the turn of its last step if one node makes its own steps two a turn. A word is taken
+    behind its post, and the take is seen behind it, in the same turn if the other node's name is lower."""
+
+    def __init__(self, first, fast):
+        self.at = dict.fromkeys(NODES, first - 1)
+        self.first, self.fast = first, fast
+        self.own, self.posts, self.takes = Counter(), {}, {}
+        # The last turns in which multiport reads tried a side in vain, and whether a word might have been there by then.
+        self.tried, self.may_change = {}, False
+
+    def pass_own(self, node):
+        steps = self.own.pop(node, 0)
+        self.at[node] += -(-steps // 2) if node == self.fast else steps
+
+    def behind(self, times, cell, other, node):
+        return times.get(cell, self.first - 1) + (0 if other < node else 1)
+
+    def take(self, node, sides, side):
+        ready, there = self.at[node], sides[side]
+        came = self.behind(self.posts, (there, node), there, node)
+        now = max(ready + 1, came)
+        if len(sides) > 1:
+            now += (ORDER.index(side) - now) % 4
+            for other in sides.keys() - {side}:
+                last = now - 1 - (now - 1 - ORDER.index(other)) % 4
+                before = self.tried.get((sides[other], node), -1)
+                self.tried[sides[other], node] = max(before, last if last > ready else -1)
+        self.may_change |= came <= self.tried.pop((there, node), -1)
+        self.at[node] = self.takes[there, node] = now
+
+    def may_be_there(self, cell):
+        """Whether a word of a cell that isn't taken might have been there when a multiport read tried its side in vain."""
+        is_left = cell in self.posts and self.takes.get(cell, -1) < self.posts[cell]
+        return is_left and self.behind(self.posts, cell, *cell) <= self.tried[cell]
+
+    def step(self, node, state, turn):
+        if state.need == "own":
+            self.own[node] += 1
+            return
+        self.pass_own(node)
+        side = [*state.sides][0] if len(state.sides) == 1 else ORDER[turn % 4]
+        other = state.sides.get(side)
+        if other is not None and state.need == "take":
+            self.take(node, state.sides, side)
+        elif other is not None and state.need == "check":
+            self.at[node] = max(self.at[node] + 1, self.behind(self.takes, (node, other), other, node))
+        else:
+            self.at[node] += 1
+            self.posts[node, other] = self.at[node]
+
+
+def worked(run, node, steps):
+    """The steps of a node before it spins: before a word that only jumps to itself, or before a loop in which the run ends."""
+    if any(step.is_self_jump for step in run.look()[node]):
+        return [*takewhile(lambda step: not step.is_self_jump, steps)]
+    is_own = steps and all(step.state.need == "own" for step in steps[-4:])
+    if not is_own or not run.spins(run.turns, node):
+        return steps
+    # A node that is about to fetch still has the word that it fetched last.
+    fetched = ((step.state.place != "fetch" or None) and step.state.at for step in steps)
+    words = accumulate(fetched, lambda last, word: last if word is None else word)
+    states = [(step.state, word) for step, word in zip(steps, words)]
+    begins = (at for at in range(len(states)) for by in range(1, 5) if states[at:-by] == states[at + by :])
+    begin = next(begins)
+    if any(step.state.op in {*DATA_CHANGES, *RETURN_CHANGES, *LOOPS} for step in steps[begin:]):
+        raise MayChange
+    return steps[:begin]
+
+
+def length_if_faster(run, steps, first, fast):
+    """How many turns a window has if a node makes its own steps two a turn. No chip is run for it."""
+    worked_by = {node: worked(run, node, some) for node, some in steps.items()}
+    made = sorted((step.turn, node, step.state) for node, some in worked_by.items() for step in some if step.turn >= first)
+    clocks = Clocks(first, fast)
+    for turn, node, state in made:
+        clocks.step(node, state, turn)
+    for node in NODES:
+        clocks.pass_own(node)
+    if clocks.may_change or any(map(clocks.may_be_there, clocks.tried)):
+        raise MayChange
+    return max(clocks.at.values()) - first + 1
 
 
 @dataclass
@@ -498,15 +590,18 @@ def has_code_of(text, images):
     return node in same and len(same) > int(row["others"] or 0)
 
 
-def bottleneck(works, on_path, length, rings):
-    """The sentence, by the turns in which each node works, and by its turns on the path."""
+def bottleneck(works, on_path, length, rings, faster):
+    """The sentence, by the turns in which each node works, by its turns on the path, and by the length of the window if a node
+    is twice as fast."""
     if rings:
         return "Bottleneck: the deadlock. The nodes of a ring wait for one another for good.\n"
     node, waited = max(sorted(on_path.items()), key=lambda it: it[1])
     if not waited:
         return "Bottleneck: none. No node works in these turns.\n"
     shares = f"in {waited * 100 // length} % of the turns, and it works in {works[node] * 100 // length} %."
-    return f"Bottleneck: {node:03}. The run waits for it {shares}\nThe run gets shorter if this node is done earlier.\n"
+    turns = faster(node)
+    gain = f"take {-(-turns * 100 // length)} % of them" if turns < length else "be no shorter"
+    return f"Bottleneck: {node:03}. The run waits for it {shares}\nIf it worked twice as fast, the run would {gain}.\n"
 
 
 def stuck_text(nodes):
@@ -558,14 +653,14 @@ def profile_of(run, where="last"):
     passes = {node: pass_of(some, first) for node, some in steps.items()}
     path, stuck = path_of(steps, first, latest), run.unread_behind(end)
     found = Profile(first, end, nodes, passes, path, stacks, stuck, "", run.nodes_behind(end), run.images)
-    found.bottleneck = bottleneck_of(found, [line for line in run.where[end] if line.startswith("ring ")])
+    found.bottleneck = bottleneck_of(found, run, steps, [line for line in run.where[end] if line.startswith("ring ")])
     return found
 
 
-def bottleneck_of(profile, rings):
+def bottleneck_of(profile, run, steps, rings):
     """What a profile says of the bottleneck, with the lines of rings, and of words that are never read."""
     works = {node: it.counts["works"] for node, it in profile.nodes.items()}
-    text = bottleneck(works, profile.on_path(), profile.length(), rings)
+    text = bottleneck(works, profile.on_path(), profile.length(), rings, partial(length_if_faster, run, steps, profile.first))
     return text + "".join(f"{line}\n" for line in rings) if rings else stuck_text(profile.stuck) + text
 
 

@@ -63,7 +63,7 @@ ROW = re.compile(rf"^(\d{{3}}) +({SHARE}) +({SHARE}) +({SHARE}) +{SHARE} \|(.{{2
 STUCK = r"Stuck, since no node reads its word:(?: \d{3})+\.\n"
 # The need of a step at a port, by what a waveform shows of it.
 NEEDS = {"posts": "post", "takes": "take", "sees": "check"}
-BOTTLENECK = re.compile(rf"^(?:{STUCK})?Bottleneck: .*\n(?:The run gets .*\n)?(?:ring(?: \d{{3}})+\n)*", re.M)
+BOTTLENECK = re.compile(rf"^(?:{STUCK})?Bottleneck: .*\n(?:If it worked .*\n)?(?:ring(?: \d{{3}})+\n)*", re.M)
 TITLE = re.compile(r"(\d{3}) works in (\d+) turns, waits for a word in (\d+), and for a reader in (\d+)")
 WINDOW = re.compile(r"(\d+) turns from turn (\d+) on\n")
 ENDS = re.compile(r"\d{3} P [^\n]*")

@@ -112,7 +112,7 @@ window_data window =
 -- what a profile says of the bottleneck
 abbrev pub bottleneck_of : Profile → List ℕ
 bottleneck_of profile =
-    bottleneck_text profile.chip profile.nodes.items profile.path.items
+    bottleneck_text profile.chip profile.nodes.items profile.path.items profile.shorter
     (length_of profile.window)
 
 -- A profile: the bottleneck, where the path goes, the nodes that began, those that are stuck, and

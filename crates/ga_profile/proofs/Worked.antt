@@ -1,5 +1,5 @@
 -- The definitions at worked values.
-use Rattle.std.proofs.Common.{◌≡◌, ℕ, ◌+◌, ◌*◌, true, false, List, [], ◌∷◌, Some, refl}
+use Rattle.std.proofs.Common.{◌≡◌, ℕ, ◌+◌, ◌*◌, ◌++◌, true, false, List, [], ◌∷◌, Some, refl}
 use Rattle.std.specs.Prelude.{codes, None}
 use Rattle.std.specs.Fmt.{digits}
 use Rattle.ga_word.specs.Op.{op_with}
@@ -20,7 +20,7 @@ use Rattle.ga_profile.specs.declared.passes.Passes.{Passes}
 use Rattle.ga_profile.specs.declared.share.Share.TheVariants as share
 use Rattle.ga_profile.specs.declared.window.WindowStart.TheVariants.{FirstNode, LastNode, Turn}
 use Rattle.ga_profile.specs.Bar.{bar}
-use Rattle.ga_profile.specs.Bottleneck.{DEADLOCK, most_on_path, node_sentence, sentence_at, waited_text, whole_percent, with_rings, works_text}
+use Rattle.ga_profile.specs.Bottleneck.{DEADLOCK, faster_text, most_on_path, sentence_at, waited_text, whole_percent, with_rings, works_text}
 use Rattle.ga_profile.specs.NodePass.{pass_of}
 use Rattle.ga_profile.specs.NodeTurns.{NO_TURNS, after_step, turns_between, turns_in}
 use Rattle.ga_profile.specs.Passes.{passes_in, place_of}
@@ -200,22 +200,34 @@ first_of_most = refl
 waited_and_works : (whole_percent 13 18 ≡ 72) × (whole_percent 11 18 ≡ 61)
 waited_and_works = (refl, refl)
 
-of_709 : node_sentence 709 72 61
-    ≡ codes "Bottleneck: 709. The run waits for it in 72 % of the turns, and it works in 61 %.\nThe run gets shorter if this node is done earlier.\n"
-unfolding node_sentence waited_text works_text digits
+of_709 : waited_text 709 72 ++ works_text 61
+    ≡ codes "Bottleneck: 709. The run waits for it in 72 % of the turns, and it works in 61 %.\n"
+unfolding waited_text works_text digits
 of_709 = refl
 
+-- 10 of 18 turns are 55.6 %, which a promise rounds up
+shorter : faster_text (Some 10) 18
+    ≡ codes "If it worked twice as fast, the run would take 56 % of them.\n"
+unfolding faster_text digits
+shorter = refl
+
+no_shorter : faster_text None 18
+    ≡ codes "If it worked twice as fast, the run would be no shorter.\n"
+unfolding faster_text
+no_shorter = refl
+
 -- node 000 works in 6 of 24 turns, and has 12 on the path
-of_000 : sentence_at (line_708 ∷ []) (12 ∷ []) 24 0 ≡ node_sentence 0 50 25
+of_000 : sentence_at (line_708 ∷ []) (12 ∷ []) (Some 18) 24 0
+    ≡ waited_text 0 50 ++ works_text 25 ++ faster_text (Some 18) 24
 unfolding sentence_at
 of_000 = refl
 
-no_turn_on_path : sentence_at (line_708 ∷ []) (0 ∷ []) 24 0
+no_turn_on_path : sentence_at (line_708 ∷ []) (0 ∷ []) None 24 0
     ≡ codes "Bottleneck: none. No node works in these turns.\n"
 unfolding sentence_at
 no_turn_on_path = refl
 
-no_turns : sentence_at (line_708 ∷ []) (12 ∷ []) 0 0
+no_turns : sentence_at (line_708 ∷ []) (12 ∷ []) None 0 0
     ≡ codes "Bottleneck: none. No node works in these turns.\n"
 unfolding sentence_at
 no_turns = refl

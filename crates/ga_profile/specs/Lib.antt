@@ -2,6 +2,7 @@ pub mod SelfJump
 pub mod NodeTurns
 pub mod Window
 pub mod Profile
+pub mod Faster
 pub mod Share
 pub mod Bar
 pub mod Table

@@ -11,11 +11,14 @@ use Rattle.ga_chip.specs.Chip.{Chip, state_of}
 use Rattle.ga_chip.specs.Run.{ran, turns_of}
 use Rattle.ga_observe.specs.Seen.{steps_seen, turns_numbered}
 use Rattle.ga_trace.specs.Rest.{ran_from}
+use Rattle.ga_profile.specs.declared.faster.Goal.{Goal}
 use Rattle.ga_profile.specs.declared.node_turns.NodeTurns.{NodeTurns}
 use Rattle.ga_profile.specs.declared.node_turns.Wait.{Wait}
 use Rattle.ga_profile.specs.declared.node_turns.Wait.TheVariants as wait
 use Rattle.ga_profile.specs.declared.window.Window.{Window}
 use Rattle.ga_profile.specs.declared.window.WindowStart.{WindowStart}
+use Rattle.ga_profile.specs.Bottleneck.{node_on_path}
+use Rattle.ga_profile.specs.Faster.{goals_of, shorter_window}
 use Rattle.ga_profile.specs.NodeTurns.{NO_TURNS, turns_between, turns_in, wait_to_take, waited}
 use Rattle.ga_profile.specs.Window.{window_of}
 
@@ -33,6 +36,18 @@ watched from count chip =
 abbrev pub window_in : WindowStart → ℕ → Chip → Window
 window_in start most chip =
     window_of start (watched 0 (turns_to_rest most chip) chip) (turns_to_rest most chip)
+
+-- What each node has to do in the run until rest.
+unfoldable pub goals_to_rest : ℕ → Chip → List Goal
+goals_to_rest most chip =
+    goals_of (ran chip (turns_of (turns_to_rest most chip)))
+    (watched 0 (turns_to_rest most chip) chip)
+
+-- how many turns a window of the run would have if the node with the most turns on the path were
+-- twice as fast in it; none, unless they are fewer
+abbrev pub shorter_in : Window → ℕ → Chip → List ℕ → Option ℕ
+shorter_in window most chip path =
+    shorter_window window (node_on_path path) (goals_to_rest most chip) chip
 
 -- ---- behind the last step of a node
 

@@ -24,9 +24,9 @@ window_text window =
 -- The window; a line for each node that began; the bottleneck; where the path goes; and the fullest
 -- stacks. Addresses have the labels of images.
 unfoldable pub profile_text : List (ℕ × ImageView) → Window → List NodeTurns
-    → List (Option NodePass) → List ℕ → List ℕ → List StackDepths → Chip → List ℕ
-profile_text images window nodes passes path lines depths chip =
+    → List (Option NodePass) → List ℕ → List ℕ → Option ℕ → List StackDepths → Chip → List ℕ
+profile_text images window nodes passes path lines shorter depths chip =
     concat (window_text window ∷ HEAD ∷ rows nodes passes path (length_of window) ∷ LEGEND
-    ∷ bottleneck_text chip nodes path (length_of window)
+    ∷ bottleneck_text chip nodes path shorter (length_of window)
     ∷ groups_text images (path_groups images path lines) (length_of window)
     ∷ stacks_text images nodes depths ∷ [])

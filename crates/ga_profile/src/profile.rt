@@ -7,8 +7,12 @@ ghost use Rattle.ga_profile.specs.NodePass.{node_passes};
 ghost use Rattle.ga_profile.specs.Lines.{line_turns};
 ghost use Rattle.ga_profile.specs.Path.{path_turns};
 ghost use Rattle.ga_profile.specs.Profile as spec;
-ghost use Rattle.ga_profile.specs.Profile.{chip_at_end, nodes_in, window_in};
+ghost use Rattle.ga_profile.specs.Faster.{shorter_window};
+ghost use Rattle.ga_profile.specs.Bottleneck.{node_on_path};
+ghost use Rattle.ga_profile.specs.Profile.{chip_at_end, nodes_in, shorter_in, window_in};
 
+use crate::bottleneck::most_on_path;
+use crate::faster::{Goal, goals_of, shorter_window};
 use crate::node_pass::{NodePass, node_passes};
 use crate::node_turns::{NodeTurns, Wait, turns_between, wait_to_take, waited};
 use crate::path::{line_turns, path_turns};
@@ -34,6 +38,9 @@ pub struct Profile {
     /// How many turns each line has on the path, of the ten nodes with the most turns on it, the
     /// node with the most first: 64 for the words of its memory, and one for all other code.
     pub lines: Vec<u64>,
+    /// How many turns the window would have if the node with the most turns on the path were twice
+    /// as fast, which means that it makes own steps two a turn; `None` unless they are fewer.
+    pub shorter: Option<u32>,
     /// How deep the stacks of each node were in all turns up to the end of the window, in order of
     /// name.
     pub depths: Vec<StackDepths>,
@@ -63,6 +70,8 @@ pub fn measure(
         profile.path.items ≡ path_turns (window_in start most chip.now) chip.now) }
     ensures lines { IfOk result (λ profile. profile.lines.items
         ≡ line_turns (window_in start most chip.now) chip.now profile.path.items) }
+    ensures shorter { IfOk result (λ profile. profile.shorter
+        ≡ shorter_in (window_in start most chip.now) most chip.now profile.path.items) }
     ensures depths { IfOk result (λ profile. profile.depths.items
         ≡ all_depths (window_in start most chip.now).end chip.now) }
     ensures chip { IfOk result (λ profile.
@@ -71,12 +80,19 @@ pub fn measure(
     let made = turns_to_rest(alloc, chip, most)?;
     let mut copy = chip.copied(alloc)?;
     let all = watched(alloc, &mut copy, 0, made)?;
+    let goals = goals_of(alloc, &copy, all.as_slice())?;
     let window = window_of(start, all.as_slice(), made);
-    profile_in(alloc, chip, window)
+    profile_in(alloc, chip, window, goals.as_slice())
 }
 
-/// What each node does in a window of the run of a chip.
-fn profile_in(alloc: Global, chip: &Chip, window: Window) -> Result<Profile, AllocError>
+/// What each node does in a window of the run of a chip, in whose run the nodes have this to do.
+fn profile_in(
+    alloc: Global,
+    chip: &Chip,
+    window: Window,
+    goals: &[Goal],
+) -> Result<Profile, AllocError>
+    requires { length goals.now ≡ 144 }
     ensures window { IfOk result (λ profile. profile.window ≡ window) }
     ensures nodes { IfOk result (λ profile.
         profile.nodes.items ≡ nodes_in window chip.now) }
@@ -86,6 +102,8 @@ fn profile_in(alloc: Global, chip: &Chip, window: Window) -> Result<Profile, All
         profile.path.items ≡ path_turns window chip.now) }
     ensures lines { IfOk result (λ profile.
         profile.lines.items ≡ line_turns window chip.now profile.path.items) }
+    ensures shorter { IfOk result (λ profile. profile.shorter
+        ≡ shorter_window window (node_on_path profile.path.items) goals.now chip.now) }
     ensures depths { IfOk result (λ profile.
         profile.depths.items ≡ all_depths window.end chip.now) }
     ensures chip { IfOk result (λ profile. profile.chip ≡ chip_at_end window chip.now) }
@@ -95,6 +113,8 @@ fn profile_in(alloc: Global, chip: &Chip, window: Window) -> Result<Profile, All
     let watched = watched(alloc, &mut copy, window.first, window.end)?;
     let path = path_turns(alloc, chip, window, watched.as_slice())?;
     let lines = line_turns(alloc, chip, window, watched.as_slice(), path.as_slice())?;
+    let on_path = Node::at(most_on_path(path.as_slice()));
+    let shorter = shorter_window(alloc, chip, window, on_path, goals)?;
     let nodes = ended(alloc, &copy, window, watched.as_slice())?;
     let depths = all_depths(alloc, chip, window.end)?;
     Ok(Profile {
@@ -103,6 +123,7 @@ fn profile_in(alloc: Global, chip: &Chip, window: Window) -> Result<Profile, All
         passes,
         path,
         lines,
+        shorter,
         depths,
         chip: copy,
     })

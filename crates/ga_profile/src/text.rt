@@ -16,10 +16,10 @@ use std::fmt::Write;
 
 /// A profile as text: its window; a line for each node that began, with the shares of the turns in
 /// which it worked and waited, a bar of them, its share of the path, and how many words it took and
-/// posted; the bottleneck, with what to change; the words of memory with the most turns on the
-/// path, those of several nodes that read alike together; and the nodes with the fullest stacks. An
-/// address has the label of its image that is at it or the last before it, if there are images.
-/// Each line ends with LF. Fails only when out of memory.
+/// posted; the bottleneck; the words of memory with the most turns on the path, those of several
+/// nodes that read alike together; and the nodes with the fullest stacks. An address has the label
+/// of its image that is at it or the last before it, if there are images. Each line ends with LF.
+/// Fails only when out of memory.
 /// (The text is this project's own: profile.)
 #[tactic(auto, unfolding(crate::specs::Text::profile_text))]
 pub fn profile_text(
@@ -30,7 +30,7 @@ pub fn profile_text(
     ensures { IfOk result (λ text. string_bytes text
         ≡ profile_text (images_in images.entry) profile.now.window profile.now.nodes.items
         profile.now.passes.items profile.now.path.items profile.now.lines.items
-        profile.now.depths.items profile.now.chip) }
+        profile.now.shorter profile.now.depths.items profile.now.chip) }
 {
     let turns = profile.window.length();
     let nodes = profile.nodes.as_slice();

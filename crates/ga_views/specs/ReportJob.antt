@@ -8,7 +8,7 @@ use Rattle.ga_profile.specs.Bottleneck.{bottleneck_text}
 use Rattle.ga_profile.specs.Lines.{line_turns}
 use Rattle.ga_profile.specs.NodePass.{node_passes}
 use Rattle.ga_profile.specs.Path.{path_turns}
-use Rattle.ga_profile.specs.Profile.{chip_at_end, nodes_in, window_in}
+use Rattle.ga_profile.specs.Profile.{chip_at_end, nodes_in, shorter_in, window_in}
 use Rattle.ga_profile.specs.Window.{length_of}
 use Rattle.ga_profile.specs.declared.profile.Profile.{Profile}
 use Rattle.ga_profile.specs.declared.window.Window.{Window}
@@ -44,6 +44,8 @@ pub record IsMeasured (chip : Chip) (start : WindowStart) (most : ℕ) (profile 
   pub path : profile.path.items ≡ path_turns (window_in start most chip) chip
   pub lines : profile.lines.items
       ≡ line_turns (window_in start most chip) chip profile.path.items
+  pub shorter : profile.shorter
+      ≡ shorter_in (window_in start most chip) most chip profile.path.items
   pub depths : profile.depths.items ≡ all_depths (window_in start most chip).end chip
   pub end : profile.chip ≡ chip_at_end (window_in start most chip) chip
 
@@ -55,7 +57,7 @@ race_headline race =
 abbrev pub headline_by : Verdict → Profile → List ℕ
 headline_by (verdict.Race race) profile = race_headline race
 headline_by v profile =
-    bottleneck_text profile.chip profile.nodes.items profile.path.items
+    bottleneck_text profile.chip profile.nodes.items profile.path.items profile.shorter
     (length_of profile.window)
 
 -- The same, by a verdict that is so after some turns. Without another verdict they are the most

@@ -8,5 +8,5 @@ returns c =
     if_ok c.with_waits.result (λ text. string_bytes text) c.with_waits.ensures
     (with_waits_of c.args.live.now c.args.start c.args.turns c.in_ok-profile.profile
     c.chip.result.now c.images.result.now c.chip.ensures c.images.ensures measured.window
-    measured.nodes measured.passes measured.path measured.lines measured.depths
+    measured.nodes measured.passes measured.path measured.lines measured.shorter measured.depths
     measured.chip)
