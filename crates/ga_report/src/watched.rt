@@ -3,6 +3,7 @@ ghost use Rattle.std.specs.Prelude.{◌≡◌, ◌+◌, ◌≤◌, IfOk, length}
 
 use crate::step_watch::StepWatch;
 use ga_chip::Chip;
+use ga_observe::laws::steps;
 use ga_observe::turn;
 use ga_profile::{NodeTurns, Window, ended};
 use std::alloc::{AllocError, Global};
@@ -34,6 +35,7 @@ impl Watched {
         ensures { (start : chips.Chip) → HasRun start number self.old
             → HasRun start (number + 1) self.new }
     {
+        steps();
         let _moved = turn(&mut self.chip, &mut self.watch, number);
     }
 

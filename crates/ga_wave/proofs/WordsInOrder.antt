@@ -11,8 +11,8 @@ use Rattle.ga_chip.specs.Legal.{IsLegal}
 use Rattle.ga_chip.specs.Run.{Move, moves, moves_of, ran, side_of_turn, turn_of, turns_of}
 use Rattle.ga_chip.proofs.Kept.{legal_ran}
 use Rattle.ga_chip.proofs.Turning.{one_turn}
-use Rattle.ga_observe.specs.Seen.{steps_seen, turns_numbered}
-use Rattle.ga_observe.proofs.Watched.{turn_events, turns_steps, unnumbered}
+use Rattle.ga_observe.specs.Laws.{EventsAreNumbered, TurnsGoOn}
+use Rattle.ga_observe.specs.Seen.{numbered, steps_seen, turns_numbered}
 use Rattle.ga_wave.specs.declared.signal.Signal.TheVariants.{Port}
 use Rattle.ga_wave.specs.Laws.{WordsAreInOrder, unread_word, word_of, word_posted, words_posted, words_written, written_in}
 use Rattle.ga_wave.specs.Sample.{pending_at, sample_of}
@@ -76,7 +76,8 @@ port_value start name Down turn = refl
 port_value start name Left turn = refl
 port_value start name Up turn = refl
 
-module _ (start : Chip) (legal : IsLegal start) (name : ℕ) (side : Side) where
+module _ (plain : EventsAreNumbered) (go_on : TurnsGoOn) (start : Chip) (legal : IsLegal start)
+    (name : ℕ) (side : Side) where
   -- ---- turns
 
   behind_is : (turn : ℕ) → chip_behind start turn ≡ ran start (turns_of turn)
@@ -108,12 +109,15 @@ module _ (start : Chip) (legal : IsLegal start) (name : ℕ) (side : Side) where
   posted_more turn =
       let chip = chip_behind start turn in
       let before = steps_seen start (turns_numbered turn) in
-      ap (words_posted name side) (sym (turns_steps start chip turn (behind_is turn)))
-      ∙ filter_map-append (word_posted name side) before (steps_seen chip (turn_events turn))
+      let tries = turn_of (side_of_turn turn) in
+      let here = numbered turn tries in
+      let both : before ++ steps_seen chip here ≡ steps_seen start (turns_numbered (turn + 1)) =
+      ap (λ behind. before ++ steps_seen behind here) (behind_is turn) ∙ go_on start turn in
+      ap (words_posted name side) (sym both)
+      ∙ filter_map-append (word_posted name side) before (steps_seen chip here)
       ∙ ap (λ words. posted_to turn ++ words)
-      (posted_by_moves name side chip (turn_events turn)
-      ∙ ap (λ events. words_by side (moves_of name (moves chip events)))
-      (unnumbered turn (turn_of (side_of_turn turn))))
+      (posted_by_moves name side chip here
+      ∙ ap (λ events. words_by side (moves_of name (moves chip events))) (plain turn tries))
 
   -- what a turn shows of the port, and what is pending there behind it
   abbrev shown : ℕ → Option ℕ
@@ -251,5 +255,6 @@ module _ (start : Chip) (legal : IsLegal start) (name : ℕ) (side : Side) where
       (port_turn (chip_behind start (suc turn)) name side (side_of_turn (suc turn))
       (legal_behind (suc turn)))
 
-pub words_in_order : WordsAreInOrder
-words_in_order start name side turn legal = (up_to start legal name side turn).words
+pub words_in_order : EventsAreNumbered → TurnsGoOn → WordsAreInOrder
+words_in_order plain go_on start name side turn legal =
+    (up_to plain go_on start legal name side turn).words

@@ -1,6 +1,8 @@
 //! Laws of the definitions. They do nothing when run.
 ghost use Rattle.ga_wave.specs.Laws.{IdentifiersAreDeclared, IdentifiersDiffer, LabelsAreWords, LastValuesAreShown, ReadsBack, WordsAreInOrder};
 
+use ga_observe::laws::steps;
+
 /// At each time the last value that a waveform has of a signal is what the turn of that number
 /// shows of it.
 pub fn last_values()
@@ -13,7 +15,9 @@ pub fn last_values()
 /// (`Chip::legal`).
 pub fn words_in_order()
     ensures { WordsAreInOrder }
-{}
+{
+    steps();
+}
 
 /// Signals with the same identifier are the same signal of the same node.
 pub fn identifiers()
