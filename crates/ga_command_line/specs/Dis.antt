@@ -1,5 +1,5 @@
 -- The command line of the subcommand `dis`.
-use Rattle.std.specs.Prelude.{pos, codes, Some}
+use Rattle.std.specs.Prelude.{codes, Some}
 use Rattle.clap.specs.Words.{App, new_app, new_rule, with_rule}
 use Rattle.clap.specs.declared.builder.value_parser.ValueParser.TheVariants as parser
 
@@ -8,7 +8,7 @@ use Rattle.clap.specs.declared.builder.value_parser.ValueParser.TheVariants as p
 unfoldable pub code_command : App
 code_command =
     with_rule (new_app (codes "dis")) (record (new_rule (codes "N"))
-    { long = Some (codes "code"); parser = Some (parser.Signed (pos 0) (pos 64)) })
+    { long = Some (codes "code"); parser = Some (parser.Unsigned 0 64) })
 
 unfoldable pub dis_command : App
 dis_command = with_rule code_command (new_rule (codes "FILE"))

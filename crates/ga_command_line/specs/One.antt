@@ -1,5 +1,5 @@
 -- The command line of the subcommand `one`.
-use Rattle.std.specs.Prelude.{pos, true, codes, Some}
+use Rattle.std.specs.Prelude.{true, codes, Some}
 use Rattle.clap.specs.Words.{App, new_app, new_rule, with_rule}
 use Rattle.clap.specs.declared.builder.value_parser.ValueParser.TheVariants as parser
 
@@ -8,7 +8,7 @@ use Rattle.clap.specs.declared.builder.value_parser.ValueParser.TheVariants as p
 unfoldable pub tries_command : App
 tries_command =
     with_rule (new_app (codes "one")) (record (new_rule (codes "TRIES"))
-    { required = true; parser = Some (parser.Signed (pos 0) (pos 1000000)) })
+    { required = true; parser = Some (parser.Unsigned 0 1000000) })
 
 unfoldable pub one_command : App
 one_command = with_rule tries_command (new_rule (codes "FILE"))

@@ -1,5 +1,5 @@
 -- The command line of the subcommand `run`.
-use Rattle.std.specs.Prelude.{pos, true, codes, Some}
+use Rattle.std.specs.Prelude.{true, codes, Some}
 use Rattle.clap.specs.Words.{App, new_app, new_rule, with_rule}
 use Rattle.clap.specs.declared.builder.value_parser.ValueParser.TheVariants as parser
 
@@ -12,12 +12,12 @@ routed_command =
 unfoldable pub shared_command : App
 shared_command =
     with_rule routed_command (record (new_rule (codes "WORKERS"))
-    { required = true; parser = Some (parser.Signed (pos 1) (pos 144)) })
+    { required = true; parser = Some (parser.Unsigned 1 144) })
 
 unfoldable pub timed_command : App
 timed_command =
     with_rule shared_command (record (new_rule (codes "TURNS"))
-    { required = true; parser = Some (parser.Signed (pos 0) (pos 1000000)) })
+    { required = true; parser = Some (parser.Unsigned 0 1000000) })
 
 unfoldable pub run_command : App
 run_command = with_rule timed_command (new_rule (codes "FILE"))

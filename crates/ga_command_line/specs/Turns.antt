@@ -1,5 +1,5 @@
 -- The options of a run.
-use Rattle.std.specs.Prelude.{pos, codes, Some}
+use Rattle.std.specs.Prelude.{codes, Some}
 use Rattle.clap.specs.Words.{App, Text, new_rule, with_rule}
 use Rattle.clap.specs.declared.builder.value_parser.ValueParser.TheVariants as parser
 use Rattle.ga_command_line.specs.Loading.{loading_command}
@@ -8,4 +8,4 @@ use Rattle.ga_command_line.specs.Loading.{loading_command}
 unfoldable pub turns_command : Text → App
 turns_command name =
     with_rule (loading_command name) (record (new_rule (codes "N"))
-    { long = Some (codes "turns"); parser = Some (parser.Signed (pos 0) (pos 1000000)) })
+    { long = Some (codes "turns"); parser = Some (parser.Unsigned 0 1000000) })

@@ -7,8 +7,8 @@ ghost use Rattle.ga_command_line.specs.Number.{IsNumberIfAt};
 
 use crate::command_line::LineError;
 use crate::file::{WORDS, file_in};
-use crate::number::number_if;
-use clap::{Arg, ArgMatches, Command, value_parser};
+use crate::number::{number_if, number_within};
+use clap::{Arg, ArgMatches, Command};
 use ga_jobs::Job;
 use std::alloc::{AllocError, Global};
 
@@ -41,7 +41,7 @@ fn code_command<'a>(alloc: Global) -> Result<Command<'a>, AllocError>
 {
     let code = Arg::new(alloc, "N")
         .long("code")
-        .value_parser(value_parser!(u32).range(0..=i64::from(CODE_LIMIT)))
+        .value_parser(number_within(0, CODE_LIMIT))
         .help("How many words are code, from 0 to 64; the rest are data. By default all are code");
     Command::new(alloc, "dis")
         .about("Prints words as source text")

@@ -1,11 +1,21 @@
 ghost use Rattle.std.specs.Prelude.{◌≡◌, ℕ, ◌≤◌, IfOk, IfErr, IfSome, Option};
 ghost use Rattle.clap.specs.Words.{found_of, rows_of};
+ghost use Rattle.clap.specs.declared.builder.value_parser.ValueParser.TheVariants.{Unsigned};
 ghost use Rattle.ga_command_line.specs.Number.{IsNumberAt, IsNumberIfAt};
 
 use crate::command_line::{LineError, refusal};
-use clap::ArgMatches;
+use clap::builder::ValueParser;
 use clap::error::ErrorKind;
+use clap::{ArgMatches, value_parser};
 use std::alloc::Global;
+
+/// What an argument may be: a number from `least` to `most` in decimal digits, behind a plus or
+/// none. A minus is refused, also in front of 0.
+pub fn number_within<'a>(least: u32, most: u32) -> ValueParser<'a>
+    ensures { result ≡ Unsigned least most }
+{
+    value_parser!(u64).range(i64::from(least)..=i64::from(most))
+}
 
 /// The number of an argument, from `least` to `most`.
 pub fn number_of(

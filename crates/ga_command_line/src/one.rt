@@ -7,8 +7,8 @@ ghost use Rattle.ga_command_line.specs.One.{one_command, tries_command};
 
 use crate::command_line::LineError;
 use crate::file::{WORDS, file_in};
-use crate::number::number_of;
-use clap::{Arg, ArgMatches, Command, value_parser};
+use crate::number::{number_of, number_within};
+use clap::{Arg, ArgMatches, Command};
 use ga_jobs::Job;
 use std::alloc::{AllocError, Global};
 
@@ -43,7 +43,7 @@ fn tries_command<'a>(alloc: Global) -> Result<Command<'a>, AllocError>
 {
     let tries = Arg::new(alloc, "TRIES")
         .required(true)
-        .value_parser(value_parser!(u32).range(0..=i64::from(TRIES_LIMIT)))
+        .value_parser(number_within(0, TRIES_LIMIT))
         .help("How many times to try a step, from 0 to 1000000");
     Command::new(alloc, "one")
         .about("Runs words in the memory of one node, and prints the node")

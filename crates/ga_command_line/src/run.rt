@@ -8,9 +8,9 @@ ghost use Rattle.ga_command_line.specs.Run.{routed_command, run_command, shared_
 
 use crate::command_line::LineError;
 use crate::file::{SOURCE_TEXT, file_in};
-use crate::number::number_of;
+use crate::number::{number_of, number_within};
 use crate::route::route_at;
-use clap::{Arg, ArgMatches, Command, value_parser};
+use clap::{Arg, ArgMatches, Command};
 use ga_jobs::Job;
 use std::alloc::{AllocError, Global};
 
@@ -49,7 +49,7 @@ fn timed_command<'a>(alloc: Global) -> Result<Command<'a>, AllocError>
 {
     let turns = Arg::new(alloc, "TURNS")
         .required(true)
-        .value_parser(value_parser!(u32).range(0..=i64::from(TURNS_LIMIT)))
+        .value_parser(number_within(0, TURNS_LIMIT))
         .help("How many turns each worker makes, from 0 to 1000000");
     let command = shared_command(alloc)?;
     command.arg(turns)
@@ -62,7 +62,7 @@ fn shared_command<'a>(alloc: Global) -> Result<Command<'a>, AllocError>
 {
     let workers = Arg::new(alloc, "WORKERS")
         .required(true)
-        .value_parser(value_parser!(u32).range(1..=i64::from(WORKERS_LIMIT)))
+        .value_parser(number_within(1, WORKERS_LIMIT))
         .help("How many workers share the nodes, from 1 to 144");
     let command = routed_command(alloc)?;
     command.arg(workers)

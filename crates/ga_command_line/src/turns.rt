@@ -4,7 +4,8 @@ ghost use Rattle.ga_command_line.specs.Turns.{turns_command};
 ghost use Rattle.ga_command_line.specs.inner.Command.{IsCommandOf};
 
 use crate::loading::loading_command;
-use clap::{Arg, Command, value_parser};
+use crate::number::number_within;
+use clap::{Arg, Command};
 use std::alloc::{AllocError, Global};
 
 /// The most turns of a job.
@@ -22,7 +23,7 @@ pub fn turns_command<'a>(
 {
     let turns = Arg::new(alloc, "N")
         .long("turns")
-        .value_parser(value_parser!(u32).range(0..=i64::from(TURNS_LIMIT)))
+        .value_parser(number_within(0, TURNS_LIMIT))
         .help("How many turns are made at most, from 0 to 1000000; by default 1000000");
     let command = loading_command(alloc, name, about, help)?;
     command.arg(turns)
