@@ -24,6 +24,8 @@ mod nodes;
 #[cfg(test)]
 mod observed;
 #[cfg(test)]
+mod pieces;
+#[cfg(test)]
 mod plans;
 #[cfg(test)]
 mod ports;

@@ -23,7 +23,7 @@ opcode, its registers, and the words at its ports, each port named by the node t
 FILE, or from standard input if FILE is left out or is -: a session or a transcript, whose commands are done
 first, and which in FILE may name its source as for check; or source text, whose words are placed in their
 nodes. Makes turns until no node moves but those that spin, or N. One turn is 1 ns. Nothing is written if the
-waveform has more than 1073741824 bytes. With --save it also writes a save file for GTKWave, with the signals
+waveform has more than 268435456 bytes. With --save it also writes a save file for GTKWave, with the signals
 to show, their forms and colours.
 
 Example: printf 'node 708 right b! 5 !b\nnode 709 right b! @b' | ga-bench trace > out.vcd

@@ -1,13 +1,14 @@
 -- The lines of the words of a node, with their counts.
 use Rattle.std.specs.Prelude.{ℕ, suc, ◌+◌, List, [], ◌∷◌, ◌++◌, codes, length}
 use Rattle.std.specs.Fmt.{decimal}
-use Rattle.std.specs.List.{concat}
+use Rattle.std.specs.List.{concat, slice_get}
+use Rattle.std.specs.Option.{option_map_or}
 use Rattle.ga_word.specs.Hex.{hex_digits}
 use Rattle.ga_pack.specs.Model.Layout.{Labels}
 use Rattle.ga_pack.specs.Model.Text.{Place}
 use Rattle.ga_asm.specs.Image.{ImageView}
 use Rattle.ga_disasm.specs.Disassembling.{ItemView, Code, items_of}
-use Rattle.ga_list.specs.Row.{item_text, label_lines, line_at}
+use Rattle.ga_list.specs.Row.{item_text, label_lines}
 use Rattle.ga_counts.specs.declared.row.Row.{Row}
 use Rattle.ga_counts.specs.declared.word_counts.WordCounts.{WordCounts}
 use Rattle.ga_counts.specs.Columns.{cell, counts_text}
@@ -31,6 +32,10 @@ row_text labels row item =
     concat (counts_text row.counts (opcodes_in item) row.is_hot
     ∷ place_text row.address row.word row.line
     ∷ item_text labels row.address item ∷ [])
+
+-- the line of the text in which the word at an address begins
+abbrev pub line_at : List Place → ℕ → ℕ
+line_at places address = option_map_or (λ place. place.line) (slice_get places address) 1
 
 -- the row of a word by its counts, the most heat of its node, and its line
 abbrev pub row_by : WordCounts → ℕ → ℕ → ℕ → ℕ → ItemView → Row

@@ -2,7 +2,6 @@
 ghost use Rattle.std.specs.Prelude.{◌≡◌, ◌+◌, ◌<◌, ◌++◌, OnOk, map, string_bytes};
 ghost use Rattle.ga_asm.specs.Image.{labels_of};
 ghost use Rattle.ga_disasm.specs.Disassembling.{item_view};
-ghost use Rattle.ga_list.specs.Row as list_spec;
 ghost use Rattle.ga_source.specs.Token.{place_of};
 ghost use Rattle.ga_counts.specs.Row as spec;
 ghost use Rattle.ga_counts.specs.Row.{opcodes_in, place_text, row_text, rows_of};
@@ -91,7 +90,7 @@ fn row_at(
 
 /// The line in which the word at an address begins, with the lines before the text.
 fn line_at(places: &[Place], address: usize, before: usize) -> u128
-    ensures { result ≡ list_spec.line_at (map place_of places.now) address + before }
+    ensures { result ≡ spec.line_at (map place_of places.now) address + before }
 {
     let line = match places.get(address) {
         Some(place) => place.line,

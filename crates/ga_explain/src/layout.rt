@@ -84,9 +84,8 @@ Fixed:
 const TOO_LONG: &str = "\
 TooLong: an item would need the 65th word of its node (asm); there are more than
 64 words (words); the input has more than 1,048,576 bytes (input); or so would a
-witness of 'race' or a file of 'record --write', or the output of 'record' or
-'check' more than 268,435,456, or that of 'trace' more than 1,073,741,824
-(output). At the prompt, the line has more than 65,536 bytes, or the session to
+witness of 'race' or a file of 'record --write', or the output of 'record',
+'check' or 'trace' more than 268,435,456 (output). At the prompt, the line has more than 65,536 bytes, or the session to
 be saved more than 1,048,576.
 
   $ printf 'node 711%065d' 0 | sed 's/0/ [ . ]/g' | ga-bench asm

@@ -1,4 +1,5 @@
 pub mod Reading
+pub mod LineNames
 pub mod Row
 pub mod Listing
 pub mod Labels

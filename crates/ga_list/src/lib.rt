@@ -4,13 +4,15 @@
 
 mod labels;
 pub mod laws;
+mod line_names;
 mod lines;
 mod listing;
 mod reading;
 mod row;
 
 pub use labels::list_labels;
+pub use line_names::LineNames;
 pub use lines::line_of;
-pub use listing::list;
+pub use listing::{list, list_with};
 pub use reading::push_reading;
 pub use row::{push_item, push_labels};

@@ -2,9 +2,10 @@ ghost use Rattle.std.specs.Prelude.{◌≡◌, ◌≢◌, ◌++◌, [], IfErr, I
 ghost use Rattle.std.specs.Option.{option_map_or};
 ghost use Rattle.ga_asm.specs.Text.{AtMostOne, IsTextFault};
 ghost use Rattle.ga_asm.specs.declared.text.TextError.TheVariants.{Memory};
-ghost use Rattle.ga_list.specs.Listing.{HasListing, IsListingOf, listing_from, node_listing};
+ghost use Rattle.ga_list.specs.Listing.{HasListing, HasNamedListing, IsListingOf, IsNamedListingOf, listing_from, node_listing};
 ghost use Rattle.ga_source.specs.Token.{place_of};
 
+use crate::line_names::{LineNames, LineNumbers};
 use crate::row::push_rows;
 use ga_asm::{Image, Images, TextError, assemble, word_places};
 use ga_place::Node;
@@ -26,17 +27,36 @@ pub fn list(alloc: Global, text: &str) -> Result<String, TextError>
     // a text has one listing, or one first fault
     ensures only { AtMostOne (IsListingOf text.now) }
 {
+    list_with(alloc, text, &LineNumbers)
+}
+
+/// The same listing, which shows in place of the line's number what the names have for the place of
+/// the word's first item.
+#[tactic(auto, using(crate::proofs::OneListing::one_named_listing))]
+pub fn list_with<N: LineNames>(alloc: Global, text: &str, names: &N) -> Result<String, TextError>
+    ensures listing { IfOk result (λ listing.
+        HasNamedListing (N.names names.now) text.now (string_bytes listing)) }
+    ensures fault { IfErr result (λ fault. fault ≢ Memory → IsTextFault text.now fault) }
+    // with these names a text has one listing, or one first fault
+    ensures only { AtMostOne (IsNamedListingOf (N.names names.now) text.now) }
+{
     let program = parse(alloc, text)?;
     let images = assemble(alloc, &program)?;
-    match listing_of(alloc, &program, &images) {
+    match listing_of(alloc, &program, &images, names) {
         Ok(listing) => Ok(listing),
         Err(_) => Err(TextError::Memory),
     }
 }
 
 /// The listing of the images of a program.
-fn listing_of(alloc: Global, program: &Program<'_>, images: &Images) -> Result<String, AllocError>
-    ensures { IfOk result (λ text. string_bytes text ≡ listing_from program.now 0 images.now) }
+fn listing_of<N: LineNames>(
+    alloc: Global,
+    program: &Program<'_>,
+    images: &Images,
+    names: &N,
+) -> Result<String, AllocError>
+    ensures { IfOk result (λ text. string_bytes text
+        ≡ listing_from (N.names names.now) program.now 0 images.now) }
 {
     let mut text = String::new(alloc);
     let found = program.section_places(alloc)?;
@@ -45,7 +65,7 @@ fn listing_of(alloc: Global, program: &Program<'_>, images: &Images) -> Result<S
         if let Some((node, image)) = images.get_index(section) {
             let own = places_at(found.as_slice(), section);
             let places = word_places(alloc, program, section, own, image)?;
-            push_node(alloc, &mut text, *node, image, &places)?;
+            push_node(alloc, &mut text, *node, image, &places, names)?;
         }
     }
     Ok(text)
@@ -63,17 +83,18 @@ pub(crate) fn places_at(found: &[Vec<ItemPlace>], section: usize) -> &[ItemPlace
 }
 
 /// Adds the listing of a node's image, whose words begin at these places of the text.
-fn push_node(
+fn push_node<N: LineNames>(
     alloc: Global,
     text: &mut String,
     node: Node,
     image: &Image,
     places: &[Place],
+    names: &N,
 ) -> Result<(), AllocError>
     ensures { OnOk result (string_bytes text.new ≡ string_bytes text.old
-        ++ node_listing node image.now (map place_of places.now)) }
+        ++ node_listing (N.names names.now) node image.now (map place_of places.now)) }
 {
     image.push_line(text, node)?;
-    push_rows(alloc, text, image, places)?;
+    push_rows(alloc, text, image, places, names)?;
     Ok(())
 }

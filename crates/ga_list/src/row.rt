@@ -1,11 +1,14 @@
 //! The lines of a node's words.
-ghost use Rattle.std.specs.Prelude.{◌≡◌, ◌<◌, ◌≤◌, ◌++◌, OnOk, length, map, string_bytes};
+ghost use Rattle.std.specs.Prelude.{◌≡◌, ◌<◌, ◌++◌, OnOk, length, map, string_bytes};
+ghost use Rattle.std.specs.Str.{chars};
 ghost use Rattle.ga_asm.specs.Image.{labels_of};
 ghost use Rattle.ga_disasm.specs.Disassembling.{item_view};
 ghost use Rattle.ga_list.specs.Row as spec;
 ghost use Rattle.ga_list.specs.Row.{item_text, label_lines, mark_text, row_text, rows_of};
+ghost use Rattle.ga_pack.specs.Model.Program as model;
 ghost use Rattle.ga_source.specs.Token.{place_of};
 
+use crate::line_names::LineNames;
 use crate::reading::push_reading;
 use ga_asm::Image;
 use ga_disasm::{Item, items};
@@ -16,14 +19,15 @@ use std::alloc::{AllocError, Global};
 use std::fmt::Write;
 
 /// Adds the lines of an image's words, which begin at these places of the text, with its labels.
-pub fn push_rows(
+pub(crate) fn push_rows<N: LineNames>(
     alloc: Global,
     text: &mut String,
     image: &Image,
     places: &[Place],
+    names: &N,
 ) -> Result<(), AllocError>
     ensures { OnOk result (string_bytes text.new ≡ string_bytes text.old
-        ++ rows_of image.now (map place_of places.now)) }
+        ++ rows_of (N.names names.now) image.now (map place_of places.now)) }
 {
     let words = image.words();
     let found = items(alloc, words, image.code_len())?;
@@ -31,8 +35,15 @@ pub fn push_rows(
     let labels = image.labels();
     for (address, word) in words.iter().enumerate() {
         push_labels(text, labels, address)?;
-        let line = line_at(places, address);
-        push_row(text, labels, address, *word, &items[address], line)?;
+        let line_name = names.name(alloc, place_at(places, address))?;
+        push_row(
+            text,
+            labels,
+            address,
+            *word,
+            &items[address],
+            line_name.as_str(),
+        )?;
     }
     push_labels(text, labels, words.len())?;
     Ok(())
@@ -55,23 +66,23 @@ pub fn push_labels(
     Ok(())
 }
 
-/// Adds the line of a word at an address, which is this item and begins in this line of the text.
-#[tactic(auto, unfolding(crate::specs::Row::row_text))]
+/// Adds the line of a word at an address, which is this item and begins in the line of this name.
 fn push_row(
     text: &mut String,
     labels: &IndexMap<String, u8>,
     address: usize,
     word: Word18,
     item: &Item,
-    line: usize,
+    line_name: &str,
 ) -> Result<(), AllocError>
     requires { address < 64 }
     ensures { OnOk result (string_bytes text.new ≡ string_bytes text.old
-        ++ row_text (labels_of labels.now.entries) address word (item_view item.now) line) }
+        ++ row_text (labels_of labels.now.entries) address word (item_view item.now)
+        line_name.now) }
 {
     let number = Hex3::new(address as u16);
-    let (mark, blanks) = (mark(item), blanks_before(line));
-    write!(text, "{number}  {word}  {mark} {blanks}{line}  ")?;
+    let (mark, blanks) = (mark(item), blanks_before(line_name));
+    write!(text, "{number}  {word}  {mark} {blanks}{line_name}  ")?;
     push_reading(text, labels, address, item)?;
     Ok(())
 }
@@ -93,13 +104,13 @@ pub fn push_item(
     Ok(())
 }
 
-/// The line of the text in which the word at an address begins.
-fn line_at(places: &[Place], address: usize) -> usize
-    ensures { result ≡ spec.line_at (map place_of places.now) address }
+/// The place of the text in which the word at an address begins.
+fn place_at(places: &[Place], address: usize) -> Place
+    ensures { place_of result ≡ model.place_at (map place_of places.now) address }
 {
     match places.get(address) {
-        Some(place) => place.line,
-        None => 1,
+        Some(place) => *place,
+        None => Place { line: 1, column: 1 },
     }
 }
 
@@ -114,15 +125,24 @@ fn mark(item: &Item) -> &'static str
     }
 }
 
-/// The blanks before a line's number, if it has fewer than five digits.
-fn blanks_before(line: usize) -> &'static str
-    ensures { result.now ≡ spec.blanks_before line }
+/// The blanks before a text, if it has fewer than five characters.
+#[tactic(auto, unfolding(crate::specs::Row::blanks_before))]
+fn blanks_before(shown: &str) -> &'static str
+    ensures { result.now ≡ spec.blanks_before shown.now }
 {
-    match line {
-        0..=9 => "    ",
-        10..=99 => "   ",
-        100..=999 => "  ",
-        1_000..=9_999 => " ",
+    match width(shown) {
+        0 => "     ",
+        1 => "    ",
+        2 => "   ",
+        3 => "  ",
+        4 => " ",
         _ => "",
     }
+}
+
+/// How many characters a text has.
+fn width(shown: &str) -> usize
+    ensures { result ≡ length (chars shown.now) }
+{
+    shown.chars().count()
 }

@@ -40,7 +40,7 @@ wave_of live nodes turns =
 -- the waveform of these turns, if it isn't too long
 abbrev pub wave_within : LiveView → List ℕ → ℕ → Result (List ℕ) ServeError
 wave_within live nodes turns =
-    if nat_lt 1073741824 (length (wave_of live nodes turns)) then Err (Output TooLong)
+    if nat_lt 268435456 (length (wave_of live nodes turns)) then Err (Output TooLong)
     else Ok (wave_of live nodes turns)
 
 -- the text of a waveform that isn't made yet

@@ -15,7 +15,7 @@ use std::alloc::{AllocError, Global};
 use std::io::Write;
 
 /// The most bytes of a waveform.
-const MOST_BYTES: usize = 1_073_741_824;
+const MOST_BYTES: usize = 268_435_456;
 
 /// How many bytes of a waveform are made before they are written.
 const PIECE: usize = 65_536;
@@ -31,7 +31,7 @@ pub struct Waveform {
 /// The waveform of the input's chip, in VCD. The commands behind the head of a session are done
 /// first. Then come at most `turns` turns (by default 1,000,000), until no node moves but those
 /// that spin. It shows the nodes that a text names, or those of the program. One of more than
-/// 1,073,741,824 bytes is refused as [`OutputFault::TooLong`].
+/// 268,435,456 bytes is refused as [`OutputFault::TooLong`].
 pub fn output(
     alloc: Global,
     loading: &Loading,

@@ -4,6 +4,7 @@ use Rattle.ga_list.proofs.listing.listing_of.Given as goal
 
 -- what is written, and the listing of the images that are left
 abbrev pub invariant-loop-section : goal.invariant-loop-section
-invariant-loop-section l =
-    string_bytes l.text ++ listing_from l.program l.section (drop l.section l.images.entries)
-    ≡ listing_from l.program 0 l.images.entries
+invariant-loop-section g l =
+    string_bytes l.text ++ listing_from (g.N.LineNames.names l.names) l.program l.section
+    (drop l.section l.images.entries)
+    ≡ listing_from (g.N.LineNames.names l.names) l.program 0 l.images.entries

@@ -1,7 +1,7 @@
-use Rattle.ga_list.proofs.listing.list.Goals as goal
+use Rattle.ga_list.proofs.listing.list_with.Goals as goal
 
 pub returns-in-Ok-clause-listing : goal.returns-in-Ok-clause-listing
-returns-in-Ok-clause-listing c =
+returns-in-Ok-clause-listing g c =
     record {
       images = _;
       images_are = record {

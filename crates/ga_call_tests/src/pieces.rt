@@ -1,0 +1,157 @@
+//! Random programs beside a stream that comes whole, and beside the same stream in pieces.
+use crate::values::{node, word};
+use ga_asm::assemble_text;
+use ga_chip::Chip;
+use ga_debug::placed_chip;
+use ga_frame::write_frame;
+use ga_race::{Verdict, race};
+use ga_word::Word18;
+use std::alloc::Global;
+use std::test::Fail;
+
+/// What a node may do: read at one side or at two, post a word at one or at two, or go on.
+const DEEDS: [&str; 8] = [
+    "$1F5 a! @ drop ",
+    "right a! @ drop ",
+    "left a! @ drop ",
+    "right b! 5 !b ",
+    "left b! 6 !b ",
+    "$1F5 b! 7 !b ",
+    ". . . . ",
+    "dup drop ",
+];
+
+/// The turns of a run: those of such programs end far earlier, if they end.
+const TURNS: u32 = 2_000;
+
+/// Numbers that look random.
+#[derive(Drop)]
+struct Numbers {
+    state: u64,
+}
+
+impl Numbers {
+    /// The next number below a bound, which isn't 0.
+    fn below(&mut self, bound: u64) -> u64 {
+        let next = self.state.wrapping_mul(6_364_136_223_846_793_005);
+        self.state = next.wrapping_add(1_442_695_040_888_963_407);
+        (self.state >> 33) % bound.max(1)
+    }
+}
+
+/// Adds one to four deeds, and behind them an end, or a way back.
+fn push_deeds(text: &mut String, numbers: &mut Numbers) -> Result<(), Fail> {
+    text.push_str("top: ")?;
+    for _ in 0..=numbers.below(4) {
+        let index = numbers.below(8) as usize;
+        text.push_str(DEEDS.get(index).copied().unwrap_or(""))?;
+    }
+    let ends = numbers.below(3) > 0;
+    text.push_str(if ends {
+        "done: jump done "
+    } else {
+        "jump top "
+    })?;
+    Ok(())
+}
+
+/// The source text of three nodes behind 708.
+fn neighbours(alloc: Global, numbers: &mut Numbers) -> Result<String, Fail> {
+    let mut text = String::new(alloc);
+    for name in ["node 709 ", "node 710 ", "node 711 "] {
+        text.push_str(name)?;
+        push_deeds(&mut text, numbers)?;
+    }
+    Ok(text)
+}
+
+/// A stream for 708: up to three frames that store 0 at 020, and one with a program.
+fn stream(alloc: Global, numbers: &mut Numbers) -> Result<Vec<Word18>, Fail> {
+    let mut words = Vec::new(alloc);
+    for _ in 0..numbers.below(4) {
+        let frame = write_frame(alloc, word(0x0AE)?, word(0x020)?, &[word(0)?])?;
+        words.extend_from_slice(&frame)?;
+    }
+    let mut text = String::from_str(alloc, "node 708 ")?;
+    push_deeds(&mut text, numbers)?;
+    for (_, image) in assemble_text(alloc, text.as_str())?.images() {
+        words.extend_from_slice(&write_frame(alloc, word(0)?, word(0)?, image.words())?)?;
+    }
+    Ok(words)
+}
+
+/// The verdict on a chip with these programs, and with the whole stream.
+fn whole_verdict(alloc: Global, text: &str, words: &[Word18]) -> Result<Verdict, Fail> {
+    let mut chip = placed_chip(alloc, &assemble_text(alloc, text)?)?;
+    if chip
+        .give_stream(node(708)?, Vec::from_slice(alloc, words)?)
+        .is_err()
+    {
+        return Err("no stream")?;
+    }
+    Ok(race(alloc, &mut chip, TURNS)?.verdict)
+}
+
+/// Whether a race is found while the stream comes in pieces. Each is fed when the words before it
+/// are taken. If they never are, the rest doesn't come.
+fn has_race_in_pieces(
+    alloc: Global,
+    text: &str,
+    words: &[Word18],
+    size: usize,
+) -> Result<bool, Fail> {
+    let mut chip = placed_chip(alloc, &assemble_text(alloc, text)?)?;
+    if chip.open_stream(node(708)?).is_err() {
+        return Err("no stream")?;
+    }
+    let mut left = words;
+    while !left.is_empty() && chip.stream_left(node(708)?) == 0 {
+        let count = size.clamp(1, left.len());
+        if has_race_with(alloc, &mut chip, &left[..count])? {
+            return Ok(true);
+        }
+        left = &left[count..];
+    }
+    Ok(false)
+}
+
+/// Whether a race is found when a piece comes.
+fn has_race_with(alloc: Global, chip: &mut Chip, piece: &[Word18]) -> Result<bool, Fail> {
+    if chip
+        .feed(node(708)?, Vec::from_slice(alloc, piece)?)
+        .is_err()
+    {
+        return Err("no piece")?;
+    }
+    let report = race(alloc, chip, TURNS)?;
+    // A verdict may come before the words are taken, and then no race comes any more.
+    let _moved = chip.turns(TURNS);
+    Ok(matches!(report.verdict, Verdict::Race(_)))
+}
+
+/// A chip that has no race with the whole stream has none while the stream comes in pieces.
+#[test]
+fn pieces_make_no_other_race(rt: HostRuntime) -> Result<(), Fail> {
+    let mut numbers = Numbers { state: 708 };
+    let (mut found, mut none) = (0u32, 0u32);
+    for number in 0..300 {
+        let text = neighbours(rt.alloc(), &mut numbers)?;
+        let words = stream(rt.alloc(), &mut numbers)?;
+        let whole = whole_verdict(rt.alloc(), text.as_str(), words.as_slice())?;
+        let size = numbers.below(5) as usize;
+        let later = has_race_in_pieces(rt.alloc(), text.as_str(), words.as_slice(), size)?;
+        match whole {
+            Verdict::Race(_) => found = found.saturating_add(u32::from(later)),
+            Verdict::AtRest { .. } | Verdict::Round { .. } => {
+                none = none.saturating_add(1);
+                assert!(rt; !later, "program {number}: {text}");
+            }
+            Verdict::Open => {}
+        }
+    }
+    assert!(rt;
+        found >= 20 && none >= 100,
+        "{found} races, {none} programs without one"
+    );
+    Ok(())
+}
