@@ -140,6 +140,8 @@ class Job:
         self.options, self.values = {}, []
         # The lines of FILE with those of the files that it includes, if it includes any.
         self.lines = None
+        # By its place in the expansion of FILE, each token as it was written, if FILE is of the larger language.
+        self.written = {}
         while rest:
             word = rest.pop(0)
             option, equals, value = word.partition("=")
@@ -206,6 +208,11 @@ class Job:
         """The name and the line of the file where a line of the text was written."""
         it = self.lines[line - 1] if self.lines else None
         return (it.file, it.number) if it else (self.values[-1] if self.has_file() else "-", line)
+
+    def line_name(self, token):
+        """What a listing shows of the line of a token: where it was written, with the name of a file that FILE includes."""
+        file, line = self.origin(self.written.get((token.line, token.column), token).line)
+        return f"{shown_name(file)}:{line}" if self.has_file() and file != self.values[-1] else line
 
     def input_of(self, data):
         """The text that is read, if standard input has this data: FILE with the files that it includes."""
@@ -392,7 +399,7 @@ def list_(ask, job, text, answer):
         return counted(ask, job, text, answer)
     images = images_of(text)
     ask(["asm"], text, asm_output(images))
-    return labels_output(images) if job.options else list_output(images)
+    return labels_output(images) if job.options else list_output(images, job.line_name)
 
 
 @subcommand("FILE", deny=None, json=None)
@@ -871,6 +878,7 @@ def output_of_text(ask, job, text, answer):
             raise
     pieces = [*expansion(text)]
     plain = expanded_text(pieces)
+    job.written = written_pieces(plain, pieces)
     try:
         return job.kind.answer(ask, job, plain, answer)
     except Fault as fault:

@@ -24,7 +24,7 @@ WRITTEN = {
         "node 709 entry 000 code 1 words 1\n000  2C9B2  code         1  [ . . . . ]\n"),
     "\nbody B\n\t.\nend\nnode 709 use B\n": (
         f"my.source:3:2: warning: RunsOff: {RUNS_OFF} (node 709)\n  \t.\n  \t^\n", None,
-        "node 709 entry 000 code 1 words 1\n000  2C9B2  code         2  [ . . . . ]\n"),
+        "node 709 entry 000 code 1 words 1\n000  2C9B2  code         3  [ . . . . ]\n"),
     "node 709\n\tdup frob\nnode 000\nloop: jump lop\n": (
         f"my.source:2:6: error: BadToken: {TOKEN}\n  \tdup frob\n  \t    ^\n"
         f"my.source:4:12: error: UndefinedLabel: {LABEL} (node 000); the nearest name is loop\n"

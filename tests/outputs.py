@@ -45,13 +45,13 @@ def dis_output(words, code):
     return "".join(f"{line}\n" for line in lines)
 
 
-def list_output(images):
-    return "".join(asm_line(node, image) + "".join(listing(image)) for node, image in images.items())
+def list_output(images, line_name=lambda token: token.line):
+    """The listing of images, with what is shown of the line of each word's first token."""
 
+    def row(at, word, reads):
+        return f"{at:03X}  {word.value:05X}  {word.kind:8} {line_name(word.first.token)!s:>5}  {reads}\n"
 
-def plain_row(at, word, reads):
-    """The line of a word of a listing."""
-    return f"{at:03X}  {word.value:05X}  {word.kind:8} {word.line:5}  {reads}\n"
+    return "".join(asm_line(node, image) + "".join(listing(image, row)) for node, image in images.items())
 
 
 def reading_at(image, at):
@@ -66,7 +66,7 @@ def reading_at(image, at):
     return reading(word.value, name_of) if word.kind == "code" else f", ${word.value:05X}"
 
 
-def listing(image, row=plain_row):
+def listing(image, row):
     """The lines of an image: those of its labels, and `row` of each word, by its address and what it reads as."""
     for at, word in enumerate([*image.words, None]):
         yield from (f"{name}:\n" for name, address in image.labels.items() if address == at)

@@ -104,13 +104,13 @@ fn has_race_in_pieces(
     if chip.open_stream(node(708)?).is_err() {
         return Err("no stream")?;
     }
-    let mut left = words;
-    while !left.is_empty() && chip.stream_left(node(708)?) == 0 {
-        let count = size.clamp(1, left.len());
-        if has_race_with(alloc, &mut chip, &left[..count])? {
+    for piece in words.chunks(size.max(1)) {
+        if chip.stream_left(node(708)?) > 0 {
+            return Ok(false);
+        }
+        if has_race_with(alloc, &mut chip, piece)? {
             return Ok(true);
         }
-        left = &left[count..];
     }
     Ok(false)
 }

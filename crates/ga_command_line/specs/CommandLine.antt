@@ -1,33 +1,23 @@
 -- The command line: the command as clap's definitions read it, and the job that its words name.
-use Rattle.std.specs.Prelude.{◌≡◌, ◌<◌, ◌≤◌, ◌∷◌, [], List, true, false, codes, fold, length, map, IfSome, IsSomeAnd, Option, None, Some, option_map, string_bytes}
+use Rattle.std.specs.Prelude.{◌≡◌, ◌<◌, ◌≤◌, ◌∷◌, ◌++◌, [], List, true, false, codes, fold, length, map, IfSome, IsSomeAnd, Option, None, Some, option_map, string_bytes}
 use Rattle.std.specs.Option.{option_map_or}
-use Rattle.clap.specs.Words.{App, Row, Text, new_app, subcommand_of, takes}
+use Rattle.clap.specs.Words.{App, Row, Rule, Text, new_app, new_rule, subcommand_of, takes}
 use Rattle.ga_jobs.specs.declared.Job.{Job}
 use Rattle.ga_jobs.specs.declared.Job.TheVariants.{One, Asm, Dis, Boot, Run, Debug, Talk, Replay, Explain}
 use Rattle.ga_jobs.specs.declared.Job.TheVariants as job
 use Rattle.ga_input.specs.declared.loading.Loading.TheVariants.{Any}
 use Rattle.ga_command_line.specs.declared.Subcommand.{Subcommand}
 use Rattle.ga_command_line.specs.declared.Subcommand.TheVariants as sub
-use Rattle.ga_command_line.specs.Boot.{boot_command}
+use Rattle.ga_command_line.specs.Arguments.{all_files, any_source, command_with, flag, number_option, of_loading, of_profile, of_run, one_file, option, required_number, required_text}
 use Rattle.ga_command_line.specs.Command.{linked}
-use Rattle.ga_command_line.specs.Debug.{debug_command}
-use Rattle.ga_command_line.specs.Dis.{dis_command}
-use Rattle.ga_command_line.specs.Explain.{IsOfTable, IsTopicAt, explain_command}
-use Rattle.ga_command_line.specs.File.{IsFileAt, file_command, files_at, files_command, writing_command}
+use Rattle.ga_command_line.specs.Explain.{IsOfTable, IsTopicAt}
+use Rattle.ga_command_line.specs.File.{IsFileAt, files_at}
 use Rattle.ga_command_line.specs.Flag.{is_set}
-use Rattle.ga_command_line.specs.LintLine.{lint_command}
-use Rattle.ga_command_line.specs.List.{list_command}
 use Rattle.ga_command_line.specs.Loading.{IsLoadingAt}
 use Rattle.ga_command_line.specs.Number.{IsNumberAt, IsNumberIfAt}
-use Rattle.ga_command_line.specs.MapLine.{map_command}
-use Rattle.ga_command_line.specs.One.{one_command}
-use Rattle.ga_command_line.specs.ProfileLine.{profile_command}
-use Rattle.ga_command_line.specs.Race.{race_command}
-use Rattle.ga_command_line.specs.ReportLine.{report_command}
 use Rattle.ga_command_line.specs.Route.{IsRouteAt}
-use Rattle.ga_command_line.specs.Run.{run_command}
 use Rattle.ga_command_line.specs.Start.{IsStartAt, IsStartInRange}
-use Rattle.ga_command_line.specs.TraceLine.{IsListAt, IsSaveAt, trace_command}
+use Rattle.ga_command_line.specs.TraceLine.{IsListAt, IsSaveAt}
 
 -- the command without its subcommands, of which one is required
 unfoldable pub bare_command : App
@@ -35,26 +25,57 @@ bare_command =
     let named = new_app (codes "ga-bench") in
     record named { top = record named.top { has_version = true; subcommand_required = true } }
 
+-- the arguments of each subcommand, in the order of its help
+abbrev pub rules_of : Subcommand → List Rule
+rules_of sub.One = required_number (codes "TRIES") 0 1000000 ∷ one_file ∷ []
+rules_of sub.Asm = one_file ∷ []
+rules_of sub.Dis = number_option (codes "N") (codes "code") 64 ∷ one_file ∷ []
+rules_of sub.Boot = required_text (codes "ROUTE") ∷ one_file ∷ []
+rules_of sub.Run =
+    required_text (codes "ROUTE") ∷ required_number (codes "WORKERS") 1 144
+    ∷ required_number (codes "TURNS") 0 1000000 ∷ one_file ∷ []
+rules_of sub.Debug = of_loading ++ any_source ∷ one_file ∷ []
+rules_of sub.Replay = one_file ∷ []
+rules_of sub.Expand = one_file ∷ []
+rules_of sub.List =
+    of_run ++ flag (codes "LABELS") (codes "labels") ∷ flag (codes "COUNTS") (codes "counts")
+    ∷ one_file ∷ []
+rules_of sub.Lint =
+    flag (codes "DENY") (codes "deny") ∷ flag (codes "JSON") (codes "json") ∷ one_file ∷ []
+rules_of sub.Race = of_run ++ flag (codes "WITNESS") (codes "witness") ∷ one_file ∷ []
+rules_of sub.Map = of_run ++ one_file ∷ []
+rules_of sub.Profile = of_profile ++ flag (codes "JSON") (codes "json") ∷ one_file ∷ []
+rules_of sub.Trace =
+    of_run ++ option (codes "LIST") (codes "nodes") ∷ option (codes "SAVE") (codes "save")
+    ∷ one_file ∷ []
+rules_of sub.Report = of_profile ++ one_file ∷ []
+rules_of sub.Check = any_source ∷ all_files ∷ []
+rules_of sub.Record = any_source ∷ flag (codes "WRITE") (codes "write") ∷ all_files ∷ []
+rules_of sub.Explain = new_rule (codes "NAME") ∷ []
+
+abbrev pub name_of : Subcommand → Text
+name_of sub.One = codes "one"
+name_of sub.Asm = codes "asm"
+name_of sub.Dis = codes "dis"
+name_of sub.Boot = codes "boot"
+name_of sub.Run = codes "run"
+name_of sub.Debug = codes "debug"
+name_of sub.Replay = codes "replay"
+name_of sub.Expand = codes "expand"
+name_of sub.List = codes "list"
+name_of sub.Lint = codes "lint"
+name_of sub.Race = codes "race"
+name_of sub.Map = codes "map"
+name_of sub.Profile = codes "profile"
+name_of sub.Trace = codes "trace"
+name_of sub.Report = codes "report"
+name_of sub.Check = codes "check"
+name_of sub.Record = codes "record"
+name_of sub.Explain = codes "explain"
+
 -- the command of each subcommand
 abbrev pub command_of : Subcommand → App
-command_of sub.One = one_command
-command_of sub.Asm = file_command (codes "asm")
-command_of sub.Dis = dis_command
-command_of sub.Boot = boot_command
-command_of sub.Run = run_command
-command_of sub.Debug = debug_command
-command_of sub.Replay = file_command (codes "replay")
-command_of sub.Expand = file_command (codes "expand")
-command_of sub.List = list_command
-command_of sub.Lint = lint_command
-command_of sub.Race = race_command
-command_of sub.Map = map_command
-command_of sub.Profile = profile_command
-command_of sub.Trace = trace_command
-command_of sub.Report = report_command
-command_of sub.Check = files_command (codes "check")
-command_of sub.Record = writing_command (codes "record")
-command_of sub.Explain = explain_command
+command_of subcommand = command_with (name_of subcommand) (rules_of subcommand)
 
 -- the subcommands, in the order of help
 abbrev pub subcommands : List Subcommand

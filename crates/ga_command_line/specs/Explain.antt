@@ -1,14 +1,10 @@
--- The command line of the subcommand `explain`.
+-- The topic of `explain`.
 use Rattle.std.specs.Prelude.{◌≡◌, List, codes, IfSome, Option, Some, option_map}
-use Rattle.clap.specs.Words.{App, Row, first_of, new_app, new_rule, with_rule}
+use Rattle.clap.specs.Words.{Row, first_of}
 use Rattle.ga_explain.specs.declared.topic.Topic.{Topic}
 use Rattle.ga_explain.specs.Output.{entry_in}
 use Rattle.ga_explain.specs.Table.{entries}
 use Rattle.ga_explain.specs.Topic.{entry_of}
-
--- the subcommand as clap's definitions read it: one text that may be left out
-unfoldable pub explain_command : App
-explain_command = with_rule (new_app (codes "explain")) (new_rule (codes "NAME"))
 
 -- the argument is the topic's name; without a topic it is left out
 abbrev pub IsTopicAt : List Row → Option Topic → Type 0

@@ -1,16 +1,9 @@
--- The options of a run of which a profile is made.
+-- Where a profile begins.
 use Rattle.std.specs.Prelude.{◌≡◌, ◌≤◌, List, codes, Option, Some, None}
-use Rattle.clap.specs.Words.{App, Row, Text, first_of, new_rule, with_rule}
+use Rattle.clap.specs.Words.{Row, Text, first_of}
 use Rattle.ga_profile.specs.declared.window.WindowStart.{WindowStart}
 use Rattle.ga_profile.specs.declared.window.WindowStart.TheVariants.{FirstNode, LastNode, Turn}
 use Rattle.ga_command_line.specs.Number.{WritesNumber}
-use Rattle.ga_command_line.specs.Turns.{turns_command}
-
--- the options of a run, and where the profile begins
-unfoldable pub from_command : Text → App
-from_command name =
-    with_rule (turns_command name)
-    (record (new_rule (codes "WHERE")) { long = Some (codes "from") })
 
 -- a text names where a profile begins
 abbrev pub NamesStart : Text → WindowStart → Type 0

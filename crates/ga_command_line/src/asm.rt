@@ -1,11 +1,12 @@
 ghost use Rattle.std.specs.Prelude.{IfOk, codes};
 ghost use Rattle.clap.specs.Words.{found_of, rows_of};
-ghost use Rattle.ga_command_line.specs.CommandLine.{AsksFor, InRange};
-ghost use Rattle.ga_command_line.specs.File.{file_command};
+ghost use Rattle.ga_command_line.specs.CommandLine.{AsksFor, InRange, command_of};
+ghost use Rattle.ga_command_line.specs.declared.Subcommand.TheVariants as sub;
 ghost use Rattle.ga_command_line.specs.inner.Command.{IsCommandOf};
 
-use crate::file::{SOURCE_TEXT, file_in};
-use clap::{Arg, ArgMatches, Command};
+use crate::argument::{SOURCE_TEXT, command_with};
+use crate::file::file_in;
+use clap::{ArgMatches, Command};
 use ga_jobs::Job;
 use std::alloc::{AllocError, Global};
 
@@ -19,15 +20,16 @@ Example: echo 'node 709 main: $5 $7 + @b' | ga-bench asm
 More: Source text in docs/FORMATS.md";
 
 /// The subcommand `asm [FILE]`.
-#[tactic(auto, unfolding(crate::specs::File::file_command))]
 pub fn command<'a>(alloc: Global) -> Result<Command<'a>, AllocError>
-    ensures { IfOk result (IsCommandOf (file_command (codes "asm"))) }
+    ensures { IfOk result (IsCommandOf (command_of sub.Asm)) }
 {
-    let file = Arg::new(alloc, "FILE").help(SOURCE_TEXT);
-    let command = Command::new(alloc, "asm")
-        .about("Assembles source text, and prints the words of each node")
-        .after_help(HELP);
-    command.arg(file)
+    command_with(
+        alloc,
+        "asm",
+        "Assembles source text, and prints the words of each node",
+        HELP,
+        &[SOURCE_TEXT],
+    )
 }
 
 /// The job for the arguments of `asm`.

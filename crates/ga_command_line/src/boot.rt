@@ -1,14 +1,15 @@
 ghost use Rattle.std.specs.Prelude.{◌≡◌, IfErr, IfOk, codes};
 ghost use Rattle.clap.specs.Words.{Text, found_of, rows_of};
-ghost use Rattle.ga_command_line.specs.Boot.{boot_command};
-ghost use Rattle.ga_command_line.specs.CommandLine.{AsksFor, InRange};
+ghost use Rattle.ga_command_line.specs.CommandLine.{AsksFor, InRange, command_of};
 ghost use Rattle.ga_command_line.specs.Route.{IsRouteAt};
+ghost use Rattle.ga_command_line.specs.declared.Subcommand.TheVariants as sub;
 ghost use Rattle.ga_command_line.specs.inner.Command.{IsCommandOf};
 
+use crate::argument::{ROUTE_OF_BOOT, SOURCE_TEXT, command_with};
 use crate::command_line::LineError;
-use crate::file::{SOURCE_TEXT, file_in};
+use crate::file::file_in;
 use crate::route::route_at;
-use clap::{Arg, ArgMatches, Command};
+use clap::{ArgMatches, Command};
 use ga_jobs::Job;
 use std::alloc::{AllocError, Global};
 
@@ -23,19 +24,16 @@ Example: echo 'node 709 .' | ga-bench boot 708,709
 More: Boot streams in docs/FORMATS.md";
 
 /// The subcommand `boot ROUTE [FILE]`.
-#[tactic(auto, unfolding(crate::specs::Boot::boot_command))]
 pub fn command<'a>(alloc: Global) -> Result<Command<'a>, AllocError>
-    ensures { IfOk result (IsCommandOf boot_command) }
+    ensures { IfOk result (IsCommandOf (command_of sub.Boot)) }
 {
-    let route = Arg::new(alloc, "ROUTE").required(true).help(
-        "Node names with commas between them, from an edge node on, or several such routes with / between them",
-    );
-    let file = Arg::new(alloc, "FILE").help(SOURCE_TEXT);
-    let command = Command::new(alloc, "boot")
-        .about("Assembles source text, and prints the words that boot a route or a tree")
-        .after_help(HELP)
-        .arg(route)?;
-    command.arg(file)
+    command_with(
+        alloc,
+        "boot",
+        "Assembles source text, and prints the words that boot a route or a tree",
+        HELP,
+        &[ROUTE_OF_BOOT, SOURCE_TEXT],
+    )
 }
 
 /// The job for the arguments of `boot`.

@@ -1,12 +1,13 @@
 ghost use Rattle.std.specs.Prelude.{IfOk, codes};
 ghost use Rattle.clap.specs.Words.{found_of, rows_of};
-ghost use Rattle.ga_command_line.specs.CommandLine.{AsksFor, InRange};
-ghost use Rattle.ga_command_line.specs.File.{files_command, sourced_command};
+ghost use Rattle.ga_command_line.specs.CommandLine.{AsksFor, InRange, command_of};
+ghost use Rattle.ga_command_line.specs.declared.Subcommand.TheVariants as sub;
 ghost use Rattle.ga_command_line.specs.inner.Command.{IsCommandOf};
 
-use crate::files::{ANY_SOURCE, files_in};
+use crate::argument::{ANY_SOURCE, Argument, Takes, command_with};
+use crate::files::files_in;
 use crate::flag::flag_in;
-use clap::{Arg, ArgAction, ArgMatches, Command};
+use clap::{ArgMatches, Command};
 use ga_jobs::Job;
 use std::alloc::{AllocError, Global};
 
@@ -29,31 +30,26 @@ hex digits, LABEL of its node, or LABEL+N.
 Example: printf 'profile 2\\nplace\\nnode 000 .\\ngo\\n> turn 4\\nmoved 4\\n' | ga-bench check
 More: Transcripts in docs/FORMATS.md";
 
-/// The subcommand `check [--any-source] [FILE]..`.
-#[tactic(auto, unfolding(crate::specs::File::files_command))]
-pub fn command<'a>(alloc: Global) -> Result<Command<'a>, AllocError>
-    ensures { IfOk result (IsCommandOf (files_command (codes "check"))) }
-{
-    let files = Arg::new(alloc, "FILE")
-        .action(ArgAction::Append)
-        .help("The transcripts; standard input by default or for -");
-    let command = sourced_command(alloc)?;
-    command.arg(files)
-}
+/// The transcripts.
+const FILES: Argument = Argument {
+    id: "FILE",
+    long: None,
+    takes: Takes::Texts,
+    required: false,
+    help: "The transcripts; standard input by default or for -",
+};
 
-/// The subcommand without FILE.
-#[tactic(auto, unfolding(crate::specs::File::sourced_command))]
-fn sourced_command<'a>(alloc: Global) -> Result<Command<'a>, AllocError>
-    ensures { IfOk result (IsCommandOf (sourced_command (codes "check"))) }
+/// The subcommand `check [--any-source] [FILE]..`.
+pub fn command<'a>(alloc: Global) -> Result<Command<'a>, AllocError>
+    ensures { IfOk result (IsCommandOf (command_of sub.Check)) }
 {
-    let any_source = Arg::new(alloc, "ANY")
-        .long("any-source")
-        .action(ArgAction::SetTrue)
-        .help(ANY_SOURCE);
-    let command = Command::new(alloc, "check")
-        .about("Runs the commands of a transcript, and compares the replies with those in it")
-        .after_help(HELP);
-    command.arg(any_source)
+    command_with(
+        alloc,
+        "check",
+        "Runs the commands of a transcript, and compares the replies with those in it",
+        HELP,
+        &[ANY_SOURCE, FILES],
+    )
 }
 
 /// The job for the arguments of `check`.

@@ -1,16 +1,16 @@
 ghost use Rattle.std.specs.Prelude.{◌≡◌, IfErr, IfOk, codes};
 ghost use Rattle.clap.specs.Words.{found_of, rows_of};
-ghost use Rattle.ga_command_line.specs.CommandLine.{AsksFor, InRange};
-ghost use Rattle.ga_command_line.specs.Debug.{debug_command, loaded_command, sourced_command};
+ghost use Rattle.ga_command_line.specs.CommandLine.{AsksFor, InRange, command_of};
+ghost use Rattle.ga_command_line.specs.declared.Subcommand.TheVariants as sub;
 ghost use Rattle.ga_command_line.specs.inner.Command.{IsCommandOf};
 
+use crate::argument::{ANY_SOURCE, Argument, PLACE, ROUTE, Takes, command_with};
 use crate::command_line::{LineError, refusal};
 use crate::file::file_in;
-use crate::files::ANY_SOURCE;
 use crate::flag::flag_in;
-use crate::loading::{loading_command, loading_in};
+use crate::loading::loading_in;
 use clap::error::ErrorKind;
-use clap::{Arg, ArgAction, ArgMatches, Command};
+use clap::{ArgMatches, Command};
 use ga_input::Loading;
 use ga_jobs::Job;
 use std::alloc::{AllocError, Global};
@@ -43,41 +43,25 @@ Writes the reply to each command, or 'refused' and the reason, and goes on.
 Example: printf 'profile 2\\nplace\\nnode 000 .\\ngo\\nturn 4\\nregs 000\\n' | ga-bench debug
 More: docs/GUIDE.md, and 'debug FILE' and Sessions in docs/FORMATS.md";
 
+/// What the prompt begins with.
+const FILE: Argument = Argument {
+    id: "FILE",
+    long: None,
+    takes: Takes::Text,
+    required: false,
+    help: "The transcript, session or source text for the prompt; without it a session is read",
+};
+
 /// The subcommand `debug [--place | --route ROUTE] [--any-source] [FILE]`.
-#[tactic(auto, unfolding(crate::specs::Debug::debug_command))]
 pub fn command<'a>(alloc: Global) -> Result<Command<'a>, AllocError>
-    ensures { IfOk result (IsCommandOf debug_command) }
+    ensures { IfOk result (IsCommandOf (command_of sub.Debug)) }
 {
-    let file = Arg::new(alloc, "FILE").help(
-        "The transcript, session or source text for the prompt; without it a session is read",
-    );
-    let command = sourced_command(alloc)?;
-    command.arg(file)
-}
-
-/// The subcommand without FILE.
-#[tactic(auto, unfolding(crate::specs::Debug::sourced_command))]
-fn sourced_command<'a>(alloc: Global) -> Result<Command<'a>, AllocError>
-    ensures { IfOk result (IsCommandOf sourced_command) }
-{
-    let any_source = Arg::new(alloc, "ANY")
-        .long("any-source")
-        .action(ArgAction::SetTrue)
-        .help(ANY_SOURCE);
-    let command = loaded_command(alloc)?;
-    command.arg(any_source)
-}
-
-/// The subcommand without `--any-source` and FILE.
-#[tactic(auto, unfolding(crate::specs::Debug::loaded_command))]
-fn loaded_command<'a>(alloc: Global) -> Result<Command<'a>, AllocError>
-    ensures { IfOk result (IsCommandOf loaded_command) }
-{
-    loading_command(
+    command_with(
         alloc,
         "debug",
         "Loads source text into a chip, runs commands on it, and prints the replies",
         HELP,
+        &[PLACE, ROUTE, ANY_SOURCE, FILE],
     )
 }
 

@@ -1,14 +1,15 @@
 ghost use Rattle.std.specs.Prelude.{◌≡◌, ◌≤◌, ℕ, IfErr, IfOk, IfSome, Option, codes};
 ghost use Rattle.clap.specs.Words.{found_of, rows_of};
+ghost use Rattle.ga_command_line.specs.declared.Subcommand.TheVariants as sub;
 ghost use Rattle.ga_command_line.specs.inner.Command.{IsCommandOf};
-ghost use Rattle.ga_command_line.specs.CommandLine.{AsksFor, InRange};
-ghost use Rattle.ga_command_line.specs.Dis.{code_command, dis_command};
+ghost use Rattle.ga_command_line.specs.CommandLine.{AsksFor, InRange, command_of};
 ghost use Rattle.ga_command_line.specs.Number.{IsNumberIfAt};
 
+use crate::argument::{Argument, Takes, WORDS, command_with};
 use crate::command_line::LineError;
-use crate::file::{WORDS, file_in};
-use crate::number::{number_if, number_within};
-use clap::{Arg, ArgMatches, Command};
+use crate::file::file_in;
+use crate::number::number_if;
+use clap::{ArgMatches, Command};
 use ga_jobs::Job;
 use std::alloc::{AllocError, Global};
 
@@ -24,29 +25,26 @@ any. The output is source text, from which asm makes the same words.
 Example: echo 05872 2C9B2 00001 | ga-bench dis --code 2
 More: Source text in docs/FORMATS.md";
 
-/// The subcommand `dis [--code N] [FILE]`.
-#[tactic(auto, unfolding(crate::specs::Dis::dis_command))]
-pub fn command<'a>(alloc: Global) -> Result<Command<'a>, AllocError>
-    ensures { IfOk result (IsCommandOf dis_command) }
-{
-    let file = Arg::new(alloc, "FILE").help(WORDS);
-    let command = code_command(alloc)?;
-    command.arg(file)
-}
+/// How many words are code.
+const CODE: Argument = Argument {
+    id: "N",
+    long: Some("code"),
+    takes: Takes::Number(0, CODE_LIMIT),
+    required: false,
+    help: "How many words are code, from 0 to 64; the rest are data. By default all are code",
+};
 
-/// The subcommand without FILE.
-#[tactic(auto, unfolding(crate::specs::Dis::code_command))]
-fn code_command<'a>(alloc: Global) -> Result<Command<'a>, AllocError>
-    ensures { IfOk result (IsCommandOf code_command) }
+/// The subcommand `dis [--code N] [FILE]`.
+pub fn command<'a>(alloc: Global) -> Result<Command<'a>, AllocError>
+    ensures { IfOk result (IsCommandOf (command_of sub.Dis)) }
 {
-    let code = Arg::new(alloc, "N")
-        .long("code")
-        .value_parser(number_within(0, CODE_LIMIT))
-        .help("How many words are code, from 0 to 64; the rest are data. By default all are code");
-    Command::new(alloc, "dis")
-        .about("Prints words as source text")
-        .after_help(HELP)
-        .arg(code)
+    command_with(
+        alloc,
+        "dis",
+        "Prints words as source text",
+        HELP,
+        &[CODE, WORDS],
+    )
 }
 
 /// The job for the arguments of `dis`.

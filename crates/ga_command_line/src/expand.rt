@@ -1,11 +1,12 @@
 ghost use Rattle.std.specs.Prelude.{IfOk, codes};
 ghost use Rattle.clap.specs.Words.{found_of, rows_of};
-ghost use Rattle.ga_command_line.specs.CommandLine.{AsksFor, InRange};
-ghost use Rattle.ga_command_line.specs.File.{file_command};
+ghost use Rattle.ga_command_line.specs.CommandLine.{AsksFor, InRange, command_of};
+ghost use Rattle.ga_command_line.specs.declared.Subcommand.TheVariants as sub;
 ghost use Rattle.ga_command_line.specs.inner.Command.{IsCommandOf};
 
+use crate::argument::{Argument, Takes, command_with};
 use crate::file::file_in;
-use clap::{Arg, ArgMatches, Command};
+use clap::{ArgMatches, Command};
 use ga_jobs::Job;
 use std::alloc::{AllocError, Global};
 
@@ -18,16 +19,26 @@ other files. Writes source text, which asm and all others read.
 Example: printf 'const ONE -1\nnode 709 to 710 b! ONE !b' | ga-bench expand | ga-bench asm
 More: Larger source text in docs/FORMATS.md";
 
+/// The text.
+const FILE: Argument = Argument {
+    id: "FILE",
+    long: None,
+    takes: Takes::Text,
+    required: false,
+    help: "The text; standard input by default or if it is -",
+};
+
 /// The subcommand `expand [FILE]`.
-#[tactic(auto, unfolding(crate::specs::File::file_command))]
 pub fn command<'a>(alloc: Global) -> Result<Command<'a>, AllocError>
-    ensures { IfOk result (IsCommandOf (file_command (codes "expand"))) }
+    ensures { IfOk result (IsCommandOf (command_of sub.Expand)) }
 {
-    let file = Arg::new(alloc, "FILE").help("The text; standard input by default or if it is -");
-    let command = Command::new(alloc, "expand")
-        .about("Expands constants, sides, directions and shared bodies to source text")
-        .after_help(HELP);
-    command.arg(file)
+    command_with(
+        alloc,
+        "expand",
+        "Expands constants, sides, directions and shared bodies to source text",
+        HELP,
+        &[FILE],
+    )
 }
 
 /// The job for the arguments of `expand`.

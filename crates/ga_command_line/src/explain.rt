@@ -1,12 +1,14 @@
 ghost use Rattle.std.specs.Prelude.{◌≡◌, IfErr, IfOk, Option, codes};
 ghost use Rattle.clap.specs.Words.{found_of, rows_of};
+ghost use Rattle.ga_command_line.specs.declared.Subcommand.TheVariants as sub;
 ghost use Rattle.ga_command_line.specs.inner.Command.{IsCommandOf};
-ghost use Rattle.ga_command_line.specs.CommandLine.{AsksFor, InRange};
-ghost use Rattle.ga_command_line.specs.Explain.{IsOfTable, IsTopicAt, explain_command};
+ghost use Rattle.ga_command_line.specs.CommandLine.{AsksFor, InRange, command_of};
+ghost use Rattle.ga_command_line.specs.Explain.{IsOfTable, IsTopicAt};
 
+use crate::argument::{Argument, Takes, command_with};
 use crate::command_line::{LineError, refusal};
 use clap::error::ErrorKind;
-use clap::{Arg, ArgMatches, Command};
+use clap::{ArgMatches, Command};
 use ga_explain::{Topic, topics};
 use ga_jobs::Job;
 use ga_nearest::Nearest;
@@ -20,16 +22,26 @@ input.
 Example: ga-bench explain BadToken
 More: docs/FORMATS.md and docs/CHIP.md";
 
+/// What is explained.
+const NAME: Argument = Argument {
+    id: "NAME",
+    long: None,
+    takes: Takes::Text,
+    required: false,
+    help: "The name, as the program writes it, or a term",
+};
+
 /// The subcommand `explain [NAME]`.
-#[tactic(auto, unfolding(crate::specs::Explain::explain_command))]
 pub fn command<'a>(alloc: Global) -> Result<Command<'a>, AllocError>
-    ensures { IfOk result (IsCommandOf explain_command) }
+    ensures { IfOk result (IsCommandOf (command_of sub.Explain)) }
 {
-    let name = Arg::new(alloc, "NAME").help("The name, as the program writes it, or a term");
-    Command::new(alloc, "explain")
-        .about("Explains an error, a warning, a state or a term")
-        .after_help(HELP)
-        .arg(name)
+    command_with(
+        alloc,
+        "explain",
+        "Explains an error, a warning, a state or a term",
+        HELP,
+        &[NAME],
+    )
 }
 
 /// The job for the arguments of `explain`.

@@ -6,12 +6,6 @@ use crate::text::text_in;
 use clap::ArgMatches;
 use std::alloc::{AllocError, Global};
 
-/// The help of FILE, for commands that read source text.
-pub const SOURCE_TEXT: &str = "The source text; standard input by default or if it is -";
-
-/// The same for those that read words.
-pub const WORDS: &str = "The words; standard input by default or if it is -";
-
 /// The file that the arguments name, if they name one.
 pub fn file_in(alloc: Global, found: &ArgMatches<'_>) -> Result<Option<String>, AllocError>
     ensures { IfOk result (λ file. IsFileAt (rows_of (found_of found.now))

@@ -5,10 +5,6 @@ ghost use Rattle.ga_command_line.specs.File.{files_at};
 use clap::ArgMatches;
 use std::alloc::{AllocError, Global};
 
-/// The help of the flag by which a source may lie anywhere.
-pub const ANY_SOURCE: &str =
-    "A source that FILE names may lie anywhere, and not only in its folder or below";
-
 /// The files that the arguments name.
 pub fn files_in(alloc: Global, found: &ArgMatches<'_>) -> Result<Vec<String>, AllocError>
     ensures { IfOk result (λ files. map string_bytes files.items

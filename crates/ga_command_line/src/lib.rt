@@ -7,6 +7,7 @@ ghost use Rattle.clap.specs.Words.{found_of, rows_of};
 ghost use Rattle.ga_command_line.specs.CommandLine.{AsksFor, InRange, command_of};
 ghost use Rattle.ga_command_line.specs.inner.Command.{IsCommandOf};
 
+mod argument;
 mod asm;
 mod boot;
 mod check;
@@ -34,7 +35,6 @@ mod run;
 mod start;
 mod text;
 mod trace;
-mod turns;
 
 use crate::command_line::missing;
 pub use crate::command_line::{LineError, job, refusal};

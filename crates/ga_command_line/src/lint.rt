@@ -1,12 +1,13 @@
 ghost use Rattle.std.specs.Prelude.{IfOk, codes};
 ghost use Rattle.clap.specs.Words.{found_of, rows_of};
-ghost use Rattle.ga_command_line.specs.CommandLine.{AsksFor, InRange};
-ghost use Rattle.ga_command_line.specs.LintLine.{deny_command, flags_command, lint_command};
+ghost use Rattle.ga_command_line.specs.CommandLine.{AsksFor, InRange, command_of};
+ghost use Rattle.ga_command_line.specs.declared.Subcommand.TheVariants as sub;
 ghost use Rattle.ga_command_line.specs.inner.Command.{IsCommandOf};
 
+use crate::argument::{Argument, SOURCE_TEXT, Takes, command_with};
 use crate::file::file_in;
 use crate::flag::flag_in;
-use clap::{Arg, ArgAction, ArgMatches, Command};
+use clap::{ArgMatches, Command};
 use ga_jobs::Job;
 use std::alloc::{AllocError, Global};
 
@@ -21,44 +22,35 @@ With --json each warning is an object on a line, and so is each error of the tex
 Example: printf 'node 708 right b! 5 !b' | ga-bench lint
 More: Find mistakes before you run in docs/GUIDE.md, and Warnings in docs/FORMATS.md";
 
+/// A warning is a failure.
+const DENY: Argument = Argument {
+    id: "DENY",
+    long: Some("deny"),
+    takes: Takes::Nothing,
+    required: false,
+    help: "Exits with status 1 if there is a warning",
+};
+
+/// Warnings and errors are written as JSON.
+const JSON: Argument = Argument {
+    id: "JSON",
+    long: Some("json"),
+    takes: Takes::Nothing,
+    required: false,
+    help: "Writes each warning and each error as JSON, one object on a line",
+};
+
 /// The subcommand `lint [--deny] [--json] [FILE]`.
-#[tactic(auto, unfolding(crate::specs::LintLine::lint_command))]
 pub fn command<'a>(alloc: Global) -> Result<Command<'a>, AllocError>
-    ensures { IfOk result (IsCommandOf lint_command) }
+    ensures { IfOk result (IsCommandOf (command_of sub.Lint)) }
 {
-    let file = Arg::new(alloc, "FILE").help(
-        "The source text; standard input by default or if it is -",
-    );
-    let command = flags_command(alloc)?;
-    command.arg(file)
-}
-
-/// The subcommand without FILE.
-#[tactic(auto, unfolding(crate::specs::LintLine::flags_command))]
-fn flags_command<'a>(alloc: Global) -> Result<Command<'a>, AllocError>
-    ensures { IfOk result (IsCommandOf flags_command) }
-{
-    let json = Arg::new(alloc, "JSON")
-        .long("json")
-        .action(ArgAction::SetTrue)
-        .help("Writes each warning and each error as JSON, one object on a line");
-    let command = deny_command(alloc)?;
-    command.arg(json)
-}
-
-/// The subcommand without `--json` and FILE.
-#[tactic(auto, unfolding(crate::specs::LintLine::deny_command))]
-fn deny_command<'a>(alloc: Global) -> Result<Command<'a>, AllocError>
-    ensures { IfOk result (IsCommandOf deny_command) }
-{
-    let deny = Arg::new(alloc, "DENY")
-        .long("deny")
-        .action(ArgAction::SetTrue)
-        .help("Exits with status 1 if there is a warning");
-    let command = Command::new(alloc, "lint")
-        .about("Warns of code that assembles, but is nearly always wrong")
-        .after_help(HELP);
-    command.arg(deny)
+    command_with(
+        alloc,
+        "lint",
+        "Warns of code that assembles, but is nearly always wrong",
+        HELP,
+        &[DENY, JSON, SOURCE_TEXT],
+    )
 }
 
 /// The job for the arguments of `lint`.

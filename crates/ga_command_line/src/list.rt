@@ -1,18 +1,18 @@
 ghost use Rattle.std.specs.Prelude.{◌≡◌, IfErr, IfOk, None, codes, false, option_map, string_bytes};
 ghost use Rattle.clap.specs.Words.{found_of, rows_of};
-ghost use Rattle.ga_command_line.specs.CommandLine.{AsksFor, InRange};
+ghost use Rattle.ga_command_line.specs.CommandLine.{AsksFor, InRange, command_of};
 ghost use Rattle.ga_command_line.specs.Flag.{is_set};
-ghost use Rattle.ga_command_line.specs.List.{counts_command, labels_command, list_command};
+ghost use Rattle.ga_command_line.specs.declared.Subcommand.TheVariants as sub;
 ghost use Rattle.ga_command_line.specs.inner.Command.{IsCommandOf};
 
+use crate::argument::{Argument, PLACE, ROUTE, TURNS, Takes, command_with};
 use crate::command_line::{LineError, refusal};
 use crate::file::file_in;
 use crate::flag::flag_in;
 use crate::loading::loading_in;
-use crate::number::number_if;
-use crate::turns::{TURNS_LIMIT, turns_command};
+use crate::number::{TURNS_LIMIT, number_if};
 use clap::error::ErrorKind;
-use clap::{Arg, ArgAction, ArgMatches, Command};
+use clap::{ArgMatches, Command};
 use ga_input::Loading;
 use ga_jobs::Job;
 use std::alloc::{AllocError, Global};
@@ -32,47 +32,44 @@ which may name its source as for check.
 Example: printf 'node 709 main: dup jump main' | ga-bench list
 More: Listings in docs/FORMATS.md";
 
+/// Only labels are listed.
+const LABELS: Argument = Argument {
+    id: "LABELS",
+    long: Some("labels"),
+    takes: Takes::Nothing,
+    required: false,
+    help: "Writes only the labels: the node, the label and its address, a line each",
+};
+
+/// What a run made is listed, too.
+const COUNTS: Argument = Argument {
+    id: "COUNTS",
+    long: Some("counts"),
+    takes: Takes::Nothing,
+    required: false,
+    help: "Makes a run, and writes how often each word was fetched and each opcode ran",
+};
+
+/// What is listed.
+const FILE: Argument = Argument {
+    id: "FILE",
+    long: None,
+    takes: Takes::Text,
+    required: false,
+    help: "The source text, with --counts also a session; standard input by default or if it is -",
+};
+
 /// The subcommand `list [--labels | --counts [--turns N] [--place | --route ROUTE]] [FILE]`.
-#[tactic(auto, unfolding(crate::specs::List::list_command))]
 pub fn command<'a>(alloc: Global) -> Result<Command<'a>, AllocError>
-    ensures { IfOk result (IsCommandOf list_command) }
+    ensures { IfOk result (IsCommandOf (command_of sub.List)) }
 {
-    let file = Arg::new(alloc, "FILE").help(
-        "The source text, with --counts also a session; standard input by default or if it is -",
-    );
-    let command = counts_command(alloc)?;
-    command.arg(file)
-}
-
-/// The subcommand without FILE.
-#[tactic(auto, unfolding(crate::specs::List::counts_command))]
-fn counts_command<'a>(alloc: Global) -> Result<Command<'a>, AllocError>
-    ensures { IfOk result (IsCommandOf counts_command) }
-{
-    let counts = Arg::new(alloc, "COUNTS")
-        .long("counts")
-        .action(ArgAction::SetTrue)
-        .help("Makes a run, and writes how often each word was fetched and each opcode ran");
-    let command = labels_command(alloc)?;
-    command.arg(counts)
-}
-
-/// The subcommand without `--counts` and FILE.
-#[tactic(auto, unfolding(crate::specs::List::labels_command))]
-fn labels_command<'a>(alloc: Global) -> Result<Command<'a>, AllocError>
-    ensures { IfOk result (IsCommandOf labels_command) }
-{
-    let labels = Arg::new(alloc, "LABELS")
-        .long("labels")
-        .action(ArgAction::SetTrue)
-        .help("Writes only the labels: the node, the label and its address, a line each");
-    let command = turns_command(
+    command_with(
         alloc,
         "list",
         "Lists the words of a source text, with their instructions and their lines in the text",
         HELP,
-    )?;
-    command.arg(labels)
+        &[PLACE, ROUTE, TURNS, LABELS, COUNTS, FILE],
+    )
 }
 
 /// The job for the arguments of `list`.

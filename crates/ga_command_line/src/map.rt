@@ -1,17 +1,17 @@
 ghost use Rattle.std.specs.Prelude.{◌≡◌, ◌≤◌, ℕ, IfErr, IfOk, IfSome, Option, codes};
 ghost use Rattle.clap.specs.Words.{found_of, rows_of};
-ghost use Rattle.ga_command_line.specs.CommandLine.{AsksFor, InRange};
+ghost use Rattle.ga_command_line.specs.CommandLine.{AsksFor, InRange, command_of};
 ghost use Rattle.ga_command_line.specs.Loading.{IsLoadingAt};
-ghost use Rattle.ga_command_line.specs.MapLine.{map_command};
 ghost use Rattle.ga_command_line.specs.Number.{IsNumberIfAt};
+ghost use Rattle.ga_command_line.specs.declared.Subcommand.TheVariants as sub;
 ghost use Rattle.ga_command_line.specs.inner.Command.{IsCommandOf};
 
+use crate::argument::{PLACE, ROUTE, SESSION, TURNS, command_with};
 use crate::command_line::LineError;
 use crate::file::file_in;
 use crate::loading::loading_in;
-use crate::number::number_if;
-use crate::turns::{TURNS_LIMIT, turns_command};
-use clap::{Arg, ArgMatches, Command};
+use crate::number::{TURNS_LIMIT, number_if};
+use clap::{ArgMatches, Command};
 use ga_input::Loading;
 use ga_jobs::Job;
 use std::alloc::{AllocError, Global};
@@ -27,20 +27,16 @@ Example: printf 'node 708 right b! @b\\nnode 709 right b! @b' | ga-bench map
 More: The map in docs/FORMATS.md";
 
 /// The subcommand `map [--turns N] [--place | --route ROUTE] [FILE]`.
-#[tactic(auto, unfolding(crate::specs::MapLine::map_command))]
 pub fn command<'a>(alloc: Global) -> Result<Command<'a>, AllocError>
-    ensures { IfOk result (IsCommandOf map_command) }
+    ensures { IfOk result (IsCommandOf (command_of sub.Map)) }
 {
-    let file = Arg::new(alloc, "FILE").help(
-        "The session or the source text; standard input by default or if it is -",
-    );
-    let command = turns_command(
+    command_with(
         alloc,
         "map",
         "Shows what each node does and which words are pending, as a picture",
         HELP,
-    )?;
-    command.arg(file)
+        &[PLACE, ROUTE, TURNS, SESSION],
+    )
 }
 
 /// The job for the arguments of `map`.

@@ -9,6 +9,9 @@ use clap::error::ErrorKind;
 use clap::{ArgMatches, value_parser};
 use std::alloc::Global;
 
+/// The most turns of a job.
+pub const TURNS_LIMIT: u32 = 1_000_000;
+
 /// What an argument may be: a number from `least` to `most` in decimal digits, behind a plus or
 /// none. A minus is refused, also in front of 0.
 pub fn number_within<'a>(least: u32, most: u32) -> ValueParser<'a>

@@ -1,14 +1,15 @@
 ghost use Rattle.std.specs.Prelude.{◌≡◌, ◌≤◌, ℕ, IfErr, IfOk, codes};
 ghost use Rattle.clap.specs.Words.{found_of, rows_of};
+ghost use Rattle.ga_command_line.specs.declared.Subcommand.TheVariants as sub;
 ghost use Rattle.ga_command_line.specs.inner.Command.{IsCommandOf};
-ghost use Rattle.ga_command_line.specs.CommandLine.{AsksFor, InRange};
+ghost use Rattle.ga_command_line.specs.CommandLine.{AsksFor, InRange, command_of};
 ghost use Rattle.ga_command_line.specs.Number.{IsNumberAt};
-ghost use Rattle.ga_command_line.specs.One.{one_command, tries_command};
 
+use crate::argument::{Argument, Takes, WORDS, command_with};
 use crate::command_line::LineError;
-use crate::file::{WORDS, file_in};
-use crate::number::{number_of, number_within};
-use clap::{Arg, ArgMatches, Command};
+use crate::file::file_in;
+use crate::number::number_of;
+use clap::{ArgMatches, Command};
 use ga_jobs::Job;
 use std::alloc::{AllocError, Global};
 
@@ -26,29 +27,26 @@ next one.
 Example: echo 04A12 00005 00003 2C9B2 | ga-bench one 5
 More: docs/CHIP.md, and The line in docs/FORMATS.md";
 
-/// The subcommand `one TRIES [FILE]`.
-#[tactic(auto, unfolding(crate::specs::One::one_command))]
-pub fn command<'a>(alloc: Global) -> Result<Command<'a>, AllocError>
-    ensures { IfOk result (IsCommandOf one_command) }
-{
-    let file = Arg::new(alloc, "FILE").help(WORDS);
-    let command = tries_command(alloc)?;
-    command.arg(file)
-}
+/// How many tries there are.
+const TRIES: Argument = Argument {
+    id: "TRIES",
+    long: None,
+    takes: Takes::Number(0, TRIES_LIMIT),
+    required: true,
+    help: "How many times to try a step, from 0 to 1000000",
+};
 
-/// The subcommand without FILE.
-#[tactic(auto, unfolding(crate::specs::One::tries_command))]
-fn tries_command<'a>(alloc: Global) -> Result<Command<'a>, AllocError>
-    ensures { IfOk result (IsCommandOf tries_command) }
+/// The subcommand `one TRIES [FILE]`.
+pub fn command<'a>(alloc: Global) -> Result<Command<'a>, AllocError>
+    ensures { IfOk result (IsCommandOf (command_of sub.One)) }
 {
-    let tries = Arg::new(alloc, "TRIES")
-        .required(true)
-        .value_parser(number_within(0, TRIES_LIMIT))
-        .help("How many times to try a step, from 0 to 1000000");
-    Command::new(alloc, "one")
-        .about("Runs words in the memory of one node, and prints the node")
-        .after_help(HELP)
-        .arg(tries)
+    command_with(
+        alloc,
+        "one",
+        "Runs words in the memory of one node, and prints the node",
+        HELP,
+        &[TRIES, WORDS],
+    )
 }
 
 /// The job for the arguments of `one`.

@@ -1,20 +1,20 @@
 ghost use Rattle.std.specs.Prelude.{◌≡◌, ◌≤◌, ℕ, IfErr, IfOk, IfSome, Option, codes};
 ghost use Rattle.clap.specs.Words.{found_of, rows_of};
-ghost use Rattle.ga_command_line.specs.CommandLine.{AsksFor, InRange};
+ghost use Rattle.ga_command_line.specs.CommandLine.{AsksFor, InRange, command_of};
 ghost use Rattle.ga_command_line.specs.Loading.{IsLoadingAt};
 ghost use Rattle.ga_command_line.specs.Number.{IsNumberIfAt};
-ghost use Rattle.ga_command_line.specs.ProfileLine.{json_command, profile_command};
 ghost use Rattle.ga_command_line.specs.Start.{IsStartAt, IsStartInRange};
+ghost use Rattle.ga_command_line.specs.declared.Subcommand.TheVariants as sub;
 ghost use Rattle.ga_command_line.specs.inner.Command.{IsCommandOf};
 
+use crate::argument::{Argument, PLACE, ROUTE, SESSION, TURNS, Takes, WHERE, command_with};
 use crate::command_line::LineError;
 use crate::file::file_in;
 use crate::flag::flag_in;
 use crate::loading::loading_in;
-use crate::number::number_if;
-use crate::start::{from_command, start_in};
-use crate::turns::TURNS_LIMIT;
-use clap::{Arg, ArgAction, ArgMatches, Command};
+use crate::number::{TURNS_LIMIT, number_if};
+use crate::start::start_in;
+use clap::{ArgMatches, Command};
 use ga_input::Loading;
 use ga_jobs::Job;
 use ga_profile::WindowStart;
@@ -31,34 +31,26 @@ placed in their nodes. Makes turns until no node moves but those that spin, or N
 Example: printf 'node 708 right b! 7 !b @b\\nnode 709 right b! @b !b' | ga-bench profile
 More: profile in docs/FORMATS.md";
 
-/// The subcommand `profile [--from WHERE] [--json] [--turns N] [--place | --route ROUTE] [FILE]`.
-#[tactic(auto, unfolding(crate::specs::ProfileLine::profile_command))]
-pub fn command<'a>(alloc: Global) -> Result<Command<'a>, AllocError>
-    ensures { IfOk result (IsCommandOf profile_command) }
-{
-    let file = Arg::new(alloc, "FILE").help(
-        "The session or the source text; standard input by default or if it is -",
-    );
-    let command = json_command(alloc)?;
-    command.arg(file)
-}
+/// The numbers are written as JSON.
+const JSON: Argument = Argument {
+    id: "JSON",
+    long: Some("json"),
+    takes: Takes::Nothing,
+    required: false,
+    help: "Writes the numbers of the window and its nodes as JSON, on one line",
+};
 
-/// The subcommand without FILE.
-#[tactic(auto, unfolding(crate::specs::ProfileLine::json_command))]
-fn json_command<'a>(alloc: Global) -> Result<Command<'a>, AllocError>
-    ensures { IfOk result (IsCommandOf json_command) }
+/// The subcommand `profile [--from WHERE] [--json] [--turns N] [--place | --route ROUTE] [FILE]`.
+pub fn command<'a>(alloc: Global) -> Result<Command<'a>, AllocError>
+    ensures { IfOk result (IsCommandOf (command_of sub.Profile)) }
 {
-    let json = Arg::new(alloc, "JSON")
-        .long("json")
-        .action(ArgAction::SetTrue)
-        .help("Writes the numbers of the window and its nodes as JSON, on one line");
-    let command = from_command(
+    command_with(
         alloc,
         "profile",
         "Shows in how many turns each node worked and waited, and the bottleneck",
         HELP,
-    )?;
-    command.arg(json)
+        &[PLACE, ROUTE, TURNS, WHERE, JSON, SESSION],
+    )
 }
 
 /// The job for the arguments of `profile`.

@@ -1,18 +1,18 @@
 ghost use Rattle.std.specs.Prelude.{◌≡◌, ◌≤◌, ℕ, IfErr, IfOk, IfSome, Option, codes};
 ghost use Rattle.clap.specs.Words.{found_of, rows_of};
-ghost use Rattle.ga_command_line.specs.CommandLine.{AsksFor, InRange};
+ghost use Rattle.ga_command_line.specs.CommandLine.{AsksFor, InRange, command_of};
 ghost use Rattle.ga_command_line.specs.Number.{IsNumberIfAt};
 ghost use Rattle.ga_command_line.specs.Loading.{IsLoadingAt};
-ghost use Rattle.ga_command_line.specs.Race.{race_command, witness_command};
+ghost use Rattle.ga_command_line.specs.declared.Subcommand.TheVariants as sub;
 ghost use Rattle.ga_command_line.specs.inner.Command.{IsCommandOf};
 
+use crate::argument::{Argument, PLACE, ROUTE, SESSION, TURNS, Takes, command_with};
 use crate::command_line::LineError;
 use crate::file::file_in;
 use crate::flag::flag_in;
 use crate::loading::loading_in;
-use crate::number::number_if;
-use crate::turns::{TURNS_LIMIT, turns_command};
-use clap::{Arg, ArgAction, ArgMatches, Command};
+use crate::number::{TURNS_LIMIT, number_if};
+use clap::{ArgMatches, Command};
 use ga_input::Loading;
 use ga_jobs::Job;
 use std::alloc::{AllocError, Global};
@@ -32,34 +32,26 @@ their nodes. Runs it once, until there is a verdict, or for N turns.
 Example: printf 'node 709 $1F5 a! @\nnode 708 right a! 1 !\nnode 710 left a! 2 !' | ga-bench race
 More: docs/GUIDE.md, and race in docs/FORMATS.md";
 
-/// The subcommand `race [--turns N] [--witness] [--place | --route ROUTE] [FILE]`.
-#[tactic(auto, unfolding(crate::specs::Race::race_command))]
-pub fn command<'a>(alloc: Global) -> Result<Command<'a>, AllocError>
-    ensures { IfOk result (IsCommandOf race_command) }
-{
-    let file = Arg::new(alloc, "FILE").help(
-        "The session or the source text; standard input by default or if it is -",
-    );
-    let command = witness_command(alloc)?;
-    command.arg(file)
-}
+/// A transcript that leads to a race is written.
+const WITNESS: Argument = Argument {
+    id: "WITNESS",
+    long: Some("witness"),
+    takes: Takes::Nothing,
+    required: false,
+    help: "For a race, writes a transcript up to the moment at which both words are pending",
+};
 
-/// The subcommand without FILE.
-#[tactic(auto, unfolding(crate::specs::Race::witness_command))]
-fn witness_command<'a>(alloc: Global) -> Result<Command<'a>, AllocError>
-    ensures { IfOk result (IsCommandOf witness_command) }
+/// The subcommand `race [--turns N] [--witness] [--place | --route ROUTE] [FILE]`.
+pub fn command<'a>(alloc: Global) -> Result<Command<'a>, AllocError>
+    ensures { IfOk result (IsCommandOf (command_of sub.Race)) }
 {
-    let witness = Arg::new(alloc, "WITNESS")
-        .long("witness")
-        .action(ArgAction::SetTrue)
-        .help("For a race, writes a transcript up to the moment at which both words are pending");
-    let command = turns_command(
+    command_with(
         alloc,
         "race",
         "Decides whether the schedule can change what a program does",
         HELP,
-    )?;
-    command.arg(witness)
+        &[PLACE, ROUTE, TURNS, WITNESS, SESSION],
+    )
 }
 
 /// The job for the arguments of `race`.

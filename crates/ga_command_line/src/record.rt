@@ -1,14 +1,15 @@
 ghost use Rattle.std.specs.Prelude.{◌≡◌, IfErr, IfOk, codes};
 ghost use Rattle.clap.specs.Words.{found_of, rows_of};
-ghost use Rattle.ga_command_line.specs.CommandLine.{AsksFor, InRange};
-ghost use Rattle.ga_command_line.specs.File.{sourced_command, writing_command, written_command};
+ghost use Rattle.ga_command_line.specs.CommandLine.{AsksFor, InRange, command_of};
+ghost use Rattle.ga_command_line.specs.declared.Subcommand.TheVariants as sub;
 ghost use Rattle.ga_command_line.specs.inner.Command.{IsCommandOf};
 
+use crate::argument::{ANY_SOURCE, Argument, Takes, command_with};
 use crate::command_line::{LineError, refusal};
-use crate::files::{ANY_SOURCE, files_in};
+use crate::files::files_in;
 use crate::flag::flag_in;
 use clap::error::ErrorKind;
-use clap::{Arg, ArgAction, ArgMatches, Command};
+use clap::{ArgMatches, Command};
 use ga_jobs::Job;
 use std::alloc::{AllocError, Global};
 
@@ -22,44 +23,35 @@ The exit status is 1 if a reply is 'expected ..'; it is recorded all the same.
 Example: printf 'profile 2\\nplace\\nnode 000 .\\ngo\\n> turn 4\\n' | ga-bench record
 More: Transcripts in docs/FORMATS.md";
 
+/// Each FILE is replaced.
+const WRITE: Argument = Argument {
+    id: "WRITE",
+    long: Some("write"),
+    takes: Takes::Nothing,
+    required: false,
+    help: "Replaces each FILE by its recording",
+};
+
+/// The transcripts.
+const FILES: Argument = Argument {
+    id: "FILE",
+    long: None,
+    takes: Takes::Texts,
+    required: false,
+    help: "The transcript; without --write standard input by default or if it is -",
+};
+
 /// The subcommand `record [--write] [--any-source] [FILE]..`.
-#[tactic(auto, unfolding(crate::specs::File::writing_command))]
 pub fn command<'a>(alloc: Global) -> Result<Command<'a>, AllocError>
-    ensures { IfOk result (IsCommandOf (writing_command (codes "record"))) }
+    ensures { IfOk result (IsCommandOf (command_of sub.Record)) }
 {
-    let files = Arg::new(alloc, "FILE").action(ArgAction::Append).help(
-        "The transcript; without --write standard input by default or if it is -",
-    );
-    let command = written_command(alloc)?;
-    command.arg(files)
-}
-
-/// The subcommand without FILE.
-#[tactic(auto, unfolding(crate::specs::File::written_command))]
-fn written_command<'a>(alloc: Global) -> Result<Command<'a>, AllocError>
-    ensures { IfOk result (IsCommandOf (written_command (codes "record"))) }
-{
-    let write = Arg::new(alloc, "WRITE")
-        .long("write")
-        .action(ArgAction::SetTrue)
-        .help("Replaces each FILE by its recording");
-    let command = sourced_command(alloc)?;
-    command.arg(write)
-}
-
-/// The subcommand without `--write` and FILE.
-#[tactic(auto, unfolding(crate::specs::File::sourced_command))]
-fn sourced_command<'a>(alloc: Global) -> Result<Command<'a>, AllocError>
-    ensures { IfOk result (IsCommandOf (sourced_command (codes "record"))) }
-{
-    let any_source = Arg::new(alloc, "ANY")
-        .long("any-source")
-        .action(ArgAction::SetTrue)
-        .help(ANY_SOURCE);
-    let command = Command::new(alloc, "record")
-        .about("Runs the commands of a transcript, and writes it with their replies")
-        .after_help(HELP);
-    command.arg(any_source)
+    command_with(
+        alloc,
+        "record",
+        "Runs the commands of a transcript, and writes it with their replies",
+        HELP,
+        &[ANY_SOURCE, WRITE, FILES],
+    )
 }
 
 /// The job for the arguments of `record`.

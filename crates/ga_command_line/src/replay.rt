@@ -1,11 +1,12 @@
 ghost use Rattle.std.specs.Prelude.{IfOk, codes};
 ghost use Rattle.clap.specs.Words.{found_of, rows_of};
-ghost use Rattle.ga_command_line.specs.CommandLine.{AsksFor, InRange};
-ghost use Rattle.ga_command_line.specs.File.{file_command};
+ghost use Rattle.ga_command_line.specs.CommandLine.{AsksFor, InRange, command_of};
+ghost use Rattle.ga_command_line.specs.declared.Subcommand.TheVariants as sub;
 ghost use Rattle.ga_command_line.specs.inner.Command.{IsCommandOf};
 
+use crate::argument::{Argument, Takes, command_with};
 use crate::file::file_in;
-use clap::{Arg, ArgMatches, Command};
+use clap::{ArgMatches, Command};
 use ga_jobs::Job;
 use std::alloc::{AllocError, Global};
 
@@ -24,18 +25,26 @@ It compares steps, outcomes and breakpoints, but no data. Use debug to see data.
 Example: printf 'profile 2\\nplace\\nnode 000 .\\ngo\\nturn 4 = 4\\n' | ga-bench replay
 More: docs/GUIDE.md, and Replay texts in docs/FORMATS.md";
 
+/// The replay text.
+const FILE: Argument = Argument {
+    id: "FILE",
+    long: None,
+    takes: Takes::Text,
+    required: false,
+    help: "The replay text; standard input by default or if it is -",
+};
+
 /// The subcommand `replay [FILE]`.
-#[tactic(auto, unfolding(crate::specs::File::file_command))]
 pub fn command<'a>(alloc: Global) -> Result<Command<'a>, AllocError>
-    ensures { IfOk result (IsCommandOf (file_command (codes "replay"))) }
+    ensures { IfOk result (IsCommandOf (command_of sub.Replay)) }
 {
-    let file = Arg::new(alloc, "FILE").help(
-        "The replay text; standard input by default or if it is -",
-    );
-    let command = Command::new(alloc, "replay")
-        .about("Runs the commands of a replay text, and compares their results")
-        .after_help(HELP);
-    command.arg(file)
+    command_with(
+        alloc,
+        "replay",
+        "Runs the commands of a replay text, and compares their results",
+        HELP,
+        &[FILE],
+    )
 }
 
 /// The job for the arguments of `replay`.

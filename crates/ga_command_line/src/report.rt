@@ -1,19 +1,19 @@
 ghost use Rattle.std.specs.Prelude.{◌≡◌, ◌≤◌, ℕ, IfErr, IfOk, IfSome, Option, codes};
 ghost use Rattle.clap.specs.Words.{found_of, rows_of};
-ghost use Rattle.ga_command_line.specs.CommandLine.{AsksFor, InRange};
+ghost use Rattle.ga_command_line.specs.CommandLine.{AsksFor, InRange, command_of};
 ghost use Rattle.ga_command_line.specs.Loading.{IsLoadingAt};
 ghost use Rattle.ga_command_line.specs.Number.{IsNumberIfAt};
-ghost use Rattle.ga_command_line.specs.ReportLine.{report_command};
 ghost use Rattle.ga_command_line.specs.Start.{IsStartAt, IsStartInRange};
+ghost use Rattle.ga_command_line.specs.declared.Subcommand.TheVariants as sub;
 ghost use Rattle.ga_command_line.specs.inner.Command.{IsCommandOf};
 
+use crate::argument::{PLACE, ROUTE, SESSION, TURNS, WHERE, command_with};
 use crate::command_line::LineError;
 use crate::file::file_in;
 use crate::loading::loading_in;
-use crate::number::number_if;
-use crate::start::{from_command, start_in};
-use crate::turns::TURNS_LIMIT;
-use clap::{Arg, ArgMatches, Command};
+use crate::number::{TURNS_LIMIT, number_if};
+use crate::start::start_in;
+use clap::{ArgMatches, Command};
 use ga_input::Loading;
 use ga_jobs::Job;
 use ga_profile::WindowStart;
@@ -31,20 +31,16 @@ Example: printf 'node 708 right b! !b\\nnode 709 right b! @b' | ga-bench report 
 More: report in docs/FORMATS.md";
 
 /// The subcommand `report [--from WHERE] [--turns N] [--place | --route ROUTE] [FILE]`.
-#[tactic(auto, unfolding(crate::specs::ReportLine::report_command))]
 pub fn command<'a>(alloc: Global) -> Result<Command<'a>, AllocError>
-    ensures { IfOk result (IsCommandOf report_command) }
+    ensures { IfOk result (IsCommandOf (command_of sub.Report)) }
 {
-    let file = Arg::new(alloc, "FILE").help(
-        "The session or the source text; standard input by default or if it is -",
-    );
-    let command = from_command(
+    command_with(
         alloc,
         "report",
         "Writes a page in HTML that shows what each node did in a run",
         HELP,
-    )?;
-    command.arg(file)
+        &[PLACE, ROUTE, TURNS, WHERE, SESSION],
+    )
 }
 
 /// The job for the arguments of `report`.

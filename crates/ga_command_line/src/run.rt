@@ -1,24 +1,22 @@
 ghost use Rattle.std.specs.Prelude.{◌≡◌, ◌≤◌, ℕ, IfErr, IfOk, codes};
 ghost use Rattle.clap.specs.Words.{Text, found_of, rows_of};
+ghost use Rattle.ga_command_line.specs.declared.Subcommand.TheVariants as sub;
 ghost use Rattle.ga_command_line.specs.inner.Command.{IsCommandOf};
-ghost use Rattle.ga_command_line.specs.CommandLine.{AsksFor, InRange};
+ghost use Rattle.ga_command_line.specs.CommandLine.{AsksFor, InRange, command_of};
 ghost use Rattle.ga_command_line.specs.Number.{IsNumberAt};
 ghost use Rattle.ga_command_line.specs.Route.{IsRouteAt};
-ghost use Rattle.ga_command_line.specs.Run.{routed_command, run_command, shared_command, timed_command};
 
+use crate::argument::{Argument, ROUTE_OF_BOOT, SOURCE_TEXT, Takes, command_with};
 use crate::command_line::LineError;
-use crate::file::{SOURCE_TEXT, file_in};
-use crate::number::{number_of, number_within};
+use crate::file::file_in;
+use crate::number::{TURNS_LIMIT, number_of};
 use crate::route::route_at;
-use clap::{Arg, ArgMatches, Command};
+use clap::{ArgMatches, Command};
 use ga_jobs::Job;
 use std::alloc::{AllocError, Global};
 
 /// The most workers of a job, one for each node of the chip.
 const WORKERS_LIMIT: u32 = 144;
-
-/// The most turns of a job.
-const TURNS_LIMIT: u32 = 1_000_000;
 
 const HELP: &str = "\
 Reads source text from FILE or standard input, as asm does. It feeds the boot stream, as boot prints it,
@@ -32,54 +30,35 @@ many of them were read, including those of the boot.
 Example: echo 'node 709 main: $5 $7 + @b' | ga-bench run 708,709 1 200
 More: docs/GUIDE.md, and Dumps in docs/FORMATS.md";
 
+/// How many workers there are.
+const WORKERS: Argument = Argument {
+    id: "WORKERS",
+    long: None,
+    takes: Takes::Number(1, WORKERS_LIMIT),
+    required: true,
+    help: "How many workers share the nodes, from 1 to 144",
+};
+
+/// The turns of each worker.
+const WORKER_TURNS: Argument = Argument {
+    id: "TURNS",
+    long: None,
+    takes: Takes::Number(0, TURNS_LIMIT),
+    required: true,
+    help: "How many turns each worker makes, from 0 to 1000000",
+};
+
 /// The subcommand `run ROUTE WORKERS TURNS [FILE]`.
-#[tactic(auto, unfolding(crate::specs::Run::run_command))]
 pub fn command<'a>(alloc: Global) -> Result<Command<'a>, AllocError>
-    ensures { IfOk result (IsCommandOf run_command) }
+    ensures { IfOk result (IsCommandOf (command_of sub.Run)) }
 {
-    let file = Arg::new(alloc, "FILE").help(SOURCE_TEXT);
-    let command = timed_command(alloc)?;
-    command.arg(file)
-}
-
-/// The subcommand without FILE.
-#[tactic(auto, unfolding(crate::specs::Run::timed_command))]
-fn timed_command<'a>(alloc: Global) -> Result<Command<'a>, AllocError>
-    ensures { IfOk result (IsCommandOf timed_command) }
-{
-    let turns = Arg::new(alloc, "TURNS")
-        .required(true)
-        .value_parser(number_within(0, TURNS_LIMIT))
-        .help("How many turns each worker makes, from 0 to 1000000");
-    let command = shared_command(alloc)?;
-    command.arg(turns)
-}
-
-/// The subcommand with ROUTE and WORKERS.
-#[tactic(auto, unfolding(crate::specs::Run::shared_command))]
-fn shared_command<'a>(alloc: Global) -> Result<Command<'a>, AllocError>
-    ensures { IfOk result (IsCommandOf shared_command) }
-{
-    let workers = Arg::new(alloc, "WORKERS")
-        .required(true)
-        .value_parser(number_within(1, WORKERS_LIMIT))
-        .help("How many workers share the nodes, from 1 to 144");
-    let command = routed_command(alloc)?;
-    command.arg(workers)
-}
-
-/// The subcommand with only ROUTE.
-#[tactic(auto, unfolding(crate::specs::Run::routed_command))]
-fn routed_command<'a>(alloc: Global) -> Result<Command<'a>, AllocError>
-    ensures { IfOk result (IsCommandOf routed_command) }
-{
-    let route = Arg::new(alloc, "ROUTE").required(true).help(
-        "Node names with commas between them, from an edge node on, or several such routes with / between them",
-    );
-    Command::new(alloc, "run")
-        .about("Boots a route or a tree, runs its nodes in threads, and prints them")
-        .after_help(HELP)
-        .arg(route)
+    command_with(
+        alloc,
+        "run",
+        "Boots a route or a tree, runs its nodes in threads, and prints them",
+        HELP,
+        &[ROUTE_OF_BOOT, WORKERS, WORKER_TURNS, SOURCE_TEXT],
+    )
 }
 
 /// The job for the arguments of `run`.

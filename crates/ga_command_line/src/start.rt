@@ -1,33 +1,15 @@
-//! The options of a run of which a profile is made: those of every run, and where it begins.
+//! Where a profile begins.
 ghost use Rattle.std.specs.Prelude.{◌≡◌, ◌≤◌, ℕ, IfErr, IfOk, IfSome, None};
 ghost use Rattle.clap.specs.Words.{found_of, rows_of};
 ghost use Rattle.ga_command_line.specs.Number.{WritesNumber};
-ghost use Rattle.ga_command_line.specs.Start.{IsStartAt, IsStartInRange, NamesStart, from_command};
-ghost use Rattle.ga_command_line.specs.inner.Command.{IsCommandOf};
+ghost use Rattle.ga_command_line.specs.Start.{IsStartAt, IsStartInRange, NamesStart};
 
 use crate::command_line::{LineError, refusal};
-use crate::turns::{TURNS_LIMIT, turns_command};
+use crate::number::TURNS_LIMIT;
+use clap::ArgMatches;
 use clap::error::ErrorKind;
-use clap::{Arg, ArgMatches, Command};
 use ga_profile::WindowStart;
-use std::alloc::{AllocError, Global};
-
-/// A subcommand with only the options of a run and `--from WHERE`.
-#[tactic(auto, unfolding(crate::specs::Start::from_command))]
-pub fn from_command<'a>(
-    alloc: Global,
-    name: &'a str,
-    about: &'a str,
-    help: &'a str,
-) -> Result<Command<'a>, AllocError>
-    ensures { IfOk result (IsCommandOf (from_command name.now)) }
-{
-    let start = Arg::new(alloc, "WHERE").long("from").help(
-        "Where it begins: with the last node that begins (last, the default), the first (first), or a turn",
-    );
-    let command = turns_command(alloc, name, about, help)?;
-    command.arg(start)
-}
+use std::alloc::Global;
 
 /// The start of the profile, by the arguments.
 pub fn start_in(alloc: Global, found: &ArgMatches<'_>) -> Result<WindowStart, LineError>

@@ -1,18 +1,19 @@
 ghost use Rattle.std.specs.Prelude.{◌≡◌, ◌≤◌, ℕ, IfErr, IfOk, IfSome, Option, codes, option_map, string_bytes};
 ghost use Rattle.clap.specs.Words.{found_of, rows_of};
-ghost use Rattle.ga_command_line.specs.CommandLine.{AsksFor, InRange};
+ghost use Rattle.ga_command_line.specs.CommandLine.{AsksFor, InRange, command_of};
 ghost use Rattle.ga_command_line.specs.Loading.{IsLoadingAt};
 ghost use Rattle.ga_command_line.specs.Number.{IsNumberIfAt};
-ghost use Rattle.ga_command_line.specs.TraceLine.{IsListAt, IsSaveAt, nodes_command, save_command, trace_command};
+ghost use Rattle.ga_command_line.specs.TraceLine.{IsListAt, IsSaveAt};
+ghost use Rattle.ga_command_line.specs.declared.Subcommand.TheVariants as sub;
 ghost use Rattle.ga_command_line.specs.inner.Command.{IsCommandOf};
 
+use crate::argument::{Argument, PLACE, ROUTE, SESSION, TURNS, Takes, command_with};
 use crate::command_line::LineError;
 use crate::file::file_in;
 use crate::loading::loading_in;
-use crate::number::number_if;
+use crate::number::{TURNS_LIMIT, number_if};
 use crate::text::text_in;
-use crate::turns::{TURNS_LIMIT, turns_command};
-use clap::{Arg, ArgMatches, Command};
+use clap::{ArgMatches, Command};
 use ga_input::Loading;
 use ga_jobs::Job;
 use std::alloc::{AllocError, Global};
@@ -29,40 +30,35 @@ to show, their forms and colours.
 Example: printf 'node 708 right b! 5 !b\nnode 709 right b! @b' | ga-bench trace > out.vcd
 More: trace in docs/FORMATS.md";
 
+/// The nodes that are shown.
+const LIST: Argument = Argument {
+    id: "LIST",
+    long: Some("nodes"),
+    takes: Takes::Text,
+    required: false,
+    help: "The nodes that are shown, as 708,709; by default those that the source text names",
+};
+
+/// The save file.
+const SAVE: Argument = Argument {
+    id: "SAVE",
+    long: Some("save"),
+    takes: Takes::Text,
+    required: false,
+    help: "The name of a save file for GTKWave, which is written or replaced",
+};
+
 /// The subcommand `trace`, with `--nodes LIST`, `--save SAVE`, the options of a run, and FILE.
-#[tactic(auto, unfolding(crate::specs::TraceLine::trace_command))]
 pub fn command<'a>(alloc: Global) -> Result<Command<'a>, AllocError>
-    ensures { IfOk result (IsCommandOf trace_command) }
+    ensures { IfOk result (IsCommandOf (command_of sub.Trace)) }
 {
-    let file = Arg::new(alloc, "FILE").help(
-        "The session or the source text; standard input by default or if it is -",
-    );
-    let command = save_command(alloc)?;
-    command.arg(file)
-}
-
-/// The subcommand without FILE.
-#[tactic(auto, unfolding(crate::specs::TraceLine::save_command))]
-fn save_command<'a>(alloc: Global) -> Result<Command<'a>, AllocError>
-    ensures { IfOk result (IsCommandOf save_command) }
-{
-    let save = Arg::new(alloc, "SAVE").long("save").help(
-        "The name of a save file for GTKWave, which is written or replaced",
-    );
-    let command = nodes_command(alloc)?;
-    command.arg(save)
-}
-
-/// The subcommand without `--save` and FILE.
-#[tactic(auto, unfolding(crate::specs::TraceLine::nodes_command))]
-fn nodes_command<'a>(alloc: Global) -> Result<Command<'a>, AllocError>
-    ensures { IfOk result (IsCommandOf nodes_command) }
-{
-    let nodes = Arg::new(alloc, "LIST").long("nodes").help(
-        "The nodes that are shown, as 708,709; by default those that the source text names",
-    );
-    let command = turns_command(alloc, "trace", "Writes a run as a waveform in VCD", HELP)?;
-    command.arg(nodes)
+    command_with(
+        alloc,
+        "trace",
+        "Writes a run as a waveform in VCD",
+        HELP,
+        &[PLACE, ROUTE, TURNS, LIST, SAVE, SESSION],
+    )
 }
 
 /// The nodes that the arguments name, if they name any.

@@ -32,8 +32,9 @@ items_length (suc owed) (suc left) (word ∷ words) = ap suc (items_length owed 
 
 -- the line of a word more, of those that are left
 pub rows_next : (names : LineNames) (labels : Labels) (places : List Place) (words : List ℕ)
-    (items : List Item) (address word : ℕ) (item : Item) (old mid new total : List ℕ) → address < length words
-    → address < length items → word ≡ get_or words address word → item ≡ get_or items address item
+    (items : List Item) (address word : ℕ) (item : Item) (old mid new total : List ℕ)
+    → address < length words → address < length items → word ≡ get_or words address word
+    → item ≡ get_or items address item
     → old ++ rows_from names labels places address (drop address words)
     (drop address (map item_view items)) ≡ total → mid ≡ old ++ label_lines labels address
     → new ≡ mid ++ row_text labels address word (item_view item) (names (place_at places address))

@@ -1,8 +1,0 @@
--- The command line of the subcommand `map`.
-use Rattle.std.specs.Prelude.{codes}
-use Rattle.clap.specs.Words.{App, new_rule, with_rule}
-use Rattle.ga_command_line.specs.Turns.{turns_command}
-
--- the options of a run, and a text that may be left out
-unfoldable pub map_command : App
-map_command = with_rule (turns_command (codes "map")) (new_rule (codes "FILE"))
