@@ -60,8 +60,6 @@ MOST_TURNS, MOST_TRIES = 2000, 3000
 # The profile and the counts of a run of at most this many turns are worked out.
 MOST_PROFILED = 300
 HELP = {"-h", "--help", "-V", "--version"}
-# The subcommands of which a word that names no file is a wrong one.
-DEMANDING = {"one", "asm", "dis", "boot", "run", "replay"}
 # Those that read source text and no session.
 SOURCES = {"asm", "boot", "run"}
 # The subcommands that show the line of a fault.
@@ -201,8 +199,10 @@ class Job:
     def demand_file(self):
         if self.file() is not None and self.options.get("save") == self.file():
             raise ValueError("the save file would replace FILE")
-        if self.name in DEMANDING and self.file() is not None and not os.path.exists(self.file()):
-            raise ValueError("a word that names no file")
+
+    def lacks_file(self):
+        """Whether FILE isn't there."""
+        return self.file() is not None and not os.path.exists(self.file())
 
     def origin(self, line):
         """The name and the line of the file where a line of the text was written."""
@@ -226,8 +226,6 @@ class Job:
         if (file := self.file()) is not None:
             if os.path.isdir(file):
                 raise Fault("input Folder")
-            if not os.path.exists(file):
-                raise Fault("input NoFile")
             with open(file, "rb") as it:
                 data = it.read()
         if len(data) > LIMIT:
@@ -898,6 +896,10 @@ def judge(ask, args, data, answer):
     except ValueError:
         if answer.status != 2 or answer.output or not answer.error:
             raise Wrong("expected status 2") from None
+        return
+    if job.lacks_file():
+        if answer != Answer(2, "", f"ga-bench: {shown_name(job.file())}: input NoFile\n"):
+            raise Wrong("expected input NoFile")
         return
     try:
         text = job.input_of(data) if job.name != "explain" else ""

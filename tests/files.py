@@ -61,11 +61,9 @@ def inputs(test):
     """FILE isn't there, is a folder, too long or no text; and standard input that is too long or no text."""
     for file, kind in odd_files(test).items():
         for it in JOBS:
-            front = "" if it.errors == "bare" else f"{file}: "
-            came, wanted = test.run(it.words(file)), (1, "", f"ga-bench: {front}input {kind}\n")
-            if file == "gone" and it.absent == "2":
-                came, wanted = came[:2], (2, "")
-            test.expect(f"{it.line} {file}", came, wanted)
+            front = "" if it.errors == "bare" and file != "gone" else f"{file}: "
+            wanted = (1 + (file == "gone"), "", f"ga-bench: {front}input {kind}\n")
+            test.expect(f"{it.line} {file}", test.run(it.words(file)), wanted)
     for data, kind in (b"node 709 \xff", "BadText"), (b"\n" * (LIMIT + 1), "TooLong"):
         for it in JOBS:
             for file in ([], ["-"]) if it.input != "-" else []:
@@ -98,9 +96,8 @@ def names(test):
     jobs = test.size([job("list"), job("lint"), job("lint --json"), job("map --turns 50")], OF_SOURCE)
     for name in NAMES + OTHER_NAMES:
         for it in JOBS:
-            if it.absent == "1" and it.errors != "bare":
-                wanted = (1, "", f"ga-bench: {shown(name)}: input NoFile\n")
-                test.expect(f"{it.line} {name!r}", test.run(it.words("--", name)), wanted)
+            wanted = (2, "", f"ga-bench: {shown(name)}: input NoFile\n")
+            test.expect(f"{it.line} {name!r}", test.run(it.words("--", name)), wanted)
         for text in WARNED, FROB, LOOP, "":
             test.write(name, text)
             for it in jobs:

@@ -9,7 +9,6 @@ errors    how errors of FILE are reported, with status 1. `all`: those of source
           alone; `bare`: without the name of FILE
 input     how the first error of standard input is reported. `bare`: by its name; `shown`: with the line and what it
           means, too; `json`: all errors, as those of FILE
-absent    the status if there is no FILE of this name: 2 is that of a wrong command line
 warnings  `only`: they are the output; `json`: as JSON; `deny`: with status 1; `behind`: they follow the output
 """
 import functools
@@ -23,32 +22,32 @@ from assembler import Fault, images_of
 from text_faults import faults_of, first_fault
 
 TABLE = """
-line                         reads       session  errors     input  absent  warnings
-asm                          source      -        all        bare   2       -
-boot 708,709                 source      -        all        bare   2       -
-run 708,709 1 5              source      -        all        bare   2       -
-expand                       larger      -        expansion  shown  1       -
-list                         source      -        all        shown  1       behind
-list --labels                source      -        all        shown  1       -
-list --counts --turns 50     source      yes      all        shown  1       -
-lint                         larger      -        all        shown  1       only
-lint --deny                  larger      -        all        shown  1       deny
-lint --json                  larger      -        json       json   1       json
-race --turns 50              source      yes      all        shown  1       -
-race --witness --turns 50    source      yes      all        shown  1       -
-race --place --turns 50      source      -        all        shown  1       -
-map --turns 50               source      yes      all        shown  1       -
-profile --turns 50           source      yes      all        shown  1       -
-profile --json --turns 50    source      yes      all        shown  1       -
-trace --turns 50             source      yes      all        shown  1       -
-report --turns 50            source      yes      all        shown  1       -
-debug                        source      yes      all        shown  2       -
-debug --place                source      -        all        -      2       -
-one 5                        words       -        first      bare   2       -
-dis                          words       -        first      bare   2       -
-replay                       replay      -        first      bare   2       -
-check                        transcript  yes      bare       shown  1       -
-record                       transcript  yes      bare       shown  1       -
+line                         reads       session  errors     input  warnings
+asm                          source      -        all        bare   -
+boot 708,709                 source      -        all        bare   -
+run 708,709 1 5              source      -        all        bare   -
+expand                       larger      -        expansion  shown  -
+list                         source      -        all        shown  behind
+list --labels                source      -        all        shown  -
+list --counts --turns 50     source      yes      all        shown  -
+lint                         larger      -        all        shown  only
+lint --deny                  larger      -        all        shown  deny
+lint --json                  larger      -        json       json   json
+race --turns 50              source      yes      all        shown  -
+race --witness --turns 50    source      yes      all        shown  -
+race --place --turns 50      source      -        all        shown  -
+map --turns 50               source      yes      all        shown  -
+profile --turns 50           source      yes      all        shown  -
+profile --json --turns 50    source      yes      all        shown  -
+trace --turns 50             source      yes      all        shown  -
+report --turns 50            source      yes      all        shown  -
+debug                        source      yes      all        shown  -
+debug --place                source      -        all        -      -
+one 5                        words       -        first      bare   -
+dis                          words       -        first      bare   -
+replay                       replay      -        first      bare   -
+check                        transcript  yes      bare       shown  -
+record                       transcript  yes      bare       shown  -
 """
 
 

@@ -205,7 +205,7 @@ def hostile(program, folder):
     with open(source, "w") as file:
         file.write(LOOP)
     fault = talk(program, [f"{folder}/none"], b"")
-    check("no file", (fault.returncode, fault.stdout) == (2, b"") and b"there is no such FILE" in fault.stderr)
+    check("no file", (fault.returncode, fault.stdout) == (2, b"") and fault.stderr.endswith(b": input NoFile\n"))
     fault = talk(program, [folder], b"")
     check("a folder", (fault.returncode, fault.stderr) == (1, f"ga-bench: {folder}: input Folder\n".encode()))
     for name, text, message in [

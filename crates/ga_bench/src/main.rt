@@ -76,7 +76,7 @@ fn job_status<
         (Some(files), _) => {
             check_status(rt, reader, files, Sources::of_flag(job.takes_any_source()))
         }
-        (None, Some(name)) if is_wrong_word(rt, name, job) => refuse_missing(rt, name),
+        (None, Some(name)) if is_missing(rt, name) => refuse_missing(rt, name),
         (None, None) if !writes_more(job) => serve_job(rt, reader, &mut io::writer(rt), job),
         (None, name) => named_status(rt, reader, name.unwrap_or("-"), job),
     }
@@ -93,19 +93,9 @@ fn writes_more(job: &Job) -> bool {
     )
 }
 
-/// Whether a word names no file, and so is one that the command line of this job may not have.
-/// Other jobs report it as a fault of their input.
-fn is_wrong_word<R: Files>(rt: &R, name: &str, job: &Job) -> bool {
-    let is_of_job = matches!(
-        job,
-        Job::One { .. }
-            | Job::Asm { .. }
-            | Job::Dis { .. }
-            | Job::Boot { .. }
-            | Job::Run { .. }
-            | Job::Replay { .. }
-    );
-    is_of_job && matches!(fs::metadata(rt, name), Err(error) if error.kind() == NotFound)
+/// Whether there is no file with a name.
+fn is_missing<R: Files>(rt: &R, name: &str) -> bool {
+    matches!(fs::metadata(rt, name), Err(error) if error.kind() == NotFound)
 }
 
 /// Serves a job whose input is the file with a name, or standard input for `-`. Answers the exit

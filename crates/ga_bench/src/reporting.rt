@@ -5,10 +5,9 @@ ghost use Rattle.ga_bench.specs.Status.{IsStatusOf};
 
 use crate::saved_files::PutFault;
 use clap::Error;
-use clap::error::ErrorKind::InvalidValue;
-use ga_command_line::{LineError, refusal};
+use ga_command_line::LineError;
 use ga_diagnostics::{Lines, faults_message};
-use ga_input::{ServeError, Writes, write_output};
+use ga_input::{InputFault, ServeError, Writes, write_output};
 use ga_jobs::{Ending, status};
 use ga_messages::{Form, ShownText, shown_lines};
 use std::alloc::AllocError;
@@ -164,14 +163,8 @@ fn print_refusal<Rt: AllocGlobal + Print + Eprint>(rt: &Rt, error: &Error) {
     }
 }
 
-/// Refuses a command line with a word that names no file. Answers the exit status.
-pub fn refuse_missing<Rt: AllocGlobal + Print + Eprint>(rt: &Rt, name: &str) -> u8 {
-    let alloc = rt.alloc();
-    let Ok(shown) = ShownText::of_name(alloc, name) else {
-        return refuse(rt, LineError::Memory);
-    };
-    match format!(in alloc; "there is no such FILE: {shown}") {
-        Ok(why) => refuse(rt, refusal(alloc, InvalidValue, why.as_str())),
-        Err(_) => refuse(rt, LineError::Memory),
-    }
+/// Refuses a command line whose FILE isn't there. Answers the exit status.
+pub fn refuse_missing<Rt: AllocGlobal + Eprint>(rt: &Rt, name: &str) -> u8 {
+    report_on_file(rt, name, &ServeError::Input(InputFault::NoFile));
+    2
 }
