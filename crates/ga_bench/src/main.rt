@@ -28,9 +28,9 @@ use crate::saved_files::{SavedFiles, put};
 use crate::transcripts::{Sources, check_status, rewrite_status, serve_transcript};
 use clap::error::ErrorKind::{ArgumentConflict, InvalidValue};
 use ga_command_line::{LineError, job, refusal};
-use ga_diagnostics::Lines;
 use ga_diagnostics::lint::{form_of, warnings};
-use ga_input::{InputFault, Loading, ServeError, Writes, write_output};
+use ga_diagnostics::{Lines, written_listing};
+use ga_input::{InputFault, Loading, ServeError, Writes, is_session, write_output};
 use ga_jobs::{
     Ending, Job, Output, open_file, output_of, output_of_file, serve, serve_file, status,
 };
@@ -202,8 +202,8 @@ fn reported_of<Rt: AllocGlobal + Print + Eprint>(
     answer
 }
 
-/// Serves a job for the text of a file. `lint` reads text of the larger language itself, and `list`
-/// has the warnings of `lint` below its listing.
+/// Serves a job for the text of a file. `lint` and `list` read text of the larger language by
+/// themselves, and `list` has the warnings of `lint` below its listing. A session has no listing.
 fn served<Rt: AllocGlobal + Threads + Clock + Sync, W: Write>(
     rt: &Rt,
     writer: &mut W,
@@ -220,29 +220,31 @@ fn served<Rt: AllocGlobal + Threads + Clock + Sync, W: Write>(
                 Ending::Done
             })
         }
-        Job::List { labels: false, .. } => list_with_warnings(rt, writer, text, job),
+        Job::List { labels: false, .. } if !is_session(text.bytes()) => {
+            list_with_warnings(rt.alloc(), writer, text)
+        }
         _ => serve_file(rt, writer, job, text.bytes()),
     }
 }
 
-/// Writes the listing of a text, and the warnings about it, if there are any, below an empty line.
-fn list_with_warnings<Rt: AllocGlobal + Threads + Clock + Sync, W: Write>(
-    rt: &Rt,
+/// Writes the listing of a text, with the lines that were written, and the warnings about it, if
+/// there are any, below an empty line.
+fn list_with_warnings<W: Write>(
+    alloc: Global,
     writer: &mut W,
     text: &FileText<'_>,
-    job: &Job,
 ) -> Result<Ending, ServeError> {
-    let alloc = rt.alloc();
-    let listing = output_of_file(rt, job, text.bytes())?;
+    let listing = written_listing(alloc, &text.lines(), text.bytes())?;
     let told = warnings(alloc, &text.lines(), Form::Text, text.bytes())?;
     let below = if told.is_empty() {
         told
     } else {
         format!(in alloc; "\n{told}")?
     };
-    let ending = listing.write(alloc, writer, job)?;
-    write_output(writer, below.as_bytes(), &mut Writes::default())?;
-    Ok(ending)
+    let mut writes = Writes::default();
+    write_output(writer, listing.as_bytes(), &mut writes)?;
+    write_output(writer, below.as_bytes(), &mut writes)?;
+    Ok(Ending::Done)
 }
 
 /// Writes the numbers of a profile as JSON. Answers the exit status.

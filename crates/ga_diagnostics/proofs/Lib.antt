@@ -1,3 +1,4 @@
 mod FaultMessages
-mod Linted
+mod ExpansionFaults
 mod WorkedPlaces
+mod WrittenPlaces

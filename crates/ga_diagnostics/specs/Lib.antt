@@ -3,6 +3,8 @@ pub mod Lines
 pub mod Message
 pub mod WordPlace
 pub mod PlacedFault
+pub mod ExpansionFault
 pub mod LintJob
+pub mod Listing
 pub mod FileFaults
 pub mod inner

@@ -1,9 +1,8 @@
 -- The job `lint`: what it writes.
-use Rattle.std.specs.Prelude.{◌≡◌, ◌⊎◌, ℕ, Bool, List, codes, Option, Some, Result, Ok, Err, flat_map, string_bytes, unwrap_or, if◌then◌else◌}
-use Rattle.ga_asm.specs.declared.text.TextError.{TextError}
+use Rattle.std.specs.Prelude.{◌≡◌, ℕ, Bool, List, codes, Option, Some, Result, Ok, Err, flat_map, string_bytes, unwrap_or, if◌then◌else◌}
 use Rattle.ga_expand.specs.declared.expansion.Expansion.{Expansion}
 use Rattle.ga_explain.specs.Output.{meaning_of}
-use Rattle.ga_faults.specs.Origin.{at_origin, origin}
+use Rattle.ga_faults.specs.Origin.{origin}
 use Rattle.ga_lint.specs.Linting.{IsLintOf}
 use Rattle.ga_lint.specs.Warning.{kind_name}
 use Rattle.ga_lint.specs.declared.warning.Warning as lint
@@ -13,10 +12,10 @@ use Rattle.ga_messages.specs.declared.message.Form.TheVariants.{Json, Text}
 use Rattle.ga_messages.specs.declared.message.Level.TheVariants.{Warning}
 use Rattle.ga_input.specs.declared.fault.ServeError.{ServeError}
 use Rattle.ga_input.specs.Larger.{IsExpandedInput}
+use Rattle.ga_diagnostics.specs.ExpansionFault.{IsExpansionFault}
 use Rattle.ga_diagnostics.specs.Lines.{Origins}
 use Rattle.ga_diagnostics.specs.Message.{report_at}
 use Rattle.ga_messages.specs.Shown.{shown_text}
-use Rattle.ga_input.specs.TextFault.{shown_fault}
 
 -- the name of a file that may be left out: that of standard input is `-`
 abbrev pub file_name : Option (List ℕ) → List ℕ
@@ -40,15 +39,10 @@ abbrev pub form_of : Bool → Form
 form_of json = if json then Json else Text
 
 -- What `lint` may write for an input whose lines were written there: the warnings about a text that
--- it expands to. Or the first fault of the expansion, or of the text that it made, at the place
--- where its token was written.
+-- it expands to. Or the first fault.
 abbrev pub IsLintOutput : Origins → Form → List ℕ → Result (List ℕ) ServeError → Type 0
 IsLintOutput origins form input (Ok text) =
     (made : Expansion) × IsExpandedInput input (Ok made)
     × ((warnings : List lint.Warning) × IsLintOf (string_bytes made.text) (Ok warnings)
     × (text ≡ warnings_text origins form input made warnings))
-IsLintOutput origins form input (Err fault) =
-    IsExpandedInput input (Err fault)
-    ⊎ ((made : Expansion) × IsExpandedInput input (Ok made)
-    × ((error : TextError) × IsLintOf (string_bytes made.text) (Err error)
-    × (shown_fault input (at_origin input made error) ≡ fault)))
+IsLintOutput origins form input (Err fault) = IsExpansionFault input fault

@@ -6,7 +6,7 @@ use Rattle.ga_diagnostics.specs.Lines.{origins_of}
 use Rattle.ga_diagnostics.specs.LintJob.{IsLintOutput}
 use Rattle.ga_input.specs.TextFault.{shown_fault}
 use Rattle.ga_lint.specs.Linting.{HasWarnings}
-use Rattle.ga_diagnostics.proofs.Linted.{lint_fails}
+use Rattle.ga_diagnostics.proofs.ExpansionFaults.{expansion_fails}
 use Rattle.ga_diagnostics.proofs.lint.warnings.Goals as goal
 
 pub returns-in-Ok : goal.returns-in-Ok
@@ -35,6 +35,7 @@ returns c =
       c.in_ok-text.ensures.text,
     ) in
     subst (FailsRightly (IsLintOutput origins c.args.form input)) (sym shown)
-    (lint_fails origins c.args.form input made c.in_ok-text.ensures.made error
+    (expansion_fails (IsLintOutput origins c.args.form input) input made (λ fault is. is)
+    c.in_ok-text.ensures.made error
     (λ some. subst (λ text. IsTextFault text error) c.as_str.ensures.value
     (c.in-Err.ensures.fault some)))
