@@ -20,9 +20,20 @@ from testing import main
 from vcd import is_sanitized
 
 ALL = "all.source"
+# The line of a word of a listing, up to the number of its line in the text.
+ROW = re.compile("^([0-9A-F]{3}  [0-9A-F]{5}  .{8} ) *([0-9]+)(?=  )", re.M)
 TWO_JOBS = [job("asm"), job("lint --json")]
 LIBRARY = "const FIVE 5\nbody SEND PORT\n  PORT b! !b\nend\n"
 WORDS = "[ . ]\n" * 33
+# The listing of the first of these files, worked out by hand.
+LISTED = """node 708 entry 000 code 4 words 4
+000  05DA2  code         2  [ @p @p b! . ]
+001  00005  follower     2  , $00005
+002  001D5  follower     2  , $001D5
+003  089B2  code     lib.source:3  [ !b . . . ]
+node 709 entry 000 code 2 words 2
+000  04B02  code         3  [ @p b! @b . ]
+001  001D5  follower     3  , $001D5"""
 # Files, and the text that the first of them stands for.
 TREES = [
     ({ALL: 'include "lib.source"\nnode 708 FIVE use SEND east\nnode 709 west b! @b\n', "lib.source": LIBRARY},
@@ -85,8 +96,15 @@ def run(test, it, file, folder="files"):
     return test.run(it.words(file), "turn 4\nwhere\n", cwd=f"{test.folder}/{folder}")
 
 
+def line_name(name, line):
+    """What a listing of the file with a name shows of a line."""
+    return str(line.number) if line.file == name else f"{shown_name(line.file)}:{line.number}"
+
+
 def moved(it, told, name, lines):
-    """Messages about a file, if its lines were written where `lines` has it."""
+    """Messages about a file, and its listing, if its lines were written where `lines` has it."""
+    if it.line == "list":
+        told = ROW.sub(lambda found: found[1] + line_name(name, lines[int(found[2]) - 1]).rjust(5), told)
     if it.errors == "json":
         found = [json.loads(row) for row in told.split("\n")[:-1]]
         found = [one | {"file": lines[one["line"] - 1].file, "line": lines[one["line"] - 1].number} for one in found]
@@ -137,6 +155,7 @@ def same(test):
     told = (0, "node 708 $00005 $001D5\nb! !b\nnode 709 $001D5 b! @b\n", "")
     for file in ALL, f"./{ALL}", f"{test.folder}/files/{ALL}", f"../files/{ALL}", f"{test.folder}//files/./{ALL}":
         test.expect(f"expand {file}", run(test, job("expand"), file), told)
+    test.expect("its listing", run(test, job("list"), ALL)[1].split("\n\n")[0], LISTED)
     test.expect("from another folder", run(test, job("expand"), f"files/{ALL}", "."), told)
 
 
