@@ -1,7 +1,8 @@
 //! The arguments of subcommands.
 ghost use Rattle.std.specs.Prelude.{◌≡◌, IfOk, false, map};
 ghost use Rattle.clap.specs.Words.{App, rule_of, with_rule};
-ghost use Rattle.ga_command_line.specs.Arguments.{command_with, plain_rule, rule_for, with_long, with_value};
+ghost use Rattle.ga_command_line.specs.Arguments.{command_with};
+ghost use Rattle.ga_command_line.specs.inner.Arguments.{plain_rule, rule_for, with_long, with_value};
 ghost use Rattle.ga_command_line.specs.inner.Command.{IsCommandOf};
 
 use crate::number::{TURNS_LIMIT, number_within};
@@ -69,7 +70,7 @@ pub const TURNS: Argument = Argument {
     help: "How many turns are made at most, from 0 to 1000000; by default 1000000",
 };
 
-/// Where a profile begins.
+/// The begin of a profile.
 pub const WHERE: Argument = Argument {
     id: "WHERE",
     long: Some("from"),

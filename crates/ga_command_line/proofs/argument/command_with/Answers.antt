@@ -2,7 +2,7 @@ use Rattle.std.proofs.Common.{◌≡◌, ◌∙◌, ◌+◌, ◌<◌, ℕ, suc, 
 use Rattle.std.proofs.Math.Seq.{drop-cons}
 use Rattle.clap.specs.Words.{App, app_of, with_rule}
 use Rattle.ga_command_line.specs.declared.argument.Argument.{Argument}
-use Rattle.ga_command_line.specs.Arguments.{rule_for}
+use Rattle.ga_command_line.specs.inner.Arguments.{rule_for}
 use Rattle.ga_command_line.proofs.argument.command_with.Goals as goal
 
 -- the next one is added

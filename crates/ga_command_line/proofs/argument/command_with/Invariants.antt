@@ -1,8 +1,8 @@
-use Rattle.std.proofs.Common.{drop, fold, map}
+use Rattle.std.proofs.Common.{◌≡◌, drop, false, fold, map}
 use Rattle.clap.specs.Words.{app_of, with_rule}
-use Rattle.ga_command_line.specs.Arguments.{command_with, rule_for}
+use Rattle.ga_command_line.specs.Arguments.{command_with}
+use Rattle.ga_command_line.specs.inner.Arguments.{rule_for}
 use Rattle.ga_command_line.specs.inner.Command.{has_globals}
-use Rattle.std.proofs.Common.{◌≡◌, false}
 use Rattle.ga_command_line.proofs.argument.command_with.Given as goal
 
 -- with the arguments that are left it will be the whole command
