@@ -1,4 +1,6 @@
 mod Judged
+mod Parts
+mod Reported
 mod WithWaits
 mod Traced
 mod Pieces

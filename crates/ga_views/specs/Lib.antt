@@ -1,4 +1,6 @@
 -- What subcommands show of a run of a chip, by the page of its name.
+pub mod Witness
+pub mod RaceText
 pub mod Race
 pub mod MapJob
 pub mod ProfileJob
