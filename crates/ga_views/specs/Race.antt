@@ -16,8 +16,8 @@ use Rattle.ga_input.specs.Text.{text_in}
 use Rattle.ga_views.specs.RaceText.{IsVerdictText}
 use Rattle.ga_views.specs.Witness.{IsWitness}
 
--- A report on a chip: the verdict after some turns, how many steps they have, and how many multiport
--- reads. A race is among their steps. Without another verdict they are the most turns.
+-- A report on a chip: the verdict after some turns, how many steps they have, and how many
+-- multiport reads. A race is among their steps. Without another verdict they are the most turns.
 pub record IsReport (chip : Chip) (most : ℕ) (report : Report) : Type 0 where
   pub so : IsSo chip report.turns report.verdict
   pub steps : report.steps ≡ length (moves chip (turns_of report.turns))
