@@ -62,7 +62,7 @@ def inputs(test):
     for file, kind in odd_files(test).items():
         for it in JOBS:
             front = "" if it.errors == "bare" and file != "gone" else f"{file}: "
-            wanted = (1 + (file == "gone"), "", f"ga-bench: {front}input {kind}\n")
+            wanted = (2 if file == "gone" else 1, "", f"ga-bench: {front}input {kind}\n")
             test.expect(f"{it.line} {file}", test.run(it.words(file)), wanted)
     for data, kind in (b"node 709 \xff", "BadText"), (b"\n" * (LIMIT + 1), "TooLong"):
         for it in JOBS:

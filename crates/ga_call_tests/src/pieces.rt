@@ -1,4 +1,4 @@
-//! Random programs beside a stream that comes whole, and beside the same stream in pieces.
+//! Random programs with streams, which come whole and in pieces.
 use crate::values::{node, word};
 use ga_asm::assemble_text;
 use ga_chip::Chip;
@@ -55,11 +55,11 @@ fn push_deeds(text: &mut String, numbers: &mut Numbers) -> Result<(), Fail> {
     Ok(())
 }
 
-/// The source text of three nodes behind 708.
+/// The source text of three nodes behind 708, of which the first one reads at both sides.
 fn neighbours(alloc: Global, numbers: &mut Numbers) -> Result<String, Fail> {
     let mut text = String::new(alloc);
-    for name in ["node 709 ", "node 710 ", "node 711 "] {
-        text.push_str(name)?;
+    for begin in ["node 709 $1F5 a! @ drop ", "node 710 ", "node 711 "] {
+        text.push_str(begin)?;
         push_deeds(&mut text, numbers)?;
     }
     Ok(text)
@@ -126,32 +126,38 @@ fn has_race_with(alloc: Global, chip: &mut Chip, piece: &[Word18]) -> Result<boo
     let report = race(alloc, chip, TURNS)?;
     // A verdict may come before the words are taken, and then no race comes any more.
     let _moved = chip.turns(TURNS);
-    Ok(matches!(report.verdict, Verdict::Race(_)))
+    Ok(is_race(&report.verdict))
 }
 
-/// A chip that has no race with the whole stream has none while the stream comes in pieces.
+fn is_race(verdict: &Verdict) -> bool {
+    matches!(verdict, Verdict::Race(_))
+}
+
+/// In one piece a stream has the verdict of the whole one. In several it has no race that the whole
+/// one hasn't.
 #[test]
 fn pieces_make_no_other_race(rt: HostRuntime) -> Result<(), Fail> {
     let mut numbers = Numbers { state: 708 };
-    let (mut found, mut none) = (0u32, 0u32);
+    let (mut races, mut others) = (0u32, 0u32);
     for number in 0..300 {
         let text = neighbours(rt.alloc(), &mut numbers)?;
         let words = stream(rt.alloc(), &mut numbers)?;
-        let whole = whole_verdict(rt.alloc(), text.as_str(), words.as_slice())?;
+        let (text, words) = (text.as_str(), words.as_slice());
+        let whole = is_race(&whole_verdict(rt.alloc(), text, words)?);
+        let at_once = has_race_in_pieces(rt.alloc(), text, words, words.len())?;
+        assert!(rt; at_once == whole, "program {number}: {text}");
         let size = numbers.below(5) as usize;
-        let later = has_race_in_pieces(rt.alloc(), text.as_str(), words.as_slice(), size)?;
-        match whole {
-            Verdict::Race(_) => found = found.saturating_add(u32::from(later)),
-            Verdict::AtRest { .. } | Verdict::Round { .. } => {
-                none = none.saturating_add(1);
-                assert!(rt; !later, "program {number}: {text}");
-            }
-            Verdict::Open => {}
-        }
+        let later = has_race_in_pieces(rt.alloc(), text, words, size)?;
+        assert!(rt;
+            whole || !later,
+            "program {number} in pieces of {size}: {text}"
+        );
+        races = races.saturating_add(u32::from(whole));
+        others = others.saturating_add(u32::from(!whole));
     }
     assert!(rt;
-        found >= 20 && none >= 100,
-        "{found} races, {none} programs without one"
+        races >= 15 && others >= 100,
+        "{races} races, {others} programs without one"
     );
     Ok(())
 }

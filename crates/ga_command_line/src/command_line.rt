@@ -135,5 +135,5 @@ output. 'ga-bench explain NAME' explains an error, a warning, a state or a term.
 
 Exit status: 0 if the output was written, 1 if the input was refused, a read or a write failed, race
 found a race, lint --deny a warning, or record an expectation that isn't met, 2 if the command line is
-wrong, 3 if the program ran out of memory.
+wrong or there is no such FILE, 3 if the program ran out of memory.
 Errors are reported on standard error.";
