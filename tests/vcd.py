@@ -18,6 +18,7 @@ import argparse
 import json
 import os
 import re
+import resource
 import shutil
 import subprocess
 import sys
@@ -41,6 +42,8 @@ REST = {
 # Worked programs, and how many turns are made before.
 EXAMPLES = {"ring/ring": 0, "queue/queue": 600, "fir/fir_pipelined": 1400, "token_ring/token_ring": 1500, "two_nodes/two_nodes": 90}
 SECONDS = 60
+# In how many seconds of processor time a waveform is refused for its length: some six times what it takes.
+MOST_SECONDS = 40
 UNMET = r"ga-bench: \d+ expectations? failed, (?:the first )?in line \d+\n"
 # Pairs of nodes that go on for ever. In FOR_EVER_TURNS turns their waveform has more bytes than the run has memory.
 FOR_EVER = "".join(
@@ -418,6 +421,18 @@ def fault_of_memory(program):
     return None if is_right else f"a long waveform: status {done.returncode}, {done.stderr}, {size} bytes"
 
 
+def fault_of_length(program):
+    """What is wrong with the refusal of a waveform of more than 256 MiB, or None: all nodes work for ever, and it comes in seconds."""
+    if is_sanitized(program):
+        return None
+    text = "".join(f"node {name} top: dup drop . . dup drop . . jump top\n" for name in NODES)
+    before = resource.getrusage(resource.RUSAGE_CHILDREN).ru_utime
+    done = subprocess.run([program, "trace"], input=text, capture_output=True, text=True)
+    took = resource.getrusage(resource.RUSAGE_CHILDREN).ru_utime - before
+    is_right = (done.returncode, done.stdout, done.stderr) == (1, "", "ga-bench: output TooLong\n") and took < MOST_SECONDS
+    return None if is_right else f"too long a waveform: status {done.returncode}, {done.stderr}, {took:.1f} s"
+
+
 def signals_of(output):
     """The names of the signals that a waveform declares, in their scopes."""
     scopes, names = [], []
@@ -442,7 +457,7 @@ def main():
     for text, fault in zip(texts, faults):
         if fault is not None:
             print(f"FAILED {fault}\n{text}")
-    saves = [*save_faults(program), fault_of_memory(program)]
+    saves = [*save_faults(program), fault_of_memory(program), fault_of_length(program)]
     for fault in saves:
         if fault is not None:
             print(f"FAILED {fault}")
