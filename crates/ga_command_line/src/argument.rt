@@ -52,7 +52,7 @@ pub const ROUTE: Argument = Argument {
     help: "The input is source text, which boots along this route, or a tree of routes",
 };
 
-/// Source text is booted, and the subcommand does nothing else.
+/// The route of `boot` and `run`.
 pub const ROUTE_OF_BOOT: Argument = Argument {
     id: "ROUTE",
     long: None,
@@ -70,7 +70,7 @@ pub const TURNS: Argument = Argument {
     help: "How many turns are made at most, from 0 to 1000000; by default 1000000",
 };
 
-/// The begin of a profile.
+/// The beginning of a profile.
 pub const WHERE: Argument = Argument {
     id: "WHERE",
     long: Some("from"),
