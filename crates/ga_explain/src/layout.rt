@@ -85,8 +85,8 @@ const TOO_LONG: &str = "\
 TooLong: an item would need the 65th word of its node (asm); there are more than
 64 words (words); the input has more than 1,048,576 bytes (input); or so would a
 witness of 'race' or a file of 'record --write', or the output of 'record',
-'check' or 'trace' more than 268,435,456 (output). At the prompt, the line has more than 65,536 bytes, or the session to
-be saved more than 1,048,576.
+'check' or 'trace' more than 268,435,456 (output). At the prompt, the line has
+more than 65,536 bytes, or the session to be saved more than 1,048,576.
 
   $ printf 'node 711%065d' 0 | sed 's/0/ [ . ]/g' | ga-bench asm
   ga-bench: asm 711 1:394 TooLong
