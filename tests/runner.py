@@ -90,6 +90,7 @@ TESTS = [
     Test("cuts", "boot streams in pieces", [sys.executable, f"{ROOT}/tests/cut_streams.py", CUT_STREAMS, *BOOTS]),
     script("schedules", "boots of routes and trees in random orders", *BOOTS),
     script("races", "verdicts on races, and the witness of each race"),
+    check("race_pieces", "verdicts of streams in pieces, which a test of ga_call_tests has, by all schedules", "tests/race_pieces.py"),
     script("race_model", "verdicts on races, beside all schedules of random small programs", small=["--programs", "300"], whole=["--programs", "3000"]),
     script("report_page", "pages of report, read, and shown by a browser"),
     script("broken_output", "output that can't be written"),

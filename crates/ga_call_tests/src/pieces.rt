@@ -1,4 +1,4 @@
-//! Random programs with streams, which come whole and in pieces.
+//! Random programs with streams, which come whole and in pieces, beside verdicts by all schedules.
 use crate::values::{node, word};
 use ga_asm::assemble_text;
 use ga_chip::Chip;
@@ -26,6 +26,25 @@ const DEEDS: [&str; 12] = [
     "dup drop ",
 ];
 
+/// What a model of the chip decides by all schedules of each program, a letter for each: `n`, no
+/// race; `b`, a race if the stream comes whole, and if it comes in pieces; `w`, only if it comes
+/// whole; `u`, if it comes whole, and undecided in pieces. `tests/race_pieces.py --write` makes
+/// it.
+const VERDICTS: [&str; 12] = [
+    "nnnnnnnnnnnwwwnnnnwnnwnnnnnnnwnnnwwnnnnnnnnnnnnnnnnnbnnnwnnnwwnnnnnnnnwnnwbnnwnn",
+    "nnnnwnnnnnnnnwnnnnnnnnnnwnnnnnwnnnwnnnwwwnnwnnnnnnwwnnwnnnwnnnnnnnnnnnnnnnnwnnnn",
+    "wnwnnnnnnnnnbnnnnnnnnnnnnnnnwnbnwnbnnnnnbnnnnnnnnwnnnnnwnnnnnnnnnnnnnnnnbnnnnnnn",
+    "wnnbwnbnwnwnnnnwnnnnnwnnwnnnnnnnnnnnwnwnnnnnnnnnnnnnnnnnnnnwnnnnnnnwnnnwnnnnnnnn",
+    "nnnnnnnnnnnwnwnwnnnnnwnnnnnnnnnnnbnnnnnwnnnnnnnnnnnwnnnnnbnnnbnnwnnnnnnnwnnnnnnn",
+    "nnnnnnnnnnnnnnnnnnnnnnnnnnnnnnnnbnnnnnbnnnnnnnnnnnnnnnnnnnnnnnnnnnwnnnwnnwnnnnnn",
+    "nnnnnnnnnnnwnnnnnnnnnnnnnwwnnnbnnnwnnnnnnnnnnnnnnnnnnnwnnnnnnnnnnnnwnnnnnnnnnnnw",
+    "nnnnnnnnwnbnnnnnnnnnnnnnnnnnnnnnnbnnnnnnnnnnwnnnnwnnnnnnnwnnwnnnnnnnnwnwnnwnnnnn",
+    "nnnnnnnnnnnnnnnnnnwnnnwnnnnnwnnnnnnnnwnwnnnnnnnnnnnwnnnnnnnwnnnnnnbnnwbnnnnwnnnn",
+    "nwnnnnnnnnnnnnnnnnnnnnnnnnnnnnnnnwnnnnnnnnwnnnnnnwnnnbnnnnnwbnnnnnnnnnnnnnnwnnbw",
+    "nnnnwnnnnnnnnnwnnnnnnnnnnnnnnnnnnbnnwnnnwwnwnnnnnnnnwbnnnnbnnnnnwnnnnwwnnnwnnbnw",
+    "wnwnnnnnnwnnnnnnnnnnnnwnnnnbwnnnnnnnnnnwnnnnnnnnnwnnwwnnnnnnnnnnnnnwbwnnnnnnwnnn",
+];
+
 /// The turns of a run: those of such programs end far earlier, if they end.
 const TURNS: u32 = 2_000;
 
@@ -44,10 +63,10 @@ impl Numbers {
     }
 }
 
-/// Adds one to four deeds, and behind them an end, or a way back.
+/// Adds one to seven deeds, and behind them an end, or a way back.
 fn push_deeds(text: &mut String, numbers: &mut Numbers) -> Result<(), Fail> {
     text.push_str("top: ")?;
-    for _ in 0..=numbers.below(4) {
+    for _ in 0..=numbers.below(7) {
         let index = numbers.below(12) as usize;
         text.push_str(DEEDS.get(index).copied().unwrap_or(""))?;
     }
@@ -138,31 +157,34 @@ fn is_race(verdict: &Verdict) -> bool {
     matches!(verdict, Verdict::Race(_))
 }
 
-/// In one piece a stream has the verdict of the whole one. In several it has no race that the whole
-/// one hasn't.
+/// The letter of a program in `VERDICTS`.
+fn verdict_of(number: usize) -> Option<u8> {
+    let row = VERDICTS.get(number / 80)?;
+    row.as_bytes().get(number % 80).copied()
+}
+
+/// The library finds a race, if the stream comes whole and if it comes in pieces, where the model
+/// does, and nowhere else. In one piece a stream has the verdict of the whole one.
 #[test]
-fn pieces_make_no_other_race(rt: HostRuntime) -> Result<(), Fail> {
+fn races_are_those_of_all_schedules(rt: HostRuntime) -> Result<(), Fail> {
     let mut numbers = Numbers { state: 708 };
-    let (mut races, mut others) = (0u32, 0u32);
-    for number in 0..300 {
+    for number in 0..960 {
         let text = neighbours(rt.alloc(), &mut numbers)?;
         let words = stream(rt.alloc(), &mut numbers)?;
+        let size = numbers.below(25) as usize;
         let (text, words) = (text.as_str(), words.as_slice());
+        let Some(letter) = verdict_of(number) else {
+            return Err("no verdict")?;
+        };
         let whole = is_race(&whole_verdict(rt.alloc(), text, words)?);
+        assert!(rt; whole == (letter != b'n'), "program {number}: {text}");
         let at_once = has_race_in_pieces(rt.alloc(), text, words, words.len())?;
-        assert!(rt; at_once == whole, "program {number}: {text}");
-        let size = numbers.below(5) as usize;
+        assert!(rt; at_once == whole, "program {number} in one piece: {text}");
         let later = has_race_in_pieces(rt.alloc(), text, words, size)?;
         assert!(rt;
-            whole || !later,
+            letter == b'u' || later == (letter == b'b'),
             "program {number} in pieces of {size}: {text}"
         );
-        races = races.saturating_add(u32::from(whole));
-        others = others.saturating_add(u32::from(!whole));
     }
-    assert!(rt;
-        races >= 8 && others >= 100,
-        "{races} races, {others} programs without one"
-    );
     Ok(())
 }
