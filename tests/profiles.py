@@ -10,7 +10,7 @@ import re
 from collections import Counter, namedtuple
 from dataclasses import dataclass, field
 from functools import partial
-from itertools import accumulate, takewhile
+from itertools import accumulate
 
 from assembler import NAME
 from outputs import reading_at
@@ -89,9 +89,8 @@ def idle(node):
 
 # The places of a node in a word.
 SLOTS = ["slot0", "slot1", "slot2", "slot3"]
-# A step: the turn, how many steps the node made before it in the run, its state in front of it, and whether it begins a word
-# of memory that only jumps to itself.
-Step = namedtuple("Step", "turn number state is_self_jump")
+# A step: the turn, how many steps the node made before it in the run, and its state in front of it.
+Step = namedtuple("Step", "turn number state")
 # A step on a path: its turn, its place among all steps, the word of memory in execution, or None, and what it waited for: the
 # node, the need and the side of the step that ends the wait.
 Move = namedtuple("Move", "turn order word awaited")
@@ -132,8 +131,8 @@ class TooLong(Exception):
 
 
 class MayChange(Exception):
-    """What comes if a node is faster isn't worked out: a multiport read may take another word, or a node spins by opcodes that
-    change stacks or memory, of which the replies don't show all."""
+    """It isn't worked out what comes if a node is faster, since a multiport read may take another word; or when a node spins, by
+    opcodes that change stacks or memory, of which the replies don't show all."""
 
 
 class Run:
@@ -230,12 +229,23 @@ class Run:
                 (at,), (r,), (outcome,) = outcomes[turn][3 * index : 3 * index + 3]
                 if outcome == "moved":
                     state = states[turn].get(node, idle(node))._replace(at=found_in(at), r=found_in(r))
-                    after = states[turn + 1][node]
-                    steps[node].append(Step(turn, len(steps[node]), state, False))
-                    first = len(steps[node]) - 1 - (SLOTS.index(state.place) if state.place in SLOTS else 0)
-                    if first >= 0 and jumps_to_itself(steps[node], after):
-                        steps[node][first] = steps[node][first]._replace(is_self_jump=True)
+                    steps[node].append(Step(turn, len(steps[node]), state))
         return steps
+
+    def spinning_from(self, node):
+        """The turn from which on a node spins, or how many turns there are. One that spins does so in the end, too."""
+        steps = self.look()[node]
+        if not steps or steps[-1].turn < self.turns - 1 or not self.spins(self.turns, node):
+            return self.turns
+        # A node that is about to fetch still has the word that it fetched last.
+        fetched = ((step.state.place != "fetch" or None) and step.state.at for step in steps)
+        words = accumulate(fetched, lambda last, word: last if word is None else word)
+        states = [(step.state, word) for step, word in zip(steps, words)]
+        begins = (at for at in range(len(states)) for by in range(1, 5) if states[at:-by] == states[at + by :])
+        loop = steps[next(begins) :]
+        if any(step.state.op in {*DATA_CHANGES, *RETURN_CHANGES, *LOOPS} for step in loop):
+            raise MayChange
+        return next((step.turn for step in loop if self.spins(step.turn, node)), self.turns)
 
 
 def is_memory(address):
@@ -247,23 +257,12 @@ def address_of(state):
     return state.p & 0x200 | state.at
 
 
-def jumps_to_itself(steps, after):
-    """Whether the last step of a node is a jump of a word of memory to itself, which has nothing but `.` in front of it."""
-    state = steps[-1].state
-    address = address_of(state)
-    if state.op != "jump" or state.place not in SLOTS or not is_memory(address) or after.p != address:
-        return False
-    earlier = steps[-1 - SLOTS.index(state.place) : -1]
-    return all(it.state.op == "." and it.state.place == slot for it, slot in zip(earlier, SLOTS))
-
-
 @dataclass
 class Doing:
     """What a node did in a window, up to a step."""
 
     began: int | None = None
     last: int | None = None
-    is_spinning: bool = False
     counts: Counter = field(default_factory=Counter)
     taken: int = 0
     posted: int = 0
@@ -284,8 +283,8 @@ def awaited(state):
     return {"post": "reads", "check": "reads", "stopped": "stops"}.get(state.need)
 
 
-def doing_of(steps, first):
-    """What a node did in a window, by its steps up to the window's end."""
+def doing_of(steps, first, spinning_from):
+    """What a node did in a window, by its steps up to the window's end, and by the turn from which on it spins."""
     it = Doing()
     for step in steps:
         state = step.state
@@ -293,12 +292,12 @@ def doing_of(steps, first):
             it.wait(awaited(state), it.turns_between(first, step.turn))
         if it.began is None and state.place == "fetch" and is_memory(state.p):
             it.began = step.turn
-        it.is_spinning = it.is_spinning or step.is_self_jump
+        is_spinning = step.turn >= spinning_from
         if step.turn >= first:
-            it.counts["spins" if it.is_spinning else "boots" if it.began is None else "works"] += 1
+            it.counts["spins" if is_spinning else "boots" if it.began is None else "works"] += 1
             it.taken += it.began is not None and state.need == "take"
             it.posted += it.began is not None and state.need == "post"
-        if not it.is_spinning:
+        if not is_spinning:
             it.last = step.turn
     return it
 
@@ -410,28 +409,10 @@ class Clocks:
             self.posts[node, other] = self.at[node]
 
 
-def worked(run, node, steps):
-    """The steps of a node before it spins: before a word that only jumps to itself, or before a loop in which the run ends."""
-    if any(step.is_self_jump for step in run.look()[node]):
-        return [*takewhile(lambda step: not step.is_self_jump, steps)]
-    is_own = steps and all(step.state.need == "own" for step in steps[-4:])
-    if not is_own or not run.spins(run.turns, node):
-        return steps
-    # A node that is about to fetch still has the word that it fetched last.
-    fetched = ((step.state.place != "fetch" or None) and step.state.at for step in steps)
-    words = accumulate(fetched, lambda last, word: last if word is None else word)
-    states = [(step.state, word) for step, word in zip(steps, words)]
-    begins = (at for at in range(len(states)) for by in range(1, 5) if states[at:-by] == states[at + by :])
-    begin = next(begins)
-    if any(step.state.op in {*DATA_CHANGES, *RETURN_CHANGES, *LOOPS} for step in steps[begin:]):
-        raise MayChange
-    return steps[:begin]
-
-
-def length_if_faster(run, steps, first, fast):
-    """How many turns a window has if a node makes its own steps two a turn. No chip is run for it."""
-    worked_by = {node: worked(run, node, some) for node, some in steps.items()}
-    made = sorted((step.turn, node, step.state) for node, some in worked_by.items() for step in some if step.turn >= first)
+def length_if_faster(steps, first, fast):
+    """How many turns a window has if a node makes its own steps two a turn. No chip is run for it. The steps are those of no
+    spin."""
+    made = sorted((step.turn, node, step.state) for node, some in steps.items() for step in some if step.turn >= first)
     clocks = Clocks(first, fast)
     for turn, node, state in made:
         clocks.step(node, state, turn)
@@ -638,13 +619,14 @@ class Profile:
 def profile_of(run, where="last"):
     """The profile of a run, from the turn in which the last or the first node began, or from the one with a number."""
     steps = run.look()
-    whole = [doing_of(it, 0) for it in steps.values()]
+    spinning = {node: run.spinning_from(node) for node in NODES}
+    whole = [doing_of(some, 0, spinning[node]) for node, some in steps.items()]
     began = [it.began for it in whole if it.began is not None] or [0]
     first = {"last": max(began), "first": min(began)}.get(where)
     first = int(where) if first is None else first
     end = max((it.last for it in whole if it.last is not None), default=-1) + 1
     steps = {node: [step for step in some if step.turn < end] for node, some in steps.items()}
-    nodes = {node: doing_of(some, first) for node, some in steps.items()}
+    nodes = {node: doing_of(some, first, spinning[node]) for node, some in steps.items()}
     ended = states_of(run.where[end])
     for node, it in nodes.items():
         it.wait(awaited(ended.get(node, IDLE)), it.turns_between(first, end))
@@ -653,14 +635,15 @@ def profile_of(run, where="last"):
     passes = {node: pass_of(some, first) for node, some in steps.items()}
     path, stuck = path_of(steps, first, latest), run.unread_behind(end)
     found = Profile(first, end, nodes, passes, path, stacks, stuck, "", run.nodes_behind(end), run.images)
-    found.bottleneck = bottleneck_of(found, run, steps, [line for line in run.where[end] if line.startswith("ring ")])
+    worked = {node: [step for step in some if step.turn < spinning[node]] for node, some in steps.items()}
+    found.bottleneck = bottleneck_of(found, worked, [line for line in run.where[end] if line.startswith("ring ")])
     return found
 
 
-def bottleneck_of(profile, run, steps, rings):
+def bottleneck_of(profile, steps, rings):
     """What a profile says of the bottleneck, with the lines of rings, and of words that are never read."""
     works = {node: it.counts["works"] for node, it in profile.nodes.items()}
-    text = bottleneck(works, profile.on_path(), profile.length(), rings, partial(length_if_faster, run, steps, profile.first))
+    text = bottleneck(works, profile.on_path(), profile.length(), rings, partial(length_if_faster, steps, profile.first))
     return text + "".join(f"{line}\n" for line in rings) if rings else stuck_text(profile.stuck) + text
 
 

@@ -342,8 +342,7 @@ def judge_box(node, box, bar, end):
     wanted = "idle" if bar is None or end is None else OF_NEED[end.need]
     if wanted == "word" and end.place == "fetch":
         wanted = "idle"
-    # a node without a row spins too, if it only jumps to itself, maybe behind `.`
-    may_spin = end is not None and end.need == "own" and end.op in ("jump", ".", None)
+    may_spin = end is not None and end.need == "own"
     demand(kind == wanted or may_spin and kind == "spins", f"{node:03} {KINDS[kind]} at the end, and not {wanted}")
     demand(kind == "spins" or bar is None or "~" not in bar, f"{node:03} doesn't spin at the end")
 

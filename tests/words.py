@@ -49,7 +49,6 @@ EXCEPTIONS = [
     ("crates/ga_expand/specs/Expression.antt", "Where no operand is there, one begins", "a place in a text, and no condition"),
     ("crates/ga_counts/specs/Heat.antt", "Where a word goes that has nothing but a jump", "an address, and no condition"),
     ("crates/ga_counts/src/heat.rt", "Where a word at an address goes that has nothing but a jump", "an address, and no condition"),
-    ("crates/ga_profile/specs/SelfJump.antt", "Where a word goes if a jump is all of it", "an address, and no condition"),
     ("crates/ga_command_line/src/argument.rt", "Where it begins: with the last node that begins", "a turn, and no condition"),
     ("crates/ga_node/proofs/Spun.antt", "at most so many steps", "a bound, which the next line names"),
 ]

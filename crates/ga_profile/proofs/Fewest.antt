@@ -11,7 +11,6 @@ use Rattle.ga_chip.specs.Run.{ran, side_of_turn, tries_of, turn_of}
 use Rattle.ga_chip.proofs.Runs.{ran_more}
 use Rattle.ga_chip.proofs.Turns.{happened_try}
 use Rattle.ga_trace.specs.Traced.{turned}
-use Rattle.ga_profile.specs.declared.faster.Goal.{Goal}
 use Rattle.ga_profile.specs.Faster.{FasterIsTries, NoneIsShorter, IsFewest, ShorterIsFewest, chip_before, faster_run, faster_turned, have_done, is_over, turns_if_faster, works_alone}
 
 -- ---- tries
@@ -66,7 +65,7 @@ faster_is_tries name first (suc count) chip =
 
 -- ---- the fewest
 
-module _ (first name : ℕ) (goals : List Goal) (chip : Chip) where
+module _ (first name : ℕ) (goals : List ℕ) (chip : Chip) where
   -- each node has done its work behind some turns
   abbrev over : ℕ → Bool
   over turns = have_done goals (faster_run name first turns chip)

@@ -2,14 +2,10 @@
 use Rattle.std.proofs.Common.{◌≡◌, ◌∙◌, ℕ, zero, suc, ◌+◌, ◌-◌, ◌<◌, ◌&&◌, Bool, true, false, List, ap, ap₂, arith, get_or, length, subst, sym, take}
 use Rattle.std.specs.Prelude.{Option, Some, None, if◌then◌else◌}
 use Rattle.std.specs.List.{list_all, range_with_len}
-use Rattle.std.specs.Option.{option_map_or}
 use Rattle.std.proofs.Math.Seq.{take-length}
 use Rattle.std.proofs.lemmas.List.Folds.{list_all_at, list_all_more}
 use Rattle.std.proofs.lemmas.List.FromFn.{get_or-range_with_len, length-range_with_len}
-use Rattle.ga_place.specs.Cell.{name_at}
-use Rattle.ga_node.specs.State.{State}
-use Rattle.ga_chip.specs.Chip.{Chip, state_of}
-use Rattle.ga_profile.specs.declared.faster.Goal.{Goal}
+use Rattle.ga_chip.specs.Chip.{Chip}
 use Rattle.ga_profile.specs.Faster.{faster_turned, have_done, turns_if_faster}
 
 -- ---- the work of all nodes
@@ -46,7 +42,7 @@ all_pass p index reached so_far =
 -- ---- the turns
 
 -- the work is done
-pub made_now : (left made first name : ℕ) (goals : List Goal) (chip : Chip) (whole : Option ℕ)
+pub made_now : (left made first name : ℕ) (goals : List ℕ) (chip : Chip) (whole : Option ℕ)
     → have_done goals chip ≡ true → turns_if_faster left made first name goals chip ≡ whole
     → Some made ≡ whole
 unfolding turns_if_faster
@@ -57,7 +53,7 @@ made_now (suc left) made first name goals chip whole done so_far =
     (faster_turned name (first + made) chip)) done) ∙ so_far
 
 -- one more turn is made
-pub one_turn : (most made first name : ℕ) (goals : List Goal) (chip next : Chip) (whole : Option ℕ)
+pub one_turn : (most made first name : ℕ) (goals : List ℕ) (chip next : Chip) (whole : Option ℕ)
     → made < most → have_done goals chip ≡ false → next ≡ faster_turned name (first + made) chip
     → turns_if_faster (most - made) made first name goals chip ≡ whole
     → turns_if_faster (most - (made + 1)) (made + 1) first name goals next ≡ whole
@@ -73,7 +69,7 @@ one_turn most made first name goals chip next whole below not_yet is so_far =
     ∙ ap (λ n. turns_if_faster n made first name goals chip) (sym more) ∙ so_far
 
 -- all turns are made, and the work isn't done
-pub never_made : (most made first name : ℕ) (goals : List Goal) (chip : Chip) (whole : Option ℕ)
+pub never_made : (most made first name : ℕ) (goals : List ℕ) (chip : Chip) (whole : Option ℕ)
     → made ≡ most → have_done goals chip ≡ false
     → turns_if_faster (most - made) made first name goals chip ≡ whole → None ≡ whole
 unfolding turns_if_faster

@@ -22,10 +22,9 @@ use Rattle.ga_profile.specs.declared.window.WindowStart.TheVariants.{FirstNode, 
 use Rattle.ga_profile.specs.Bar.{bar}
 use Rattle.ga_profile.specs.Bottleneck.{DEADLOCK, faster_text, most_on_path, sentence_at, waited_text, whole_percent, with_rings, works_text}
 use Rattle.ga_profile.specs.NodePass.{pass_of}
-use Rattle.ga_profile.specs.NodeTurns.{NO_TURNS, after_step, turns_between, turns_in}
+use Rattle.ga_profile.specs.NodeTurns.{NO_TURNS, after_step, turns_between, turns_on}
 use Rattle.ga_profile.specs.Passes.{passes_in, place_of}
 use Rattle.ga_profile.specs.Profile.{wait_for}
-use Rattle.ga_profile.specs.SelfJump.{jump_target, jumps_to_itself}
 use Rattle.ga_profile.specs.Share.{cell, share_of}
 use Rattle.ga_profile.specs.Table.{means, row, shares, words}
 use Rattle.ga_profile.specs.Text.{window_text}
@@ -43,46 +42,9 @@ a_step name turn place p word deed = record {
   deed = deed;
 }
 
--- ---- self jumps
+-- ---- turns
 
--- 10000 jumps to 000 in slot 0 (the code 02 in exclusive or with 0A), 2D700 is `. jump` with 00 in
--- eight bits, and 04A12 doesn't jump
-jumps : (jump_target 1 0x10000 ≡ Some 0) × (jump_target 1 0x2D700 ≡ Some 0)
-    × (jump_target 1 0x04A12 ≡ None)
-unfolding reading_of op_with
-jumps = (refl, refl, refl)
-
--- a node begins a word behind the fetch of which P is this
-abbrev begins : ℕ → ℕ → Step
-begins p word = a_step 708 13 Slot0 p word did.Own
-
--- `. . jump` is 16 and 09 in slots 0 and 1 (the code 1C in exclusive or with 0A and 15), 08 in slot
--- 2 (02 in exclusive or with 0A), and three bits. With 2, 2C942, it goes to 00A at 00A, but with 3
--- to 00B; at 007 with 7 it goes to 00F, since P is 008 there.
-by_three_bits : (jumps_to_itself (begins 0x00B 0x2C942) ≡ true)
-    × (jumps_to_itself (begins 0x00B 0x2C943) ≡ false)
-    × (jumps_to_itself (begins 0x008 0x2C947) ≡ false)
-unfolding at_word reading_of op_with
-by_three_bits = (refl, refl, refl)
-
--- `. jump` is 16 and 17 in slots 0 and 1 (02 in exclusive or with 15), and eight bits. With 0A it
--- goes to 00A, and to 20A if bit 9 of P is set; at 07F, behind which P is 000, it goes there with
--- 7F.
-by_eight_bits : (jumps_to_itself (begins 0x00B 0x2D70A) ≡ true)
-    × (jumps_to_itself (begins 0x00C 0x2D70A) ≡ false)
-    × (jumps_to_itself (begins 0x20B 0x2D70A) ≡ true)
-    × (jumps_to_itself (begins 0x000 0x2D77F) ≡ true)
-unfolding at_word reading_of op_with
-by_eight_bits = (refl, refl, refl, refl)
-
--- `jump 20A` stays in extended mode, and `jump 00A` leaves it
-by_ten_bits : (jumps_to_itself (begins 0x20B 0x1020A) ≡ true)
-    × (jumps_to_itself (begins 0x20B 0x1000A) ≡ false)
-unfolding at_word reading_of op_with
-by_ten_bits = (refl, refl)
-
--- 708 boots, begins in turn 2, waits two turns for a word, and three for its word to be read; then
--- it jumps to itself, by the word 10000 at 000
+-- 708 boots, begins in turn 2, waits two turns for a word, and three for its word to be read
 abbrev steps_708 : List Step
 steps_708 =
     a_step 708 0 Body 0 0 (did.TookInput 5)
@@ -93,9 +55,14 @@ steps_708 =
     ∷ a_step 708 7 Slot2 1 0 (did.Posted Right 9)
     ∷ a_step 708 11 Slot3 1 0 (did.SawRead Right)
     ∷ a_step 708 12 Fetch 0 0 did.Own
-    ∷ a_step 708 13 Slot0 1 0x10000 did.Own
-    ∷ a_step 708 14 Fetch 0 0x10000 did.Own
     ∷ []
+
+-- then it spins, by the word 10000 at 000, which jumps to itself
+abbrev spins_708 : List Step
+spins_708 = a_step 708 13 Slot0 1 0x10000 did.Own ∷ a_step 708 14 Fetch 0 0x10000 did.Own ∷ []
+
+abbrev in_both : ℕ → NodeTurns
+in_both from = turns_on from 708 true (turns_on from 708 false NO_TURNS steps_708) spins_708
 
 abbrev counts_708 : TurnCounts
 counts_708 = record {
@@ -111,25 +78,23 @@ abbrev turns_708 : NodeTurns
 turns_708 = record {
   began = Some 2;
   last = Some 12;
-  is_spinning = true;
   counts = counts_708;
   taken = 1;
   posted = 1;
 }
 
-group_turns : turns_in 0 708 steps_708 ≡ turns_708
-unfolding after_step at_word reading_of op_with
-group_turns = refl
+all_turns : in_both 0 ≡ turns_708
+unfolding after_step
+all_turns = refl
 
 -- in a window from turn 5 on it waits one turn for a word, and works four
-from_turn_5 : (turns_in 5 708 steps_708).counts
-    ≡ record counts_708 { boots = 0; works = 4; word_waits = 1 }
-unfolding after_step at_word reading_of op_with
+from_turn_5 : (in_both 5).counts ≡ record counts_708 { boots = 0; works = 4; word_waits = 1 }
+unfolding after_step
 from_turn_5 = refl
 
 -- 709 has run code from its ports alone: it hasn't started
-not_begun : (turns_in 0 709 steps_708).began ≡ None
-unfolding after_step at_word reading_of op_with
+not_begun : (turns_on 0 709 false NO_TURNS steps_708).began ≡ None
+unfolding after_step
 not_begun = refl
 
 -- behind the last step: turns 13 to 19

@@ -1,5 +1,5 @@
-pub mod SelfJump
 pub mod NodeTurns
+pub mod HasRun
 pub mod Window
 pub mod Profile
 pub mod Faster

@@ -1,17 +1,25 @@
 -- What a node did in the turns of a window, by its steps.
-use Rattle.std.specs.Prelude.{ℕ, ◌+◌, ◌-◌, ◌^◌, ◌==◌, Bool, true, false, ◌&&◌, ◌||◌, List, [], ◌∷◌, Option, Some, None, is_some, min, nat_le, nat_lt, if◌then◌else◌}
+use Rattle.std.specs.Prelude.{ℕ, zero, suc, ◌+◌, ◌-◌, ◌^◌, ◌==◌, Bool, true, false, ◌&&◌, List, [], ◌∷◌, Option, Some, None, is_some, min, nat_le, nat_lt, if◌then◌else◌}
+use Rattle.ga_place.specs.Address.{where_is}
+use Rattle.ga_place.specs.declared.address.Where.{Where}
+use Rattle.ga_place.specs.declared.address.Where.TheVariants.{Ram}
+use Rattle.ga_node.specs.State.{is_fetch}
 use Rattle.ga_node.specs.declared.place.Place.{Place}
 use Rattle.ga_node.specs.declared.place.Place.TheVariants.{Fetch}
+use Rattle.ga_chip.specs.Chip.{Chip}
+use Rattle.ga_chip.specs.Run.{side_of_turn, turn_of}
+use Rattle.ga_observe.specs.Seen.{numbered, steps_seen}
 use Rattle.ga_observe.specs.declared.step.Deed.{Deed}
 use Rattle.ga_observe.specs.declared.step.Deed.TheVariants.{Took, Posted, SawRead}
 use Rattle.ga_observe.specs.declared.step.Step.{Step}
+use Rattle.ga_trace.specs.Rest.{spins}
+use Rattle.ga_trace.specs.Traced.{behind}
 use Rattle.ga_profile.specs.declared.node_turns.Act.{Act}
 use Rattle.ga_profile.specs.declared.node_turns.Act.TheVariants as act
 use Rattle.ga_profile.specs.declared.node_turns.NodeTurns.{NodeTurns}
 use Rattle.ga_profile.specs.declared.node_turns.TurnCounts.{TurnCounts}
 use Rattle.ga_profile.specs.declared.node_turns.Wait.{Wait}
 use Rattle.ga_profile.specs.declared.node_turns.Wait.TheVariants as wait
-use Rattle.ga_profile.specs.SelfJump.{fetches_memory, jumps_to_itself}
 
 -- a count stays at the largest number of 64 bits
 abbrev pub more : ℕ → ℕ → ℕ
@@ -31,7 +39,6 @@ abbrev pub NO_TURNS : NodeTurns
 NO_TURNS = record {
   began = None;
   last = None;
-  is_spinning = false;
   counts = NO_COUNTS;
   taken = 0;
   posted = 0;
@@ -72,12 +79,24 @@ waited_for from old step = waited_if from old.began old.last old.counts step
 
 -- ---- a step
 
+abbrev pub is_ram : Where → Bool
+is_ram (Ram index) = true
+is_ram at = false
+
+-- a word of memory is at an address
+abbrev pub is_memory : ℕ → Bool
+is_memory address = is_ram (where_is address)
+
+-- a step fetches a word of memory
+abbrev pub fetches_memory : Step → Bool
+fetches_memory step = is_fetch step.place && is_memory step.p
+
 -- a node begins by its first fetch of a word of its memory
 abbrev pub began_by : Option ℕ → Step → Option ℕ
 began_by (Some turn) step = Some turn
 began_by None step = if fetches_memory step then Some step.turn else None
 
--- What a step is: a spin, if the node only jumps to itself; work, if it has started; or it boots.
+-- What a step is: a spin, if the node spins; work, if it has started; or it boots.
 abbrev pub act_of : Bool → Bool → Act
 act_of begun spinning = if spinning then act.Spin else if begun then act.Work else act.Boot
 
@@ -103,32 +122,32 @@ abbrev pub words_after : ℕ → ℕ → Option ℕ → ℕ → Bool → ℕ
 words_after count from began turn one =
     if one && is_some began && nat_le from turn then more count 1 else count
 
--- a node spins from the first step on of a word that only jumps to itself
-abbrev pub spins_by : Bool → Step → Bool
-spins_by spinning step = spinning || jumps_to_itself step
-
 abbrev pub acted_if : TurnCounts → Act → ℕ → ℕ → TurnCounts
 acted_if counts what from turn = if nat_lt turn from then counts else acted counts what
 
--- The turns of a node up to a step, in a window from a turn on: those in which it waited for the
--- step, and that of the step.
-unfoldable pub after_step : ℕ → NodeTurns → Step → NodeTurns
-after_step from old step =
-    let began = began_by old.began step in
-    let spinning = spins_by old.is_spinning step in record {
+-- The turns of a node up to a step, in a window from a turn on, by whether the node spins: those in
+-- which it waited for the step, and that of the step.
+unfoldable pub after_step : ℕ → Bool → NodeTurns → Step → NodeTurns
+after_step from spinning old step =
+    let began = began_by old.began step in record {
       began = began;
       last = last_by old.last spinning step.turn;
-      is_spinning = spinning;
       counts = acted_if (waited_for from old step) (act_of (is_some began) spinning) from step.turn;
       taken = words_after old.taken from began step.turn (has_taken step.deed);
       posted = words_after old.posted from began step.turn (has_posted step.deed);
     }
 
--- The turns of a node in a window from a turn on, by the steps of a run.
-abbrev pub turns_on : ℕ → ℕ → NodeTurns → List Step → NodeTurns
-turns_on from name old [] = old
-turns_on from name old (step ∷ steps) =
-    turns_on from name (if step.node == name then after_step from old step else old) steps
+-- and up to the last of some steps
+abbrev pub turns_on : ℕ → ℕ → Bool → NodeTurns → List Step → NodeTurns
+turns_on from name spinning old [] = old
+turns_on from name spinning old (step ∷ steps) =
+    turns_on from name spinning
+    (if step.node == name then after_step from spinning old step else old) steps
 
-abbrev pub turns_in : ℕ → ℕ → List Step → NodeTurns
-turns_in from name steps = turns_on from name NO_TURNS steps
+-- The turns of a node in a number of turns of a chip, in a window from a turn on: by its steps, and
+-- by whether it spins in front of the turn of each.
+unfoldable pub turns_in : ℕ → ℕ → ℕ → Chip → NodeTurns
+turns_in from name zero chip = NO_TURNS
+turns_in from name (suc turn) chip =
+    turns_on from name (spins (behind chip turn) name) (turns_in from name turn chip)
+    (steps_seen (behind chip turn) (numbered turn (turn_of (side_of_turn turn))))

@@ -9,9 +9,7 @@ use Rattle.ga_node.specs.declared.need.Need.TheVariants as need
 use Rattle.ga_node.specs.declared.place.Place.{Place}
 use Rattle.ga_chip.specs.Chip.{Chip, state_of}
 use Rattle.ga_chip.specs.Run.{ran, turns_of}
-use Rattle.ga_observe.specs.Seen.{steps_seen, turns_numbered}
 use Rattle.ga_trace.specs.Rest.{ran_from}
-use Rattle.ga_profile.specs.declared.faster.Goal.{Goal}
 use Rattle.ga_profile.specs.declared.node_turns.NodeTurns.{NodeTurns}
 use Rattle.ga_profile.specs.declared.node_turns.Wait.{Wait}
 use Rattle.ga_profile.specs.declared.node_turns.Wait.TheVariants as wait
@@ -29,8 +27,7 @@ turns_to_rest most chip = (ran_from most 0 0 0 chip).0.turns
 -- what each node does from a turn on in a number of turns of a chip, up to its last step
 unfoldable pub watched : ℕ → ℕ → Chip → List NodeTurns
 watched from count chip =
-    map (λ index. turns_in from (name_at index) (steps_seen chip (turns_numbered count)))
-    (range_with_len 0 144)
+    map (λ index. turns_in from (name_at index) count chip) (range_with_len 0 144)
 
 -- the window of a run until rest
 abbrev pub window_in : WindowStart → ℕ → Chip → Window
@@ -38,7 +35,7 @@ window_in start most chip =
     window_of start (watched 0 (turns_to_rest most chip) chip) (turns_to_rest most chip)
 
 -- What each node has to do in the run until rest.
-unfoldable pub goals_to_rest : ℕ → Chip → List Goal
+unfoldable pub goals_to_rest : ℕ → Chip → List ℕ
 goals_to_rest most chip =
     goals_of (ran chip (turns_of (turns_to_rest most chip)))
     (watched 0 (turns_to_rest most chip) chip)

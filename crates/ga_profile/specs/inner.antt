@@ -1,4 +1,3 @@
-pub mod Kept
 pub mod KeptPasses
 pub mod PlaceRead
 pub mod Trails

@@ -7,26 +7,17 @@ use crate::window::Window;
 use ga_chip::{Chip, Try, side_of_turn};
 use ga_node::Need;
 use ga_place::Node;
-use ga_trace::spins;
 use std::alloc::{AllocError, Global};
 
-/// What a node has to do until a run is over.
-#[derive(Clone, Copy)]
-pub(crate) enum Goal {
-    /// To have made this many steps.
-    Steps(u64),
-    /// To spin.
-    Spin,
-}
-
 /// How many turns a window of the run of a chip would have if a node made its own steps two a turn
-/// in it, so that each node has done its work by then. `None` unless they are fewer than it has.
+/// in it, so that each node has made the steps of its goal by then. `None` unless they are fewer
+/// than it has.
 pub(crate) fn shorter_window(
     alloc: Global,
     chip: &Chip,
     window: Window,
     node: Node,
-    goals: &[Goal],
+    goals: &[u64],
 ) -> Result<Option<u32>, AllocError>
     requires { length goals.now ≡ 144 }
     ensures { IfOk result (λ turns. turns ≡ spec.shorter_window window node goals.now chip.now) }
@@ -42,13 +33,7 @@ pub(crate) fn shorter_window(
 }
 
 /// In how many turns, at most `most`, a faster node leads to where each node has done its work.
-fn turns_if_faster(
-    chip: &mut Chip,
-    node: Node,
-    first: u32,
-    most: u32,
-    goals: &[Goal],
-) -> Option<u32>
+fn turns_if_faster(chip: &mut Chip, node: Node, first: u32, most: u32, goals: &[u64]) -> Option<u32>
     requires { length goals.now ≡ 144 }
     ensures { result ≡ spec.turns_if_faster most 0 first node goals.now chip.old }
 {
@@ -88,7 +73,7 @@ fn works_alone(chip: &Chip, node: Node) -> bool
 }
 
 /// Whether each node has done its work.
-fn have_done(chip: &Chip, goals: &[Goal]) -> bool
+fn have_done(chip: &Chip, goals: &[u64]) -> bool
     requires { length goals.now ≡ 144 }
     ensures { result ≡ spec.have_done goals.now chip.now }
 {
@@ -101,21 +86,19 @@ fn have_done(chip: &Chip, goals: &[Goal]) -> bool
 }
 
 /// Whether a node has done its work.
-fn has_done(chip: &Chip, node: Node, goal: Goal) -> bool
+fn has_done(chip: &Chip, node: Node, goal: u64) -> bool
     ensures { result ≡ spec.has_done goal chip.now node }
 {
-    match goal {
-        Goal::Steps(steps) => chip.state(node).steps() >= steps,
-        Goal::Spin => spins(chip, node),
-    }
+    chip.state(node).steps() >= goal
 }
 
-/// What each node has to do, by the chip at the end of a run and by what it did in all turns.
+/// How many steps each node has to make, by the chip at the end of a run and by what it did in all
+/// turns.
 pub(crate) fn goals_of(
     alloc: Global,
     chip: &Chip,
     nodes: &[NodeTurns],
-) -> Result<Vec<Goal>, AllocError>
+) -> Result<Vec<u64>, AllocError>
     requires { length nodes.now ≡ 144 }
     ensures goals { IfOk result (λ goals. goals.items ≡ spec.goals_of chip.now nodes.now) }
     ensures all { IfOk result (λ goals. length goals.items ≡ 144) }
@@ -127,14 +110,9 @@ pub(crate) fn goals_of(
     Ok(goals)
 }
 
-/// What a node has to do: to spin, if it spins at the end in more than one word; or else to make
-/// its steps, those of spins aside.
-fn goal_of(chip: &Chip, node: Node, turns: &NodeTurns) -> Goal
+/// How many steps a node has to make: those of the run, but for its spins.
+fn goal_of(chip: &Chip, node: Node, turns: &NodeTurns) -> u64
     ensures { result ≡ spec.goal_of chip.now node turns.now }
 {
-    if !turns.is_spinning && spins(chip, node) {
-        Goal::Spin
-    } else {
-        Goal::Steps(chip.state(node).steps().saturating_sub(turns.counts.spins))
-    }
+    chip.state(node).steps().saturating_sub(turns.counts.spins)
 }

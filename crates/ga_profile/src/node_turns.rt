@@ -3,9 +3,9 @@ ghost use Rattle.std.specs.Prelude.{◌≡◌};
 ghost use Rattle.ga_profile.specs.NodeTurns as spec;
 ghost use Rattle.ga_profile.specs.NodeTurns.{NO_COUNTS, NO_TURNS};
 
-use crate::self_jump::{fetches_memory, jumps_to_itself};
 use ga_node::Place;
 use ga_observe::{Deed, Step};
+use ga_place::{Where, locate};
 
 /// In how many turns of a window a node did what. In all others it was idle. A count stays at
 /// 2^64 - 1.
@@ -19,7 +19,7 @@ pub struct TurnCounts {
     pub word_waits: u64,
     /// It waited for its word to be read.
     pub reader_waits: u64,
-    /// It moved, and nothing but a jump to itself was left to do.
+    /// It moved, and spun: own steps alone lead back to where it was.
     pub spins: u64,
     /// It was stopped.
     pub stops: u64,
@@ -32,8 +32,6 @@ pub struct NodeTurns {
     pub began: Option<u64>,
     /// The turn of its last step that isn't a spin.
     pub last: Option<u64>,
-    /// Whether it only jumps to itself.
-    pub is_spinning: bool,
     /// In how many turns of the window it did what.
     pub counts: TurnCounts,
     /// How many words it took in the window since it began.
@@ -62,13 +60,12 @@ pub(crate) enum Act {
 }
 
 /// No turns yet.
-pub fn no_turns() -> NodeTurns
+pub(crate) fn no_turns() -> NodeTurns
     ensures { result ≡ NO_TURNS }
 {
     NodeTurns {
         began: None,
         last: None,
-        is_spinning: false,
         counts: no_counts(),
         taken: 0,
         posted: 0,
@@ -88,30 +85,21 @@ fn no_counts() -> TurnCounts
     }
 }
 
-/// The turns of a node up to a step, in a window from a turn on.
+/// The turns of a node up to a step, in a window from a turn on, by whether the node spins.
 #[tactic(auto, unfolding(crate::specs::NodeTurns::after_step))]
-pub fn after_step(from: u64, old: &NodeTurns, step: &Step) -> NodeTurns
-    ensures { result ≡ spec.after_step from old.now step.now }
+pub(crate) fn after_step(from: u64, is_spinning: bool, old: &NodeTurns, step: &Step) -> NodeTurns
+    ensures { result ≡ spec.after_step from is_spinning old.now step.now }
 {
     let began = began_by(old.began, step);
-    let is_spinning = spins_by(old.is_spinning, step);
     let counts = waited_for(from, old, step);
     let act = act_of(began.is_some(), is_spinning);
     NodeTurns {
         began,
         last: last_by(old.last, is_spinning, step.turn),
-        is_spinning,
         counts: acted_if(&counts, act, from, step.turn),
         taken: words_after(old.taken, from, began, step.turn, has_taken(&step.deed)),
         posted: words_after(old.posted, from, began, step.turn, has_posted(&step.deed)),
     }
-}
-
-/// Whether a node only jumps to itself, after a step.
-fn spins_by(is_spinning: bool, step: &Step) -> bool
-    ensures { result ≡ spec.spins_by is_spinning step.now }
-{
-    is_spinning || jumps_to_itself(step)
 }
 
 /// The counts after the turn of a step, if that is in a window from a turn on.
@@ -134,6 +122,19 @@ fn began_by(began: Option<u64>, step: &Step) -> Option<u64>
         None if fetches_memory(step) => Some(step.turn),
         None => None,
     }
+}
+
+/// Whether a step fetches a word of memory.
+fn fetches_memory(step: &Step) -> bool
+    ensures { result ≡ spec.fetches_memory step.now }
+{
+    step.place == Place::Fetch && is_memory(step.p)
+}
+
+fn is_memory(address: u16) -> bool
+    ensures { result ≡ spec.is_memory address }
+{
+    matches!(locate(address), Where::Ram(_))
 }
 
 /// What a step is, by whether its node has started and spins.

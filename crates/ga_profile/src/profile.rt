@@ -12,7 +12,7 @@ ghost use Rattle.ga_profile.specs.Bottleneck.{node_on_path};
 ghost use Rattle.ga_profile.specs.Profile.{chip_at_end, nodes_in, shorter_in, window_in};
 
 use crate::bottleneck::most_on_path;
-use crate::faster::{Goal, goals_of, shorter_window};
+use crate::faster::{goals_of, shorter_window};
 use crate::node_pass::{NodePass, node_passes};
 use crate::node_turns::{NodeTurns, Wait, turns_between, wait_to_take, waited};
 use crate::path::{line_turns, path_turns};
@@ -20,7 +20,6 @@ use crate::turn_watch::TurnWatch;
 use crate::window::{Window, WindowStart, window_of};
 use ga_chip::Chip;
 use ga_node::{Need, Place};
-use ga_observe::turns;
 use ga_place::Node;
 use ga_trace::{StackDepths, all_depths, run};
 use std::alloc::{AllocError, Global};
@@ -85,12 +84,12 @@ pub fn measure(
     profile_in(alloc, chip, window, goals.as_slice())
 }
 
-/// What each node does in a window of the run of a chip, in whose run the nodes have this to do.
+/// What each node does in a window of the run of a chip, with these goals of the nodes.
 fn profile_in(
     alloc: Global,
     chip: &Chip,
     window: Window,
-    goals: &[Goal],
+    goals: &[u64],
 ) -> Result<Profile, AllocError>
     requires { length goals.now ≡ 144 }
     ensures window { IfOk result (λ profile. profile.window ≡ window) }
@@ -149,7 +148,7 @@ fn watched(
     ensures all { IfOk result (λ nodes. length nodes.items ≡ 144) }
 {
     let mut watch = TurnWatch::new(alloc, from)?;
-    let _moved = turns(chip, &mut watch, count);
+    watch.advance(chip, 0, count);
     Ok(watch.nodes)
 }
 

@@ -5,35 +5,50 @@ use Rattle.std.proofs.lemmas.List.FromFn.{get_or-map-range_with_len}
 use Rattle.ga_place.specs.Cell.{name_at}
 use Rattle.ga_node.specs.State.{State}
 use Rattle.ga_chip.specs.Chip.{Chip, state_of}
-use Rattle.ga_observe.specs.Seen.{steps_seen, turns_numbered}
+use Rattle.ga_chip.specs.Run.{side_of_turn, turn_of}
+use Rattle.ga_observe.specs.Seen.{numbered, steps_seen}
 use Rattle.ga_observe.specs.declared.step.Step.{Step}
 use Rattle.ga_profile.specs.declared.node_turns.NodeTurns.{NodeTurns}
 use Rattle.ga_profile.specs.declared.window.Window.{Window}
 use Rattle.ga_profile.specs.Marks.{is_later}
-use Rattle.ga_profile.specs.NodeTurns.{NO_TURNS, after_step, last_by, spins_by, turns_in, turns_on}
+use Rattle.ga_trace.specs.Rest.{spins}
+use Rattle.ga_trace.specs.Traced.{behind}
+use Rattle.ga_profile.specs.NodeTurns.{NO_TURNS, after_step, last_by, turns_in, turns_on}
 use Rattle.ga_profile.specs.Path.{last_node, later_of}
 use Rattle.ga_profile.specs.Profile.{chip_at_end, ended, watched, with_end}
 use Rattle.ga_report.specs.Timeline.{up_to}
 
-last_on : (one other name : ℕ) (a b : NodeTurns) (steps : List Step) → a.last ≡ b.last
-    → a.is_spinning ≡ b.is_spinning
-    → (turns_on one name a steps).last ≡ (turns_on other name b steps).last
+-- some steps of a turn
+last_on : (one other name : ℕ) (spinning : Bool) (a b : NodeTurns) (steps : List Step)
+    → a.last ≡ b.last
+    → (turns_on one name spinning a steps).last ≡ (turns_on other name spinning b steps).last
 unfolding after_step
-last_on one other name a b [] last spins = last
-last_on one other name a b (step ∷ steps) last spins =
-    by (step.node == name) (last_on one other name a b steps last spins)
-    (last_on one other name (after_step one a step) (after_step other b step) steps
-    (ap₂ (λ l s. last_by l (spins_by s step) step.turn) last spins)
-    (ap (λ s. spins_by s step) spins))
+last_on one other name spinning a b [] last = last
+last_on one other name spinning a b (step ∷ steps) last =
+    by (step.node == name) (last_on one other name spinning a b steps last)
+    (last_on one other name spinning (after_step one spinning a step)
+    (after_step other spinning b step) steps (ap (λ l. last_by l spinning step.turn) last))
   where
     by : (c : Bool)
-        → (turns_on one name a steps).last ≡ (turns_on other name b steps).last
-        → (turns_on one name (after_step one a step) steps).last
-        ≡ (turns_on other name (after_step other b step) steps).last
-        → (turns_on one name (if c then after_step one a step else a) steps).last
-        ≡ (turns_on other name (if c then after_step other b step else b) steps).last
+        → (turns_on one name spinning a steps).last ≡ (turns_on other name spinning b steps).last
+        → (turns_on one name spinning (after_step one spinning a step) steps).last
+        ≡ (turns_on other name spinning (after_step other spinning b step) steps).last
+        → (turns_on one name spinning (if c then after_step one spinning a step else a) steps).last
+        ≡ (turns_on other name spinning (if c then after_step other spinning b step else b)
+        steps).last
     by true kept more = more
     by false kept more = kept
+
+-- and all turns
+last_in : (one other name count : ℕ) (chip : Chip)
+    → (turns_in one name count chip).last ≡ (turns_in other name count chip).last
+unfolding turns_in
+last_in one other name zero chip = refl
+last_in one other name (suc turn) chip =
+    last_on one other name (spins (behind chip turn) name) (turns_in one name turn chip)
+    (turns_in other name turn chip)
+    (steps_seen (behind chip turn) (numbered turn (turn_of (side_of_turn turn))))
+    (last_in one other name turn chip)
 
 -- the turns behind the last step don't change it
 last_at_end : (window : Window) (turns : NodeTurns) (state : Option State)
@@ -46,11 +61,10 @@ last_same : (from end : ℕ) (chip : Chip) (index : ℕ) → index < 144
     ≡ (get_or (watched from end chip) index NO_TURNS).last
 unfolding ended watched
 last_same from end chip index below =
-    let steps = steps_seen chip (turns_numbered end) in
     let name = name_at index in
     let window : Window = record { first = 0; end = end } in
     let here : 0 + index ≡ index = omega arith in
-    let turns : ℕ → ℕ → NodeTurns = λ first at. turns_in first (name_at at) steps in
+    let turns : ℕ → ℕ → NodeTurns = λ first at. turns_in first (name_at at) end chip in
     let all : ℕ → NodeTurns = λ at. with_end window (get_or (watched 0 end chip) at NO_TURNS)
     (state_of (chip_at_end window chip) (name_at at)) in
     ap (λ (t : NodeTurns). t.last)
@@ -59,7 +73,7 @@ last_same from end chip index below =
     (state_of (chip_at_end window chip) name)
     ∙ ap (λ (t : NodeTurns). t.last)
     (get_or-map-range_with_len (turns 0) 0 144 index index NO_TURNS below here)
-    ∙ last_on 0 from name NO_TURNS NO_TURNS steps refl refl
+    ∙ last_in 0 from name end chip
     ∙ sym (ap (λ (t : NodeTurns). t.last)
     (get_or-map-range_with_len (turns from) 0 144 index index NO_TURNS below here))
 

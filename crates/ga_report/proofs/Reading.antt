@@ -5,7 +5,7 @@ use Rattle.std.proofs.Math.Nat.{lt-div-mul-add, min-eq_right}
 use Rattle.std.proofs.lemmas.List.{get_or_default}
 use Rattle.std.proofs.lemmas.List.FromFn.{length-map-range_with_len}
 use Rattle.ga_place.specs.Cell.{name_at}
-use Rattle.ga_chip.specs.Chip.{Chip, state_of}
+use Rattle.ga_chip.specs.Chip.{Chip}
 use Rattle.ga_profile.specs.declared.node_turns.NodeTurns.{NodeTurns}
 use Rattle.ga_profile.specs.declared.window.Window.{Window}
 use Rattle.ga_profile.specs.declared.node_turns.TurnCounts.{TurnCounts}
@@ -23,14 +23,13 @@ use Rattle.ga_report.specs.Timeline.{column_in, counts_at, most_at, most_by, row
 -- a node of the picture
 pub node_read : (chip : Chip) (nodes : List NodeTurns) (index name : ℕ) (other : NodeTurns)
     (kind : Kind) (text new : List ℕ) → index < length nodes → name ≡ name_at index
-    → kind ≡ kind_at_end (get_or nodes index other) (state_of chip name)
+    → kind ≡ kind_at_end (get_or nodes index other) chip name
     → new ≡ text ++ node_box chip name kind → new ≡ text ++ node_at chip nodes index
 node_read chip nodes index name other kind text new within named does wrote =
     wrote ∙ ap (λ (k : Kind). text ++ node_box chip name k) does
-    ∙ ap (λ (did : NodeTurns). text ++ node_box chip name (kind_at_end did (state_of chip name)))
+    ∙ ap (λ (did : NodeTurns). text ++ node_box chip name (kind_at_end did chip name))
     (get_or_default nodes index other NO_TURNS within)
-    ∙ ap (λ n. text
-    ++ node_box chip n (kind_at_end (get_or nodes index NO_TURNS) (state_of chip n))) named
+    ∙ ap (λ n. text ++ node_box chip n (kind_at_end (get_or nodes index NO_TURNS) chip n)) named
 
 -- a row of the timeline
 pub row_read : (nodes : List NodeTurns) (timeline : Timeline) (shown : List Kind) (index name : ℕ)

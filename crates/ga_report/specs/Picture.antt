@@ -7,7 +7,7 @@ use Rattle.ga_place.specs.Cell.{name_at}
 use Rattle.ga_place.specs.Node.{column_of, node_text, row_of}
 use Rattle.ga_place.specs.Side.{Direction, East, West, North, South, SIDES, direction_of, neighbour_of}
 use Rattle.ga_place.specs.declared.side.Side.{Side}
-use Rattle.ga_chip.specs.Chip.{Chip, state_of}
+use Rattle.ga_chip.specs.Chip.{Chip}
 use Rattle.ga_map.specs.Posted.{posted}
 use Rattle.ga_profile.specs.declared.node_turns.NodeTurns.{NodeTurns}
 use Rattle.ga_profile.specs.NodeTurns.{NO_TURNS}
@@ -93,7 +93,7 @@ node_box chip name kind =
 abbrev pub node_at : Chip → List NodeTurns → ℕ → List ℕ
 node_at chip nodes index =
     let name = name_at index in
-    node_box chip name (kind_at_end (get_or nodes index NO_TURNS) (state_of chip name))
+    node_box chip name (kind_at_end (get_or nodes index NO_TURNS) chip name)
 
 unfoldable pub nodes : Chip → List NodeTurns → List ℕ
 nodes chip did = flat_map (node_at chip did) (range_with_len 0 144)

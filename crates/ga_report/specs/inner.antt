@@ -1,4 +1,3 @@
-pub mod HasRun
 pub mod KeptTransfers
 pub mod Parts
 pub mod Trails

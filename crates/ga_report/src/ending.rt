@@ -1,6 +1,5 @@
 //! What a node does at the end of a window.
 ghost use Rattle.std.specs.Prelude.{◌≡◌};
-ghost use Rattle.ga_chip.specs.Chip.{state_of};
 ghost use Rattle.ga_report.specs.Ending as spec;
 
 use crate::kind::Kind;
@@ -8,15 +7,16 @@ use ga_chip::Chip;
 use ga_node::{Need, Place};
 use ga_place::Node;
 use ga_profile::NodeTurns;
+use ga_trace::spins;
 
 /// What a node does at the end of a window, by what it did there.
 pub(crate) fn kind_at_end(chip: &Chip, did: &NodeTurns, node: Node) -> Kind
-    ensures { result ≡ spec.kind_at_end did.now (state_of chip.now node) }
+    ensures { result ≡ spec.kind_at_end did.now chip.now node }
 {
-    let state = chip.state(node);
-    if did.is_spinning {
+    if spins(chip, node) {
         Kind::Spins
     } else {
+        let state = chip.state(node);
         kind_since(did.began, state.place(), state.need())
     }
 }

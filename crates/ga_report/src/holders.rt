@@ -12,10 +12,10 @@ use crate::columns::columns_of;
 use crate::marks::is_later;
 use crate::path_watch::PathWatch;
 use crate::trail::Trail;
-use crate::watched::Watched;
+use crate::watched::nodes_by;
 use ga_chip::Chip;
 use ga_observe::turns;
-use ga_profile::{NodeTurns, Window};
+use ga_profile::{NodeTurns, TurnWatch, Window};
 use std::alloc::{AllocError, Global};
 
 /// The indices of the nodes that have the path of a window of the run of a chip, in the columns of
@@ -40,9 +40,10 @@ fn nodes_at(alloc: Global, chip: &Chip, turn: u32) -> Result<Vec<NodeTurns>, All
     ensures nodes { IfOk result (λ nodes. nodes.items ≡ up_to turn chip.now) }
     ensures all { IfOk result (λ nodes. length nodes.items ≡ 144) }
 {
-    let mut run = Watched::new(alloc, chip)?;
-    run.advance(0, turn);
-    let nodes = run.nodes(alloc, turn)?;
+    let mut chip = chip.copied(alloc)?;
+    let mut watch = TurnWatch::new(alloc, 0)?;
+    watch.advance(&mut chip, 0, turn);
+    let nodes = nodes_by(alloc, &chip, &watch, turn)?;
     Ok(nodes)
 }
 

@@ -22,7 +22,6 @@ mod posted;
 mod rows;
 mod scale;
 mod source;
-mod step_watch;
 mod style;
 mod timeline;
 mod trail;

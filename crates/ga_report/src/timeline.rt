@@ -9,9 +9,9 @@ use crate::columns::{bound, columns_of};
 use crate::holders::holders_in;
 use crate::kind::Kind;
 use crate::most::{between, most_between};
-use crate::watched::Watched;
+use crate::watched::nodes_by;
 use ga_chip::Chip;
-use ga_profile::{NodeTurns, TurnCounts, Window};
+use ga_profile::{NodeTurns, TurnCounts, TurnWatch, Window};
 use std::alloc::{AllocError, Global};
 
 /// What each node does in the columns of a window.
@@ -60,16 +60,17 @@ pub fn timeline_of_part(
 {
     let columns = columns_of(window);
     let first = bound(window, 0);
-    let mut run = Watched::new(alloc, chip)?;
-    run.advance(0, first);
-    let begun = run.nodes(alloc, first)?;
-    let mut before = run.nodes(alloc, first)?;
+    let mut now = chip.copied(alloc)?;
+    let mut watch = TurnWatch::new(alloc, 0)?;
+    watch.advance(&mut now, 0, first);
+    let begun = nodes_by(alloc, &now, &watch, first)?;
+    let mut before = nodes_by(alloc, &now, &watch, first)?;
     let mut kinds = Vec::new(alloc);
     for column in 0..columns {
         let begin = bound(window, column);
         let end = bound(window, column + 1);
-        run.advance(begin, end);
-        let after = run.nodes(alloc, end)?;
+        watch.advance(&mut now, begin, end);
+        let after = nodes_by(alloc, &now, &watch, end)?;
         push_column(&mut kinds, before.as_slice(), after.as_slice(), end - begin)?;
         before = after;
     }

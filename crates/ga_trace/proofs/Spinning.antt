@@ -32,7 +32,7 @@ use Rattle.ga_observe.proofs.Tried.{try_breaks}
 use Rattle.ga_trace.specs.Rest.{are_unbroken, spins, spins_with}
 use Rattle.ga_trace.specs.declared.spin_watch.Known.{Known}
 use Rattle.ga_trace.specs.declared.spin_watch.SpinWatch.{SpinWatch}
-use Rattle.ga_trace.specs.inner.Spinning.{IsClear, Knows, LeftAhead, Watches, nothing_known}
+use Rattle.ga_trace.specs.Spinning.{IsClear, Knows, LeftAhead, Watches, nothing_known}
 use Rattle.ga_trace.proofs.Unbroken.{spins_same, unbroken_alike, unbroken_next}
 
 -- ---- a step of a node

@@ -4,6 +4,7 @@ pub mod Last
 pub mod Stepped
 pub mod Traced
 pub mod Rest
+pub mod Spinning
 pub mod What
 pub mod Watched
 pub mod Depth

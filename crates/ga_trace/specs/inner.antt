@@ -3,4 +3,3 @@ pub mod Stepped
 pub mod Traced
 pub mod LastSteps
 pub mod AllDepths
-pub mod Spinning

@@ -1,5 +1,5 @@
 //! Laws of the definitions. They do nothing when run.
-ghost use Rattle.ga_trace.specs.Laws.{FirstIsShown, FirstStepsAreShown, NoneIsShown};
+ghost use Rattle.ga_trace.specs.Laws.{FirstIsShown, FirstStepsAreShown, NoneIsShown, SpinsStayKnown};
 
 /// A trace of K steps of a node shows its first K steps, as an observer of all turns sees them:
 /// some turns are made, and the text has the lines of all steps that the node makes in them, in
@@ -14,4 +14,9 @@ pub fn first_steps()
 pub fn first_change()
     ensures shown { FirstIsShown }
     ensures none { NoneIsShown }
+{}
+
+/// What is known of the spins of a chip's nodes is still so after a turn of the chip.
+pub fn known_spins()
+    ensures { SpinsStayKnown }
 {}

@@ -21,6 +21,7 @@ pub use all_nodes::all_depths;
 pub use at::at_word;
 pub use depth::{StackDepth, StackDepths, depths};
 pub use rest::{Ran, run, spins};
+pub use spin_watch::SpinWatch;
 pub use stepped::step;
 pub use traced::trace;
 pub use watched::watch;

@@ -6,7 +6,7 @@ ghost use Rattle.ga_place.specs.Cell.{name_at};
 ghost use Rattle.ga_chip.specs.Chip.{Chip, state_of};
 ghost use Rattle.ga_chip.specs.Run.{has_break};
 ghost use Rattle.ga_trace.specs.Rest.{are_unbroken, is_unbroken, spin_count, spins, spins_with};
-ghost use Rattle.ga_trace.specs.inner.Spinning.{Knows, Watches};
+ghost use Rattle.ga_trace.specs.Spinning.{Knows, Watches};
 
 use ga_chip::Chip;
 use ga_node::{Ahead, LONGEST_SPIN, NodeState, Place};
@@ -59,16 +59,16 @@ impl Known {
     }
 }
 
-/// What is known of all nodes of a chip that makes turns. So each own step is looked at some three
-/// times, however long the run is.
+/// What is known of the spins of all nodes of a chip that makes turns, by `laws::known_spins`. So
+/// each own step is looked at some three times, however long the run is.
 #[derive(Drop)]
-pub(crate) struct SpinWatch {
+pub struct SpinWatch {
     nodes: [Known; 144],
 }
 
 impl SpinWatch {
     /// Nothing is known.
-    pub(crate) fn new() -> Self
+    pub fn new() -> Self
         ensures { (chip : Chip) → Watches chip result }
     {
         let nothing = Known {
@@ -95,7 +95,7 @@ impl SpinWatch {
     }
 
     /// Whether the node of an index spins.
-    fn spins(&mut self, chip: &Chip, index: usize) -> bool
+    pub fn spins(&mut self, chip: &Chip, index: usize) -> bool
         requires index { index < 144 }
         requires watch { Watches chip.now self.old }
         ensures watch { Watches chip.now self.new }

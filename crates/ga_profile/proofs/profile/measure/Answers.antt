@@ -3,7 +3,6 @@ use Rattle.std.specs.Prelude.{Result}
 use Rattle.std.specs.declared.alloc.AllocError.{AllocError}
 use Rattle.ga_chip.specs.Chip.{Chip}
 use Rattle.ga_chip.specs.Run.{ran, turns_of}
-use Rattle.ga_profile.specs.declared.faster.Goal.{Goal}
 use Rattle.ga_profile.specs.declared.profile.Profile.{Profile}
 use Rattle.ga_profile.specs.declared.window.Window.{Window}
 use Rattle.ga_profile.specs.Bottleneck.{node_on_path}
@@ -13,7 +12,7 @@ use Rattle.ga_profile.specs.Window.{window_of}
 use Rattle.ga_profile.proofs.profile.measure.Goals as goal
 
 -- for an equal window and equal goals
-as_run : (window w : Window) (goals g : List Goal) (chip : Chip) (made : Result Profile AllocError)
+as_run : (window w : Window) (goals g : List ℕ) (chip : Chip) (made : Result Profile AllocError)
     → window ≡ w → goals ≡ g
     → IfOk made (λ profile. profile.shorter
     ≡ shorter_window window (node_on_path profile.path.items) goals chip)

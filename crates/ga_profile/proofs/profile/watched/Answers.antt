@@ -1,21 +1,17 @@
-use Rattle.std.proofs.Common.{refl, subst, sym}
-use Rattle.std.specs.Prelude.{[]}
-use Rattle.ga_observe.specs.Seen.{steps_seen, turns_numbered}
-use Rattle.ga_profile.specs.inner.Kept.{Kept}
-use Rattle.ga_profile.specs.Profile.{watched}
-use Rattle.ga_profile.proofs.Keeping.{kept_all}
+use Rattle.ga_profile.proofs.Keeping.{all_watched}
 use Rattle.ga_profile.proofs.profile.watched.Goals as goal
 
+pub advance-requires-clause-known : goal.advance-requires-clause-known
+advance-requires-clause-known c = c.in_ok-watch.ensures.known c.args.chip.now
+
+pub returns-clause-chip : goal.returns-clause-chip
+returns-clause-chip c =
+    let begun = c.in_ok-watch.ensures.run c.args.chip.now in
+    (c.advance.ensures.run c.args.from c.args.chip.now begun).chip
+
 pub returns-clause-nodes : goal.returns-clause-nodes
-unfolding watched
 returns-clause-nodes c =
-    let watch = c.in_ok-watch.watch in
-    let steps = steps_seen c.args.chip.now (turns_numbered c.args.count) in
-    let nodes = c.turns-moved.new.observer.nodes.items in
-    let kept = c.turns-moved.ensures.seen watch [] (
-      refl,
-      subst (λ from. Kept from watch.nodes.items []) (sym c.in_ok-watch.ensures.from)
-          c.in_ok-watch.ensures.kept,
-    ) in
-    kept_all c.args.from nodes steps
-    (subst (λ from. Kept from nodes steps) c.in_ok-watch.ensures.from kept.1)
+    let start = c.args.chip.now in
+    let watch = c.advance.new.self in
+    all_watched c.args.from c.args.count start c.advance.new.chip watch watch.all
+    (c.advance.ensures.run c.args.from start (c.in_ok-watch.ensures.run start))

@@ -3,7 +3,7 @@ use Rattle.ga_chip.specs.Legal.{IsLegal}
 use Rattle.ga_chip.specs.Run.{side_of_turn, turn_of}
 use Rattle.ga_chip.proofs.Kept.{legal_ran}
 use Rattle.ga_trace.specs.Rest.{calm_after, ran_from}
-use Rattle.ga_trace.specs.inner.Spinning.{Watches}
+use Rattle.ga_trace.specs.Spinning.{Watches}
 use Rattle.ga_trace.proofs.Spinning.{watches_turn}
 use Rattle.ga_trace.proofs.Resting.{run_ended, run_next, run_rests}
 use Rattle.ga_trace.proofs.rest.run.Goals as goal

@@ -1,7 +1,7 @@
 use Rattle.std.proofs.Common.{◌≡◌, ◌-◌, ◌*◌, ◌≤◌}
 use Rattle.ga_chip.specs.Legal.{IsLegal}
 use Rattle.ga_trace.specs.Rest.{ran_from}
-use Rattle.ga_trace.specs.inner.Spinning.{Watches}
+use Rattle.ga_trace.specs.Spinning.{Watches}
 use Rattle.ga_trace.proofs.rest.run.Given as goal
 
 -- it rests with the turns that are left, and what is known of spins is so

@@ -1,5 +1,9 @@
-use Rattle.ga_profile.proofs.Keeping.{kept_none}
+use Rattle.std.proofs.Common.{refl}
+use Rattle.ga_profile.proofs.Keeping.{no_run}
 use Rattle.ga_profile.proofs.turn_watch.TurnWatch.new.Goals as goal
 
-pub returns-clause-kept : goal.returns-clause-kept
-returns-clause-kept c = kept_none c.args.from _ c.in_ok-unseen.ensures
+pub returns-clause-known : goal.returns-clause-known
+returns-clause-known c = c.new.ensures
+
+pub returns-clause-run : goal.returns-clause-run
+returns-clause-run c chip = no_run c.args.from chip _ refl c.in_ok-unseen.ensures

@@ -5,7 +5,7 @@ use Rattle.ga_node.specs.Spins.{IsAhead}
 use Rattle.ga_node.specs.State.{State}
 use Rattle.ga_chip.specs.Run.{has_break}
 use Rattle.ga_trace.specs.declared.spin_watch.Known.{Known}
-use Rattle.ga_trace.specs.inner.Spinning.{Knows}
+use Rattle.ga_trace.specs.Spinning.{Knows}
 use Rattle.ga_trace.proofs.Spinning.{LooksAt, knows_new, looks_spins, looks_works}
 use Rattle.ga_trace.proofs.spin_watch.Known.new.Goals as goal
 use Rattle.ga_trace.proofs.spin_watch.Known.new.Goals.{in-Spins, in-Works}

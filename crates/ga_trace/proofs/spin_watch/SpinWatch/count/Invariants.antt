@@ -2,7 +2,7 @@ use Rattle.std.proofs.Common.{◌≡◌, ◌≤◌, length}
 use Rattle.std.specs.List.{flat_map, range_with_len}
 use Rattle.ga_place.specs.Cell.{name_at}
 use Rattle.ga_trace.specs.Rest.{if_spins}
-use Rattle.ga_trace.specs.inner.Spinning.{Watches}
+use Rattle.ga_trace.specs.Spinning.{Watches}
 use Rattle.ga_trace.proofs.spin_watch.SpinWatch.count.Given as goal
 
 -- as many nodes are counted, and what is known is so

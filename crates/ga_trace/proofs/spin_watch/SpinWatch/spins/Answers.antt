@@ -5,7 +5,7 @@ use Rattle.ga_node.specs.declared.spinning.Ahead.TheVariants as ahead
 use Rattle.ga_chip.specs.Chip.{state_of}
 use Rattle.ga_chip.specs.Run.{has_break}
 use Rattle.ga_trace.specs.declared.spin_watch.Known.{Known}
-use Rattle.ga_trace.specs.inner.Spinning.{Knows}
+use Rattle.ga_trace.specs.Spinning.{Knows}
 use Rattle.ga_trace.proofs.Spinning.{its_known, spins_by, spins_later, spins_there, watches_set, works_now}
 use Rattle.ga_trace.proofs.spin_watch.SpinWatch.spins.Goals as goal
 
