@@ -17,8 +17,8 @@ FILE = os.path.join(os.path.dirname(os.path.dirname(os.path.abspath(__file__))),
 PROGRAMS, IN_A_ROW = 960, 80
 LIST = re.compile(r"(const VERDICTS: \[&str; \d+\] = \[\n)(.*?)(\];\n)", re.S)
 DEEDS = [
-    "$1F5 a! @ drop ", "right a! @ drop ", "left a! @ drop ", "right b! 5 !b ", "right b! 15 !b ", "right b! 25 !b ",
-    "left b! 6 !b ", "left b! 16 !b ", "left b! 26 !b ", "$1F5 b! 7 !b ", ". . . . ", "dup drop ",
+    "$1F5 a! @ drop ", "$1F5 a! @ drop ", "right a! @ drop ", "left a! @ drop ", "right b! 5 !b ", "right b! 15 !b ", "left b! 6 !b ",
+    "left b! 16 !b ", ". . . . ", "dup drop ",
 ]  # fmt: skip
 
 
@@ -34,20 +34,29 @@ class Numbers:
 
 
 def deeds(numbers):
-    """One to seven deeds, and an end or a way back."""
-    some = [DEEDS[numbers.below(12)] for _ in range(numbers.below(7) + 1)]
-    return "top: " + "".join(some) + ("done: jump done " if numbers.below(3) > 0 else "jump top ")
+    """One to four deeds, and an end or a way back."""
+    some = [DEEDS[numbers.below(10)] for _ in range(numbers.below(4) + 1)]
+    return "top: " + "".join(some) + ("done: jump done " if numbers.below(3) > 1 else "jump top ")
+
+
+def frame(numbers):
+    """A frame that stores a word or posts some, behind which another frame comes."""
+    if numbers.below(4) == 0:
+        return [0xAE, 0x20, 1, 0]
+    count = numbers.below(4) + 1
+    return [0xAE, 0x1D5, count, *(numbers.below(4) for _ in range(count))]
 
 
 def programs():
     """The images of three nodes, the stream of 708, and the size of the pieces."""
     numbers = Numbers(708)
     for _ in range(PROGRAMS):
-        text = "".join(begin + deeds(numbers) for begin in ("node 709 $1F5 a! @ drop ", "node 710 ", "node 711 "))
-        stream = [0xAE, 0x20, 1, 0] * numbers.below(4)
+        text = f"node 709 right a! {'@ drop ' * numbers.below(6)}$1F5 a! @ drop "
+        text += "".join(begin + deeds(numbers) for begin in ("", "node 710 left b! 9 !b ", "node 711 "))
+        stream = [word for _ in range(numbers.below(4) + 1) for word in frame(numbers)]
         (image,) = images_of("node 708 " + deeds(numbers)).values()
-        words = [it.value for it in image.words]
-        yield images_of(text), [*stream, 0, 0, len(words), *words], max(numbers.below(25), 1)
+        stream += [0, 0, len(image.words), *(it.value for it in image.words)]
+        yield images_of(text), stream, numbers.below(min(len(stream) - 1, 12)) + 1
 
 
 def next_piece(nodes, state, stream):
@@ -58,33 +67,34 @@ def next_piece(nodes, state, stream):
     return [*nodes[:at], longer, *nodes[at + 1 :]], (*state[:at], longer.settled(state[at].state), *state[at + 1 :])
 
 
-def races_in(names, images, stream, size):
-    """Whether there is a race if the stream comes in pieces of a size, or None if that isn't decided."""
+def piece_with_race(names, images, stream, size):
+    """The piece with which there is a race, from 1, or 0 if there is none; or None if that isn't decided."""
     nodes = nodes_of(names, images, {708: stream[:size]})
     state = tuple(node.first for node in nodes)
-    for end in range(size, len(stream) + size, size):
-        if end > size:
+    for number, end in enumerate(range(size, len(stream) + size, size)):
+        if number:
             nodes, state = next_piece(nodes, state, stream[:end])
         races, ends, _ = explored(nodes, state)
         if races:
-            return True
+            return number + 1
         if len(ends) != 1:
-            return False if end >= len(stream) else None
+            return 0 if end >= len(stream) else None
         (state,) = ends
-    return False
+    return 0
 
 
 def verdict(images, stream, size):
-    """A letter: n, no race; b, a race in both; w, only with the whole stream; u, with the whole one, and undecided in pieces."""
+    """A letter: n, no race; f, a race in the first piece; l, in a later one; w, only with the whole stream; u, with the whole one,
+    and undecided in pieces."""
     names = {708, *images}
     while True:
         try:
-            whole, pieces = (races_in(names, images, stream, part) for part in (len(stream), size))
+            whole, piece = (piece_with_race(names, images, stream, part) for part in (len(stream), size))
         except Missing as it:
             names.add(it.args[0])
             continue
-        assert whole or not pieces, "a race in pieces alone"
-        return {True: "b", False: "w", None: "u"}[pieces] if whole else "n"
+        assert whole or not piece, "a race in pieces alone"
+        return "n" if not whole else {None: "u", 0: "w", 1: "f"}.get(piece, "l")
 
 
 def main():
@@ -98,7 +108,7 @@ def main():
         return 0
     found = re.sub(r'[\s",]', "", LIST.search(text)[2])
     wrong = [f"{number}: {one} and not {other}" for number, (one, other) in enumerate(zip(found.ljust(PROGRAMS), letters)) if one != other]
-    print(*wrong, *(f"{letter} {letters.count(letter)}" for letter in "nbwu"), sep="\n")
+    print(*wrong, *(f"{letter} {letters.count(letter)}" for letter in "nflwu"), sep="\n")
     print(f"{PROGRAMS - len(wrong)} passed, {len(wrong)} failed")
     return 1 if wrong else 0
 

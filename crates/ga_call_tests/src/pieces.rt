@@ -9,40 +9,37 @@ use ga_word::Word18;
 use std::alloc::Global;
 use std::test::Fail;
 
-/// What a node may do: read at one side or at two, post a word at one, most often, or at two, or go
-/// on.
-const DEEDS: [&str; 12] = [
+/// What a node may do: read at one side or at two, post a word at one, or go on.
+const DEEDS: [&str; 10] = [
+    "$1F5 a! @ drop ",
     "$1F5 a! @ drop ",
     "right a! @ drop ",
     "left a! @ drop ",
     "right b! 5 !b ",
     "right b! 15 !b ",
-    "right b! 25 !b ",
     "left b! 6 !b ",
     "left b! 16 !b ",
-    "left b! 26 !b ",
-    "$1F5 b! 7 !b ",
     ". . . . ",
     "dup drop ",
 ];
 
 /// What a model of the chip decides by all schedules of each program, a letter for each: `n`, no
-/// race; `b`, a race if the stream comes whole, and if it comes in pieces; `w`, only if it comes
-/// whole; `u`, if it comes whole, and undecided in pieces. `tests/race_pieces.py --write` makes
-/// it.
+/// race if the stream comes whole, and so none in pieces; `f`, a race already in the first piece;
+/// `l`, one in a later piece; `w`, only if the stream comes whole; `u`, a race then, and undecided
+/// in pieces. `tests/race_pieces.py --write` makes it.
 const VERDICTS: [&str; 12] = [
-    "nnnnnnnnnnnwwwnnnnwnnwnnnnnnnwnnnwwnnnnnnnnnnnnnnnnnbnnnwnnnwwnnnnnnnnwnnwbnnwnn",
-    "nnnnwnnnnnnnnwnnnnnnnnnnwnnnnnwnnnwnnnwwwnnwnnnnnnwwnnwnnnwnnnnnnnnnnnnnnnnwnnnn",
-    "wnwnnnnnnnnnbnnnnnnnnnnnnnnnwnbnwnbnnnnnbnnnnnnnnwnnnnnwnnnnnnnnnnnnnnnnbnnnnnnn",
-    "wnnbwnbnwnwnnnnwnnnnnwnnwnnnnnnnnnnnwnwnnnnnnnnnnnnnnnnnnnnwnnnnnnnwnnnwnnnnnnnn",
-    "nnnnnnnnnnnwnwnwnnnnnwnnnnnnnnnnnbnnnnnwnnnnnnnnnnnwnnnnnbnnnbnnwnnnnnnnwnnnnnnn",
-    "nnnnnnnnnnnnnnnnnnnnnnnnnnnnnnnnbnnnnnbnnnnnnnnnnnnnnnnnnnnnnnnnnnwnnnwnnwnnnnnn",
-    "nnnnnnnnnnnwnnnnnnnnnnnnnwwnnnbnnnwnnnnnnnnnnnnnnnnnnnwnnnnnnnnnnnnwnnnnnnnnnnnw",
-    "nnnnnnnnwnbnnnnnnnnnnnnnnnnnnnnnnbnnnnnnnnnnwnnnnwnnnnnnnwnnwnnnnnnnnwnwnnwnnnnn",
-    "nnnnnnnnnnnnnnnnnnwnnnwnnnnnwnnnnnnnnwnwnnnnnnnnnnnwnnnnnnnwnnnnnnbnnwbnnnnwnnnn",
-    "nwnnnnnnnnnnnnnnnnnnnnnnnnnnnnnnnwnnnnnnnnwnnnnnnwnnnbnnnnnwbnnnnnnnnnnnnnnwnnbw",
-    "nnnnwnnnnnnnnnwnnnnnnnnnnnnnnnnnnbnnwnnnwwnwnnnnnnnnwbnnnnbnnnnnwnnnnwwnnnwnnbnw",
-    "wnwnnnnnnwnnnnnnnnnnnnwnnnnbwnnnnnnnnnnwnnnnnnnnnwnnwwnnnnnnnnnnnnnwbwnnnnnnwnnn",
+    "wwnfflfwlwnfnfnnlwnwfnffnfwnnfunflwfwfwnwfwullfnwfwwwlwnfwlwwnlwnnnnlflnfflfffll",
+    "wnnnwwnnflwfnnnffnfnfnfwllwfnnnnnffnfwlfnflnwlnnnwwlfffflnlwwnwwlwnnlwfwfflwnllw",
+    "nnlnlflnwwnnnwnlwfwnnnnnnfnfwnnnnlffwwnllnnwnfnnlnwnwlnnlwfnnwwfnwfnwwwwfwnlflnl",
+    "nwflnwnnwlnlnlfwwllflwnlnnfwffnlnwwlnfnwnnlnnfflnfnfnnnflfwffnwnwfnffwnllnffwnff",
+    "lwnnfwwfwfwnflnfnlwwlwfnwflnwwffwllfwnlnnlnfnwwnwlnfllwfwlfwwfwlwfwlnfnwlfwlnwwn",
+    "wnwlfnnfwwflflnllnnflnnwwlwfwfnflffnfllnwnlfnffnwffwfffllwfwwfnfwflnfwlnfnffwnwl",
+    "wlnlnfwfnnfnwlfwfffnfnwnwfffwfnwwfnflnwllfnwfuwnfnnnfnnlfnwnlwllwwnwwnllwwnfnlfn",
+    "nffnwfnfuflfnfwlnflllfwwnnlnwnfffwlnfnlffwlfwflfnffnfwfwfnlffwwwnwlwfwnnwfffnfnf",
+    "ffflnwwnlnllfwflnwffflllwwwfwlffnwwlfwfllfnwnllnnfnlwnnwwwuwffnffwnfffnfwllfnnlw",
+    "nnfwnfnwfflfnfnwnfnnlnfnuwlnfufwwwnnnnlwflfwwnfnwlflwnnflfllnnffnfllfnflwlwflwnw",
+    "wlnfflfwwfnwfnnnnlnwwflffflnffnfwwnfnllnlnwnlwlwwffwnnnnlwnlnlnwnflwnwllllwnnwff",
+    "wfnfwlnffnnwflfffllfwwfwnwfnlnnffwwfwfnlwwwnnffnlllfffnnlfllnfwnnwwfnfwnlnwlnfwn",
 ];
 
 /// The turns of a run: those of such programs end far earlier, if they end.
@@ -63,14 +60,14 @@ impl Numbers {
     }
 }
 
-/// Adds one to seven deeds, and behind them an end, or a way back.
+/// Adds one to four deeds, and behind them an end, or a way back.
 fn push_deeds(text: &mut String, numbers: &mut Numbers) -> Result<(), Fail> {
     text.push_str("top: ")?;
-    for _ in 0..=numbers.below(7) {
-        let index = numbers.below(12) as usize;
+    for _ in 0..=numbers.below(4) {
+        let index = numbers.below(10) as usize;
         text.push_str(DEEDS.get(index).copied().unwrap_or(""))?;
     }
-    let ends = numbers.below(3) > 0;
+    let ends = numbers.below(3) > 1;
     text.push_str(if ends {
         "done: jump done "
     } else {
@@ -79,22 +76,27 @@ fn push_deeds(text: &mut String, numbers: &mut Numbers) -> Result<(), Fail> {
     Ok(())
 }
 
-/// The source text of three nodes behind 708, of which the first one reads at both sides.
+/// The source text of three nodes behind 708. The first one takes some words of 708, and reads at
+/// both sides then; the second one has a word for it.
 fn neighbours(alloc: Global, numbers: &mut Numbers) -> Result<String, Fail> {
-    let mut text = String::new(alloc);
-    for begin in ["node 709 $1F5 a! @ drop ", "node 710 ", "node 711 "] {
+    let mut text = String::from_str(alloc, "node 709 right a! ")?;
+    for _ in 0..numbers.below(6) {
+        text.push_str("@ drop ")?;
+    }
+    text.push_str("$1F5 a! @ drop ")?;
+    for begin in ["", "node 710 left b! 9 !b ", "node 711 "] {
         text.push_str(begin)?;
         push_deeds(&mut text, numbers)?;
     }
     Ok(text)
 }
 
-/// A stream for 708: up to three frames that store 0 at 020, and one with a program.
+/// A stream for 708: one to four frames that store 0 at 020, or post up to four words to 709; and
+/// one with a program.
 fn stream(alloc: Global, numbers: &mut Numbers) -> Result<Vec<Word18>, Fail> {
     let mut words = Vec::new(alloc);
-    for _ in 0..numbers.below(4) {
-        let frame = write_frame(alloc, word(0x0AE)?, word(0x020)?, &[word(0)?])?;
-        words.extend_from_slice(&frame)?;
+    for _ in 0..=numbers.below(4) {
+        words.extend_from_slice(&frame(alloc, numbers)?)?;
     }
     let mut text = String::from_str(alloc, "node 708 ")?;
     push_deeds(&mut text, numbers)?;
@@ -102,6 +104,20 @@ fn stream(alloc: Global, numbers: &mut Numbers) -> Result<Vec<Word18>, Fail> {
         words.extend_from_slice(&write_frame(alloc, word(0)?, word(0)?, image.words())?)?;
     }
     Ok(words)
+}
+
+/// A frame behind which another one comes.
+fn frame(alloc: Global, numbers: &mut Numbers) -> Result<Vec<Word18>, Fail> {
+    let next = word(0x0AE)?;
+    if numbers.below(4) == 0 {
+        return Ok(write_frame(alloc, next, word(0x020)?, &[word(0)?])?);
+    }
+    let mut body = Vec::new(alloc);
+    for _ in 0..=numbers.below(4) {
+        let number = u32::try_from(numbers.below(4)).unwrap_or(0);
+        body.push(word(number)?)?;
+    }
+    Ok(write_frame(alloc, next, word(0x1D5)?, &body)?)
 }
 
 /// The verdict on a chip with these programs, and with the whole stream.
@@ -116,27 +132,27 @@ fn whole_verdict(alloc: Global, text: &str, words: &[Word18]) -> Result<Verdict,
     Ok(race(alloc, &mut chip, TURNS)?.verdict)
 }
 
-/// Whether a race is found while the stream comes in pieces. Each is fed when the words before it
-/// are taken. If they never are, the rest doesn't come.
-fn has_race_in_pieces(
+/// The piece with which a race is found, from 0. A piece is fed when the words before it are taken.
+/// If they never are, the rest doesn't come.
+fn piece_with_race(
     alloc: Global,
     text: &str,
     words: &[Word18],
     size: usize,
-) -> Result<bool, Fail> {
+) -> Result<Option<usize>, Fail> {
     let mut chip = placed_chip(alloc, &assemble_text(alloc, text)?)?;
     if chip.open_stream(node(708)?).is_err() {
         return Err("no stream")?;
     }
-    for piece in words.chunks(size.max(1)) {
+    for (number, piece) in words.chunks(size.max(1)).enumerate() {
         if chip.stream_left(node(708)?) > 0 {
-            return Ok(false);
+            return Ok(None);
         }
         if has_race_with(alloc, &mut chip, piece)? {
-            return Ok(true);
+            return Ok(Some(number));
         }
     }
-    Ok(false)
+    Ok(None)
 }
 
 /// Whether a race is found when a piece comes.
@@ -163,6 +179,16 @@ fn verdict_of(number: usize) -> Option<u8> {
     row.as_bytes().get(number % 80).copied()
 }
 
+/// Whether a race with a piece is what this letter of `VERDICTS` says.
+fn is_as_decided(letter: u8, found: Option<usize>) -> bool {
+    match letter {
+        b'f' => found == Some(0),
+        b'l' => found.is_some_and(|piece| piece > 0),
+        b'u' => true,
+        _ => found.is_none(),
+    }
+}
+
 /// The library finds a race, if the stream comes whole and if it comes in pieces, where the model
 /// does, and nowhere else. In one piece a stream has the verdict of the whole one.
 #[test]
@@ -171,18 +197,22 @@ fn races_are_those_of_all_schedules(rt: HostRuntime) -> Result<(), Fail> {
     for number in 0..960 {
         let text = neighbours(rt.alloc(), &mut numbers)?;
         let words = stream(rt.alloc(), &mut numbers)?;
-        let size = numbers.below(25) as usize;
+        let most = (words.len() as u64).saturating_sub(1).min(12);
+        let size = numbers.below(most).saturating_add(1) as usize;
         let (text, words) = (text.as_str(), words.as_slice());
         let Some(letter) = verdict_of(number) else {
             return Err("no verdict")?;
         };
         let whole = is_race(&whole_verdict(rt.alloc(), text, words)?);
         assert!(rt; whole == (letter != b'n'), "program {number}: {text}");
-        let at_once = has_race_in_pieces(rt.alloc(), text, words, words.len())?;
-        assert!(rt; at_once == whole, "program {number} in one piece: {text}");
-        let later = has_race_in_pieces(rt.alloc(), text, words, size)?;
+        let at_once = piece_with_race(rt.alloc(), text, words, words.len())?;
         assert!(rt;
-            letter == b'u' || later == (letter == b'b'),
+            at_once.is_some() == whole,
+            "program {number} in one piece: {text}"
+        );
+        let later = piece_with_race(rt.alloc(), text, words, size)?;
+        assert!(rt;
+            is_as_decided(letter, later),
             "program {number} in pieces of {size}: {text}"
         );
     }
