@@ -646,8 +646,8 @@ def map_(ask, job, text, answer):
 
 @subcommand("FILE", turns=range(1000001), place=None, route="ROUTE", json=None, **{"from": "WHERE"})
 def profile(ask, job, text, answer):
-    """What each node did in turns until rest, by the tries of a run. Of a run of many turns the text must have its form, and the
-    JSON must be that of the text."""
+    """What each node did in turns until rest, by the tries of a run. If the run has many turns, or isn't worked out, the text must
+    have its form, and the JSON must be that of the text."""
     has_numbers = "json" in job.options
     try:
         run = run_of(ask, job, text)

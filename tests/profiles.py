@@ -87,8 +87,6 @@ def idle(node):
     return IDLE._replace(sides=neighbours(node))
 
 
-# The places of a node in a word.
-SLOTS = ["slot0", "slot1", "slot2", "slot3"]
 # A step: the turn, how many steps the node made before it in the run, and its state in front of it.
 Step = namedtuple("Step", "turn number state")
 # A step on a path: its turn, its place among all steps, the word of memory in execution, or None, and what it waited for: the
@@ -131,8 +129,8 @@ class TooLong(Exception):
 
 
 class MayChange(Exception):
-    """It isn't worked out what comes if a node is faster, since a multiport read may take another word; or when a node spins, by
-    opcodes that change stacks or memory, of which the replies don't show all."""
+    """A profile isn't worked out. A multiport read may take another word if a node is faster. Or a node spins, and changes stacks
+    or memory there, of which the replies don't show all."""
 
 
 class Run:

@@ -264,7 +264,10 @@ class Turns:
     def __init__(self, wave):
         nodes = [*map(int, wave.nodes())]
         self.moves, self.ports, self.words, self.posts = {node: [] for node in nodes}, {}, [], {}
+        # by turn, the nodes that spin in it
+        self.spinning = []
         for turn, shown in enumerate(wave.turns()):
+            self.spinning.append({node for node in nodes if shown[f"chip.n{node:03}.did"] == "spins"})
             for node in nodes:
                 if shown[f"chip.n{node:03}.busy"]:
                     did, _, side = shown[f"chip.n{node:03}.did"].removesuffix("_read").partition("_")
@@ -314,6 +317,13 @@ def judge_path(charts, turns):
             holder = holders.get(column, holder)
             shown = [row.name for row in rows if row.path[column]]
             demand(shown == [holder] * (holder is not None), f"{shown} has the path in column {column}, not {holder}")
+
+
+def judge_spins(page, turns):
+    """Compares the boxes of nodes that spin with the first turn behind the window, if the run has made it."""
+    end = page.charts[0][1][-1]
+    shown = {int(box.name) for box in page.boxes if box.kinds[:1] == ["spins"]}
+    demand(end >= len(turns.spinning) or shown == turns.spinning[end], f"{shown} spin, and not {turns.spinning[end:][:1]}")
 
 
 def judge_chip(page, profile):
@@ -394,6 +404,7 @@ def fault_of_page(text, source, profile, listing, verdict=None, wave=None):
             turns = Turns(wave)
             judge_words(page, turns.words)
             judge_path(page.charts, turns)
+            judge_spins(page, turns)
     except Wrong as fault:
         return f"page: {fault}"
     return None

@@ -42,8 +42,8 @@ REST = {
 # Worked programs, and how many turns are made before.
 EXAMPLES = {"ring/ring": 0, "queue/queue": 600, "fir/fir_pipelined": 1400, "token_ring/token_ring": 1500, "two_nodes/two_nodes": 90}
 SECONDS = 60
-# In how many seconds of processor time a waveform is refused for its length: some six times what it takes.
-MOST_SECONDS = 40
+# In how many seconds of processor time a waveform is refused for its length: some three times what it takes.
+MOST_SECONDS = 30
 UNMET = r"ga-bench: \d+ expectations? failed, (?:the first )?in line \d+\n"
 # Pairs of nodes that go on for ever. In FOR_EVER_TURNS turns their waveform has more bytes than the run has memory.
 FOR_EVER = "".join(
